@@ -1,4 +1,5 @@
 //! Whether a list contains or allows a version.
+ghost use Rattle.std.specs.Prelude.{List, ℕ};
 ghost use Rattle.pep440_compiled.specs.Lists.{HasListFormat};
 ghost use Rattle.pep440_compiled.specs.Version.{HasVersionFormat};
 ghost use Rattle.pep440_calls.specs.CallResults.{Allows, AllowsAnswer, Contains, ContainsAnswer, IsPrerelease, RefusesSecond};
@@ -10,6 +11,58 @@ use crate::fault::Fault;
 use crate::read::{read, read_list};
 use pep440_compiled::{ContainsError, has_list_format, has_version_format};
 use std::alloc::Global;
+
+// Writes whether a list contains a version, and whether this is a pre-release or a developmental release.
+fn put_match(given: Result<(bool, bool), Fault>, contained: &mut u8, prerelease: &mut u8) -> u8
+    ensures { (list version : List ℕ) → Gives (RefusesSecond list version) (RefusesListBytes list) ⊥ (λ found. Contains list version found.0 × IsPrerelease version found.1) given → ContainsAnswer list version contained.old contained.new prerelease.old prerelease.new result }
+{
+    match given {
+        Ok((found, is_early)) => {
+            *contained = flag(found);
+            *prerelease = flag(is_early);
+            OK
+        }
+        Err(fault) => fault.status(),
+    }
+}
+
+// Whether a compiled list contains a compiled version, and whether this is a pre-release or a developmental release.
+#[inline(always)]
+fn contains_compiled(list: &[u8], version: &[u8]) -> Result<(bool, bool), Fault>
+    requires list { HasListFormat list.now }
+    requires version { HasVersionFormat version.now }
+    ensures { Gives (RefusesSecond list.now version.now) (RefusesListBytes list.now) ⊥ (λ found. Contains list.now version.now found.0 × IsPrerelease version.now found.1) result }
+{
+    match pep440_compiled::contains(list, version) {
+        Ok(found) => Ok(found),
+        Err(ContainsError::NoVersion) => Err(Fault::InvalidVersion),
+        Err(ContainsError::NoList) => Err(Fault::InvalidList),
+    }
+}
+
+// Whether the list contains the version, and whether this is a pre-release or a developmental release; of any bytes.
+fn contains(alloc: Global, list: &[u8], bytes: &[u8]) -> Result<(bool, bool), Fault>
+    ensures { Gives (RefusesSecond list.now bytes.now) (RefusesListBytes list.now) ⊥ (λ found. Contains list.now bytes.now found.0 × IsPrerelease bytes.now found.1) result }
+{
+    let specifiers = read_list(alloc, list)?;
+    let version = read(alloc, bytes)?;
+    let contained = specifiers.contains(alloc, &version)?;
+    Ok((contained, version.any_prerelease()))
+}
+
+// As `write_match`, of any bytes. A call of its own, so that two compiled forms pay nothing for strings.
+#[inline(never)]
+fn write_parsed_match(
+    alloc: Global,
+    list: &[u8],
+    text: &[u8],
+    contained: &mut u8,
+    prerelease: &mut u8,
+) -> u8
+    ensures { ContainsAnswer list.now text.now contained.old contained.new prerelease.old prerelease.new result }
+{
+    put_match(contains(alloc, list, text), contained, prerelease)
+}
 
 /// Whether the list contains the version, 1 or 0 (PEP 440, "Version specifiers"); and whether the version is a pre-release or
 /// a developmental release, 1 or 0 (PEP 440, "Handling of pre-releases"). The list is read first, unless both
@@ -23,40 +76,10 @@ pub fn write_match(
 ) -> u8
     ensures { ContainsAnswer list.now text.now contained.old contained.new prerelease.old prerelease.new result }
 {
-    match contains(alloc, list, text) {
-        Ok((found, is_early)) => {
-            *contained = flag(found);
-            *prerelease = flag(is_early);
-            OK
-        }
-        Err(fault) => fault.status(),
+    if has_list_format(list) && has_version_format(text) {
+        return put_match(contains_compiled(list, text), contained, prerelease);
     }
-}
-
-// Whether a compiled list contains a compiled version, and whether this is a pre-release or a developmental release.
-fn contains_compiled(list: &[u8], version: &[u8]) -> Result<(bool, bool), Fault>
-    requires list { HasListFormat list.now }
-    requires version { HasVersionFormat version.now }
-    ensures { Gives (RefusesSecond list.now version.now) (RefusesListBytes list.now) ⊥ (λ found. Contains list.now version.now found.0 × IsPrerelease version.now found.1) result }
-{
-    match pep440_compiled::contains(list, version) {
-        Ok(found) => Ok(found),
-        Err(ContainsError::NoVersion) => Err(Fault::InvalidVersion),
-        Err(ContainsError::NoList) => Err(Fault::InvalidList),
-    }
-}
-
-// Whether the list contains the version, and whether this is a pre-release or a developmental release.
-fn contains(alloc: Global, list: &[u8], bytes: &[u8]) -> Result<(bool, bool), Fault>
-    ensures { Gives (RefusesSecond list.now bytes.now) (RefusesListBytes list.now) ⊥ (λ found. Contains list.now bytes.now found.0 × IsPrerelease bytes.now found.1) result }
-{
-    if has_list_format(list) && has_version_format(bytes) {
-        return contains_compiled(list, bytes);
-    }
-    let specifiers = read_list(alloc, list)?;
-    let version = read(alloc, bytes)?;
-    let contained = specifiers.contains(alloc, &version)?;
-    Ok((contained, version.any_prerelease()))
+    write_parsed_match(alloc, list, text, contained, prerelease)
 }
 
 /// Whether the list allows the version, 1 or 0 (PEP 440, "Handling of pre-releases"): it contains the version, and this is no

@@ -5,15 +5,18 @@ use Rattle.std.proofs.lemmas.Bool.Decides.{nat_tests}
 use Rattle.std.proofs.lemmas.List.{append-nil}
 use Rattle.std.specs.Cmp.Lexicographic.{pointwise, slice_cmp}
 use Rattle.std.specs.Ordering.{is_eq, nat_cmp, ordering_then}
-use Rattle.std.specs.Prelude.{if◌then◌else◌}
+use Rattle.std.specs.List.{starts_with}
+use Rattle.std.specs.Prelude.{drop, if◌then◌else◌}
 use Rattle.std.specs.declared.cmp.Ordering.{Ordering}
 use Rattle.pep440_compiled.proofs.Fronts.{keyed, public_cmp, public_in_order, same_release_bytes, tied_last}
 use Rattle.pep440_compiled.proofs.Keys.{key_split}
-use Rattle.pep440_compiled.specs.KeyParts.{base_bytes, public_bytes, suffix_bytes}
+use Rattle.pep440_compiled.proofs.Prefixes.{none_continue}
+use Rattle.pep440_compiled.proofs.Zeros.{prefix_by_bytes}
+use Rattle.pep440_compiled.specs.KeyParts.{base_bytes, continues_with_zeros, ending_zeros, public_bytes, suffix_bytes}
 use Rattle.pep440_compiled.specs.Version.{IsParsed}
 use Rattle.pep440_keys.proofs.Order.{keys_in_order}
 use Rattle.pep440_keys.specs.SortKeys.{key_bytes, local_bytes}
-use Rattle.pep440_rs.specs.Matching.{candidate, has_local, same_release}
+use Rattle.pep440_rs.specs.Matching.{candidate, has_local, has_prefix, same_release}
 use Rattle.pep440_version.specs.Key.{record_cmp, release_cmp}
 use Rattle.pep440_version.specs.Record.{LocalSegmentValue, Record}
 
@@ -43,8 +46,11 @@ without : (s v : Record) (b : Bool) → v.local ≡ [] → v ≡ (if b then v el
 without s v true e = refl
 without s v false e = ap (λ (l : List LocalSegmentValue). record v { local = l }) e
 
+pub same_candidate : (s v : Record) → has_local v ≡ false → record_cmp v s ≡ record_cmp (candidate s v) s
+same_candidate s v h = ap (λ r. record_cmp r s) (without s v (has_local s) (empty v.local h))
+
 pub no_locals : (s v : Record) → IsParsed s → IsParsed v → has_local v ≡ false → slice_cmp nat_cmp (key_bytes v) (key_bytes s) ≡ record_cmp (candidate s v) s
-no_locals s v p q h = keys_in_order v s (keyed v q) (keyed s p) ∙ ap (λ r. record_cmp r s) (without s v (has_local s) (empty v.local h))
+no_locals s v p q h = keys_in_order v s (keyed v q) (keyed s p) ∙ same_candidate s v h
 
 -- ---- the release
 
@@ -56,3 +62,17 @@ key_front v = sym (append-nil (key_bytes v)) ∙ key_split v [] ∙ ap (λ l. ba
 
 pub release_test : (s v : Record) → IsParsed s → IsParsed v → pointwise nat_eq (base_bytes v.epoch v.release ++ 0 ∷ []) (base_bytes s.epoch s.release ++ 0 ∷ []) ≡ same_release s v
 release_test s v p q = same_release_bytes s v p q ∙ eq_then v.epoch s.epoch (release_cmp v.release s.release)
+
+-- ---- releases that do not end in zeros
+
+and_true : (a b : Bool) → b ≡ true → a && b ≡ a
+and_true true b e = e
+and_true false b e = refl
+
+pub begins_by_base : (s v : Record) → IsParsed s → IsParsed v → ending_zeros s.release ≡ 0 → (w : List ℕ)
+    → starts_with nat_eq (base_bytes v.epoch v.release ++ 0 ∷ w) (base_bytes s.epoch s.release) ≡ has_prefix s s.release v
+begins_by_base s v p q z w =
+    let bytes = base_bytes v.epoch v.release ++ 0 ∷ w in
+    let front = base_bytes s.epoch s.release in
+    sym (and_true (starts_with nat_eq bytes front) (continues_with_zeros (ending_zeros s.release) (drop (length front) bytes)) (ap (λ n. continues_with_zeros n (drop (length front) bytes)) z ∙ none_continue (drop (length front) bytes)))
+    ∙ prefix_by_bytes s.epoch s.release v.epoch v.release w p.valid.epoch p.valid.release q.valid.epoch q.valid.release

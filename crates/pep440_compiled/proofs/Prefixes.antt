@@ -84,6 +84,14 @@ zero_first x = cases_Bool (x == 0)
 none_asked : (bytes : List ℕ) → begins_with_ones 0 bytes ≡ true
 none_asked bytes = ap (λ b. b && true) (le-leb 0 (length bytes) (omega arith))
 
+pub none_continue : (bytes : List ℕ) → continues_with_zeros 0 bytes ≡ true
+none_continue [] = none_asked []
+none_continue (b ∷ bytes) = ap (λ t. (b == 0) || t) (none_asked (b ∷ bytes)) ∙ or_true (b == 0)
+  where
+    or_true : (x : Bool) → x || true ≡ true
+    or_true true = refl
+    or_true false = refl
+
 more_numbers : (ys : List ℕ) → IsTrimmed (0 ∷ ys) → 0 < length ys
 more_numbers [] h = absurd (trimmed_last 0 h refl)
 more_numbers (y ∷ ys) h = omega arith

@@ -1,7 +1,7 @@
 -- The order of compiled versions by the bytes that both have.
 use Rattle.std.proofs.Common.{◌≡◌, ◌∙◌, ◌≤◌, ℕ, refl, sym, subst, ap, arith, inl, inr, List, [], ◌∷◌, ◌++◌, length, take, append_assoc}
 use Rattle.std.proofs.Math.Seq.{take-append_seam}
-use Rattle.std.proofs.lemmas.List.{length-append, take_all}
+use Rattle.std.proofs.lemmas.List.{append-nil, length-append, take_all}
 use Rattle.std.specs.Cmp.Lexicographic.{slice_cmp}
 use Rattle.std.specs.FinMap.{nat_cmp-IsAntisymmetric}
 use Rattle.std.specs.Ordering.{nat_cmp, ordering_then}
@@ -89,14 +89,21 @@ decides s t Less e other = e
 decides s t Greater e other = e
 decides s t Equal e other = absurd (other refl)
 
-pub versions_in_order : (r q : Record) → IsParsed r → IsParsed q → shared_cmp (version_bytes r) (version_bytes q) ≡ record_cmp r q
-versions_in_order r q p o =
-    elim (decided (version_bytes r) (version_bytes q)) [
-      | inl h ↦ begins_tie (version_bytes r) (version_bytes q) h ∙ sym (keys_tie r q p o (zero_bytes r.release) (zero_bytes q.release) h)
-      | inr h ↦ decides (shared_cmp (version_bytes r) (version_bytes q)) (slice_cmp nat_cmp (zero_bytes r.release) (zero_bytes q.release)) (record_cmp r q)
-          (h.0 ∙ followed_in_order r q (keyed r p) (keyed q o) (zero_bytes r.release) (zero_bytes q.release))
-          -- zeros after the same key begin with one another
+-- keys before bytes of which the one begin with the others
+followed : (r q : Record) → IsParsed r → IsParsed q → (u v : List ℕ) → Begins u v → shared_cmp (key_bytes r ++ u) (key_bytes q ++ v) ≡ record_cmp r q
+followed r q p o u v more =
+    elim (decided (key_bytes r ++ u) (key_bytes q ++ v)) [
+      | inl h ↦ begins_tie (key_bytes r ++ u) (key_bytes q ++ v) h ∙ sym (keys_tie r q p o u v h)
+      | inr h ↦ decides (shared_cmp (key_bytes r ++ u) (key_bytes q ++ v)) (slice_cmp nat_cmp u v) (record_cmp r q)
+          (h.0 ∙ followed_in_order r q (keyed r p) (keyed q o) u v)
           (λ tie.
           let same = same_bytes (key_bytes r) (key_bytes q) (keys_in_order r q (keyed r p) (keyed q o) ∙ tie) in
-          h.1 (begins_tie (version_bytes r) (version_bytes q) (subst (λ k. Begins (key_bytes r ++ zero_bytes r.release) (k ++ zero_bytes q.release)) same (begins_after (key_bytes r) (zero_bytes r.release) (zero_bytes q.release) (ones_begin _ _)))))
+          h.1 (begins_tie (key_bytes r ++ u) (key_bytes q ++ v) (subst (λ k. Begins (key_bytes r ++ u) (k ++ v)) same (begins_after (key_bytes r) u v more))))
     ]
+
+-- zeros begin with one another
+pub versions_in_order : (r q : Record) → IsParsed r → IsParsed q → shared_cmp (version_bytes r) (version_bytes q) ≡ record_cmp r q
+versions_in_order r q p o = followed r q p o (zero_bytes r.release) (zero_bytes q.release) (ones_begin _ _)
+
+pub version_and_key : (v s : Record) → IsParsed v → IsParsed s → shared_cmp (version_bytes v) (key_bytes s) ≡ record_cmp v s
+version_and_key v s q p = ap (shared_cmp (version_bytes v)) (sym (append-nil (key_bytes s))) ∙ followed v s q p (zero_bytes v.release) [] (inr (zero_bytes v.release, refl))

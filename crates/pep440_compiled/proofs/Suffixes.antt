@@ -1,12 +1,17 @@
 -- What the ranks of stage, post and dev say of a version that a string parses to.
-use Rattle.std.proofs.Common.{◌≡◌, ◌∙◌, ◌==◌, ◌||◌, ◌+◌, ◌-◌, ◌*◌, ◌++◌, ◌∷◌, [], ℕ, ◌<◌, ◌≤◌, List, refl, sym, ap, arith, Bool, false, true, Option, Some, None, get_or, length, nat_lt, lit<, take, take_all}
+use Rattle.std.proofs.Common.{◌≡◌, ◌∙◌, ◌==◌, ◌||◌, ◌+◌, ◌-◌, ◌*◌, ◌++◌, ◌∷◌, [], ℕ, ◌<◌, ◌≤◌, List, refl, sym, ap, arith, Bool, false, true, Option, Some, None, append_assoc, get_or, length, nat_lt, lit<, take, take_all}
 use Rattle.std.specs.Prelude.{drop, is_some}
 use Rattle.pep440_compiled.specs.Version.{IsParsed}
+use Rattle.std.specs.List.{flat_map}
+use Rattle.std.specs.Slice.Scan.{big_endian}
+use Rattle.pep440_compiled.proofs.ByteOrder.{AreBytes}
+use Rattle.pep440_compiled.specs.KeyParts.{suffix_bytes}
 use Rattle.pep440_keys.proofs.Bytes.{needed_le}
-use Rattle.pep440_keys.specs.SortKeys.{needed_bytes, rank_bytes}
+use Rattle.pep440_keys.proofs.Codes.{segment_opens}
+use Rattle.pep440_keys.specs.SortKeys.{local_bytes, needed_bytes, rank_bytes, segment_bytes}
 use Rattle.pep440_rs.specs.Matching.{any_prerelease}
 use Rattle.pep440_version.specs.Key.{DevPart, PostPart, Stage, dev_of, dev_rank, key, post_of, post_rank, stage_of, stage_rank}
-use Rattle.pep440_version.specs.Record.{Record}
+use Rattle.pep440_version.specs.Record.{LocalSegmentValue, Record}
 use Rattle.pep440_version.specs.declared.prerelease.Prerelease.{Prerelease}
 use Rattle.pep440_version.specs.declared.prerelease.PrereleaseKind.{PrereleaseKind}
 use Rattle.pep440_version.specs.declared.prerelease.PrereleaseKind.TheVariants.{Alpha, Beta, Rc}
@@ -54,6 +59,11 @@ post_flag (Some n) = refl
 pub post_is : (r : Record) → IsParsed r → nat_lt 0 (post_rank (post_of r.max r.post)).0 ≡ is_some r.post
 post_is r p = (λ i. nat_lt 0 (post_rank (post_of (p.round_trips.no_max i) r.post)).0) ∙ post_flag r.post
 
+pub in_turn : (r : Record) (rest : List ℕ) → suffix_bytes r ++ rest ≡ rank_bytes (stage_rank (key r).stage) ++ (rank_bytes (post_rank (key r).post) ++ (rank_bytes (dev_rank (key r).dev) ++ rest))
+in_turn r rest =
+    append_assoc (rank_bytes (stage_rank (key r).stage)) _ rest
+    ∙ ap (λ l. rank_bytes (stage_rank (key r).stage) ++ l) (append_assoc (rank_bytes (post_rank (key r).post)) (rank_bytes (dev_rank (key r).dev)) rest)
+
 -- ---- a final release
 
 empty : {A : Type 0} (xs : List A) → length xs ≡ 0 → xs ≡ []
@@ -86,3 +96,29 @@ final_parts r bytes after rest p is e =
       sym (ap (λ n. nat_lt 0 n) post.0) ∙ post_is r p,
       dev.1,
     )
+
+-- without a local part
+pub by_four : (bytes : List ℕ) → 4 ≤ length bytes → AreBytes bytes → 0x50001000 ≡ big_endian 0 (take 4 bytes) → bytes ≡ 80 ∷ 0 ∷ 16 ∷ 0 ∷ take (length bytes - 4) (drop 4 bytes)
+by_four [] some all e = absurd (omega (arith, some))
+by_four (a ∷ []) some all e = absurd (omega (arith, some))
+by_four (a ∷ b ∷ []) some all e = absurd (omega (arith, some))
+by_four (a ∷ b ∷ c ∷ []) some all e = absurd (omega (arith, some))
+by_four (a ∷ b ∷ c ∷ d ∷ rest) some all e =
+    let some_a : a < 256 = all 0 in
+    let some_b : b < 256 = all 1 in
+    let some_c : c < 256 = all 2 in
+    let some_d : d < 256 = all 3 in
+    let is_a : a ≡ 80 = omega (arith, e, some_a, some_b, some_c, some_d) in
+    let is_b : b ≡ 0 = omega (arith, e, some_a, some_b, some_c, some_d) in
+    let is_c : c ≡ 16 = omega (arith, e, some_a, some_b, some_c, some_d) in
+    let is_d : d ≡ 0 = omega (arith, e, some_a, some_b, some_c, some_d) in
+    let enough : length rest ≤ length (a ∷ b ∷ c ∷ d ∷ rest) - 4 = omega arith in
+    (λ i. is_a i ∷ is_b i ∷ is_c i ∷ is_d i ∷ sym (take_all (length (a ∷ b ∷ c ∷ d ∷ rest) - 4) rest enough) i)
+
+-- no local part begins with its end
+pub no_local_left : (local : List LocalSegmentValue) (later rest : List ℕ) → 0 ∷ later ≡ local_bytes local ++ rest → (local ≡ []) × (later ≡ rest)
+no_local_left [] later rest e = (refl, ap (drop 1) e)
+no_local_left (s ∷ local) later rest e =
+    let o = segment_opens s in
+    let first : 0 ≡ o.first = ap (λ l. get_or l 0 0) (e ∙ ap (λ l. ((l ++ flat_map segment_bytes local) ++ 0 ∷ []) ++ rest) o.is) in
+    absurd (omega (arith, first, o.above))

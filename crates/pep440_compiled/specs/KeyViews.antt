@@ -4,6 +4,7 @@ use Rattle.std.specs.List.{flat_map}
 use Rattle.pep440_compiled.specs.KeyParts.{ending_zeros, base_bytes, public_bytes, suffix_bytes}
 use Rattle.pep440_compiled.specs.Version.{IsParsed}
 use Rattle.pep440_compiled.specs.declared.checked_version.CheckedVersion.{CheckedVersion}
+use Rattle.pep440_compiled.specs.declared.views.FinalView.{FinalView}
 use Rattle.pep440_compiled.specs.declared.views.PartsView.{PartsView}
 use Rattle.pep440_compiled.specs.declared.views.VersionView.{VersionView}
 use Rattle.pep440_keys.specs.SortKeys.{key_bytes, local_bytes, number_bytes}
@@ -27,6 +28,18 @@ pub record HasParts (view : PartsView) (r : Record) : Type 0 where
   pub is_prerelease : view.suffix.is_prerelease ≡ any_prerelease r
   pub is_post : view.suffix.is_post ≡ is_some r.post
   pub has_local : view.has_local ≡ has_local r
+
+-- a final release without a local part
+pub record IsFinal (r : Record) : Type 0 where
+  pub prerelease : any_prerelease r ≡ false
+  pub post : is_some r.post ≡ false
+  pub local : has_local r ≡ false
+
+-- the parts are those of such a release
+pub record HasFinalParts (view : FinalView) (r : Record) : Type 0 where
+  pub final : IsFinal r
+  pub version : IsViewOf view.version r
+  pub release : view.release.now ≡ base_bytes r.epoch r.release ++ 0 ∷ []
 
 -- the tested parts are those of this version
 pub record HasCheckedParts (version : CheckedVersion) (r : Record) : Type 0 where

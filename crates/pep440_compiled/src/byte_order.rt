@@ -17,6 +17,15 @@ fn read_word(bytes: &[u8]) -> u64
     ])
 }
 
+// The same of the first four.
+#[inline(always)]
+pub(crate) fn read_half_word(bytes: &[u8]) -> u32
+    requires { 4 ≤ length bytes.now }
+    ensures { result ≡ big_endian 0 (take 4 bytes.now) }
+{
+    u32::from_be_bytes([bytes[0], bytes[1], bytes[2], bytes[3]])
+}
+
 /// The order of bytes as `cmp` of slices has it, in fewer instructions for few bytes. Of sort keys it is the order of the versions.
 ///
 /// Does not allocate.

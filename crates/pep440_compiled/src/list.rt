@@ -1,28 +1,29 @@
 //! Compiled lists of specifiers: made, read, asked.
-ghost use Rattle.std.specs.Prelude.{◌≡◌, ◌↔◌, ◌+◌, ◌++◌, ◌∷◌, ◌<◌, ℕ, List, true, length, Ok, Some, IfErr, IfOk, IfSome, MatchOption, OnOk, string_bytes};
+ghost use Rattle.std.specs.Prelude.{◌≡◌, ◌↔◌, ◌+◌, ◌++◌, ◌∷◌, ◌<◌, ℕ, List, false, true, length, Ok, Some, IfErr, IfOk, IfSome, MatchOption, OnOk, string_bytes};
 ghost use Rattle.std.specs.List.{All, flat_map};
 ghost use Rattle.pep440_compiled.specs.KeyParts.{BeginsOtherwise};
 ghost use Rattle.pep440_compiled.specs.Lists.{DenotesList, HasListFormat, IsParsedMember, member_bytes};
-ghost use Rattle.pep440_compiled.specs.Version.{DenotesVersion, HasVersionFormat, IsParsed};
-ghost use Rattle.pep440_compiled.specs.KeyViews.{HasParts};
+ghost use Rattle.pep440_compiled.specs.Version.{DenotesVersion, HasVersionFormat, IsParsed, version_bytes};
+ghost use Rattle.pep440_compiled.specs.KeyViews.{HasFinalParts, HasParts, IsFinal};
 ghost use Rattle.pep440_compiled.specs.declared.error.CompileError.TheVariants.{NotParsed};
 ghost use Rattle.pep440_compiled.specs.declared.error.CompiledError.TheVariants as unread;
 ghost use Rattle.pep440_compiled.specs.declared.error.ContainsError.TheVariants.{NoList, NoVersion};
 ghost use Rattle.pep440_rs.specs.Arrangement.{IsArranged};
 ghost use Rattle.pep440_rs.specs.Lists.{list_print};
-ghost use Rattle.pep440_rs.specs.Matching.{any_prerelease, list_matches};
+ghost use Rattle.pep440_rs.specs.Matching.{any_prerelease, list_matches, matches};
 ghost use Rattle.pep440_rs.specs.Operators.{operator_rank};
 ghost use Rattle.pep440_rs.specs.Prereleases.{requests_prerelease, requests_prereleases};
 ghost use Rattle.pep440_rs.specs.Specifiers.{Spec};
 ghost use Rattle.pep440_version.specs.Record.{Record};
 
+use crate::byte_order::cmp_common;
 use crate::decode::decode_version;
 use crate::error::{CompileError, CompiledError, ContainsError, NotCompiled};
-use crate::matching::matches_bytes;
+use crate::matching::{matches_bytes, matches_final};
 use crate::parsed::is_parsed;
 use crate::version::push_version;
 use crate::views::{
-    PartsView, view_final_parts, view_final_version, view_parts, view_version_parts,
+    FinalView, PartsView, split_final, strip_format, view_final, view_parts, view_version_parts,
 };
 use pep440_rs::{Operator, VersionSpecifier, VersionSpecifiers};
 use std::alloc::{AllocError, Global};
@@ -87,14 +88,12 @@ struct MemberView<'a> {
     parts: PartsView<'a>,
 }
 
-// The operator of the leading member, and the rest.
+// The operator of a member, whose first byte this is.
 #[inline(always)]
-fn split_operator(bytes: &[u8]) -> Option<(Operator, &[u8])>
-    ensures found { (o : Operator) (rest : List ℕ) → bytes.now ≡ (16 + operator_rank o) ∷ rest → MatchOption result ⊥ (λ p. (p.0 ≡ o) × (p.1.now ≡ rest)) }
-    ensures shorter { IfSome result (λ p. length p.1.now < length bytes.now) }
+fn read_operator(first: u8) -> Option<Operator>
+    ensures { (o : Operator) → first ≡ 16 + operator_rank o → MatchOption result ⊥ (λ r. r ≡ o) }
 {
-    let (first, rest) = bytes.split_first()?;
-    Some((Operator::from_number(first.checked_sub(OPERATOR)?)?, rest))
+    Operator::from_number(first.checked_sub(OPERATOR)?)
 }
 
 // The leading member, and the rest.
@@ -103,19 +102,9 @@ fn view_member(bytes: &[u8]) -> Option<(MemberView<'_>, &[u8])>
     ensures found { (s : Spec) (rest : List ℕ) → IsParsedMember s → BeginsOtherwise 1 rest → bytes.now ≡ member_bytes s ++ rest → MatchOption result ⊥ (λ p. (p.0.operator ≡ s.operator) × HasParts p.0.parts s.version × (p.1.now ≡ rest)) }
     ensures shorter { IfSome result (λ p. length p.1.now < length bytes.now) }
 {
-    let (operator, rest) = split_operator(bytes)?;
+    let (first, rest) = bytes.split_first()?;
+    let operator = read_operator(*first)?;
     let (parts, rest) = view_parts(rest)?;
-    Some((MemberView { operator, parts }, rest))
-}
-
-// The same, if the version of the leading member is a final release without a local part.
-#[inline(always)]
-fn view_final_member(bytes: &[u8]) -> Option<(MemberView<'_>, &[u8])>
-    ensures found { (s : Spec) (rest : List ℕ) → IsParsedMember s → BeginsOtherwise 1 rest → bytes.now ≡ member_bytes s ++ rest → IfSome result (λ p. (p.0.operator ≡ s.operator) × HasParts p.0.parts s.version × (p.1.now ≡ rest)) }
-    ensures shorter { IfSome result (λ p. length p.1.now < length bytes.now) }
-{
-    let (operator, rest) = split_operator(bytes)?;
-    let (parts, rest) = view_final_parts(rest)?;
     Some((MemberView { operator, parts }, rest))
 }
 
@@ -130,23 +119,35 @@ fn view_members(bytes: &[u8]) -> Option<&[u8]>
     }
 }
 
-// As `contains`, if each version is a final release without a local part, as most are.
+// Whether a final release meets a member, by the member's first byte; of most operators.
 #[inline(always)]
-fn contains_final(list: &[u8], version: &[u8]) -> Option<(bool, bool)>
-    ensures found { (l : List Spec) (r : Record) → DenotesList list.now l → DenotesVersion version.now r → IfSome result (λ found. found ≡ (list_matches l r, any_prerelease r)) }
-    ensures prerelease { (r : Record) → DenotesVersion version.now r → IfSome result (λ found. found.1 ≡ any_prerelease r) }
+fn meets_final(first: u8, member: &FinalView<'_>, version: &[u8]) -> Option<bool>
+    ensures { (s : Spec) (v : Record) → first ≡ 16 + operator_rank s.operator → HasFinalParts member.now s.version → IsParsed v → IsFinal v → version.now ≡ version_bytes v → IfSome result (λ b. b ≡ matches s.operator s.version v) }
+{
+    let order = cmp_common(version, member.version.key);
+    // After the order, so that one test serves for reading the operator and for the choice.
+    let operator = read_operator(first)?;
+    matches_final(operator, order, member, version)
+}
+
+// As `contains`, if each version is a final release without a local part, as most are; of most operators.
+#[inline(always)]
+fn contains_final(list: &[u8], version: &[u8]) -> Option<bool>
+    ensures found { (l : List Spec) (r : Record) → DenotesList list.now l → DenotesVersion version.now r → IfSome result (λ b. b ≡ list_matches l r) }
+    ensures prerelease { (r : Record) → DenotesVersion version.now r → IfSome result (λ _. any_prerelease r ≡ false) }
     ensures format { IfSome result (λ _. HasListFormat list.now × HasVersionFormat version.now) }
 {
-    let parts = view_final_version(version)?;
+    let version = strip_format(version)?;
+    split_final(version)?;
     let mut left = view_members(list)?;
-    while !left.is_empty() {
-        let (member, rest) = view_final_member(left)?;
-        if !matches_bytes(member.operator, &member.parts, &parts) {
-            return Some((false, parts.suffix.is_prerelease));
+    while let Some((first, member)) = left.split_first() {
+        let (member, rest) = view_final(member)?;
+        if !meets_final(*first, &member, version)? {
+            return Some(false);
         }
         left = rest;
     }
-    Some((true, parts.suffix.is_prerelease))
+    Some(true)
 }
 
 // As `contains`, of any versions.
@@ -190,7 +191,7 @@ pub fn contains(list: &[u8], version: &[u8]) -> Result<(bool, bool), ContainsErr
     ensures list { IfErr result (λ e. e ≡ NoList → (l : List Spec) → DenotesList list.now l → ⊥) }
 {
     match contains_final(list, version) {
-        Some(found) => Ok(found),
+        Some(found) => Ok((found, false)),
         None => contains_any(list, version),
     }
 }

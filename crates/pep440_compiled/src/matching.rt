@@ -1,8 +1,8 @@
 //! What matching asks of two compiled versions, by their bytes (PEP 440, "Version specifiers").
 ghost use Rattle.std.specs.Prelude.{◌≡◌, ◌≤◌, ◌<◌, ◌++◌, ◌∷◌, ◌&&◌, ◌==◌, [], ℕ, List, false, true, is_some, length, nat_eq, MatchOption, IfSome};
 ghost use Rattle.pep440_compiled.specs.KeyParts.{begins_with_ones, continues_with_zeros, ending_zeros, base_bytes, suffix_bytes};
-ghost use Rattle.pep440_compiled.specs.Version.{IsParsed};
-ghost use Rattle.pep440_compiled.specs.KeyViews.{HasParts, IsViewOf, is_compared};
+ghost use Rattle.pep440_compiled.specs.Version.{IsParsed, version_bytes};
+ghost use Rattle.pep440_compiled.specs.KeyViews.{HasFinalParts, HasParts, IsFinal, IsViewOf, is_compared};
 ghost use Rattle.pep440_keys.specs.SortKeys.{key_bytes, local_bytes};
 ghost use Rattle.pep440_rs.specs.Matching.{begins_with, candidate, has_local, has_prefix, is_early, is_late, matches, same_release, without_last};
 ghost use Rattle.pep440_rs.specs.Specifiers.{IsSpec};
@@ -12,7 +12,7 @@ ghost use Rattle.std.specs.List.{All, starts_with};
 
 use crate::byte_order::cmp_bytes;
 use crate::key_parts::skip_ranked_number;
-use crate::views::PartsView;
+use crate::views::{FinalView, PartsView};
 use pep440_rs::Operator;
 use std::cmp::Ordering;
 
@@ -90,10 +90,10 @@ fn has_prefix(base: &[u8], zeros: usize, version: &[u8]) -> bool
 
 // The epoch and the release, without the 0 that ends it.
 #[inline(always)]
-fn base<'a>(specifier: &PartsView<'a>) -> &'a [u8]
-    ensures { (s : Record) → HasParts specifier.now s → result.now ≡ base_bytes s.epoch s.release }
+fn base(release: &[u8]) -> &[u8]
+    ensures { (epoch : ℕ) (numbers : List ℕ) → release.now ≡ base_bytes epoch numbers ++ 0 ∷ [] → result.now ≡ base_bytes epoch numbers }
 {
-    match specifier.release.split_last() {
+    match release.split_last() {
         Some((_, base)) => base,
         None => &[],
     }
@@ -104,7 +104,7 @@ fn base<'a>(specifier: &PartsView<'a>) -> &'a [u8]
 fn has_release(specifier: &PartsView<'_>, version: &[u8]) -> bool
     ensures { (s v : Record) → HasParts specifier.now s → IsParsed v → version.now ≡ key_bytes v → result ≡ has_prefix s s.release v }
 {
-    has_prefix(base(specifier), specifier.version.zeros, version)
+    has_prefix(base(specifier.release), specifier.version.zeros, version)
 }
 
 // The base without its last number, and how many zeros then end its numbers.
@@ -139,9 +139,9 @@ fn is_compatible(specifier: &PartsView<'_>, version: &[u8]) -> bool
 {
     let zeros = specifier.version.zeros;
     if zeros > 0 {
-        return has_prefix(base(specifier), zeros - 1, version);
+        return has_prefix(base(specifier.release), zeros - 1, version);
     }
-    match without_last(base(specifier)) {
+    match without_last(base(specifier.release)) {
         Some((shorter, zeros)) => has_prefix(shorter, zeros, version),
         None => false,
     }
@@ -188,4 +188,39 @@ pub(crate) fn matches_bytes(
         }
         _ => matches_other(operator, *specifier, *version),
     }
+}
+
+// The release of the final version begins with that of the specifier; `None` if this ends in zeros.
+#[inline(always)]
+fn has_final_release(specifier: &FinalView<'_>, version: &[u8]) -> Option<bool>
+    ensures { (s v : Record) → HasFinalParts specifier.now s → IsParsed v → version.now ≡ version_bytes v → IfSome result (λ b. b ≡ has_prefix s s.release v) }
+{
+    if specifier.version.zeros > 0 {
+        return None;
+    }
+    Some(version.starts_with(base(specifier.release)))
+}
+
+// Whether the specifier contains the version, if both are final releases without a local part, in this order; `None` for `===`
+// and `~=`.
+#[inline(always)]
+pub(crate) fn matches_final(
+    operator: Operator,
+    order: Ordering,
+    specifier: &FinalView<'_>,
+    version: &[u8],
+) -> Option<bool>
+    ensures { (s v : Record) → HasFinalParts specifier.now s → IsParsed v → IsFinal v → version.now ≡ version_bytes v → order ≡ record_cmp (candidate s v) s → IfSome result (λ b. b ≡ matches operator s v) }
+{
+    Some(match operator {
+        Operator::Equal => order.is_eq(),
+        Operator::NotEqual => !order.is_eq(),
+        Operator::GreaterThanEqual => order.is_ge(),
+        Operator::LessThanEqual => order.is_le(),
+        Operator::LessThan => order.is_lt(),
+        Operator::GreaterThan => order.is_gt(),
+        Operator::EqualStar => has_final_release(specifier, version)?,
+        Operator::NotEqualStar => !has_final_release(specifier, version)?,
+        _ => return None,
+    })
 }

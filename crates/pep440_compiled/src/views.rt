@@ -2,10 +2,11 @@
 ghost use Rattle.std.specs.Prelude.{◌≡◌, ◌↔◌, ◌<◌, ◌++◌, ◌∷◌, [], List, ℕ, true, length, replicate, IfSome, MatchOption};
 ghost use Rattle.pep440_compiled.specs.KeyParts.{BeginsOtherwise, base_bytes, suffix_bytes};
 ghost use Rattle.pep440_compiled.specs.Version.{DenotesVersion, HasVersionFormat, IsParsed, version_bytes, zero_bytes};
-ghost use Rattle.pep440_keys.specs.SortKeys.{local_bytes};
-ghost use Rattle.pep440_compiled.specs.KeyViews.{HasParts, IsViewOf};
+ghost use Rattle.pep440_keys.specs.SortKeys.{key_bytes, local_bytes};
+ghost use Rattle.pep440_compiled.specs.KeyViews.{HasFinalParts, HasParts, IsFinal, IsViewOf};
 ghost use Rattle.pep440_version.specs.Record.{Record};
 
+use crate::byte_order::read_half_word;
 use crate::key_parts::{Suffix, skip_local, skip_zeros, split_release, split_suffix, trim_zeros};
 
 // The format of versions.
@@ -27,6 +28,13 @@ pub(crate) struct PartsView<'a> {
     pub(crate) public: &'a [u8],
     pub(crate) suffix: Suffix,
     pub(crate) has_local: bool,
+}
+
+// A final release without a local part, and epoch and release with the 0 that ends it.
+#[derive(Clone, Copy)]
+pub(crate) struct FinalView<'a> {
+    pub(crate) version: VersionView<'a>,
+    pub(crate) release: &'a [u8],
 }
 
 /// Whether the bytes begin with the format byte of compiled versions, which no string of a version begins with.
@@ -99,18 +107,45 @@ pub(crate) fn view_parts(bytes: &[u8]) -> Option<(PartsView<'_>, &[u8])>
     view_suffix(bytes, release, rest)
 }
 
-// The same, if the leading version is a final release without a local part, as most are.
+// What follows the suffix of a final release and the 0 that ends its local part, which are tested in one piece.
 #[inline(always)]
-pub(crate) fn view_final_parts(bytes: &[u8]) -> Option<(PartsView<'_>, &[u8])>
-    ensures found { (r : Record) (rest : List ℕ) → IsParsed r → BeginsOtherwise 1 rest → bytes.now ≡ version_bytes r ++ rest → IfSome result (λ p. HasParts p.0 r × (p.1.now ≡ rest)) }
+fn strip_final_suffix(bytes: &[u8]) -> Option<&[u8]>
+    ensures { IfSome result (λ rest. bytes.now ≡ 80 ∷ 0 ∷ 16 ∷ 0 ∷ rest.now) }
+{
+    if bytes.len() < 4 {
+        return None;
+    }
+    if read_half_word(bytes) != 0x5000_1000 {
+        return None;
+    }
+    Some(&bytes[4..])
+}
+
+// Epoch and release of the leading version with the 0 that ends it, and what follows its sort key, if it is a final release
+// without a local part, as most are.
+#[inline(always)]
+pub(crate) fn split_final(bytes: &[u8]) -> Option<(&[u8], &[u8])>
+    ensures found { (r : Record) (rest : List ℕ) → IsParsed r → bytes.now ≡ key_bytes r ++ rest → IfSome result (λ p. IsFinal r × (p.0.now ≡ base_bytes r.epoch r.release ++ 0 ∷ []) × (p.1.now ≡ rest)) }
     ensures shorter { IfSome result (λ p. length p.1.now < length bytes.now) }
 {
-    let (release, rest) = split_release(bytes)?;
-    let [80, 0, 16, 0, ..] = rest else {
-        return None;
+    let (release, suffix) = split_release(bytes)?;
+    let rest = strip_final_suffix(suffix)?;
+    Some((release, rest))
+}
+
+// The leading version, if it is such a release, and the rest.
+#[inline(always)]
+pub(crate) fn view_final(bytes: &[u8]) -> Option<(FinalView<'_>, &[u8])>
+    ensures found { (r : Record) (rest : List ℕ) → IsParsed r → BeginsOtherwise 1 rest → bytes.now ≡ version_bytes r ++ rest → IfSome result (λ p. HasFinalParts p.0 r × (p.1.now ≡ rest)) }
+    ensures shorter { IfSome result (λ p. length p.1.now < length bytes.now) }
+{
+    let (release, after) = split_final(bytes)?;
+    let rest = skip_zeros(after);
+    let version = VersionView {
+        key: &bytes[..bytes.len() - after.len()],
+        zeros: after.len() - rest.len(),
     };
-    let (parts, rest) = view_suffix(bytes, release, rest)?;
-    Some((parts, rest))
+    Some((FinalView { version, release }, rest))
 }
 
 // The parts of the compiled version.
@@ -120,15 +155,5 @@ pub(crate) fn view_version_parts(bytes: &[u8]) -> Option<PartsView<'_>>
     ensures format { IfSome result (λ _. HasVersionFormat bytes.now) }
 {
     let (parts, _) = view_parts(strip_format(bytes)?)?;
-    Some(parts)
-}
-
-// The same, if the version is a final release without a local part.
-#[inline(always)]
-pub(crate) fn view_final_version(bytes: &[u8]) -> Option<PartsView<'_>>
-    ensures found { (r : Record) → DenotesVersion bytes.now r → IfSome result (λ parts. HasParts parts r) }
-    ensures format { IfSome result (λ _. HasVersionFormat bytes.now) }
-{
-    let (parts, _) = view_final_parts(strip_format(bytes)?)?;
     Some(parts)
 }

@@ -1,18 +1,10 @@
-use Rattle.std.proofs.Common.{◌≡◌, ◌∙◌, ◌==◌, ◌||◌, ◌++◌, ◌-◌, ap, arith, append_assoc, length, rules, sym, take, List, nat_lt, ℕ}
+use Rattle.std.proofs.Common.{◌∙◌, ◌==◌, ◌||◌, ◌-◌, ap, arith, length, rules, sym, take, nat_lt}
 use Rattle.std.specs.Prelude.{drop}
 use Rattle.std.proofs.lemmas.Bool.{le-ltb, lt-ltb}
 use Rattle.pep440_compiled.proofs.key_parts.split_suffix.Goals.{else-stage-lt5, then-stage-lt5}
-use Rattle.pep440_compiled.proofs.Suffixes.{by_three, dev_small, early_is, final_parts, post_is, post_small, stage_small}
+use Rattle.pep440_compiled.proofs.Suffixes.{by_three, dev_small, early_is, final_parts, in_turn, post_is, post_small, stage_small}
 use Rattle.pep440_compiled.proofs.key_parts.split_suffix.Goals as goal
-use Rattle.pep440_compiled.specs.KeyParts.{suffix_bytes}
-use Rattle.pep440_keys.specs.SortKeys.{rank_bytes}
-use Rattle.pep440_version.specs.Key.{dev_rank, key, post_rank, stage_rank}
-use Rattle.pep440_version.specs.Record.{Record}
-
-in_turn : (r : Record) (rest : List ℕ) → suffix_bytes r ++ rest ≡ rank_bytes (stage_rank (key r).stage) ++ (rank_bytes (post_rank (key r).post) ++ (rank_bytes (dev_rank (key r).dev) ++ rest))
-in_turn r rest =
-    append_assoc (rank_bytes (stage_rank (key r).stage)) _ rest
-    ∙ ap (λ l. rank_bytes (stage_rank (key r).stage) ++ l) (append_assoc (rank_bytes (post_rank (key r).post)) (rank_bytes (dev_rank (key r).dev)) rest)
+use Rattle.pep440_version.specs.Key.{dev_rank, key, stage_rank}
 
 pub returns-in-80-clause-found : goal.returns-in-80-clause-found
 returns-in-80-clause-found c r rest p e =
