@@ -1,5 +1,5 @@
 //! A first program: which of some strings are versions, and which of these the list contains; and five cores of small programs, a module
-//! each, written as a caller would write them. `docs/CALLING.md` shows parts of them.
+//! each, written as a caller would write them. `docs/CALLING.md` shows parts of them. `tests` has what else callers need of the libraries.
 #![tactic(auto)]
 
 use anyhow::Result;
@@ -20,9 +20,9 @@ fn main(rt: HostRuntime) -> Result<()> {
 }
 
 pub mod downloads;
-#[cfg(test)]
-mod example_tests;
 pub mod lock;
 pub mod page;
+#[cfg(test)]
+mod tests;
 pub mod untrusted;
 pub mod within;

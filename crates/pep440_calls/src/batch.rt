@@ -26,9 +26,9 @@ const PRERELEASE_MATCH: u8 = 3;
 // Why a batch is rejected.
 #[derive(Clone, Copy, Debug)]
 enum BatchError {
-    /// The string at this position is the first that is no version.
+    // The string at this position is the first that is no version.
     InvalidAt(usize),
-    /// Out of memory.
+    // Out of memory.
     OutOfMemory,
 }
 

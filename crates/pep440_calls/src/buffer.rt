@@ -12,14 +12,14 @@ const NO_ROOM: u8 = 4;
 
 pub(crate) const NOT_PACKED: u8 = 7;
 
-/// The number that stands for a truth value.
+// The number that stands for a truth value.
 pub(crate) fn flag(truth: bool) -> u8
     ensures { result ≡ flag truth }
 {
     if truth { 1 } else { 0 }
 }
 
-/// Writes the items at the start of the buffer if it has room.
+// Writes the items at the start of the buffer if it has room.
 pub(crate) fn put<T: Copy>(items: &[T], out: &mut [T]) -> u8
     ensures { PutsFront items.now out.old out.new result }
 {
@@ -30,7 +30,7 @@ pub(crate) fn put<T: Copy>(items: &[T], out: &mut [T]) -> u8
     OK
 }
 
-/// The same of bytes, and reports how many they are.
+// The same of bytes, and reports how many they are.
 pub(crate) fn put_and_count(bytes: &[u8], out: &mut [u8], written: &mut usize) -> u8
     ensures counted { written.new ≡ length bytes.now }
     ensures put { PutsFront bytes.now out.old out.new result }
@@ -39,8 +39,8 @@ pub(crate) fn put_and_count(bytes: &[u8], out: &mut [u8], written: &mut usize) -
     put(bytes, out)
 }
 
-/// Writes the string that a call gives at the start of the buffer if it has room, and reports how many bytes it
-/// takes.
+// Writes the string that a call gives at the start of the buffer if it has room, and reports how many bytes it
+// takes.
 pub(crate) fn put_text(given: Result<String, Fault>, out: &mut [u8], written: &mut usize) -> u8
     ensures { PutsGiven string_bytes given out.old out.new written.old written.new result }
 {
@@ -50,7 +50,7 @@ pub(crate) fn put_text(given: Result<String, Fault>, out: &mut [u8], written: &m
     }
 }
 
-/// The same of bytes that a call finds.
+// The same of bytes that a call finds.
 pub(crate) fn put_slice(given: Result<&[u8], Fault>, out: &mut [u8], written: &mut usize) -> u8
     ensures { PutsGiven (λ bytes. bytes.now) given.entry out.old out.new written.old written.new result }
 {
@@ -60,7 +60,7 @@ pub(crate) fn put_slice(given: Result<&[u8], Fault>, out: &mut [u8], written: &m
     }
 }
 
-/// The same of bytes that a call gives.
+// The same of bytes that a call gives.
 pub(crate) fn put_bytes(given: Result<Vec<u8>, Fault>, out: &mut [u8], written: &mut usize) -> u8
     ensures { PutsGiven (λ bytes. bytes.items) given out.old out.new written.old written.new result }
 {
@@ -70,7 +70,7 @@ pub(crate) fn put_bytes(given: Result<Vec<u8>, Fault>, out: &mut [u8], written: 
     }
 }
 
-/// Writes bytes and positions at the start of the two buffers if both have room.
+// Writes bytes and positions at the start of the two buffers if both have room.
 pub(crate) fn put_both(bytes: &[u8], places: &[usize], out: &mut [u8], ends: &mut [usize]) -> u8
     ensures { PutsBoth bytes.now places.now out.old out.new ends.old ends.new result }
 {
@@ -82,7 +82,7 @@ pub(crate) fn put_both(bytes: &[u8], places: &[usize], out: &mut [u8], ends: &mu
     OK
 }
 
-/// The same of strings one after the other, and reports how many bytes and how many strings they are.
+// The same of strings one after the other, and reports how many bytes and how many strings they are.
 pub(crate) fn put_joined(
     given: Result<JoinedStrings, Fault>,
     out: &mut [u8],

@@ -21,18 +21,18 @@ use std::alloc::{AllocError, AllocFailed, Global};
 // Why there is no edited version.
 #[derive(Clone, Copy, Debug)]
 enum EditError {
-    /// The string is no version.
+    // The string is no version.
     InvalidVersion,
-    /// The change with this number, counted from 1, is the first that is no change word.
+    // The change with this number, counted from 1, is the first that is no change word.
     NotAChange(usize),
-    /// A change cannot be made.
+    // A change cannot be made.
     Change(ChangeError),
-    /// Out of memory.
+    // Out of memory.
     OutOfMemory,
 }
 
 impl EditError {
-    /// The status that says it.
+    // The status that says it.
     pub(crate) fn status(self) -> u8
         ensures { result ≡ edit_status self }
     {

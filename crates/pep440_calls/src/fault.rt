@@ -7,23 +7,23 @@ use pep440_compiled::CompileError;
 use pep440_rs::RangeError;
 use std::alloc::{AllocError, AllocFailed};
 
-/// Why a call gives nothing.
+// Why a call gives nothing.
 #[derive(Clone, Copy, Debug)]
 pub(crate) enum Fault {
-    /// A string is no version.
+    // A string is no version.
     InvalidVersion,
-    /// A string is no list of specifiers.
+    // A string is no list of specifiers.
     InvalidList,
-    /// Out of memory.
+    // Out of memory.
     OutOfMemory,
-    /// A bound of a range would need a number above the greatest.
+    // A bound of a range would need a number above the greatest.
     NumberAtMax,
-    /// The right one of two versions is none.
+    // The right one of two versions is none.
     InvalidRight,
 }
 
 impl Fault {
-    /// The status that says it.
+    // The status that says it.
     pub(crate) fn status(self) -> u8
         ensures { result ≡ fault_status self }
     {

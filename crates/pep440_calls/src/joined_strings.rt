@@ -7,7 +7,7 @@ use pep440_keys::push_sort_key;
 use pep440_rs::Version;
 use std::alloc::{AllocError, Global};
 
-/// Strings one after the other, and the end of each.
+// Strings one after the other, and the end of each.
 #[derive(Drop)]
 pub(crate) struct JoinedStrings {
     pub(crate) bytes: Vec<u8>,
@@ -15,7 +15,7 @@ pub(crate) struct JoinedStrings {
 }
 
 impl JoinedStrings {
-    /// No string, with room for the ends of so many.
+    // No string, with room for the ends of so many.
     pub(crate) fn with_capacity(alloc: Global, count: usize) -> Result<JoinedStrings, AllocError>
         ensures { IfOk result (λ joined. Joins [] joined.bytes.items joined.ends.items) }
     {
@@ -25,7 +25,7 @@ impl JoinedStrings {
         })
     }
 
-    /// One more string.
+    // One more string.
     pub(crate) fn push(&mut self, string: &[u8]) -> Result<(), AllocError>
         ensures bytes { IfOk result (λ _. self.new.bytes.items ≡ self.old.bytes.items ++ string.now) }
         ensures ends { IfOk result (λ _. self.new.ends.items ≡ self.old.ends.items ++ length self.new.bytes.items ∷ []) }
@@ -35,7 +35,7 @@ impl JoinedStrings {
         Ok(())
     }
 
-    /// The sort key of a version as one more string.
+    // The sort key of a version as one more string.
     pub(crate) fn push_key(&mut self, version: &Version) -> Result<(), AllocError>
         ensures bytes { IfOk result (λ _. self.new.bytes.items ≡ self.old.bytes.items ++ key_bytes version.now) }
         ensures ends { IfOk result (λ _. self.new.ends.items ≡ self.old.ends.items ++ length self.new.bytes.items ∷ []) }

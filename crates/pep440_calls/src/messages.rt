@@ -145,7 +145,7 @@ fn explain_compiled(alloc: Global, bytes: &[u8]) -> Result<String, Fault>
     }
 }
 
-/// Why the bytes are no version; empty if they are one.
+// Why the bytes are no version; empty if they are one.
 pub(crate) fn explain_version(alloc: Global, bytes: &[u8]) -> Result<String, Fault>
     ensures { Gives ⊥ ⊥ ⊥ (λ words. IsErrorOf to_be.Version bytes.now (string_bytes words)) result }
 {

@@ -68,7 +68,7 @@ fn has_prerelease(list: &VersionSpecifiers) -> bool
     list.as_slice().iter().any(|member| member.any_prerelease())
 }
 
-/// Whether a version of the list is a pre-release or a developmental release.
+// Whether a version of the list is a pre-release or a developmental release.
 fn any_prerelease(alloc: Global, list: &[u8]) -> Result<bool, Fault>
     ensures { Gives ⊥ (RefusesListBytes list.now) ⊥ (NamesPrerelease list.now) result }
 {

@@ -39,7 +39,7 @@ fn read_compiled(alloc: Global, bytes: &[u8]) -> Result<Version, Fault>
     }
 }
 
-/// The version that the bytes denote.
+// The version that the bytes denote.
 pub(crate) fn read(alloc: Global, bytes: &[u8]) -> Result<Version, Fault>
     ensures { Gives (RefusesBytes bytes.now) ⊥ ⊥ (MeansBytes bytes.now) result }
 {
@@ -78,7 +78,7 @@ fn read_compiled_list(alloc: Global, bytes: &[u8]) -> Result<VersionSpecifiers, 
     }
 }
 
-/// The list that the bytes denote.
+// The list that the bytes denote.
 pub(crate) fn read_list(alloc: Global, bytes: &[u8]) -> Result<VersionSpecifiers, Fault>
     ensures { Gives ⊥ (RefusesListBytes bytes.now) ⊥ (MeansListBytes bytes.now) result }
 {

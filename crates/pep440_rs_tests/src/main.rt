@@ -1,103 +1,44 @@
-//! Test cases of specifiers, lists, ranges, bounds and JSON strings, of the version that a list contains, of requirements and of
-//! the newest candidate, read from standard input; `stdin` beside `src/` says what each call prints.
+//! Test cases of the library, read from standard input: of versions and patterns, of specifiers and lists, and of the crates upon it that need
+//! no other; `stdin` beside `src/` says what each call prints.
 #![tactic(auto)]
 
 mod bounds;
 mod choices;
+mod edits;
+mod errors;
+mod hashing;
 mod json;
 mod matching;
 mod operators;
+mod order;
 mod parsers;
+mod parts;
+mod printing;
 mod ranges;
+mod recorder;
 mod requirements;
+mod specifier_calls;
+mod version_calls;
+mod version_parsers;
 mod witness;
 
-use bounds::{lower_bound, pairs, upper_bound};
-use choices::{allowed_range, newest_candidate};
-use json::{
-    json_list, json_specifier, json_version, list_of_json, specifier_of_json, version_of_json,
-};
-use matching::{
-    allows, build, compare, compare_releases, compare_without_local, contains, contains_unchecked,
-    print_unchecked,
-};
-use operators::{operator, operator_number, operator_of_number};
-use parsers::{list, list_of, members, specifier};
-use ranges::{beside, cover, cover_beside, intersection, range, release_range, unchecked_range};
-use requirements::{is_name, requirement, requirement_position, same_names, specifiers_for};
+use specifier_calls::answer_of_specifiers;
 use std::alloc::Global;
 use std::io;
 use testing::{Calls, CaseError, run_cases};
-use witness::version_in;
+use version_calls::answer_of_versions;
 
-struct SpecifierCalls;
+struct LibraryCalls;
 
-fn of_one(alloc: Global, call: &str, text: &str) -> Result<String, CaseError> {
-    match call {
-        "operator" => operator(alloc, text),
-        "operator-number" => operator_number(alloc, text),
-        "operator-of-number" => operator_of_number(alloc, text),
-        "specifier" => specifier(alloc, text),
-        "list" => list(alloc, text),
-        "members" => members(alloc, text),
-        "range" => range(alloc, text),
-        "cover" => cover(alloc, text),
-        "release-range" => release_range(alloc, text),
-        "version-in" => version_in(alloc, text),
-        "lower-bound" => lower_bound(alloc, text),
-        "upper-bound" => upper_bound(alloc, text),
-        "json-version" => json_version(alloc, text),
-        "json-specifier" => json_specifier(alloc, text),
-        "json-list" => json_list(alloc, text),
-        "version-of-json" => version_of_json(alloc, text),
-        "specifier-of-json" => specifier_of_json(alloc, text),
-        "list-of-json" => list_of_json(alloc, text),
-        "is-name" => is_name(alloc, text),
-        "requirement" => requirement(alloc, text),
-        "requirement-position" => requirement_position(alloc, text),
-        _ => Err(CaseError::Unreadable),
-    }
-}
-
-fn of_two(alloc: Global, call: &str, one: &str, other: &str) -> Result<String, CaseError> {
-    match call {
-        "contains" => contains(alloc, one, other),
-        "allows" => allows(alloc, one, other),
-        "compare" => compare(alloc, one, other),
-        "compare-releases" => compare_releases(alloc, one, other),
-        "compare-without-local" => compare_without_local(alloc, one, other),
-        "build" => build(alloc, one, other),
-        "unchecked" => print_unchecked(alloc, one, other),
-        "unchecked-range" => unchecked_range(alloc, one, other),
-        "beside" => beside(alloc, one, other),
-        "cover-beside" => cover_beside(alloc, one, other),
-        "same-names" => same_names(alloc, one, other),
-        "specifiers-for" => specifiers_for(alloc, one, other),
-        "newest" => newest_candidate(alloc, one, other),
-        _ => Err(CaseError::Unreadable),
-    }
-}
-
-impl Calls for SpecifierCalls {
+impl Calls for LibraryCalls {
     fn answer(&self, alloc: Global, call: &str, arguments: &[String]) -> Result<String, CaseError> {
-        match (call, arguments) {
-            ("pairs", sides) => pairs(alloc, sides),
-            ("list-of", specifiers) => list_of(alloc, specifiers),
-            ("unchecked-contains", [operator, operand, version]) => contains_unchecked(
-                alloc,
-                operator.as_str(),
-                operand.as_str(),
-                version.as_str(),
-            ),
-            ("intersection", sides) => intersection(alloc, sides),
-            ("allowed", [name, lines @ ..]) => allowed_range(alloc, name.as_str(), lines),
-            (_, [text]) => of_one(alloc, call, text.as_str()),
-            (_, [one, other]) => of_two(alloc, call, one.as_str(), other.as_str()),
-            _ => Err(CaseError::Unreadable),
+        match answer_of_versions(alloc, call, arguments) {
+            Err(CaseError::Unreadable) => answer_of_specifiers(alloc, call, arguments),
+            answer => answer,
         }
     }
 }
 
 fn main(rt: HostRuntime) -> io::Result<()> {
-    run_cases(rt, &SpecifierCalls)
+    run_cases(rt, &LibraryCalls)
 }

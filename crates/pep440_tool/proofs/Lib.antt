@@ -1,4 +1,3 @@
-pub mod Bytes
 pub mod Each
 pub mod LinesLeft
 pub mod OneAnswer

@@ -3,15 +3,9 @@ use Rattle.std.proofs.Common.{Bor, ◌≡◌, ◌==◌, ◌+◌, ◌<◌, ◌^�
 use Rattle.std.proofs.lemmas.List.{drop_more}
 use Rattle.std.specs.Option.{option_map_or}
 use Rattle.std.proofs.lemmas.List.Splits.{slice_split_at}
-use Rattle.pep440_tool.specs.Lines.{is_skipped, input_lines, numbered_from}
+use Rattle.pep440_tool.specs.Lines.{is_skipped, numbered_from}
+use Rattle.cli_io.specs.Newlines.{input_lines}
 use Rattle.pep440_tool.specs.LinesLeft.{left_of}
-
--- the first line ends at the first newline
-pub line_read : (input : List ℕ) (i : ℕ) → i < length input → get_or input i 0 ≡ 10 → All (λ x. (x == 10) ≡ false) (take i input) → input_lines input ≡ take i input ∷ input_lines (drop (i + 1) input)
-line_read input i inside newline before =
-    let parts : input ≡ take i input ++ 10 ∷ drop (i + 1) input =
-    sym (take-append-drop i input) ∙ ap (λ (zs : List ℕ). take i input ++ zs) (drop_more input i 0 inside ∙ ap (λ (z : ℕ). z ∷ drop (i + 1) input) newline) in
-    ap input_lines parts ∙ slice_split_at (λ x. x == 10) (take i input) 10 (drop (i + 1) input) before refl
 
 -- one line more was read, of what was left
 one_line : (read : ℕ) (rest : Option (Bor (List ℕ))) (text : Bor (List ℕ)) (line : List ℕ) (later : List (List ℕ)) → rest ≡ Some text → input_lines text.now ≡ line ∷ later → left_of read rest ≡ numbered_from (read + 1) (line ∷ later)

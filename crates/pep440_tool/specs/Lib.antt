@@ -4,7 +4,6 @@ pub mod Lines
 pub mod Picks
 pub mod Commands
 pub mod OneAnswer
-pub mod Streams
 pub mod Runs
 pub mod CommandErrors
 pub mod LinesLeft

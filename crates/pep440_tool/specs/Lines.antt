@@ -1,7 +1,8 @@
 -- The output of `filter`: the versions of the input's lines that the list contains, in ascending order.
 use Rattle.std.specs.Prelude.{◌≡◌, ◌⊎◌, ◌==◌, ◌||◌, ℕ, List, Bool, codes, map, not}
-use Rattle.std.specs.List.{enumerate_from, filter, list_all, slice_split}
+use Rattle.std.specs.List.{enumerate_from, filter, list_all}
 use Rattle.std.specs.Str.{IsUtf8}
+use Rattle.cli_io.specs.Newlines.{input_lines}
 use Rattle.pep440_rs.specs.Arrangement.{ArrangesBy}
 use Rattle.pep440_rs.specs.Matching.{list_matches}
 use Rattle.pep440_rs.specs.Specifiers.{Spec}
@@ -14,10 +15,6 @@ use Rattle.pep440_version.specs.Refusals.{Refusal, Refuses}
 use Rattle.pep440_tool.specs.Answers.{ReadsEach, ReadsList, ToolAnswer, line_fault_text, refused, shown_lines}
 
 -- ---- lines
-
--- the lines of the input: they end at a newline or at the end
-abbrev pub input_lines : List ℕ → List (List ℕ)
-input_lines input = slice_split (λ b. b == 10) input
 
 -- a tab, form feed, carriage return or space
 abbrev pub is_line_blank : ℕ → Bool

@@ -2,7 +2,8 @@
 use Rattle.std.specs.Prelude.{ℕ, ◌+◌, List, [], Option, length}
 use Rattle.std.specs.Borrow.{Bor}
 use Rattle.std.specs.Option.{option_map_or}
-use Rattle.pep440_tool.specs.Lines.{input_lines, numbered_from}
+use Rattle.cli_io.specs.Newlines.{input_lines}
+use Rattle.pep440_tool.specs.Lines.{numbered_from}
 use Rattle.pep440_tool.specs.declared.input_lines.Lines.{Lines}
 
 -- those that are not skipped, with their numbers, by what is left of the input and how many lines were read

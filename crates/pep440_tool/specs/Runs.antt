@@ -3,7 +3,7 @@ use Rattle.std.specs.Prelude.{◌≡◌, ℕ, ◌≤◌, ◌⊎◌, Bool, true, 
 use Rattle.std.specs.Io.KnownBytes.{Consumes, Appends, IsAtEnd}
 use Rattle.pep440_tool.specs.Answers.{ToolAnswer}
 use Rattle.pep440_tool.specs.Commands.{IsAnswer, asked, reads_input}
-use Rattle.pep440_tool.specs.Streams.{WroteBeginning}
+use Rattle.cli_io.specs.Streams.{WroteBeginning}
 use Rattle.pep440_tool.specs.Texts.{memory_text}
 
 module _ {R W : Type 0} (remaining : R → Option (List ℕ)) (contents : W → Option (List ℕ)) where

@@ -32,7 +32,7 @@ fn parse_line(alloc: Global, line: Line<'_>) -> Result<Version, CommandError>
 }
 
 // One more version, where the list contains it.
-fn push_contained(
+fn push_match(
     alloc: Global,
     list: &VersionSpecifiers,
     version: Version,
@@ -47,7 +47,7 @@ fn push_contained(
 }
 
 // The versions of the lines that the list contains, in the order of the lines.
-fn parse_contained(
+fn parse_matches(
     alloc: Global,
     list: &VersionSpecifiers,
     input: &[u8],
@@ -58,7 +58,7 @@ fn parse_contained(
     let mut lines = Lines::new(input);
     while let Some((line, later)) = lines.next_line() {
         let version = parse_line(alloc, line)?;
-        push_contained(alloc, list, version, &mut versions)?;
+        push_match(alloc, list, version, &mut versions)?;
         lines = later;
     }
     Ok(versions)
@@ -102,7 +102,7 @@ pub(crate) fn filter_lines(alloc: Global, word: &str, input: &[u8]) -> Result<An
     ensures { Answered (FilterAnswer word.now input.now) result }
 {
     let list = parse_list(alloc, word)?;
-    let mut versions = parse_contained(alloc, &list, input)?;
+    let mut versions = parse_matches(alloc, &list, input)?;
     versions.sort()?;
     let lines = SortedVersions {
         versions: versions.as_slice(),

@@ -2,23 +2,12 @@
 ghost use Rattle.std.specs.Prelude.{◌≡◌, ◌+◌, ◌<◌, ◌∷◌, ◌^◌, [], length, IfSome, MatchResult};
 ghost use Rattle.std.specs.Option.{ForSome, option_map_or};
 ghost use Rattle.std.specs.Str.{IsUtf8};
-ghost use Rattle.pep440_tool.specs.Lines.{is_skipped, input_lines, numbered_lines};
+ghost use Rattle.pep440_tool.specs.Lines.{is_skipped, numbered_lines};
+ghost use Rattle.cli_io.specs.Newlines.{input_lines};
 ghost use Rattle.pep440_tool.specs.declared.error.CommandError.TheVariants.{NotUtf8};
 
 use crate::error::CommandError;
-
-/// The first line, and what follows its newline if it has one. Allocates nothing.
-pub fn split_line(input: &[u8]) -> (&[u8], Option<&[u8]>)
-    ensures lines { input_lines input.now ≡ result.0.now ∷ option_map_or (λ rest. input_lines rest.now) result.1 [] }
-    ensures shorter { IfSome result.1 (λ rest. length rest.now < length input.now) }
-{
-    for (at, byte) in input.iter().enumerate() {
-        if *byte == b'\n' {
-            return (&input[..at], Some(&input[at + 1..]));
-        }
-    }
-    (input, None)
-}
+use cli_io::split_line;
 
 // Only blanks.
 fn is_skipped(line: &[u8]) -> bool

@@ -15,9 +15,7 @@ mod pick;
 mod print_range;
 mod program;
 mod show_version;
-pub mod stream;
 
 pub use command::answer;
-pub use input_lines::split_line;
 pub use output::Answer;
 pub use program::{refuse, run};

@@ -3,10 +3,10 @@ ghost use Rattle.std.specs.Prelude.{◌≡◌, ◌⊎◌, ◌≤◌, map, string
 ghost use Rattle.pep440_tool.specs.Texts.{memory_text};
 ghost use Rattle.std.specs.Io.KnownBytes.{Appends};
 ghost use Rattle.pep440_tool.specs.Runs.{RunEnds};
-ghost use Rattle.pep440_tool.specs.Streams.{WroteBeginning};
+ghost use Rattle.cli_io.specs.Streams.{WroteBeginning};
 
 use crate::command::Command;
-use crate::stream::{ReadFailure, read_whole, write_whole};
+use cli_io::{ReadFailure, read_whole, write_whole};
 use std::alloc::Global;
 use std::io::{Read, Write};
 

@@ -4,7 +4,7 @@ use Rattle.std.proofs.lemmas.Bool.{cond-false, cond-true, eqb-true, le-ltb, lt-l
 use Rattle.std.proofs.lemmas.List.Elements.{All-head, All-tail}
 use Rattle.std.specs.List.{All, flat_map}
 use Rattle.std.specs.Str.{is_utf8}
-use Rattle.pyver_findings.specs.Escapes.{hex_digit, hex_digits, is_printable}
+use Rattle.cli_io.specs.Escapes.{hex_digit, hex_digits, is_printable}
 use Rattle.pyver_findings.specs.JsonStrings.{JsonStringsDiffer, json_byte}
 
 -- ---- a byte read again

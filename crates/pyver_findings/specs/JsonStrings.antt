@@ -2,7 +2,7 @@
 use Rattle.std.specs.Prelude.{◌≡◌, ℕ, ◌<◌, ◌==◌, ◌||◌, ◌&&◌, List, [], ◌∷◌, ◌++◌, Bool, codes, nat_le, nat_lt, if◌then◌else◌}
 use Rattle.std.specs.List.{All, flat_map}
 use Rattle.std.specs.Str.{is_utf8}
-use Rattle.pyver_findings.specs.Escapes.{hex_digits, is_printable}
+use Rattle.cli_io.specs.Escapes.{hex_digits, is_printable}
 
 -- a byte of a string that is UTF-8 or not: itself, after a backslash if it is a quote or a backslash; `\u00` and its digits if it is a
 -- control character; and of a string that is not UTF-8 the surrogate `\udc` and its digits for a byte beyond ASCII

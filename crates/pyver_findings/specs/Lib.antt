@@ -1,4 +1,3 @@
-pub mod Escapes
 pub mod JsonStrings
 pub mod FileLines
 pub mod Demands

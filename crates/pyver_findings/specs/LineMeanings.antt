@@ -15,7 +15,7 @@ use Rattle.pyver_requirements.specs.declared.marker_fault.MarkerFault.{MarkerFau
 use Rattle.pyver_requirements.specs.declared.marker_fault.MarkerFault.TheVariants as marker_fault
 use Rattle.pyver_findings.specs.Demands.{Demand, line_demand}
 use Rattle.pyver_findings.specs.Columns.{column, marker_column, list_column}
-use Rattle.pyver_findings.specs.Escapes.{is_printable}
+use Rattle.cli_io.specs.Escapes.{is_printable}
 use Rattle.pyver_findings.specs.FileLines.{FileLine}
 use Rattle.pyver_findings.specs.Findings.{Finding, NoRequirement}
 use Rattle.pyver_findings.specs.declared.cause.Cause.{Cause}

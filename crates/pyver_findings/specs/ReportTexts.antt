@@ -9,7 +9,7 @@ use Rattle.pyver_findings.specs.declared.cause.Cause.{Cause}
 use Rattle.pyver_findings.specs.declared.cause.Cause.TheVariants as cause
 use Rattle.pyver_findings.specs.declared.finding.Conflict.{Conflict}
 use Rattle.pyver_findings.specs.declared.finding.Conflict.TheVariants.{NoVersion, PinOutside, TwoPins}
-use Rattle.pyver_findings.specs.Escapes.{escaped}
+use Rattle.cli_io.specs.Escapes.{escaped}
 
 -- ---- findings
 

@@ -4,7 +4,7 @@ ghost use Rattle.std.specs.List.{flat_map};
 ghost use Rattle.std.specs.Str.{is_utf8};
 ghost use Rattle.pyver_findings.specs.JsonStrings.{json_byte, json_string};
 
-use crate::escape::{is_printable, push_hex_digits};
+use cli_io::{is_printable, push_hex_digits};
 use std::alloc::AllocError;
 
 // The byte at the end, of a string that is UTF-8 or not.

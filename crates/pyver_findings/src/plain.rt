@@ -3,7 +3,7 @@ ghost use Rattle.std.specs.Prelude.{◌≡◌, ◌≤◌, IfErr, IfOk, length};
 ghost use Rattle.std.specs.List.{prefix_len};
 ghost use Rattle.pyver_findings.specs.LineMeanings.{IsPlain, is_plain_byte};
 
-use crate::escape::is_printable;
+use cli_io::is_printable;
 use std::str;
 
 fn is_plain_byte(byte: u8) -> bool

@@ -7,10 +7,10 @@ ghost use Rattle.pyver_findings.specs.ReportTexts.{caret_text, cause_text, colum
 ghost use Rattle.pyver_findings.specs.Views.{file_line_of, finding_of, report_of};
 
 use crate::cause::Cause;
-use crate::escape::push_escaped;
 use crate::file_line::FileLine;
 use crate::finding::{Conflict, Finding};
 use crate::report::Report;
+use cli_io::push_escaped;
 use std::alloc::{AllocError, Global};
 
 // The string at the end.

@@ -5,18 +5,19 @@ use Rattle.std.specs.Prelude.{Err, IfOk, Ok, Result, is_ok}
 use Rattle.pyver_tool.proofs.FileReads.{stops_at_once}
 use Rattle.pyver_tool.proofs.RunEnds.{some_source}
 use Rattle.pyver_tool.specs.Checks.{CheckResult, Checks, ChecksGroup, ChecksGroups, EndsCheck, GainsReport, StopsCheck, StopsGroup, StopsGroups, check_outcome, check_status, findings_text, none_checked, summary, together_note, unopened_text, word_groups}
-use Rattle.pyver_tool.specs.Outcomes.{Outcome}
+use Rattle.pyver_commands.specs.Outcomes.{Outcome}
 use Rattle.pyver_tool.specs.RequirementFiles.{StopsInFiles, word_file}
-use Rattle.pep440_tool.specs.Streams.{WroteBeginning}
-use Rattle.pyver_tool.specs.Runs.{WritesAnswer, memory_message}
-use Rattle.pyver_tool.specs.SourceViews.{Reports}
-use Rattle.pyver_tool.specs.Sources.{KnownFile, no_input, source_names}
+use Rattle.cli_io.specs.Streams.{WroteBeginning}
+use Rattle.pyver_tool.specs.Runs.{WritesAnswer}
+use Rattle.pyver_commands.specs.LastMessages.{memory_message}
+use Rattle.pyver_commands.specs.SourceViews.{Reports}
+use Rattle.pyver_commands.specs.Sources.{KnownFile, no_input, source_names}
 use Rattle.pyver_tool.specs.Tasks.{Check, IsOutcome, NeedsInput, Task}
 use Rattle.pyver_tool.specs.declared.check.CheckOptions.{CheckOptions}
 use Rattle.pyver_tool.specs.declared.file_kind.FileKind.{FileKind}
 use Rattle.pyver_tool.specs.declared.file_kind.FileKind.TheVariants as file_kind
-use Rattle.pyver_tool.specs.declared.stream.RunFailure.{RunFailure}
-use Rattle.pyver_tool.specs.declared.stream.RunFailure.TheVariants as run_failure
+use Rattle.pyver_commands.specs.declared.stream.RunFailure.{RunFailure}
+use Rattle.pyver_commands.specs.declared.stream.RunFailure.TheVariants as run_failure
 use Rattle.pyver_findings.specs.ReportTexts.{summary_text}
 use Rattle.pyver_findings.specs.Reports.{Report}
 

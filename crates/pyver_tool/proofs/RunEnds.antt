@@ -2,20 +2,21 @@
 use Rattle.std.proofs.Common.{◌≡◌, ◌⊎◌, ◌∙◌, ◌≤◌, ℕ, List, [], ◌∷◌, ◌++◌, Option, None, Some, inl, inr, refl, sym, ap, subst, arith, append_assoc}
 use Rattle.std.proofs.KnownBytes.{Appends-trans}
 use Rattle.std.specs.Io.KnownBytes.{Appends}
-use Rattle.pyver_tool.specs.FilterSteps.{FilterFinishes, FilterStops}
-use Rattle.pyver_tool.specs.Filters.{Filters}
-use Rattle.pyver_tool.specs.InputLines.{Source}
-use Rattle.pyver_tool.specs.Outcomes.{Outcome}
-use Rattle.pep440_tool.specs.Streams.{WroteBeginning}
-use Rattle.pyver_tool.specs.Runs.{Ends, IsLast, IsReadMessage, IsStopped, IsUnanswered, ReadsSome, WritesAnswer, memory_message}
-use Rattle.pyver_tool.specs.SourceViews.{IsRunFailureOf, Reports}
-use Rattle.pyver_tool.specs.Sources.{Input, KnownFile, ReadsFirst, ReadsInput, StopsReading, input_name, last_name, no_input, source_names}
+use Rattle.pyver_commands.specs.FilterSteps.{FilterFinishes, FilterStops}
+use Rattle.pyver_commands.specs.Filters.{Filters}
+use Rattle.pyver_commands.specs.InputLines.{Source}
+use Rattle.pyver_commands.specs.Outcomes.{Outcome}
+use Rattle.cli_io.specs.Streams.{WroteBeginning}
+use Rattle.pyver_tool.specs.Runs.{Ends, IsStopped, IsUnanswered, ReadsSome, WritesAnswer}
+use Rattle.pyver_commands.specs.LastMessages.{IsLast, IsReadMessage, memory_message}
+use Rattle.pyver_commands.specs.SourceViews.{IsRunFailureOf, Reports}
+use Rattle.pyver_commands.specs.Sources.{Input, KnownFile, ReadsFirst, ReadsInput, StopsReading, input_name, last_name, no_input, source_names}
 use Rattle.pyver_tool.specs.Tasks.{Bump, Check, Compare, Filter, Help, IsOutcome, IsStream, Match, Misused, NameVersion, NeedsInput, Newest, Range, Show, Sort, Task, names_of, task_of}
-use Rattle.pyver_tool.specs.WholeInputs.{AnswersInput, WholeFinishes, WholeStops}
-use Rattle.pyver_tool.specs.declared.filter.FilterRule.{FilterRule}
-use Rattle.pyver_tool.specs.declared.stream.RunFailure.{RunFailure}
-use Rattle.pyver_tool.specs.declared.stream.RunFailure.TheVariants as run_failure
-use Rattle.pyver_tool.specs.declared.whole_input.Question.{Question}
+use Rattle.pyver_commands.specs.WholeInputs.{AnswersInput, WholeFinishes, WholeStops}
+use Rattle.pyver_commands.specs.declared.filter.FilterRule.{FilterRule}
+use Rattle.pyver_commands.specs.declared.stream.RunFailure.{RunFailure}
+use Rattle.pyver_commands.specs.declared.stream.RunFailure.TheVariants as run_failure
+use Rattle.pyver_commands.specs.declared.whole_input.Question.{Question}
 
 -- there is a first source
 pub some_source : (names : List (List ℕ)) → (name : List ℕ) × (left : List (List ℕ)) × (source_names names ≡ name ∷ left)

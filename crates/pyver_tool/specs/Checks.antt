@@ -2,17 +2,17 @@
 use Rattle.std.specs.Prelude.{◌≡◌, ◌⊎◌, ℕ, List, [], ◌∷◌, ◌++◌, Bool, true, false, Option, Some, None, codes, map, if◌then◌else◌}
 use Rattle.std.specs.Fmt.{decimal}
 use Rattle.std.specs.List.{flat_map, list_any}
-use Rattle.pyver_tool.specs.Outcomes.{Outcome}
+use Rattle.pyver_commands.specs.Outcomes.{Outcome}
 use Rattle.pyver_tool.specs.RequirementFiles.{FilesRead, ReadsFiles, StopsInFiles, UnopenedFile}
-use Rattle.pep440_tool.specs.Streams.{WroteBeginning}
+use Rattle.cli_io.specs.Streams.{WroteBeginning}
 use Rattle.pyver_tool.specs.Runs.{WritesAnswer}
-use Rattle.pyver_tool.specs.SourceViews.{Reports}
-use Rattle.pyver_tool.specs.Sources.{KnownFile, failure_reason, source_names}
+use Rattle.pyver_commands.specs.SourceViews.{Reports}
+use Rattle.pyver_commands.specs.Sources.{KnownFile, failure_reason, source_names}
 use Rattle.pyver_tool.specs.declared.check.CheckOptions.{CheckOptions}
 use Rattle.pyver_tool.specs.declared.file_kind.FileKind.{FileKind}
-use Rattle.pyver_tool.specs.declared.stream.RunFailure.{RunFailure}
-use Rattle.pyver_tool.specs.declared.stream.RunFailure.TheVariants as run_failure
-use Rattle.pyver_findings.specs.Escapes.{escaped}
+use Rattle.pyver_commands.specs.declared.stream.RunFailure.{RunFailure}
+use Rattle.pyver_commands.specs.declared.stream.RunFailure.TheVariants as run_failure
+use Rattle.cli_io.specs.Escapes.{escaped}
 use Rattle.pyver_findings.specs.Findings.{Finding}
 use Rattle.pyver_findings.specs.NamedFiles.{Position}
 use Rattle.pyver_findings.specs.ReportObjects.{report_object}

@@ -2,10 +2,10 @@
 use Rattle.std.specs.Prelude.{◌≡◌, ◌⊎◌, ◌≤◌, ◌<◌, ℕ, List, [], ◌++◌, Option, Some, None, length, map, string_bytes}
 use Rattle.std.specs.List.{flat_map}
 use Rattle.pyver_tool.specs.RequirementFiles.{FilesRead, IsRefused, OpensNext, ReadsNext, UnopenedFile, with_file, with_unopened}
-use Rattle.pyver_tool.specs.Sources.{KnownFile}
+use Rattle.pyver_commands.specs.Sources.{KnownFile}
 use Rattle.pyver_tool.specs.declared.file_kind.FileKind.{FileKind}
 use Rattle.pyver_tool.specs.declared.file_kind.FileKind.TheVariants as file_kind
-use Rattle.pyver_tool.specs.declared.open_failure.OpenFailure.{OpenFailure}
+use Rattle.pyver_commands.specs.declared.open_failure.OpenFailure.{OpenFailure}
 use Rattle.pyver_tool.specs.declared.requirement_files.RequirementFiles.{RequirementFiles}
 use Rattle.pyver_tool.specs.declared.requirement_files.UnopenedFile.{UnopenedFile as UnopenedFileValue}
 use Rattle.pyver_findings.specs.FileLines.{File}

@@ -1,7 +1,7 @@
 -- That a task and what is read have at most one outcome.
 use Rattle.std.specs.Prelude.{◌≡◌}
-use Rattle.pyver_tool.specs.Outcomes.{Outcome}
-use Rattle.pyver_tool.specs.Sources.{Input}
+use Rattle.pyver_commands.specs.Outcomes.{Outcome}
+use Rattle.pyver_commands.specs.Sources.{Input}
 use Rattle.pyver_tool.specs.Tasks.{IsOutcome, Task}
 
 -- a task and what is read have at most one outcome

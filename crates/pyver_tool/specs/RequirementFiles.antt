@@ -2,13 +2,13 @@
 use Rattle.std.specs.Prelude.{◌≡◌, ◌⊎◌, ⊤, ℕ, List, [], ◌∷◌, ◌++◌, Bool, true, false, Option, Some, None, bytes_eq, map}
 use Rattle.std.specs.List.{flat_map, list_any}
 use Rattle.std.specs.Str.{IsUtf8}
-use Rattle.pyver_tool.specs.SourceTexts.{StopsInText}
-use Rattle.pyver_tool.specs.Sources.{KnownFile, MayRefuse, ReadsWhole, is_input}
+use Rattle.pyver_commands.specs.SourceTexts.{StopsInText}
+use Rattle.pyver_commands.specs.Sources.{IsKnownPath, KnownFile, MayRefuse, ReadsWhole, is_input}
 use Rattle.pyver_tool.specs.declared.file_kind.FileKind.{FileKind}
 use Rattle.pyver_tool.specs.declared.file_kind.FileKind.TheVariants as file_kind
-use Rattle.pyver_tool.specs.declared.open_failure.OpenFailure.{OpenFailure}
-use Rattle.pyver_tool.specs.declared.open_failure.OpenFailure.TheVariants as failure
-use Rattle.pyver_tool.specs.declared.stream.RunFailure.{RunFailure}
+use Rattle.pyver_commands.specs.declared.open_failure.OpenFailure.{OpenFailure}
+use Rattle.pyver_commands.specs.declared.open_failure.OpenFailure.TheVariants as failure
+use Rattle.pyver_commands.specs.declared.stream.RunFailure.{RunFailure}
 use Rattle.pyver_findings.specs.FileLines.{File}
 use Rattle.pyver_findings.specs.NamedFiles.{NamedFile, named_files}
 use Rattle.pyver_projects.specs.Meanings.{Document}
@@ -44,11 +44,6 @@ word_file name = record { name = name; position = None }
 -- a file with this path was read
 abbrev pub has_path : FilesRead → List ℕ → Bool
 has_path a path = list_any (bytes_eq path) a.paths
-
--- what is known of a path says that it is this one
-abbrev pub IsKnownPath : Option (List ℕ) → List ℕ → Type 0
-IsKnownPath None path = ⊤
-IsKnownPath (Some known) path = path ≡ known
 
 -- the path of a source: of standard input its name
 abbrev pub IsSourcePath : Bool → Option (List ℕ) → List ℕ → List ℕ → Type 0

@@ -1,33 +1,13 @@
 -- How a run of the program may end. `known` is what is known of each file, `remaining` are the bytes that the reader has left,
 -- `contents` and `error_contents` those that the writers hold.
-use Rattle.std.specs.Prelude.{◌≡◌, ◌⊎◌, ◌≤◌, ℕ, List, [], ◌++◌, Option, None, Some, codes}
+use Rattle.std.specs.Prelude.{◌≡◌, ◌⊎◌, ◌≤◌, ℕ, List, [], ◌++◌, Option, None}
 use Rattle.std.specs.Io.KnownBytes.{Appends}
-use Rattle.pep440_tool.specs.Streams.{WroteBeginning}
-use Rattle.pyver_tool.specs.InputLines.{Source}
-use Rattle.pyver_tool.specs.Outcomes.{Outcome}
-use Rattle.pyver_tool.specs.Sources.{Input, KnownFile, ReadsFirst, ReadsInput, StopsReading, last_name, no_input, read_message}
+use Rattle.cli_io.specs.Streams.{WroteBeginning}
+use Rattle.pyver_commands.specs.InputLines.{Source}
+use Rattle.pyver_commands.specs.Outcomes.{Outcome}
+use Rattle.pyver_commands.specs.Sources.{Input, KnownFile, ReadsFirst, ReadsInput, StopsReading, last_name, no_input}
+use Rattle.pyver_commands.specs.LastMessages.{IsLast, IsWriteFailure, memory_message}
 use Rattle.pyver_tool.specs.Tasks.{IsOutcome, IsStream, NeedsInput, names_of, task_of}
-
--- the message of a run that is out of memory
-abbrev pub memory_message : List ℕ
-memory_message = codes "pyver: out of memory\n"
-
--- the message that a write failed
-abbrev pub write_message : List ℕ
-write_message = codes "pyver: a write failed\n"
-
--- a read of the source with this name failed, and this is its message
-abbrev pub IsReadMessage : Option (List ℕ) → List ℕ → Type 0
-IsReadMessage None message = ⊥
-IsReadMessage (Some name) message = message ≡ read_message name
-
--- the status and the message of a failed write; none if standard error failed or nobody reads
-abbrev pub IsWriteFailure : ℕ → List ℕ → Type 0
-IsWriteFailure status message = ((status ≡ 4) × ((message ≡ write_message) ⊎ (message ≡ []))) ⊎ ((status ≡ 141) × (message ≡ []))
-
--- the last message of a run that stopped early, by its status, where the last source has this name
-abbrev pub IsLast : Option (List ℕ) → ℕ → List ℕ → Type 0
-IsLast last status message = ((status ≡ 3) × (message ≡ memory_message)) ⊎ (((status ≡ 4) × IsReadMessage last message) ⊎ IsWriteFailure status message)
 
 module _ {W E : Type 0} (contents : W → Option (List ℕ)) (error_contents : E → Option (List ℕ)) where
   -- a write to standard output failed: a prefix of the output was written, and then a prefix of the message, of which there is none

@@ -3,36 +3,36 @@ use Rattle.std.specs.Prelude.{◌≡◌, ⊤, ℕ, List, [], ◌∷◌, ◌++◌
 use Rattle.std.specs.List.{list_any}
 use Rattle.pep440_rs.specs.ListGrammar.{DerivesList}
 use Rattle.pep440_rs.specs.Specifiers.{Spec}
-use Rattle.pyver_tool.specs.BumpInputs.{BumpsInput}
-use Rattle.pyver_tool.specs.Bumps.{Bumps, bump_part_of}
-use Rattle.pyver_tool.specs.CommonRanges.{FindsCommon}
-use Rattle.pyver_tool.specs.Comparisons.{Compares, comparison_of}
-use Rattle.pyver_tool.specs.Filters.{FiltersLines}
-use Rattle.pyver_tool.specs.Matches.{Matches}
-use Rattle.pyver_tool.specs.Messages.{unknown_message, usage_message, value_message}
-use Rattle.pyver_tool.specs.NewestOutcomes.{FindsNewestLine}
+use Rattle.pyver_commands.specs.BumpInputs.{BumpsInput}
+use Rattle.pyver_commands.specs.Bumps.{Bumps, bump_part_of}
+use Rattle.pyver_commands.specs.CommonRanges.{FindsCommon}
+use Rattle.pyver_commands.specs.Comparisons.{Compares, comparison_of}
+use Rattle.pyver_commands.specs.Filters.{FiltersLines}
+use Rattle.pyver_commands.specs.Matches.{Matches}
+use Rattle.pyver_tool.specs.MisuseMessages.{unknown_message, usage_message, value_message}
+use Rattle.pyver_commands.specs.NewestOutcomes.{FindsNewestLine}
 use Rattle.pyver_tool.specs.Options.{Row, options}
-use Rattle.pyver_tool.specs.Outcomes.{Outcome, message_outcome}
+use Rattle.pyver_commands.specs.Outcomes.{Outcome, message_outcome}
 use Rattle.pyver_tool.specs.Settings.{Effect, Sets, WrongValue, effect, no_settings}
-use Rattle.pyver_tool.specs.Shows.{Shows}
-use Rattle.pyver_tool.specs.Sorts.{SortsLines}
+use Rattle.pyver_commands.specs.Shows.{Shows}
+use Rattle.pyver_commands.specs.Sorts.{SortsLines}
 use Rattle.pyver_tool.specs.SplitWords.{Given, Missing, Split, UnknownWord, split_words}
-use Rattle.pyver_tool.specs.Sources.{Input, input_name, source_names}
-use Rattle.pyver_tool.specs.declared.allowed.MatchOptions.{MatchOptions}
-use Rattle.pyver_tool.specs.declared.bump.BumpPart.{BumpPart}
+use Rattle.pyver_commands.specs.Sources.{Input, input_name, source_names}
+use Rattle.pyver_commands.specs.declared.allowed.MatchOptions.{MatchOptions}
+use Rattle.pyver_commands.specs.declared.bump.BumpPart.{BumpPart}
 use Rattle.pyver_tool.specs.declared.check.CheckOptions.{CheckOptions}
-use Rattle.pyver_tool.specs.declared.comparison.Comparison.{Comparison}
-use Rattle.pyver_tool.specs.declared.filter.FilterOptions.{FilterOptions}
+use Rattle.pyver_commands.specs.declared.comparison.Comparison.{Comparison}
+use Rattle.pyver_commands.specs.declared.filter.FilterOptions.{FilterOptions}
 use Rattle.pyver_tool.specs.declared.help.Topic.{Topic}
 use Rattle.pyver_tool.specs.declared.help.Topic.TheVariants as topic
 use Rattle.pyver_tool.specs.declared.help.TheConstants.{PROGRAM_HELP, COMPARE_HELP, MATCH_HELP, FILTER_HELP, SORT_HELP, NEWEST_HELP, SHOW_HELP, BUMP_HELP, RANGE_HELP, CHECK_HELP, COMPARE_USAGE, MATCH_USAGE, FILTER_USAGE, SORT_USAGE, NEWEST_USAGE, SHOW_USAGE, BUMP_USAGE, RANGE_USAGE, CHECK_USAGE, PROGRAM_USAGE, VERSION_LINE}
-use Rattle.pyver_tool.specs.declared.newest.NewestOptions.{NewestOptions}
-use Rattle.pyver_tool.specs.declared.common_range.RangeOptions.{RangeOptions}
+use Rattle.pyver_commands.specs.declared.newest.NewestOptions.{NewestOptions}
+use Rattle.pyver_commands.specs.declared.common_range.RangeOptions.{RangeOptions}
 use Rattle.pyver_tool.specs.declared.misuse.TheConstants.{BUMP_PART_NAMES, COMMAND_NAMES, OPERATOR_NAMES}
 use Rattle.pyver_tool.specs.declared.settings.Settings.{Settings}
-use Rattle.pyver_tool.specs.declared.show.ShowFormat.{ShowFormat}
-use Rattle.pyver_tool.specs.declared.show.ShowFormat.TheVariants as format
-use Rattle.pyver_tool.specs.declared.sort.SortOptions.{SortOptions}
+use Rattle.pyver_commands.specs.declared.show.ShowFormat.{ShowFormat}
+use Rattle.pyver_commands.specs.declared.show.ShowFormat.TheVariants as format
+use Rattle.pyver_commands.specs.declared.sort.SortOptions.{SortOptions}
 
 -- what the words ask for, or the message of why they ask for nothing; `bump` without a version reads one
 pub data Task : Type 0 where

@@ -1,11 +1,11 @@
 -- What a command has to do, once its words are read.
 use Rattle.std.specs.Prelude.{◌≡◌, map, string_bytes}
-use Rattle.pyver_tool.specs.AnswerViews.{outcome_of}
-use Rattle.pyver_tool.specs.Filters.{Filters}
-use Rattle.pyver_tool.specs.Outcomes.{Outcome}
-use Rattle.pyver_tool.specs.Sources.{Input, source_names}
+use Rattle.pyver_commands.specs.AnswerViews.{outcome_of}
+use Rattle.pyver_commands.specs.Filters.{Filters}
+use Rattle.pyver_commands.specs.Outcomes.{Outcome}
+use Rattle.pyver_commands.specs.Sources.{Input, source_names}
 use Rattle.pyver_tool.specs.Tasks.{Check, IsOutcome, IsStream, NeedsInput, Task, names_of}
-use Rattle.pyver_tool.specs.WholeInputs.{AnswersInput}
+use Rattle.pyver_commands.specs.WholeInputs.{AnswersInput}
 use Rattle.pyver_tool.specs.declared.command.Work.{Work}
 use Rattle.pyver_tool.specs.declared.command.Work.TheVariants as work
 

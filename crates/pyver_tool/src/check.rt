@@ -2,20 +2,19 @@
 ghost use Rattle.std.specs.Prelude.{◌≡◌, ◌≤◌, ◌∷◌, ◌++◌, [], IfErr, IfOk, map, option_map, string_bytes, if◌then◌else◌};
 ghost use Rattle.std.specs.Fmt.{decimal};
 ghost use Rattle.std.specs.List.{flat_map, list_any};
-ghost use Rattle.pyver_tool.specs.AnswerViews.{outcome_of};
+ghost use Rattle.pyver_commands.specs.AnswerViews.{outcome_of};
 ghost use Rattle.pyver_tool.specs.CheckViews.{check_result_of};
 ghost use Rattle.pyver_tool.specs.Checks.{Checks, ChecksGroup, ChecksGroups, StopsCheck, StopsGroup, StopsGroups, are_several, check_outcome, check_status, findings_text, none_checked, position_text, summary, together_note, unopened_text, with_report, word_groups};
 ghost use Rattle.pyver_tool.specs.FileSteps.{unopened_file_of};
-ghost use Rattle.pyver_tool.specs.Sources.{source_names};
+ghost use Rattle.pyver_commands.specs.Sources.{source_names};
 ghost use Rattle.pyver_findings.specs.Reports.{spans_files};
 ghost use Rattle.pyver_findings.specs.Views.{finding_of, position_of, report_of};
 
-use crate::answer::Answer;
 use crate::file_kind::FileKind;
-use crate::files::Files;
 use crate::requirement_files::{UnopenedFile, read_files};
-use crate::stream::RunFailure;
-use pyver_findings::{Finding, Position, Report, find_problems, push_escaped};
+use cli_io::push_escaped;
+use pyver_commands::{Answer, Files, RunFailure};
+use pyver_findings::{Finding, Position, Report, find_problems};
 use pyver_projects::find_document_problems;
 use std::alloc::{AllocError, Global};
 use std::io::Read;

@@ -1,34 +1,26 @@
 // The command that words ask for, and what it writes.
 ghost use Rattle.std.specs.Prelude.{◌≡◌, [], IfOk, Some, map, option_map, string_bytes};
-ghost use Rattle.pyver_tool.specs.AnswerViews.{outcome_of};
+ghost use Rattle.pyver_commands.specs.AnswerViews.{outcome_of};
 ghost use Rattle.pyver_tool.specs.TaskViews.{task, words_task};
-ghost use Rattle.pyver_tool.specs.Outcomes.{message_outcome};
+ghost use Rattle.pyver_commands.specs.Outcomes.{message_outcome};
 ghost use Rattle.pyver_tool.specs.Settings.{effect, no_settings};
 ghost use Rattle.pyver_tool.specs.SplitViews.{given_of, split_of};
 ghost use Rattle.pyver_tool.specs.Tasks.{Check, Filter, Newest, asks_help, bump_from_words, bump_operands, bump_word, by_effect, by_last, by_split, check_options, is_json, printed, task_with};
 ghost use Rattle.pyver_tool.specs.TaskViews.{misuse_message};
 ghost use Rattle.pyver_tool.specs.WorkViews.{IsWork};
 
-use crate::allowed::{
-    MatchOptions, SpecifiersReading, match_versions, parse_specifiers, push_list_fault,
-};
-use crate::answer::Answer;
-use crate::bump::{bump_version, parse_bump_part};
-use crate::bump_input::BumpRule;
 use crate::check::CheckOptions;
-use crate::common_range::{RangeOptions, find_common};
-use crate::comparison::{Comparison, compare, parse_comparison};
-use crate::filter::{FilterOptions, FilterRule, Selection};
 use crate::help::{Topic, VERSION_LINE, help};
 use crate::misuse::{Misuse, push_misuse};
-use crate::newest::{NewestOptions, NewestRule};
-use crate::prerelease_rule::takes_prereleases;
 use crate::settings::Settings;
-use crate::show::{ShowFormat, show_versions};
-use crate::sort::SortOptions;
 use crate::split_words::{GivenOption, Split};
-use crate::whole_input::{LinesQuestion, Question};
 use crate::words::Words;
+use pyver_commands::{
+    Answer, BumpRule, Comparison, FilterOptions, FilterRule, LinesQuestion, MatchOptions,
+    NewestOptions, NewestRule, Question, RangeOptions, Selection, ShowFormat, SortOptions,
+    SpecifiersReading, bump_version, compare, find_common, match_versions, parse_bump_part,
+    parse_comparison, parse_specifiers, push_list_fault, show_versions, takes_prereleases,
+};
 use std::alloc::{AllocError, Global};
 
 // What words ask for.

@@ -1,22 +1,20 @@
 // The program over any reader and any writers.
 ghost use Rattle.std.specs.Prelude.{◌≡◌, ◌⊎◌, ◌≤◌, List, ℕ, map, string_bytes};
-ghost use Rattle.pyver_tool.specs.AnswerViews.{outcome_of};
+ghost use Rattle.pyver_commands.specs.AnswerViews.{outcome_of};
 ghost use Rattle.pyver_tool.specs.Checks.{EndsCheck};
-ghost use Rattle.pep440_tool.specs.Streams.{WroteBeginning};
-ghost use Rattle.pyver_tool.specs.Runs.{Ends, IsWriteFailure, WritesAnswer, memory_message};
-ghost use Rattle.pyver_tool.specs.SourceViews.{Reports};
+ghost use Rattle.cli_io.specs.Streams.{WroteBeginning};
+ghost use Rattle.pyver_tool.specs.Runs.{Ends, WritesAnswer};
+ghost use Rattle.pyver_commands.specs.LastMessages.{IsWriteFailure, memory_message};
+ghost use Rattle.pyver_commands.specs.SourceViews.{Reports};
 ghost use Rattle.pyver_tool.specs.Tasks.{Check, IsCheck, task_of};
 ghost use Rattle.pyver_tool.specs.declared.check.CheckOptions.{CheckOptions};
 
-use crate::answer::Answer;
 use crate::check::check_files;
 use crate::command::{Command, Work};
-use crate::files::Files;
-use crate::filter_sources::filter_sources;
-use crate::stream::RunFailure;
-use crate::whole_input::answer_input;
 use crate::words::Words;
-use pep440_tool::stream::{WriteFailure, write_whole};
+use cli_io::{WriteFailure, write_whole};
+use pyver_commands::filter_sources::filter_sources;
+use pyver_commands::{Answer, Files, RunFailure, answer_input};
 use std::alloc::Global;
 use std::io::{Read, Write};
 

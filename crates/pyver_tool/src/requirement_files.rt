@@ -2,15 +2,11 @@
 ghost use Rattle.std.specs.Prelude.{◌≡◌, ◌∷◌, ◌++◌, [], IfErr, IfOk, map, string_bytes};
 ghost use Rattle.pyver_tool.specs.FileSteps.{read_of};
 ghost use Rattle.pyver_tool.specs.RequirementFiles.{IsSourcePath, ReadsFiles, StopsInFiles, word_file};
-ghost use Rattle.pyver_tool.specs.Sources.{is_input, source_names};
+ghost use Rattle.pyver_commands.specs.Sources.{is_input, source_names};
 ghost use Rattle.pyver_findings.specs.Views.{named_file_of};
 
 use crate::file_kind::FileKind;
-use crate::files::Files;
-use crate::open_failure::OpenFailure;
-use crate::origin::is_input;
-use crate::source_texts::read_named;
-use crate::stream::RunFailure;
+use pyver_commands::{Files, OpenFailure, RunFailure, is_input, read_by_name};
 use pyver_findings::{NamedFile, SourceFile, push_named_files};
 use pyver_projects::Document;
 use std::alloc::{AllocError, Global};
@@ -87,7 +83,7 @@ impl RequirementFiles {
     ghost use Rattle.pyver_tool.specs.FileKinds.{kind_by_name};
     ghost use Rattle.pyver_tool.specs.FileSteps.{GainsFile, GainsUnopened, HasReads, ReadsStep, StepsOrRefused, names_of_files};
     ghost use Rattle.pyver_tool.specs.RequirementFiles.{ReadsNames, StopsInNames, file_with, has_path, none_read};
-    ghost use Rattle.pyver_tool.specs.SourceTexts.{StopsInText};
+    ghost use Rattle.pyver_commands.specs.SourceTexts.{StopsInText};
 
     // Nothing was read yet.
     fn new(alloc: Global, names: Vec<NamedFile>) -> RequirementFiles
@@ -162,7 +158,7 @@ impl RequirementFiles {
         if self.has_path(path.as_str()) {
             return Ok(None);
         }
-        match read_named(alloc, name, &mut self.read_count, files, input)? {
+        match read_by_name(alloc, name, &mut self.read_count, files, input)? {
             Ok(text) => {
                 self.push_file(alloc, kind, name, path, text)?;
                 Ok(None)

@@ -3,12 +3,9 @@ ghost use Rattle.std.specs.Prelude.{◌≡◌};
 ghost use Rattle.pyver_tool.specs.Settings.{delimiter_of, field_number_of, no_settings, with_line_option, with_option};
 
 use crate::file_kind::{FileKind, parse_file_kind};
-use crate::invalid_lines::parse_invalid_lines;
-use crate::line_options::LineOptions;
-use crate::part::parse_part;
-use crate::prerelease_rule::Prereleases;
-use crate::show::ShowFormat;
-use crate::word_number::parse_number;
+use pyver_commands::{
+    LineOptions, Prereleases, ShowFormat, parse_invalid_lines, parse_number, parse_part,
+};
 
 // What the options of any command set; of two that contradict each other the last counts.
 #[derive(Clone, Copy)]

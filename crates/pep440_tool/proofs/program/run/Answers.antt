@@ -1,5 +1,5 @@
 use Rattle.std.proofs.Common.{◌≡◌, ◌∙◌, true, false, ap, arith, inr, map, string_bytes, sym}
-use Rattle.pep440_tool.proofs.Bytes.{WroteBeginning-none}
+use Rattle.cli_io.proofs.Bytes.{WroteBeginning-none}
 use Rattle.pep440_tool.specs.Commands.{asked, reads_input}
 use Rattle.pep440_tool.proofs.program.run.Goals as goal
 

@@ -1,7 +1,7 @@
 use Rattle.std.proofs.Common.{◌∙◌, ap, string_bytes}
 use Rattle.pep440_rs.proofs.Reading.OneMeaning.{not_both_list}
-use Rattle.pyver_tool.specs.Matches.{ListFails, list_fault}
-use Rattle.pyver_tool.specs.Outcomes.{followed_by, no_outcome}
+use Rattle.pyver_commands.specs.Matches.{ListFails, list_fault}
+use Rattle.pyver_commands.specs.Outcomes.{followed_by, no_outcome}
 use Rattle.pyver_tool.proofs.command.start_filter.Goals as goal
 
 pub returns-in_ok-push_list_fault-in-Invalid : goal.returns-in_ok-push_list_fault-in-Invalid

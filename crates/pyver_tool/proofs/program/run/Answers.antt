@@ -1,8 +1,8 @@
 use Rattle.std.proofs.Common.{◌∙◌, map, refl, string_bytes, subst}
 use Rattle.pyver_tool.proofs.CheckEnds.{ends_checked, ends_unchecked, ends_unread, no_outcome_of_check}
 use Rattle.pyver_tool.proofs.RunEnds.{ends_at_once, ends_by_answer, ends_by_stop, ends_by_whole_stop, filter_began}
-use Rattle.pyver_tool.specs.AnswerViews.{outcome_of}
-use Rattle.pyver_tool.specs.Sources.{no_input}
+use Rattle.pyver_commands.specs.AnswerViews.{outcome_of}
+use Rattle.pyver_commands.specs.Sources.{no_input}
 use Rattle.pyver_tool.specs.TaskViews.{task}
 use Rattle.pyver_tool.specs.WorkViews.{IsWork}
 use Rattle.pyver_tool.specs.declared.command.Work.TheVariants as work

@@ -3,7 +3,7 @@ use Rattle.std.proofs.lemmas.Result.{err_from_is_err_and}
 use Rattle.pyver_tool.proofs.CheckGroups.{continues_more, continues_stop, first_group}
 use Rattle.pyver_tool.specs.CheckViews.{check_result_of}
 use Rattle.pyver_tool.specs.Checks.{ChecksGroup, StopsGroup}
-use Rattle.pyver_tool.specs.Sources.{source_names}
+use Rattle.pyver_commands.specs.Sources.{source_names}
 use Rattle.pyver_tool.proofs.check.CheckResult.check_each.Goals as goal
 
 pub returns-in_err-check_group-clause-stopped : goal.returns-in_err-check_group-clause-stopped

@@ -2,7 +2,7 @@ use Rattle.std.proofs.Common.{◌∙◌, ap, arith, string_bytes, subst, sym}
 use Rattle.pyver_tool.proofs.FileReads.{step_opened}
 use Rattle.pyver_tool.specs.FileSteps.{read_of}
 use Rattle.pyver_tool.specs.RequirementFiles.{has_path}
-use Rattle.pyver_tool.specs.Sources.{ReadsWhole}
+use Rattle.pyver_commands.specs.Sources.{ReadsWhole}
 use Rattle.pyver_tool.proofs.requirement_files.RequirementFiles.read_once.Goals as goal
 
 pub returns-in_ok-push_file-in-Ok-clause-read : goal.returns-in_ok-push_file-in-Ok-clause-read
@@ -15,7 +15,7 @@ returns-in_ok-push_file-in-Ok-clause-read g c =
     let limits = rw c.in-Ok.is at c.in_ok-text.ensures.limits in
     let gains = c.in_ok-push_file-in-Ok.ensures.gains in
     let count = c.in_ok-push_file-in-Ok.ensures.count in
-    step_opened c.args.kind known paths g.R.Read.remaining name (string_bytes c.in_ok-path.path) text c.args.self.now c.push_file.new.self c.args.input.now c.read_named.new.input c.utf8.name c.in_ok-path.ensures.path
+    step_opened c.args.kind known paths g.R.Read.remaining name (string_bytes c.in_ok-path.path) text c.args.self.now c.push_file.new.self c.args.input.now c.read_by_name.new.input c.utf8.name c.in_ok-path.ensures.path
     (ap (has_path (read_of c.args.self.now)) (sym c.as_str.ensures.value) ∙ sym c.has_path.ensures ∙ c.if-has_path.false)
-    (subst (λ k. ReadsWhole k g.R.Read.remaining name c.args.input.now c.read_named.new.input text) c.in_ok-path.ensures.kept read)
+    (subst (λ k. ReadsWhole k g.R.Read.remaining name c.args.input.now c.read_by_name.new.input text) c.in_ok-path.ensures.kept read)
     (record { read = gains.read; names = gains.names }) (omega (arith, limits.0, count)) (omega (arith, limits.1, count))

@@ -1,0 +1,3 @@
+pub mod Escapes
+pub mod Newlines
+pub mod Streams

@@ -1,0 +1,10 @@
+//! What both command line programs do with bytes: reading to the end, writing whole, splitting lines, escaping the text of others.
+#![tactic(auto)]
+
+mod escape;
+mod newlines;
+mod stream;
+
+pub use escape::{is_printable, push_escaped, push_escaped_lines, push_hex_digits};
+pub use newlines::split_line;
+pub use stream::{READ_SIZE, ReadFailure, WriteFailure, read_whole, write_whole};

@@ -1,0 +1,6 @@
+use Rattle.std.proofs.Common.{◌≡◌, ◌++◌}
+use Rattle.examples.proofs.tests.ranges.collect_segments.Given as goal
+
+-- what was found, and the segments that are left, are all segments
+abbrev pub invariant-loop-start : goal.invariant-loop-start
+invariant-loop-start l = l.found.items ++ l.start-iterator ≡ l.range

@@ -1,0 +1,11 @@
+//! A case of each core, and what no line of test cases can ask: how often calls allocate, and what callers can prove of equality, of
+//! values under trait bounds and of loops over segments.
+mod cores;
+mod equal;
+mod generic;
+mod keys;
+mod matching;
+mod packed;
+mod packed_texts;
+mod ranges;
+mod specifiers;

@@ -1,6 +1,0 @@
-use Rattle.std.proofs.Common.{◌≡◌, ◌++◌}
-use Rattle.library_tests.proofs.ranges.collect_segments.Given as goal
-
--- what was found, and the segments that are left, are all segments
-abbrev pub invariant-loop-start : goal.invariant-loop-start
-invariant-loop-start l = l.found.items ++ l.start-iterator ≡ l.range

@@ -1,5 +1,0 @@
-use Rattle.std.proofs.Common.{◌≡◌, ◌==◌, false, take, All}
-use Rattle.pep440_tool.proofs.input_lines.split_line.Given as goal
-
-abbrev pub invariant-loop-at : goal.invariant-loop-at
-invariant-loop-at l = All (λ b. (b == 10) ≡ false) (take l.at l.input)

@@ -1,0 +1,17 @@
+pub mod Told
+pub mod InTurn
+pub mod InputLines
+pub mod Filtering
+pub mod SourceFilters
+pub mod Keeping
+pub mod SourceReads
+pub mod Sorting
+pub mod Choosing
+pub mod Whole
+pub mod NewestAnswers
+pub mod Appended
+pub mod CommonRanges
+pub mod Bumping
+pub mod Digits
+pub mod Releases
+pub mod BumpInputs

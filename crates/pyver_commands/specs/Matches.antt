@@ -1,0 +1,60 @@
+-- `match SPECS V..`: which of the versions the list allows.
+use Rattle.std.specs.Prelude.{◌≡◌, ℕ, List, [], ◌++◌, Bool, codes, if◌then◌else◌}
+use Rattle.std.specs.List.{AllZip}
+use Rattle.pep440_rs.specs.ListErrorTexts.{list_refusal_text}
+use Rattle.pep440_rs.specs.ListGrammar.{DerivesList, PieceRefusal, RefusesList}
+use Rattle.pep440_rs.specs.Prereleases.{list_allows}
+use Rattle.pep440_rs.specs.Specifiers.{Spec}
+use Rattle.cli_io.specs.Escapes.{escaped, escaped_lines}
+use Rattle.pyver_commands.specs.Outcomes.{Outcome, fault, in_turn, followed_by, no_outcome}
+use Rattle.pyver_commands.specs.PrereleaseRules.{takes_prereleases}
+use Rattle.pyver_commands.specs.Readings.{Denotes, Fails, Reading, Reads}
+use Rattle.pyver_commands.specs.declared.allowed.MatchOptions.{MatchOptions}
+
+-- a list of specifiers, or the message of an invalid list
+pub data SpecifiersReading : Type 0 where
+  DenotesList : List Spec → SpecifiersReading
+  ListFails : List ℕ → SpecifiersReading
+
+-- the string denotes this list, or is invalid with this message
+abbrev pub ReadsSpecifiers : List ℕ → SpecifiersReading → Type 0
+ReadsSpecifiers text (DenotesList list) = DerivesList text list
+ReadsSpecifiers text (ListFails message) = (f : PieceRefusal) × RefusesList text f × (message ≡ list_refusal_text f text)
+
+-- the message of an invalid list, which has line ends of its own
+abbrev pub list_message : List ℕ → List ℕ
+list_message message = codes "pyver: " ++ escaped_lines message
+
+-- the outcome of an invalid list
+abbrev pub list_fault : List ℕ → Outcome
+list_fault message = record { output = []; errors = list_message message; status = 2 }
+
+-- `yes` or `no`, a tab, and the version as it was written
+abbrev pub verdict_line : Bool → List ℕ → List ℕ
+verdict_line allowed word = (if allowed then codes "yes\t" else codes "no\t") ++ (escaped word ++ codes "\n")
+
+-- the outcome of a valid version: its line, unless quiet, and status 0 or 1
+abbrev pub verdict : Bool → Bool → List ℕ → Outcome
+verdict quiet allowed word = record { output = if quiet then [] else verdict_line allowed word; errors = []; status = if allowed then 0 else 1 }
+
+-- the outcome of a word: its verdict, or its error
+abbrev pub word_outcome : Bool → Bool → List Spec → List ℕ → Reading → Outcome
+word_outcome quiet takes list word (Denotes r) = verdict quiet (list_allows takes list r) word
+word_outcome quiet takes list word (Fails reason) = fault word reason
+
+-- the outcome of one word
+abbrev pub MatchesWord : Bool → Bool → List Spec → List ℕ → Outcome → Type 0
+MatchesWord quiet takes list word o = (x : Reading) × Reads word x × (o ≡ word_outcome quiet takes list word x)
+
+-- the outcome of the words, one after another
+abbrev pub MatchesWords : Bool → Bool → List Spec → List (List ℕ) → Outcome → Type 0
+MatchesWords quiet takes list words o = (os : List Outcome) × AllZip (MatchesWord quiet takes list) words os × (o ≡ in_turn os)
+
+-- the outcome of the words by a valid list, or the error of an invalid one
+abbrev pub MatchesBy : MatchOptions → SpecifiersReading → List (List ℕ) → Outcome → Type 0
+MatchesBy options (DenotesList list) words o = MatchesWords options.quiet (takes_prereleases options.prereleases list) list words o
+MatchesBy options (ListFails message) words o = o ≡ followed_by no_outcome (list_fault message)
+
+-- the outcome of `match`: SPECS is parsed, and then the words
+abbrev pub Matches : MatchOptions → List ℕ → List (List ℕ) → Outcome → Type 0
+Matches options specifiers words o = (x : SpecifiersReading) × ReadsSpecifiers specifiers x × MatchesBy options x words o

@@ -1,0 +1,343 @@
+// The lines of the commands `filter` and `newest`, one after another: which are wanted, and what is to be written of them.
+ghost use Rattle.std.specs.Prelude.{◌≡◌, ◌≤◌, ◌++◌, IfOk};
+ghost use Rattle.std.specs.Option.{option_map};
+ghost use Rattle.pyver_commands.specs.Messages.{line_fault_message};
+ghost use Rattle.pyver_commands.specs.Sources.{unopened_message, unopened_status};
+ghost use Rattle.pyver_commands.specs.SourceViews.{unopened_of};
+
+use crate::line_options::LineOptions;
+use crate::newest_lines::NewestLines;
+use crate::open_failure::{OpenFailure, push_file_fault};
+use crate::origin::Origin;
+use crate::prerelease_rule::Prereleases;
+use crate::reading::Reading;
+use crate::source_lines::{is_blank, line_text, parse_line};
+use cli_io::push_escaped;
+use pep440_rs::{Version, VersionSpecifiers};
+use std::alloc::{AllocError, Global};
+
+/// Which lines are asked for.
+#[derive(Clone, Copy)]
+pub struct FilterOptions {
+    pub inverted: bool,
+    pub prereleases: Prereleases,
+    pub lines: LineOptions,
+}
+
+/// Which lines are wanted.
+#[derive(Clone, Copy)]
+pub enum Selection {
+    /// Those whose version the list allows.
+    Allowed,
+    /// Those whose version it does not allow.
+    Others,
+    /// The newest that it allows, which is kept, and nothing is printed.
+    Newest,
+}
+
+impl Selection {
+    ghost use Rattle.std.specs.Prelude.{Bool, false};
+    ghost use Rattle.pyver_commands.specs.Filters.{is_wanted, is_wanted_header, wanted_by};
+
+    /// The allowed lines, or the others.
+    pub fn from_inverted(inverted: bool) -> Selection
+        ensures { result ≡ wanted_by inverted }
+    {
+        if inverted {
+            Selection::Others
+        } else {
+            Selection::Allowed
+        }
+    }
+
+    // Whether a line is printed whose version is allowed or not.
+    fn shows(self, allowed: bool) -> bool
+        ensures { result ≡ is_wanted self allowed }
+    {
+        match self {
+            Selection::Allowed => allowed,
+            Selection::Others => !allowed,
+            Selection::Newest => false,
+        }
+    }
+
+    // Whether a header is printed that is the first or not.
+    fn shows_header(self, is_first: bool) -> bool
+        ensures { result ≡ is_wanted_header self is_first }
+    {
+        match self {
+            Selection::Allowed => is_first,
+            Selection::Others => is_first,
+            Selection::Newest => false,
+        }
+    }
+}
+
+/// Which lines are wanted, and by which list.
+#[derive(Drop)]
+pub struct FilterRule {
+    pub wanted: Selection,
+    /// Whether the list takes pre-releases.
+    pub takes: bool,
+    pub lines: LineOptions,
+    pub list: VersionSpecifiers,
+}
+
+impl FilterRule {
+    ghost use Rattle.pyver_commands.specs.Filters.{is_shown};
+
+    fn shows(&self, alloc: Global, version: &Version) -> Result<bool, AllocError>
+        ensures { IfOk result (λ b. b ≡ is_shown self.now version.now) }
+    {
+        let allowed = self.list.allows(alloc, self.takes, version)?;
+        Ok(self.wanted.shows(allowed))
+    }
+}
+
+// The message of an invalid line of the source with this name, at the end.
+pub(crate) fn push_line_fault(
+    alloc: Global,
+    errors: &mut Vec<u8>,
+    name: &str,
+    number: u64,
+    reason: &str,
+) -> Result<(), AllocError>
+    ensures { IfOk result (λ _. errors.new.items ≡ errors.old.items ++ line_fault_message name.now number reason.now) }
+{
+    errors.extend_from_slice(b"pyver: ")?;
+    push_escaped(errors, name.as_bytes())?;
+    errors.extend_from_slice(b": line ")?;
+    errors.extend_from_slice(number.to_string(alloc)?.as_bytes())?;
+    errors.extend_from_slice(b": ")?;
+    push_escaped(errors, reason.as_bytes())?;
+    errors.push(b'\n')?;
+    Ok(())
+}
+
+// A file that was not opened.
+#[derive(Clone, Copy)]
+pub(crate) struct UnopenedSource<'a> {
+    pub(crate) name: &'a str,
+    pub(crate) failure: OpenFailure,
+}
+
+fn push_open_failure(
+    errors: &mut Vec<u8>,
+    unopened: Option<UnopenedSource<'_>>,
+) -> Result<(), AllocError>
+    ensures { IfOk result (λ _. errors.new.items ≡ errors.old.items ++ unopened_message (option_map unopened_of unopened.entry)) }
+{
+    match unopened {
+        Some(file) => push_file_fault(errors, file.name.as_bytes(), file.failure.reason()),
+        None => Ok(()),
+    }
+}
+
+// The status, where it is this one without the file.
+fn unopened_status(unopened: Option<UnopenedSource<'_>>, status: u8) -> u8
+    requires { status ≤ 2 }
+    ensures is { result ≡ unopened_status (option_map unopened_of unopened.entry) status }
+    ensures low { result ≤ 2 }
+{
+    match unopened {
+        Some(_) => 2,
+        None => status,
+    }
+}
+
+// What lines have asked for, and what of it is not yet written.
+#[derive(Drop)]
+pub(crate) struct FilterState {
+    // How many reads were made.
+    pub(crate) read_count: u64,
+    // How many lines of the source were read.
+    pub(crate) line_count: u64,
+    // How many lines of all sources were invalid.
+    pub(crate) fault_count: u64,
+    // The newest lines, where the newest is wanted.
+    pub(crate) newest: NewestLines,
+    pub(crate) output: Vec<u8>,
+    pub(crate) errors: Vec<u8>,
+}
+
+impl FilterState {
+    ghost use Rattle.std.specs.Prelude.{◌+◌, ◌*◌, ◌<◌, ◌^◌, ◌∷◌, [], List, ℕ, length};
+    ghost use Rattle.pyver_commands.specs.AnswerViews.{reading_of};
+    ghost use Rattle.pyver_commands.specs.NewestViews.{HasNoLine};
+    ghost use Rattle.pyver_commands.specs.FilterSteps.{Cuts, FinishesBy, HasNoNewline, Steps, StepsBy};
+    ghost use Rattle.pyver_commands.specs.ReadLines.{Entry, Header, ReadLine};
+    ghost use Rattle.pyver_commands.specs.Readings.{Denotes, Fails};
+    ghost use Rattle.pyver_commands.specs.SourceViews.{origin_line, origin_of};
+
+    pub(crate) fn new(alloc: Global) -> FilterState
+        ensures counts { (result.read_count ≡ 0) × (result.fault_count ≡ 0) }
+        ensures no_line { HasNoLine result.newest }
+        ensures nothing { (result.output.items ≡ []) × (result.errors.items ≡ []) }
+    {
+        FilterState {
+            read_count: 0,
+            line_count: 0,
+            fault_count: 0,
+            newest: NewestLines::none(),
+            output: Vec::new(alloc),
+            errors: Vec::new(alloc),
+        }
+    }
+
+    // At most that of the first source is printed.
+    fn push_header(
+        &mut self,
+        rule: &FilterRule,
+        origin: Origin<'_>,
+        text: &[u8],
+    ) -> Result<(), AllocError>
+        ensures { IfOk result (λ _. StepsBy rule.now (record { line = origin_line origin.entry self.old.line_count text.now; reading = Header }) self.old self.new) }
+    {
+        if !rule.wanted.shows_header(origin.is_first) {
+            return Ok(());
+        }
+        self.output.extend_from_slice(text)?;
+        self.output.push(b'\n')?;
+        Ok(())
+    }
+
+    fn push_version(
+        &mut self,
+        alloc: Global,
+        rule: &FilterRule,
+        origin: Origin<'_>,
+        text: &[u8],
+        version: &Version,
+    ) -> Result<(), AllocError>
+        ensures { IfOk result (λ _. StepsBy rule.now (record { line = origin_line origin.entry self.old.line_count text.now; reading = Entry (Denotes version.now) }) self.old self.new) }
+    {
+        if let Selection::Newest = rule.wanted {
+            self.newest
+                .push(alloc, rule.takes, &rule.list, text, version)?;
+            return Ok(());
+        }
+        if rule.shows(alloc, version)? {
+            self.output.extend_from_slice(text)?;
+            self.output.push(b'\n')?;
+        }
+        Ok(())
+    }
+
+    fn push_fault(
+        &mut self,
+        alloc: Global,
+        rule: &FilterRule,
+        origin: Origin<'_>,
+        text: &[u8],
+        reason: &str,
+    ) -> Result<(), AllocError>
+        requires { self.old.fault_count + 1 < 2 ^ 63 }
+        ensures { IfOk result (λ _. StepsBy rule.now (record { line = origin_line origin.entry self.old.line_count text.now; reading = Entry (Fails reason.now) }) self.old self.new) }
+    {
+        if self.fault_count < rule.lines.invalid.message_limit() {
+            push_line_fault(
+                alloc,
+                &mut self.errors,
+                origin.name,
+                self.line_count,
+                reason,
+            )?;
+        }
+        self.fault_count += 1;
+        Ok(())
+    }
+
+    fn push_reading(
+        &mut self,
+        alloc: Global,
+        rule: &FilterRule,
+        origin: Origin<'_>,
+        text: &[u8],
+        reading: &Reading,
+    ) -> Result<(), AllocError>
+        requires { self.old.fault_count + 1 < 2 ^ 63 }
+        ensures { IfOk result (λ _. StepsBy rule.now (record { line = origin_line origin.entry self.old.line_count text.now; reading = Entry (reading_of reading.now) }) self.old self.new) }
+    {
+        match reading {
+            Reading::Version(version) => self.push_version(alloc, rule, origin, text, version),
+            Reading::Invalid(reason) => {
+                self.push_fault(alloc, rule, origin, text, reason.as_str())
+            }
+        }
+    }
+
+    // One more line of the source, which has ended.
+    pub(crate) fn push_line(
+        &mut self,
+        alloc: Global,
+        rule: &FilterRule,
+        origin: Origin<'_>,
+        line: &[u8],
+    ) -> Result<(), AllocError>
+        requires { (self.old.line_count + 1 < 2 ^ 63) × (self.old.fault_count + 1 < 2 ^ 63) }
+        ensures { IfOk result (λ _. Steps rule.now (origin_of origin.entry) (line.now ∷ []) self.old self.new) }
+    {
+        self.line_count += 1;
+        let text = line_text(self.line_count, line);
+        if is_blank(text) {
+            return Ok(());
+        }
+        if rule.lines.is_header(self.line_count) {
+            self.push_header(rule, origin, text)?;
+            return Ok(());
+        }
+        let reading = parse_line(alloc, rule.lines, text)?;
+        self.push_reading(alloc, rule, origin, text, &reading)?;
+        Ok(())
+    }
+
+    // More bytes, after those of the line that has begun.
+    pub(crate) fn push_bytes(
+        &mut self,
+        alloc: Global,
+        rule: &FilterRule,
+        origin: Origin<'_>,
+        line: &mut Vec<u8>,
+        bytes: &[u8],
+    ) -> Result<(), AllocError>
+        requires line { HasNoNewline line.old.items }
+        requires limits { (self.old.line_count + length bytes.now < 2 ^ 63) × (self.old.fault_count + length bytes.now < 2 ^ 63) }
+        ensures steps { IfOk result (λ _. (ended : List (List ℕ)) × Cuts (line.old.items ++ bytes.now) ended line.new.items × Steps rule.now (origin_of origin.entry) ended self.old self.new) }
+        ensures count { IfOk result (λ _. (self.new.line_count ≤ self.old.line_count + length bytes.now) × (self.new.fault_count ≤ self.old.fault_count + length bytes.now)) }
+    {
+        for byte in bytes {
+            if *byte == b'\n' {
+                self.push_line(alloc, rule, origin, line.as_slice())?;
+                line.clear();
+            } else {
+                line.push(*byte)?;
+            }
+        }
+        Ok(())
+    }
+
+    // Pushes the messages at the end; returns the status.
+    pub(crate) fn finish(
+        &mut self,
+        alloc: Global,
+        rule: &FilterRule,
+        unopened: Option<UnopenedSource<'_>>,
+    ) -> Result<u8, AllocError>
+        ensures { IfOk result (λ status. FinishesBy rule.now (option_map unopened_of unopened.entry) self.old self.new status) }
+    {
+        let invalid = rule.lines.invalid;
+        invalid.push_last(alloc, &mut self.errors, self.fault_count)?;
+        push_open_failure(&mut self.errors, unopened)?;
+        Ok(unopened_status(unopened, invalid.status(self.fault_count)))
+    }
+
+    // What was to be written was written.
+    pub(crate) fn clear(&mut self)
+        ensures counts { (self.new.read_count ≡ self.old.read_count) × (self.new.line_count ≡ self.old.line_count) × (self.new.fault_count ≡ self.old.fault_count) }
+        ensures kept { self.new.newest ≡ self.old.newest }
+        ensures nothing { (self.new.output.items ≡ []) × (self.new.errors.items ≡ []) }
+    {
+        self.output.clear();
+        self.errors.clear();
+    }
+}

@@ -1,0 +1,68 @@
+// The loop of `filter` and `newest` over a source.
+ghost use Rattle.std.specs.Prelude.{◌≡◌, ◌≤◌, ◌*◌, [], Some, IfErr, IfOk};
+ghost use Rattle.pyver_commands.specs.FilterSteps.{SourceFinishes, SourceStops};
+ghost use Rattle.pyver_commands.specs.SourceViews.{IsReadingFailure, IsRunFailureOf, origin_of};
+
+use crate::filter::{FilterRule, FilterState};
+use crate::open_failure::push_file_fault;
+use crate::origin::{Origin, is_input};
+use crate::stream::{RunFailure, write_both};
+use cli_io::READ_SIZE;
+use std::alloc::Global;
+use std::io::{Read, Write};
+
+// So many reads are made at most, which takes years.
+pub(crate) const MOST_READS: u64 = 562949953421312;
+
+// A read of the source with this name failed.
+pub(crate) fn fail_reading(alloc: Global, name: &str) -> RunFailure
+    ensures of { IsRunFailureOf (Some name.now) result }
+    ensures reading { IsReadingFailure name.now result }
+{
+    if is_input(name) {
+        return RunFailure::Read;
+    }
+    let mut message = Vec::new(alloc);
+    match push_file_fault(&mut message, name.as_bytes(), "a read failed") {
+        Ok(()) => RunFailure::ReadFile(message),
+        Err(_) => RunFailure::OutOfMemory,
+    }
+}
+
+// Writes what the rule asks for of each line of the source, before more is read.
+pub(crate) fn filter_input<R: Read, W: Write, E: Write>(
+    alloc: Global,
+    rule: &FilterRule,
+    origin: Origin<'_>,
+    state: &mut FilterState,
+    input: &mut R,
+    out: &mut W,
+    err: &mut E,
+) -> Result<(), RunFailure>
+    requires nothing { (state.old.output.items ≡ []) × (state.old.errors.items ≡ []) }
+    requires limits { state.old.fault_count ≤ 8192 * state.old.read_count }
+    ensures finished { IfOk result (λ _. SourceFinishes R.remaining W.contents E.contents rule.now (origin_of origin.entry) state.old state.new input.old input.new out.old out.new err.old err.new) }
+    ensures limits { IfOk result (λ _. state.new.fault_count ≤ 8192 * state.new.read_count) }
+    ensures stopped { IfErr result (λ _. SourceStops R.remaining W.contents E.contents rule.now (origin_of origin.entry) state.old input.old input.new out.old out.new err.old err.new) }
+    ensures failure { IfErr result (IsRunFailureOf (Some (origin_of origin.entry).name)) }
+{
+    let mut buffer = [0u8; READ_SIZE];
+    let mut line = Vec::new(alloc);
+    state.line_count = 0;
+    while state.read_count < MOST_READS {
+        state.read_count += 1;
+        let Ok(count) = input.read(&mut buffer) else {
+            return Err(fail_reading(alloc, origin.name));
+        };
+        if count == 0 {
+            state.push_line(alloc, rule, origin, line.as_slice())?;
+            write_both(out, err, state.output.as_slice(), state.errors.as_slice())?;
+            state.clear();
+            return Ok(());
+        }
+        state.push_bytes(alloc, rule, origin, &mut line, &buffer[..count])?;
+        write_both(out, err, state.output.as_slice(), state.errors.as_slice())?;
+        state.clear();
+    }
+    Err(fail_reading(alloc, origin.name))
+}

@@ -1,0 +1,61 @@
+//! The commands of the program `pyver` that read words, versions and lines: what each prints, as a function of its operands and options.
+//!
+//! In reading order: `Answer`; `compare`, `match_versions`, `show_versions`, `bump_version` and `find_common`, which read nothing; `Files`,
+//! `filter_sources`, and `answer_input` for commands that read all lines before they write; and `laws`.
+#![tactic(auto)]
+
+mod allowed;
+mod answer;
+mod bump;
+mod bump_input;
+mod common_range;
+mod comparison;
+mod fields;
+mod files;
+mod filter;
+mod filter_input;
+pub mod filter_sources;
+mod invalid_lines;
+pub mod laws;
+mod line_options;
+mod newest;
+mod newest_lines;
+mod open_failure;
+mod origin;
+mod part;
+mod prerelease_rule;
+mod range_json;
+mod reading;
+mod show;
+mod sort;
+mod source_lines;
+mod source_texts;
+mod stream;
+mod version_json;
+mod version_line;
+mod whole_input;
+mod word_number;
+
+pub use allowed::{
+    MatchOptions, SpecifiersReading, match_versions, parse_specifiers, push_list_fault,
+};
+pub use answer::Answer;
+pub use bump::{BumpPart, bump_version, parse_bump_part};
+pub use bump_input::BumpRule;
+pub use common_range::{RangeOptions, find_common};
+pub use comparison::{Comparison, compare, parse_comparison};
+pub use files::Files;
+pub use filter::{FilterOptions, FilterRule, Selection};
+pub use invalid_lines::{InvalidLines, parse_invalid_lines};
+pub use line_options::LineOptions;
+pub use newest::{NewestOptions, NewestRule};
+pub use open_failure::OpenFailure;
+pub use origin::is_input;
+pub use part::{VersionPart, parse_part};
+pub use prerelease_rule::{Prereleases, takes_prereleases};
+pub use show::{ShowFormat, show_versions};
+pub use sort::SortOptions;
+pub use source_texts::read_by_name;
+pub use stream::RunFailure;
+pub use whole_input::{LinesQuestion, Question, answer_input};
+pub use word_number::parse_number;

@@ -1,6 +1,0 @@
-use Rattle.std.proofs.Common.{◌≡◌, ◌++◌, take}
-use Rattle.pyver_findings.specs.Escapes.{escaped_lines}
-use Rattle.pyver_findings.proofs.escape.push_escaped_lines.Given as goal
-
-abbrev pub invariant-loop-byte : goal.invariant-loop-byte
-invariant-loop-byte l = l.text.items ≡ l.initial.text.items ++ escaped_lines (take l.byte-index l.bytes)

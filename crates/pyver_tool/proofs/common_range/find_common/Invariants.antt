@@ -1,6 +1,0 @@
-use Rattle.std.proofs.Common.{string_bytes}
-use Rattle.pyver_tool.proofs.CommonRanges.{Found}
-use Rattle.pyver_tool.proofs.common_range.find_common.Given as goal
-
-abbrev pub invariant-loop-word : goal.invariant-loop-word
-invariant-loop-word l = Found string_bytes l.words l.word-index l.found.errors.items l.found.range l.found.cover l.found.members.items

@@ -1,8 +1,0 @@
-use Rattle.std.proofs.Common.{◌≡◌, ◌++◌, drop, map}
-use Rattle.pyver_tool.proofs.Sorting.{kept_after}
-use Rattle.pyver_tool.specs.Sorts.{without_repeats}
-use Rattle.pyver_tool.specs.VersionLineViews.{version_line_of}
-use Rattle.pyver_tool.proofs.sort.kept_texts.Given as goal
-
-abbrev pub invariant-loop-line : goal.invariant-loop-line
-invariant-loop-line l = map (λ t. t.now) l.texts.items ++ map (λ x. x.text) (kept_after l.unique l.before (drop l.line-index l.lines)) ≡ map (λ x. x.text) (without_repeats l.unique (map version_line_of l.lines))
