@@ -132,7 +132,7 @@ fn parse_after_name<'a>(
     ensures lifted { IfErr result (λ e. IsRequirementLifted e.kind) }
     ensures message { IfErr result (λ e. IfSome (requirement_refusal_of e.kind) (λ f. requirement_text_of e.kind ≡ Some (requirement_refusal_text f))) }
     ensures position { IfErr result (IsPositioned text.now) }
-    ensures list_position { IfOk result (λ p. p.list_position ≡ list_position text.now) }
+    ensures list { IfOk result (λ p. p.list_position ≡ list_position text.now) }
 {
     if !has_name_ends(name.as_bytes()) {
         return Err(RequirementError::InvalidName.with_position(0));
@@ -158,7 +158,7 @@ pub(crate) fn parse_parts(text: &str) -> Result<SplitRequirement<'_>, Requiremen
     ensures lifted { IfErr result (λ e. IsRequirementLifted e.kind) }
     ensures message { IfErr result (λ e. IfSome (requirement_refusal_of e.kind) (λ f. requirement_text_of e.kind ≡ Some (requirement_refusal_text f))) }
     ensures position { IfErr result (IsPositioned text.now) }
-    ensures list_position { IfOk result (λ p. p.list_position ≡ list_position text.now) }
+    ensures list { IfOk result (λ p. p.list_position ≡ list_position text.now) }
 {
     if has_byte(text, b';') {
         return Err(RequirementError::Marker.with_position(0));

@@ -1,5 +1,5 @@
 -- Strings of tabs and printable ASCII are UTF-8.
-use Rattle.std.proofs.Common.{arith, ◌≡◌, ◌==◌, ◌<◌, ◌≤◌, ◌∙◌, ◌&&◌, ◌||◌, ℕ, List, [], ◌∷◌, Bool, true, false, length, nat_le, nat_lt, refl, sym}
+use Rattle.std.proofs.Common.{arith, ◌≡◌, ◌==◌, ◌<◌, ◌≤◌, ◌∙◌, ◌&&◌, ℕ, List, [], ◌∷◌, Bool, true, false, length, refl, sym}
 use Rattle.std.proofs.lemmas.Bool.{true≢false}
 use Rattle.std.proofs.lemmas.List.Elements.{All-cons, All-nil}
 use Rattle.std.proofs.lemmas.List.Sums.{prefix_len-le-length}

@@ -1,7 +1,7 @@
 //! Lines that are requirements or lists of specifiers, or should be.
 ghost use Rattle.std.specs.Prelude.{◌≡◌, Some, IfOk, IfSome, false, option_map, string_bytes, is_none};
 ghost use Rattle.pep440_pick.specs.RequirementGrammar.{RequirementRefusal};
-ghost use Rattle.pep440_pick.specs.Requirements.{IsRequirementLifted, needed, requirement_refusal_of};
+ghost use Rattle.pep440_pick.specs.Requirements.{IsPositioned, IsRequirementLifted, needed, requirement_refusal_of};
 ghost use Rattle.pep440_pick.specs.RequirementTexts.{requirement_refusal_text, requirement_text_of};
 ghost use Rattle.pep440_rs.specs.ErrorTexts.{specifier_refusal_text};
 ghost use Rattle.pep440_rs.specs.ListAnswers.{line_for, line_of, list_kind_of};
@@ -24,7 +24,7 @@ use crate::file_line::FileLine;
 use crate::finding::Finding;
 use crate::line_meaning::LineMeaning;
 use crate::plain::plain_text;
-use pep440_pick::{Requirement, RequirementError};
+use pep440_pick::{Requirement, RequirementError, RequirementParseError};
 use pep440_rs::{SpecifiersErrorKind, VersionSpecifiers, VersionSpecifiersParseError};
 use pyver_requirements::{LineParts, MarkerError, MarkerFault, parse_marker, split_requirement};
 use std::alloc::{AllocError, Global};
@@ -68,13 +68,14 @@ fn reject_error(
     alloc: Global,
     line: &FileLine,
     parts: LineParts<'_>,
-    error: &RequirementError,
+    error: &RequirementParseError,
 ) -> Result<LineMeaning, AllocError>
-    requires lifted { IsRequirementLifted error.now }
-    requires message { IfSome (requirement_refusal_of error.now) (λ f. requirement_text_of error.now ≡ Some (requirement_refusal_text f)) }
-    ensures { IfOk result (λ x. (f : RequirementRefusal) × (requirement_refusal_of error.now ≡ Some f) × (line_meaning_of x ≡ refusal_meaning (file_line_of line.now) (line_parts_of parts.entry) f)) }
+    requires lifted { IsRequirementLifted error.now.kind }
+    requires message { IfSome (requirement_refusal_of error.now.kind) (λ f. requirement_text_of error.now.kind ≡ Some (requirement_refusal_text f)) }
+    requires position { IsPositioned parts.requirement.now error.now }
+    ensures { IfOk result (λ x. (f : RequirementRefusal) × (requirement_refusal_of error.now.kind ≡ Some f) × (line_meaning_of x ≡ refusal_meaning (file_line_of line.now) (line_parts_of parts.entry) f)) }
 {
-    let reason = print_reason(alloc, error)?;
+    let reason = print_reason(alloc, &error.kind)?;
     let column = column(parts.requirement, error);
     reject(alloc, line, reason.as_str(), column)
 }
@@ -172,7 +173,7 @@ fn parse_text(
     requires plain { IsPlain parts.requirement.now }
     ensures { IfOk result (λ x. IsPartsMeaning (file_line_of line.now) (line_parts_of parts.entry) (line_meaning_of x)) }
 {
-    match Requirement::from_str(alloc, text) {
+    match Requirement::parse(alloc, text) {
         Ok(requirement) => interpret_parts(alloc, line, parts, &requirement),
         Err(error) => reject_error(alloc, line, parts, &error),
     }

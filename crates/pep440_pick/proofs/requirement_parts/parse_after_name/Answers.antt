@@ -13,8 +13,8 @@ returns-in-Some-strip_parentheses-clause-value c =
     found_named c.args.name.now c.args.rest.now c.in-Some.behind.now c.trim_blanks.result.now c.in-Some-strip_parentheses.list.now (listed_extras c.in-Some.extras.now)
     (ends_decide c.args.name.now c.as_bytes.result.now _ c.requires.name c.as_bytes.ensures.value (sym c.has_name_ends.ensures ∙ c.if-not-has_name_ends.false)) (sym c.in-Some.ensures) c.trim_blanks.ensures c.in-Some-strip_parentheses.ensures
 
-pub returns-in-Some-strip_parentheses-clause-list_position : goal.returns-in-Some-strip_parentheses-clause-list_position
-returns-in-Some-strip_parentheses-clause-list_position c =
+pub returns-in-Some-strip_parentheses-clause-list : goal.returns-in-Some-strip_parentheses-clause-list
+returns-in-Some-strip_parentheses-clause-list c =
     let end = behind_read c.args.text.now c.args.rest.now c.in-Some.behind.now c.trim_ascii_start-list_part.result.now (listed_extras c.in-Some.extras.now) c.requires.rest c.in-Some.ensures c.trim_ascii_start-list_part.ensures.value in
     c.count_bytes_before-in-Some-strip_parentheses.ensures ∙ ap (λ t. length c.args.text.now - length t) (c.skip_parenthesis.ensures ∙ ap in_parenthesis end)
 

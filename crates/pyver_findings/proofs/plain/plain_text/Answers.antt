@@ -1,4 +1,3 @@
-use Rattle.std.proofs.Common.{◌≡◌, ◌<◌, ◌≤◌, length}
 use Rattle.pyver_findings.proofs.PlainText.{another_byte, no_other_byte, plain_utf8}
 use Rattle.pyver_findings.proofs.plain.plain_text.Goals as goal
 

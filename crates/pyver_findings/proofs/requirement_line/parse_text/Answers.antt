@@ -8,5 +8,5 @@ use Rattle.pyver_findings.proofs.requirement_line.parse_text.Goals as goal
 
 pub returns-in-Err : goal.returns-in-Err
 returns-in-Err c =
-    error_read c.reject_error.result (file_line_of c.args.line.now) (line_parts_of c.args.parts) c.in-Err.error c.requires.plain
-    (subst (λ (t : List ℕ). IfSome (requirement_refusal_of c.in-Err.error) (RefusesRequirement t)) c.requires.same c.in-Err.ensures.refused) c.reject_error.ensures
+    error_read c.reject_error.result (file_line_of c.args.line.now) (line_parts_of c.args.parts) c.in-Err.error.kind c.requires.plain
+    (subst (λ (t : List ℕ). IfSome (requirement_refusal_of c.in-Err.error.kind) (RefusesRequirement t)) c.requires.same c.in-Err.ensures.refused) c.reject_error.ensures

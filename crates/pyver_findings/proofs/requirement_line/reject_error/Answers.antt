@@ -13,7 +13,7 @@ use Rattle.pyver_findings.proofs.requirement_line.reject_error.Goals as goal
 
 pub returns : goal.returns
 returns c =
-    let e = c.args.error.now in
+    let e = c.args.error.now.kind in
     let l = file_line_of c.args.line.now in
     let p = line_parts_of c.args.parts in
     let f = refusal_in (requirement_refusal_of e) e c.in_ok-reason.ensures.memory c.requires.lifted in

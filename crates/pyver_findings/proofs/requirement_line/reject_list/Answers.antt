@@ -23,6 +23,6 @@ returns c =
     let told : list_text_of kind (line_of e) ≡ Some (list_refusal_text f.0 text) = subst (λ (o : Option PieceRefusal). IfSome o (λ g. list_text_of kind (line_of e) ≡ Some (list_refusal_text g text))) f.1 c.requires.message in
     let why : c.as_str.result.now ≡ specifier_refusal_text f.0.error = c.as_str.ensures.value ∙ list_reason_is kind (line_of e) text (string_bytes c.in_ok-reason.reason) f.0 c.requires.line f.1 told c.in_ok-reason.ensures in
     let at : c.list_column-column.result ≡ list_column text f.0 =
-    subst (λ (o : Option PieceRefusal). IfSome o (λ g. c.list_column-column.result ≡ list_column text g)) f.1 (subst (λ t. IfSome (list_refusal_of kind) (λ g. c.list_column-column.result ≡ list_column t g)) c.as_bytes.ensures.value c.list_column-column.ensures) in
+    subst (λ (o : Option PieceRefusal). IfSome o (λ g. c.list_column-column.result ≡ list_column text g)) f.1 (subst (λ t. IfSome (list_refusal_of kind) (λ g. c.list_column-column.result ≡ list_column t g)) c.as_bytes.ensures.value c.list_column-column.ensures.value) in
     IfOk-weaker c.reject.result (λ x. line_meaning_of x ≡ IsNone (NoRequirement l c.as_str.result.now c.list_column-column.result))
     (λ x. (g : PieceRefusal) × (list_refusal_of kind ≡ Some g) × (line_meaning_of x ≡ IsNone (NoRequirement l (specifier_refusal_text g.error) (list_column text g)))) (λ x is. (f.0, f.1, is ∙ (λ j. IsNone (NoRequirement l (why j) (at j))))) c.reject.ensures

@@ -21,7 +21,7 @@ pub returns-in_err-specifiers-clause-position : goal.returns-in_err-specifiers-c
 returns-in_err-specifiers-clause-position c =
     passed (λ r. IfErr r (IsPositioned c.args.text.now)) c.from_residual-in_err-specifiers.result c.in_err-specifiers.field-0.0 c.from_residual-in_err-specifiers.ensures.1
     (at_list c.args.text.now c.in_ok-parts.parts.list.now (requirement_refusal_of c.in_err-specifiers.field-0.0.kind) c.in_err-specifiers.field-0.0.position
-    (c.in_err-specifiers.ensures.position ∙ c.in_ok-parts.ensures.list_position) c.in_err-specifiers.ensures.refused)
+    (c.in_err-specifiers.ensures.position ∙ c.in_ok-parts.ensures.list) c.in_err-specifiers.ensures.refused)
 
 pub returns-clause-found : goal.returns-clause-found
 returns-clause-found c =
