@@ -183,6 +183,7 @@ fn contains_any(list: &[u8], version: &[u8]) -> Result<(bool, bool), ContainsErr
 /// format, the error names it; if `list` denotes no list or `version` no version, an error or any result.
 ///
 /// Does not allocate.
+#[inline(always)]
 pub fn contains(list: &[u8], version: &[u8]) -> Result<(bool, bool), ContainsError>
     ensures found { (l : List Spec) (r : Record) → DenotesList list.now l → DenotesVersion version.now r → result ≡ Ok (list_matches l r, any_prerelease r) }
     ensures prerelease { (r : Record) → DenotesVersion version.now r → IfOk result (λ found. found.1 ≡ any_prerelease r) }
