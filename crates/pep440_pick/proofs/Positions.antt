@@ -1,4 +1,4 @@
--- Where a string is invalid.
+-- The positions of errors of requirements.
 use Rattle.std.proofs.Common.{◌≡◌, ◌∙◌, ℕ, List, [], Option, Some, ap, sym}
 use Rattle.std.specs.Char.{is_ascii_whitespace}
 use Rattle.std.specs.Option.{option_map_or}

@@ -69,7 +69,7 @@ behind_name text = past is_ascii_whitespace (past is_name_byte (past is_ascii_wh
 abbrev pub read_prefix : List ℕ → Result Front RequirementRefusal
 read_prefix text = if has_byte 59 text then Err Marker else if has_byte 64 text then Err Url else prefix_after_name (name_of text) (behind_name text)
 
--- ---- where a string is invalid
+-- ---- the position of an error
 
 -- what stands behind the name and its blanks, the extras and their blanks
 abbrev pub behind_extras : List ℕ → List ℕ

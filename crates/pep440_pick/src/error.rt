@@ -1,4 +1,4 @@
-//! Why a string is no requirement, where, and the message.
+//! The errors of requirements, their positions and their messages.
 ghost use Rattle.std.specs.Prelude.{◌≡◌};
 ghost use Rattle.pep440_pick.specs.Requirements.{requirement_refusal_of};
 ghost use Rattle.pep440_pick.specs.RequirementTexts.{requirement_text_of};
@@ -72,7 +72,7 @@ impl RequirementError {
     }
 }
 
-/// Why a string is no requirement, and where.
+/// Why a string is no requirement, and its position.
 #[derive(Debug, Drop)]
 pub struct RequirementParseError {
     /// Why.

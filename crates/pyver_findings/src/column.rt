@@ -49,7 +49,7 @@ fn is_operator(text: &[u8]) -> bool
 }
 
 // What stands after the operator, if the text begins with one.
-fn behind_operator(text: &[u8]) -> &[u8]
+fn skip_operator(text: &[u8]) -> &[u8]
     ensures { result.now ≡ behind_operator text.now }
 {
     let count = count_operator_bytes(text);
@@ -70,10 +70,10 @@ fn piece_start(error: &VersionSpecifiersParseError) -> usize
 }
 
 // What stands from the position on at which the list is invalid.
-fn rest_in_list<'a>(text: &'a [u8], error: &VersionSpecifiersParseError) -> &'a [u8]
+fn skip_to_fault<'a>(text: &'a [u8], error: &VersionSpecifiersParseError) -> &'a [u8]
     ensures { IfSome (list_refusal_of (list_kind_of error.now)) (λ f. result.now ≡ rest_in_list text.now f) }
 {
-    behind_operator(skip_bytes(text, piece_start(error)).trim_ascii_start())
+    skip_operator(skip_bytes(text, piece_start(error)).trim_ascii_start())
 }
 
 // The column of that position, in bytes from 0.
@@ -81,7 +81,7 @@ pub(crate) fn list_column(text: &[u8], error: &VersionSpecifiersParseError) -> u
     ensures inside { result ≤ length text.now }
     ensures value { IfSome (list_refusal_of (list_kind_of error.now)) (λ f. result ≡ list_column text.now f) }
 {
-    text.len().saturating_sub(rest_in_list(text, error).len())
+    text.len().saturating_sub(skip_to_fault(text, error).len())
 }
 
 // The column at which the requirement is invalid, in bytes from 0.
@@ -106,7 +106,7 @@ fn count_before_marker(text: &[u8]) -> usize
 }
 
 // The marker of a line, and what follows it.
-fn from_marker(text: &[u8]) -> &[u8]
+fn skip_to_marker(text: &[u8]) -> &[u8]
     ensures { result.now ≡ from_marker text.now }
 {
     skip_bytes(&text[count_before_marker(text)..], 1).trim_ascii_start()
@@ -116,6 +116,6 @@ fn from_marker(text: &[u8]) -> &[u8]
 pub(crate) fn marker_column(text: &[u8], position: usize) -> usize
     ensures { result ≡ marker_column text.now position }
 {
-    let left = from_marker(text).len().saturating_sub(position);
+    let left = skip_to_marker(text).len().saturating_sub(position);
     text.len().saturating_sub(left)
 }

@@ -1,13 +1,12 @@
 -- What is read the grammar derives.
-use Rattle.std.proofs.Common.{◌≡◌, ◌∙◌, ◌+◌, ◌<◌, ◌≤◌, ◌⊎◌, ℕ, suc, zero, List, [], ◌∷◌, ◌++◌, Bool, true, false, Ok, Err, Result, ap, append_assoc, arith, inl, inr, length, nat_lt, refl, subst, sym, if◌then◌else◌}
-use Rattle.std.proofs.lemmas.Bool.{true≢false}
+use Rattle.std.proofs.Common.{◌≡◌, ◌∙◌, ◌+◌, ◌<◌, ℕ, suc, zero, List, [], ◌∷◌, ◌++◌, Bool, true, false, Ok, Err, Result, ap, append_assoc, arith, length, nat_lt, refl, subst, sym, if◌then◌else◌}
 use Rattle.std.proofs.lemmas.Bool.Decides.{nat_tests}
 use Rattle.std.proofs.lemmas.List.{append-nil}
 use Rattle.pyver_requirements.proofs.MarkerReadings.{behind, before, both_terms, closed_some, level, or_some, terms_some}
 use Rattle.pyver_requirements.specs.MarkerGrammar as grammar
 use Rattle.pyver_requirements.specs.MarkerGrammar.{Conjunction, Denotes, Disjunction, Marker, Operand, ReadMarkersAreDerived, alone, at, both, compared, either, enclosed, one, terms}
 use Rattle.pyver_requirements.specs.MarkerReading.{Level, Levels, Misfit, after_or, closed, read_end, marker, read, step, unless_misfit, with_operand}
-use Rattle.pyver_requirements.specs.MarkerTerms.{All, Any, Terms, terms_text, under_and, under_or, union}
+use Rattle.pyver_requirements.specs.MarkerTerms.{All, Terms, terms_text, under_or}
 use Rattle.pyver_requirements.specs.MarkerTokens.{And, Close, Compares, Faulty, Lexeme, Open, Or, Token, lexemes}
 
 -- ---- what was read of a level

@@ -1,9 +1,9 @@
 -- A step of the reader of markers.
-use Rattle.std.proofs.Common.{◌≡◌, ◌∙◌, ◌+◌, ◌-◌, ◌<◌, ◌≤◌, ℕ, zero, suc, List, [], ◌∷◌, Ok, Err, true, false, ap, arith, drop, length, refl, sub-one, sym}
+use Rattle.std.proofs.Common.{◌≡◌, ◌-◌, ◌<◌, ◌≤◌, ℕ, zero, suc, List, [], ◌∷◌, Ok, Err, true, false, arith, drop, length, refl, sub-one, sym}
 use Rattle.std.proofs.lemmas.List.{drop_all}
 use Rattle.std.specs.Prelude.{Result}
 use Rattle.pyver_requirements.specs.MarkerReading.{Levels, Misfit, read_end, read, step}
-use Rattle.pyver_requirements.specs.MarkerTokens.{Lexeme, Token, behind_token, is_blank_byte, lexemes, token}
+use Rattle.pyver_requirements.specs.MarkerTokens.{Token, behind_token, is_blank_byte, lexemes, token}
 use Rattle.pyver_requirements.specs.MarkerViews.{IsMarkerFault}
 use Rattle.pyver_requirements.specs.declared.marker_fault.MarkerError.{MarkerError}
 use Rattle.pyver_requirements.specs.declared.marker_fault.MarkerError.TheVariants as error

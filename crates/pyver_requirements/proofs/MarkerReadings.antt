@@ -1,5 +1,5 @@
 -- What the grammar derives is read.
-use Rattle.std.proofs.Common.{◌≡◌, ◌∙◌, ◌+◌, ◌<◌, ◌≤◌, ℕ, suc, zero, List, [], ◌∷◌, ◌++◌, Bool, true, false, Ok, Err, ap, append_assoc, arith, length, nat_lt, refl, sym, if◌then◌else◌}
+use Rattle.std.proofs.Common.{◌≡◌, ◌∙◌, ◌+◌, ◌<◌, ◌≤◌, ℕ, List, [], ◌∷◌, ◌++◌, Bool, true, false, Ok, ap, append_assoc, arith, length, nat_lt, refl, sym, if◌then◌else◌}
 use Rattle.std.proofs.lemmas.Bool.Decides.{nat_tests}
 use Rattle.std.proofs.lemmas.Bool.{true≢false}
 use Rattle.std.proofs.lemmas.List.{append-nil}
@@ -9,7 +9,7 @@ use Rattle.std.specs.Ordering.{match_ordering, nat_cmp}
 use Rattle.std.specs.declared.cmp.Ordering.TheVariants.{Equal, Greater, Less}
 use Rattle.pyver_requirements.specs.MarkerGrammar as grammar
 use Rattle.pyver_requirements.specs.MarkerGrammar.{Conjunction, Denotes, Disjunction, Marker, MarkersAreRead, Operand, alone, at, both, compared, either, enclosed, one, terms}
-use Rattle.pyver_requirements.specs.MarkerReading.{Level, Levels, closed, read_end, has_none, marker, read, with_operand}
+use Rattle.pyver_requirements.specs.MarkerReading.{Level, Levels, closed, has_none, marker, read, with_operand}
 use Rattle.pyver_requirements.specs.MarkerTerms.{All, Any, Terms, comparison_text, terms_text, under_and, under_or, union}
 use Rattle.pyver_requirements.specs.MarkerTokens.{And, Close, Compares, Lexeme, Open, Or, Side, lexemes}
 use Rattle.pyver_requirements.specs.declared.marker_operator.MarkerOperator.{MarkerOperator}

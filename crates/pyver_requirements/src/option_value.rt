@@ -1,7 +1,5 @@
 // Values of options, as a shell splits them.
 ghost use Rattle.std.specs.Prelude.{◌≡◌, ◌==◌, None, drop, option_map};
-ghost use Rattle.std.specs.Char.{is_ascii_whitespace};
-ghost use Rattle.pep440_version.specs.Reading.{past};
 ghost use Rattle.pyver_requirements.specs.OptionValues.{first_value, from_long_value, from_value, is_quote, long_value, next_quote, quoted_word, value_column, without_quotes};
 
 use crate::comment::trim_blanks;
@@ -15,7 +13,7 @@ pub(crate) fn is_quote(byte: u8) -> bool
 }
 
 // The quote that is open after the byte, if this one was open before.
-fn next_quote(quote: Option<u8>, byte: u8) -> Option<u8>
+fn pass_quote(quote: Option<u8>, byte: u8) -> Option<u8>
     ensures { result ≡ next_quote quote byte }
 {
     match quote {
@@ -25,7 +23,7 @@ fn next_quote(quote: Option<u8>, byte: u8) -> Option<u8>
 }
 
 // Up to the first blank that stands in no quotes.
-fn quoted_word(text: &[u8]) -> &[u8]
+fn take_quoted_word(text: &[u8]) -> &[u8]
     ensures { result.now ≡ quoted_word None text.now }
 {
     let mut quote = None;
@@ -33,13 +31,13 @@ fn quoted_word(text: &[u8]) -> &[u8]
         if quote.is_none() && byte.is_ascii_whitespace() {
             return &text[..at];
         }
-        quote = next_quote(quote, *byte);
+        quote = pass_quote(quote, *byte);
     }
     text
 }
 
 // Quotes elsewhere than around the whole word stay, since a part of the text has no gaps.
-fn without_quotes(word: &[u8]) -> &[u8]
+fn strip_quotes(word: &[u8]) -> &[u8]
     ensures { result.now ≡ without_quotes word.now }
 {
     let [first, rest @ ..] = word else {
@@ -58,7 +56,7 @@ fn without_quotes(word: &[u8]) -> &[u8]
 pub(crate) fn first_value(text: &[u8]) -> &[u8]
     ensures { result.now ≡ first_value text.now }
 {
-    without_quotes(quoted_word(text))
+    strip_quotes(take_quoted_word(text))
 }
 
 // The value of a long option, of which the text follows the name.
@@ -72,24 +70,18 @@ pub(crate) fn long_value(text: &[u8]) -> &[u8]
     }
 }
 
-fn skip_blanks(text: &[u8]) -> &[u8]
-    ensures { result.now ≡ past is_ascii_whitespace text.now }
-{
-    text.trim_ascii_start()
-}
-
 // Where the name of a long option ends.
-fn from_long_value(text: &[u8]) -> &[u8]
+fn skip_long_name(text: &[u8]) -> &[u8]
     ensures { result.now ≡ from_long_value text.now }
 {
     match text {
         [] => text,
         [b'=', value @ ..] => value,
-        [_, value @ ..] => skip_blanks(value),
+        [_, value @ ..] => value.trim_ascii_start(),
     }
 }
 
-fn behind_short_name(text: &[u8]) -> &[u8]
+fn skip_short_name(text: &[u8]) -> &[u8]
     ensures { result.now ≡ drop 2 text.now }
 {
     match text {
@@ -98,13 +90,13 @@ fn behind_short_name(text: &[u8]) -> &[u8]
     }
 }
 
-fn from_value(text: &[u8]) -> &[u8]
+fn skip_name(text: &[u8]) -> &[u8]
     ensures { result.now ≡ from_value text.now }
 {
     if text.starts_with("--".as_bytes()) {
-        from_long_value(&text[count_name_bytes(text)..])
+        skip_long_name(&text[count_name_bytes(text)..])
     } else {
-        skip_blanks(behind_short_name(text))
+        skip_short_name(text).trim_ascii_start()
     }
 }
 
@@ -114,5 +106,5 @@ fn from_value(text: &[u8]) -> &[u8]
 pub fn value_column(text: &[u8]) -> usize
     ensures { result ≡ value_column text.now }
 {
-    text.len().saturating_sub(from_value(text).len())
+    text.len().saturating_sub(skip_name(text).len())
 }

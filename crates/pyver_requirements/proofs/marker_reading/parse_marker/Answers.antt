@@ -1,7 +1,7 @@
-use Rattle.std.proofs.Common.{rules, ◌≡◌, ◌∙◌, ◌∷◌, ◌-◌, ℕ, List, add-one, ap, drop, drop-cons, get_or, length, suc, sym, take, arith}
+use Rattle.std.proofs.Common.{◌≡◌, ◌∙◌, ◌∷◌, ◌-◌, add-one, ap, drop, drop-cons, get_or, length, suc, sym, take, arith}
 use Rattle.std.proofs.lemmas.List.{take_rest}
 use Rattle.pyver_requirements.specs.MarkerReading.{read_end, marker, read, step}
-use Rattle.pyver_requirements.specs.MarkerTokens.{behind_token, lexemes}
+use Rattle.pyver_requirements.specs.MarkerTokens.{lexemes}
 use Rattle.pyver_requirements.specs.MarkerViews.{IsMarkerFault, levels_of, token_of}
 use Rattle.std.specs.Prelude.{IfErr}
 use Rattle.pep440_rs.proofs.Reading.Passed.{passed}

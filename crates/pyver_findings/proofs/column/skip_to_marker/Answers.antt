@@ -1,7 +1,7 @@
 use Rattle.std.proofs.Common.{arith}
 use Rattle.std.proofs.lemmas.Grind.{common_steps}
 use Rattle.pep440_rs.proofs.Blanks.{start_trimmed}
-use Rattle.pyver_findings.proofs.column.from_marker.Goals as goal
+use Rattle.pyver_findings.proofs.column.skip_to_marker.Goals as goal
 
 pub returns : goal.returns
 returns c =
