@@ -57,11 +57,11 @@ blanks_more xs i old new total inside more so =
 
 -- ---- parts that are written one after another
 
-regroup : (o a b c d e : List ℕ) → ((((o ++ a) ++ b) ++ c) ++ d) ++ e ≡ o ++ (a ++ (b ++ (c ++ (d ++ e))))
-regroup o a b c d e = simp append_assoc
+regroup : (o a b c d e f : List ℕ) → (((((o ++ a) ++ b) ++ c) ++ d) ++ e) ++ f ≡ o ++ (a ++ (b ++ (c ++ (d ++ (e ++ f)))))
+regroup o a b c d e f = simp append_assoc
 
-pub five_parts : (o a b c d e n1 n2 n3 n4 n5 : List ℕ) → n1 ≡ o ++ a → n2 ≡ n1 ++ b → n3 ≡ n2 ++ c → n4 ≡ n3 ++ d → n5 ≡ n4 ++ e → n5 ≡ o ++ (a ++ (b ++ (c ++ (d ++ e))))
-five_parts o a b c d e n1 n2 n3 n4 n5 e1 e2 e3 e4 e5 = let whole : n5 ≡ ((((o ++ a) ++ b) ++ c) ++ d) ++ e = cc in whole ∙ regroup o a b c d e
+pub six_parts : (o a b c d e f n1 n2 n3 n4 n5 n6 : List ℕ) → n1 ≡ o ++ a → n2 ≡ n1 ++ b → n3 ≡ n2 ++ c → n4 ≡ n3 ++ d → n5 ≡ n4 ++ e → n6 ≡ n5 ++ f → n6 ≡ o ++ (a ++ (b ++ (c ++ (d ++ (e ++ f)))))
+six_parts o a b c d e f n1 n2 n3 n4 n5 n6 e1 e2 e3 e4 e5 e6 = let whole : n6 ≡ (((((o ++ a) ++ b) ++ c) ++ d) ++ e) ++ f = cc in whole ∙ regroup o a b c d e f
 
 pub three_parts : (o a b c n1 n2 n3 : List ℕ) → o ≡ [] → n1 ≡ o ++ a → n2 ≡ n1 ++ b → n3 ≡ n2 ++ c → n3 ≡ a ++ (b ++ c)
 three_parts o a b c n1 n2 n3 e0 e1 e2 e3 = e3 ∙ (λ j. (e2 ∙ (λ i. (e1 ∙ (λ k. e0 k ++ a)) i ++ b)) j ++ c) ∙ append_assoc a b c

@@ -13,4 +13,6 @@ pub enum Cause {
     Location,
     /// A name with a URL, or a URL of another file.
     Url,
+    /// A requirement of a locked package whose list of versions is not one of PEP 440, as Poetry's `^1.0`.
+    OtherSyntax,
 }

@@ -37,8 +37,10 @@ fn is_pinned(members: &[VersionSpecifier]) -> bool
 }
 
 impl Demand {
-    // What the line asks for under this marker.
-    pub(crate) fn new(
+    /// What the line asks for under this marker, or always.
+    ///
+    /// Allocates.
+    pub fn new(
         alloc: Global,
         line: &FileLine,
         marker: Option<Vec<u8>>,

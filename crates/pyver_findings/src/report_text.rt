@@ -247,6 +247,7 @@ fn same_cause(one: Cause, other: Cause) -> bool
             | (Cause::Variable, Cause::Variable)
             | (Cause::Location, Cause::Location)
             | (Cause::Url, Cause::Url)
+            | (Cause::OtherSyntax, Cause::OtherSyntax)
     )
 }
 
@@ -259,6 +260,7 @@ fn cause_text(cause: Cause) -> &'static str
         Cause::Variable => "pyver: lines with a variable left out: ",
         Cause::Location => "pyver: paths, archives and URLs left out: ",
         Cause::Url => "pyver: requirements and files by URL left out: ",
+        Cause::OtherSyntax => "pyver: requirements of packages in another syntax left out: ",
     }
 }
 
@@ -306,7 +308,8 @@ fn push_all_left_out(alloc: Global, bytes: &mut Vec<u8>, causes: &[Cause]) -> Re
     push_left_out(alloc, bytes, causes, Cause::PipOption)?;
     push_left_out(alloc, bytes, causes, Cause::Variable)?;
     push_left_out(alloc, bytes, causes, Cause::Location)?;
-    push_left_out(alloc, bytes, causes, Cause::Url)
+    push_left_out(alloc, bytes, causes, Cause::Url)?;
+    push_left_out(alloc, bytes, causes, Cause::OtherSyntax)
 }
 
 fn push_counted(

@@ -3,7 +3,10 @@ use Rattle.std.proofs.Common.{◌≡◌, ◌∙◌, ℕ, List, [], ◌∷◌, �
 use Rattle.std.specs.List.{AllZip, flat_map}
 use Rattle.pep440_pick.specs.Names.{same_name}
 use Rattle.pep440_pick.specs.RequirementGrammar.{Needed}
+use Rattle.pep440_rs.proofs.Reading.OneMeaning.{not_both_list, one_list}
+use Rattle.pep440_rs.specs.ListGrammar.{DerivesList}
 use Rattle.pep440_rs.specs.Matching.{list_matches}
+use Rattle.pep440_rs.specs.Specifiers.{Spec}
 use Rattle.pep440_version.proofs.Reading.Agreement.{one_record}
 use Rattle.pep440_version.proofs.Refusals.ExactlyOne.{not_both}
 use Rattle.pep440_version.specs.Grammar.{Derives}
@@ -11,18 +14,19 @@ use Rattle.pep440_version.specs.Record.{Record}
 use Rattle.pyver_findings.specs.Demands.{Demand, line_demand}
 use Rattle.pyver_findings.specs.FileLines.{File, FileLine}
 use Rattle.pyver_findings.specs.Findings.{Conflicting}
-use Rattle.pyver_findings.specs.LineMeanings.{Asks}
+use Rattle.pyver_findings.specs.LineMeanings.{Asks, LineMeaning}
 use Rattle.pyver_findings.specs.Reports.{Report, demands_in, empty_report}
 use Rattle.pyver_findings.specs.declared.finding.Conflict.TheVariants.{PinOutside}
 use Rattle.toml.specs.Data.{Members}
 use Rattle.pyver_projects.proofs.Asking.{asks_always}
+use Rattle.pyver_projects.proofs.Holding.{findings_of}
 use Rattle.pyver_projects.proofs.Walks.{beside_it, left_nil, nil_at, right_nil}
-use Rattle.pyver_projects.specs.Comparing.{found_beside, beside_all, compared, compared_demand, excluded, is_locked, missing, with_own_reports}
+use Rattle.pyver_projects.specs.Comparing.{found_beside, beside_all, compared, compared_demand, excluded, invalid_package, is_locked, missing, own_report, unmet, with_own_reports}
 use Rattle.pyver_projects.specs.Documents.{sources}
 use Rattle.pyver_projects.specs.Groups.{groups}
-use Rattle.pyver_projects.specs.Meanings.{DocumentReading, IsDocumentReading, IsLock, IsLockReading, IsLockedReading, IsProject, IsStringReading, IsVersionReading, LockedReading, StringReading, package_line, string_line}
-use Rattle.pyver_projects.specs.ProjectLaws.{HasPackages, HasTable, NoFindingMeansContained}
-use Rattle.pyver_projects.specs.ProjectStrings.{LockedPackage, Section}
+use Rattle.pyver_projects.specs.Meanings.{Document, DocumentReading, IsDocumentReading, IsLock, IsLockReading, IsLockedReading, IsProject, IsRequirementReading, IsStringReading, IsVersionReading, LockedReading, StringReading, package_line, requirement_line, string_line}
+use Rattle.pyver_projects.specs.ProjectLaws.{AllContained, AllMet, HasContents, HasTable, NoFindingMeansContained}
+use Rattle.pyver_projects.specs.ProjectStrings.{LockContents, LockedPackage, LockedRequirement, Section}
 use Rattle.pyver_projects.specs.declared.document_kind.DocumentKind.TheVariants.{Lock, Project}
 use Rattle.pyver_projects.specs.declared.document_kind.LockKind.{LockKind}
 
@@ -35,14 +39,14 @@ project_read file t x (text, e) (inr (again, inl (u, f, (xs, h, is)))) =
     let table : u ≡ t = cc same in
     (xs, subst (λ (m : Members). AllZip (IsStringReading (groups m) file) (sources m) xs) table h, is)
 
--- a lock with these packages was read
-lock_read : (file : File) (kind : LockKind) (ps : List LockedPackage) (x : DocumentReading) → HasPackages kind file ps → IsDocumentReading (record { kind = Lock kind; file = file }) x → IsLockReading file.name ps x
-lock_read file kind ps x (text, e) (inl (none, broken)) = absurd (none text)
-lock_read file kind ps x (text, e) (inr (again, inr (none, broken))) = let same : Some ps ≡ None = sym e ∙ none in cc same
-lock_read file kind ps x (text, e) (inr (again, inl (qs, f, (ys, h, is)))) =
-    let same : Some qs ≡ Some ps = sym f ∙ e in
-    let equal : qs ≡ ps = cc same in
-    (ys, subst (λ (m : List LockedPackage). AllZip (IsLockedReading file.name) m ys) equal h, is)
+-- a lock with this was read
+lock_read : (file : File) (kind : LockKind) (l : LockContents) (x : DocumentReading) → HasContents kind file l → IsDocumentReading (record { kind = Lock kind; file = file }) x → IsLockReading file.name l x
+lock_read file kind l x (text, e) (inl (none, broken)) = absurd (none text)
+lock_read file kind l x (text, e) (inr (again, inr (none, broken))) = let same : Some l ≡ None = sym e ∙ none in cc same
+lock_read file kind l x (text, e) (inr (again, inl (m, f, is))) =
+    let same : Some m ≡ Some l = sym f ∙ e in
+    let equal : m ≡ l = cc same in
+    subst (λ (c : LockContents). IsLockReading file.name c x) equal is
 
 -- a version is contained where it is not excluded
 by_match : (line : FileLine) (other : FileLine) (b : Bool) → (if b then [] else Conflicting PinOutside (line ∷ (other ∷ [])) ∷ []) ≡ [] → b ≡ true
@@ -74,19 +78,44 @@ not_compared ys a section x same is counts e =
     let counted : flat_map (compared_demand ys section) (demands_in (Asks a)) ≡ [] = ap (λ (b : Bool). if b then flat_map (compared_demand ys section) (demands_in (Asks a)) else []) (sym counts) ∙ here in
     left_nil (compared_demand ys section a) [] counted
 
-pub no_finding_means_contained : NoFindingMeansContained
-no_finding_means_contained documents r (zs, h, is) none file lock s p n text v (t, ((k, inside, at), table), (i, within, here)) (kind, ps, ((l, below, there), other), (j, under, this)) counts asks same written d =
+all_contained : (documents : List Document) (zs : List DocumentReading) → AllZip IsDocumentReading documents zs → flat_map (beside_all zs) zs ≡ [] → AllContained documents
+all_contained documents zs h found file lock s p n text v (t, ((k, inside, at), table), (i, within, here)) (kind, l, ((m, below, there), other), (j, under, this)) counts asks same written d =
     let (x, (a, in_x, is_x), rx) = beside_it IsDocumentReading documents zs (record { kind = Project; file = file }) k inside at h in
-    let (y, (b, in_y, is_y), ry) = beside_it IsDocumentReading documents zs (record { kind = Lock kind; file = lock }) l below there h in
+    let (y, (b, in_y, is_y), ry) = beside_it IsDocumentReading documents zs (record { kind = Lock kind; file = lock }) m below there h in
     let (xs, g, is_project) = project_read file t x table rx in
-    let (ys, q, is_lock) = lock_read lock kind ps y other ry in
-    let found : flat_map (beside_all zs) zs ≡ [] = right_nil (with_own_reports empty_report zs).findings (flat_map (beside_all zs) zs) (sym (ap (λ (e : Report). e.findings) is) ∙ none) in
+    let (ys, ms, q, required, is_lock) = lock_read lock kind l y other ry in
     let nothing : found_beside x y ≡ [] = nil_at (found_beside x) zs y b in_y is_y (nil_at (beside_all zs) zs x a in_x is_x found) in
     let compares : flat_map (compared ys) xs ≡ [] = (λ e. found_beside (sym is_project e) (sym is_lock e)) ∙ nothing in
     let (z, (c, in_z, is_z), rz) = beside_it (IsStringReading (groups t) file) (sources t) xs s i within here g in
-    let (w, (m, in_w, is_w), rl) = beside_it (IsLockedReading lock.name) ps ys p j under this q in
+    let (w, (o, in_w, is_w), rl) = beside_it (IsLockedReading lock.name) l.packages ys p j under this q in
     let meaning = asks_always (string_line file s) n asks.0 asks.1 asks.2 asks.3 (groups t) s.text s.section z.meaning counts rz.1 in
     let asked = line_demand (string_line file s) None n in
     let both : missing ys s.section asked ++ flat_map (excluded asked) ys ≡ [] = not_compared ys asked s.section z rz.0 meaning counts (nil_at (compared ys) xs z c in_z is_z compares) in
-    let one : excluded asked w ≡ [] = nil_at (excluded asked) ys w m in_w is_w (right_nil (missing ys s.section asked) (flat_map (excluded asked) ys) both) in
+    let one : excluded asked w ≡ [] = nil_at (excluded asked) ys w o in_w is_w (right_nil (missing ys s.section asked) (flat_map (excluded asked) ys) both) in
     not_excluded (string_line file s) n lock.name p w p.version text v written d same rl one
+
+-- a requirement asks for its list
+asks_for : (file : List ℕ) (q : LockedRequirement) (list : List Spec) (m : LineMeaning) → DerivesList q.list list → IsRequirementReading file q m → m ≡ Asks (line_demand (requirement_line file q) None (record { name = q.name; extras = []; specifiers = list }))
+asks_for file q list m d (inl (other, e, is)) =
+    is ∙ ap (λ (l : List Spec). Asks (line_demand (requirement_line file q) None (record { name = q.name; extras = []; specifiers = l }))) (one_list q.list other list e d)
+asks_for file q list m d (inr (f, r, is)) = absurd (not_both_list q.list list f d r)
+
+all_met : (documents : List Document) (zs : List DocumentReading) → AllZip IsDocumentReading documents zs → flat_map (λ x. (own_report x).findings) zs ≡ [] → AllMet documents
+all_met documents zs h own lock q p list text v (kind, l, ((m, below, there), other), (i, within, here), (j, under, this)) d same written derives =
+    let (y, (b, in_y, is_y), ry) = beside_it IsDocumentReading documents zs (record { kind = Lock kind; file = lock }) m below there h in
+    let (ys, ms, packages, requirements, is_lock) = lock_read lock kind l y other ry in
+    let nothing : flat_map invalid_package ys ++ flat_map (unmet ys) ms ≡ [] = ap (λ (e : DocumentReading). (own_report e).findings) (sym is_lock) ∙ nil_at (λ x. (own_report x).findings) zs y b in_y is_y own in
+    let (z, (c, in_z, is_z), rz) = beside_it (IsRequirementReading lock.name) l.requirements ms q i within here requirements in
+    let (w, (o, in_w, is_w), rw) = beside_it (IsLockedReading lock.name) l.packages ys p j under this packages in
+    let n : Needed = record { name = q.name; extras = []; specifiers = list } in
+    let asked = line_demand (requirement_line lock.name q) None n in
+    let met : unmet ys (Asks asked) ≡ [] =
+    ap (unmet ys) (sym (asks_for lock.name q list z d rz)) ∙ nil_at (unmet ys) ms z c in_z is_z (right_nil (flat_map invalid_package ys) (flat_map (unmet ys) ms) nothing) in
+    let one : excluded asked w ≡ [] = nil_at (excluded asked) ys w o in_w is_w (left_nil (flat_map (excluded asked) ys) [] met) in
+    not_excluded (requirement_line lock.name q) n lock.name p w p.version text v written derives same rw one
+
+pub no_finding_means_contained : NoFindingMeansContained
+no_finding_means_contained documents r (zs, h, is) none =
+    let found : (with_own_reports empty_report zs).findings ++ flat_map (beside_all zs) zs ≡ [] = sym (ap (λ (e : Report). e.findings) is) ∙ none in
+    let own : flat_map (λ x. (own_report x).findings) zs ≡ [] = sym (findings_of documents empty_report zs) ∙ left_nil (with_own_reports empty_report zs).findings (flat_map (beside_all zs) zs) found in
+    (all_contained documents zs h (right_nil (with_own_reports empty_report zs).findings (flat_map (beside_all zs) zs) found), all_met documents zs h own)

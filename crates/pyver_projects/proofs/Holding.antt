@@ -12,7 +12,7 @@ use Rattle.pep440_version.specs.ErrorTexts.{refusal_text}
 use Rattle.pep440_version.specs.Grammar.{Derives}
 use Rattle.pep440_version.specs.Record.{Record}
 use Rattle.pyver_findings.specs.Demands.{Demand, line_demand}
-use Rattle.pyver_findings.specs.FileLines.{File}
+use Rattle.pyver_findings.specs.FileLines.{File, FileLine}
 use Rattle.pyver_findings.specs.Findings.{Conflicting, Finding, NoRequirement}
 use Rattle.pyver_findings.specs.LineMeanings.{Asks, AsksNothing, IsNone, LeftOut, LineMeaning}
 use Rattle.pyver_findings.specs.Reports.{Report, demands_in, empty_report, invalid_in, joined_report}
@@ -24,13 +24,13 @@ use Rattle.pyver_projects.proofs.Asking.{AsksFor, of_section}
 use Rattle.pyver_projects.proofs.HoldingTogether.{conflicts_hold}
 use Rattle.pyver_projects.specs.Together.{project_conflicts}
 use Rattle.pyver_projects.proofs.Walks.{all_flat, left_false, right_false, zip_each}
-use Rattle.pyver_projects.specs.Comparing.{found_beside, beside_all, compared, compared_demand, documents_report, excluded, has_name, invalid_package, invalid_string, is_locked, is_needed, own_report, with_own_reports}
+use Rattle.pyver_projects.specs.Comparing.{found_beside, beside_all, compared, compared_demand, documents_report, excluded, has_name, invalid_package, invalid_string, is_locked, is_needed, own_report, unmet, with_own_reports}
 use Rattle.pyver_projects.specs.Documents.{sources}
 use Rattle.pyver_projects.specs.Groups.{groups}
 use Rattle.pyver_projects.specs.Locks.{locked}
-use Rattle.pyver_projects.specs.Meanings.{Document, DocumentReading, IsBrokenReading, IsDocumentReading, IsLockedReading, IsProject, IsSectionMeaning, IsStringReading, IsVersionReading, LockedReading, StringReading, package_line, string_line}
+use Rattle.pyver_projects.specs.Meanings.{Document, DocumentReading, IsBrokenReading, IsDocumentReading, IsLockedReading, IsProject, IsRequirementReading, IsSectionMeaning, IsStringReading, IsVersionReading, LockedReading, StringReading, package_line, requirement_line, string_line}
 use Rattle.pyver_projects.specs.ProjectLaws.{AlwaysAsks, DocumentFindingsHold, HasLock, HasPackage, HasProject, HasString, IsReadable, IsReadableAs, IsDocumentFinding}
-use Rattle.pyver_projects.specs.ProjectStrings.{LockedPackage, ProjectString}
+use Rattle.pyver_projects.specs.ProjectStrings.{LockContents, LockedPackage, LockedRequirement, ProjectString}
 use Rattle.pyver_projects.specs.declared.document_kind.DocumentKind.{DocumentKind}
 use Rattle.pyver_projects.specs.declared.document_kind.DocumentKind.TheVariants.{Lock, Project}
 use Rattle.pyver_projects.specs.declared.document_kind.LockKind.{LockKind}
@@ -59,73 +59,112 @@ module _ (documents : List Document) where
       subst (λ (z : LockedReading). All Right (invalid_package z)) (sym is)
       (All-cons Right (NoRequirement (package_line file.name p) (refusal_text f) (length p.name + 1)) [] (inr (inl (record { file = file; locked = p; text = text; reason = f; has = has; version = at; refuses = r; is = refl }))) (All-nil Right))
 
+  -- ---- versions that a requirement excludes
+
+  module _ (lock : List ℕ) (u : LockContents) (line : FileLine) (n : Needed)
+      (so : (p : LockedPackage) (text : List ℕ) (v : Record) → Contains u.packages p → p.version ≡ Some text → Derives text v → same_name n.name p.name ≡ true → list_matches n.specifiers v ≡ false → Right (Conflicting PinOutside (line ∷ (package_line lock p ∷ [])))) where
+    by_match : (p : LockedPackage) (text : List ℕ) (v : Record) → Contains u.packages p → p.version ≡ Some text → Derives text v → (a b : Bool) → same_name n.name p.name ≡ a → list_matches n.specifiers v ≡ b
+        → All Right (if a then (if b then [] else Conflicting PinOutside (line ∷ (package_line lock p ∷ [])) ∷ []) else [])
+    by_match p text v here written d true true e f = All-nil Right
+    by_match p text v here written d false b e f = All-nil Right
+    by_match p text v here written d true false e f = All-cons Right (Conflicting PinOutside (line ∷ (package_line lock p ∷ []))) [] (so p text v here written d e f) (All-nil Right)
+
+    nothing : (b : Bool) → All Right (if b then [] else [])
+    nothing true = All-nil Right
+    nothing false = All-nil Right
+
+    excluded_right : (p : LockedPackage) (v : Option (List ℕ)) (y : LockedReading) → Contains u.packages p → p.version ≡ v → IsVersionReading (package_line lock p) p.name v y → All Right (excluded (line_demand line None n) y)
+    excluded_right p None y here written is = subst (λ (z : LockedReading). All Right (excluded (line_demand line None n) z)) (sym is) (nothing (same_name n.name p.name))
+    excluded_right p (Some text) y here written (inl (r, d, is)) =
+        subst (λ (z : LockedReading). All Right (excluded (line_demand line None n) z)) (sym is) (by_match p text r here written d (same_name n.name p.name) (list_matches n.specifiers r) refl refl)
+    excluded_right p (Some text) y here written (inr (f, r, is)) = subst (λ (z : LockedReading). All Right (excluded (line_demand line None n) z)) (sym is) (nothing (same_name n.name p.name))
+
+    all_excluded : (ys : List LockedReading) → AllZip (IsLockedReading lock) u.packages ys → All Right (flat_map (excluded (line_demand line None n)) ys)
+    all_excluded ys h =
+        all_flat Right (excluded (line_demand line None n)) ys
+        (zip_each (IsLockedReading lock) (Contains u.packages) (λ y. All Right (excluded (line_demand line None n) y)) (λ p y here r. excluded_right p p.version y here refl r) u.packages ys (All-contains_itself u.packages) h)
+
+  -- a requirement of a package
+  of_requirement : (lock : File) (kind : LockKind) (l : LockContents) → HasLock documents kind lock l → (q : LockedRequirement) → Contains l.requirements q → (ys : List LockedReading) → AllZip (IsLockedReading lock.name) l.packages ys
+      → (m : LineMeaning) → IsRequirementReading lock.name q m → All Right (unmet ys m)
+  of_requirement lock kind l known q at ys h m (inr (f, r, is)) = subst (λ (x : LineMeaning). All Right (unmet ys x)) (sym is) (All-nil Right)
+  of_requirement lock kind l known q at ys h m (inl (list, read, is)) =
+      let n : Needed = record { name = q.name; extras = []; specifiers = list } in
+      subst (λ (x : LineMeaning). All Right (unmet ys x)) (sym is)
+      (All-append Right (flat_map (excluded (line_demand (requirement_line lock.name q) None n)) ys) []
+      (all_excluded lock.name l (requirement_line lock.name q) n
+      (λ p text v here written d e f. inr (inr (inr (inr (inr (inr (record {
+        lock = lock;
+        requirement = q;
+        locked_package = p;
+        list = list;
+        text = text;
+        version = v;
+        has = (kind, l, known, at, here);
+        read = read;
+        same = e;
+        written = written;
+        derives = d;
+        outside = λ m. true≢false (sym m ∙ f);
+        is = refl;
+      }))))))) ys h) (All-nil Right))
+
   no_utf8 : (kind : DocumentKind) (file : File) → (IsUtf8 file.text → ⊥) → IsReadableAs kind file → ⊥
   no_utf8 Project file none (t, (text, e)) = none text
-  no_utf8 (Lock kind) file none (ps, (text, e)) = none text
+  no_utf8 (Lock kind) file none (l, (text, e)) = none text
 
   no_toml : (file : File) → parse_document file.text ≡ None → IsReadableAs Project file → ⊥
   no_toml file none (t, (text, e)) = let same : None ≡ Some t = sym none ∙ e in cc same
 
-  no_packages : (kind : LockKind) (file : File) → locked kind file.text ≡ None → IsReadableAs (Lock kind) file → ⊥
-  no_packages kind file none (ps, (text, e)) = let same : None ≡ Some ps = sym none ∙ e in cc same
+  no_contents : (kind : LockKind) (file : File) → locked kind file.text ≡ None → IsReadableAs (Lock kind) file → ⊥
+  no_contents kind file none (l, (text, e)) = let same : None ≡ Some l = sym none ∙ e in cc same
 
   of_document : (kind : DocumentKind) (file : File) (x : DocumentReading) → Contains documents (record { kind = kind; file = file }) → IsDocumentReading (record { kind = kind; file = file }) x → All Right (own_report x).findings
   of_document kind file x known (inl (none, broken)) = unread (record { kind = kind; file = file }) x known (no_utf8 kind file none) broken
   of_document Project file x known (inr (text, inr (none, broken))) = unread (record { kind = Project; file = file }) x known (no_toml file none) broken
-  of_document (Lock kind) file x known (inr (text, inr (none, broken))) = unread (record { kind = Lock kind; file = file }) x known (no_packages kind file none) broken
+  of_document (Lock kind) file x known (inr (text, inr (none, broken))) = unread (record { kind = Lock kind; file = file }) x known (no_contents kind file none) broken
   of_document Project file x known (inr (text, inl (t, e, (xs, h, is)))) =
       subst (λ (y : DocumentReading). All Right (own_report y).findings) (sym is)
       (All-append Right (flat_map invalid_string xs) (project_conflicts xs)
       (all_flat Right invalid_string xs
       (zip_each (IsStringReading (groups t) file) (Contains (sources t)) (λ z. All Right (invalid_string z)) (λ s z at r. of_string file t s z.meaning (known, (text, e)) at r.1) (sources t) xs (All-contains_itself (sources t)) h))
-      (conflicts_hold Right file t (λ part f right. inr (inr (inr (inr (inr (record { file = file; table = t; part = part; has = (known, (text, e)); right = right })))))) xs h))
-  of_document (Lock kind) file x known (inr (text, inl (ps, e, (ys, h, is)))) =
+      (conflicts_hold Right file t (λ part f right. inr (inr (inr (inr (inr (inl (record { file = file; table = t; part = part; has = (known, (text, e)); right = right }))))))) xs h))
+  of_document (Lock kind) file x known (inr (text, inl (l, e, (ys, ms, g, h, is)))) =
       subst (λ (y : DocumentReading). All Right (own_report y).findings) (sym is)
+      (All-append Right (flat_map invalid_package ys) (flat_map (unmet ys) ms)
       (all_flat Right invalid_package ys
-      (zip_each (IsLockedReading file.name) (Contains ps) (λ z. All Right (invalid_package z)) (λ p z at r. of_package file p p.version z (kind, ps, (known, (text, e)), at) refl r) ps ys (All-contains_itself ps) h))
+      (zip_each (IsLockedReading file.name) (Contains l.packages) (λ z. All Right (invalid_package z)) (λ p z at r. of_package file p p.version z (kind, l, (known, (text, e)), at) refl r) l.packages ys (All-contains_itself l.packages) g))
+      (all_flat Right (unmet ys) ms
+      (zip_each (IsRequirementReading file.name) (Contains l.requirements) (λ m. All Right (unmet ys m)) (λ q m at r. of_requirement file kind l (known, (text, e)) q at ys g m r) l.requirements ms (All-contains_itself l.requirements) h)))
 
   -- ---- a project beside a lock
 
-  module _ (file lock : File) (kind : LockKind) (t : Members) (u : List LockedPackage) (known : HasProject documents file t) (other : HasLock documents kind lock u) where
+  module _ (file lock : File) (kind : LockKind) (t : Members) (u : LockContents) (known : HasProject documents file t) (other : HasLock documents kind lock u) where
     module _ (s : ProjectString) (at : Contains (sources t) s) where
       module _ (n : Needed) (asks : AlwaysAsks s n) where
         -- what the requirement asks for
         abbrev pub asked : Demand
         asked = line_demand (string_line file s) None n
 
-        by_match : (p : LockedPackage) (text : List ℕ) (v : Record) → Contains u p → p.version ≡ Some text → Derives text v → (a b : Bool) → same_name n.name p.name ≡ a → list_matches n.specifiers v ≡ b
-            → All Right (if a then (if b then [] else Conflicting PinOutside (string_line file s ∷ (package_line lock.name p ∷ [])) ∷ []) else [])
-        by_match p text v here written d true true e f = All-nil Right
-        by_match p text v here written d false b e f = All-nil Right
-        by_match p text v here written d true false e f =
-            All-cons Right (Conflicting PinOutside (string_line file s ∷ (package_line lock.name p ∷ []))) []
-            (inr (inr (inr (inr (inl (record {
-              file = file;
-              string = s;
-              lock = lock;
-              locked_package = p;
-              needed = n;
-              text = text;
-              version = v;
-              has = (t, known, at);
-              asks = asks;
-              known = (kind, u, other, here);
-              same = e;
-              written = written;
-              derives = d;
-              outside = λ m. true≢false (sym m ∙ f);
-              is = refl;
-            })))))) (All-nil Right)
-
-        nothing : (b : Bool) → All Right (if b then [] else [])
-        nothing true = All-nil Right
-        nothing false = All-nil Right
-
-        excluded_right : (p : LockedPackage) (v : Option (List ℕ)) (y : LockedReading) → Contains u p → p.version ≡ v → IsVersionReading (package_line lock.name p) p.name v y → All Right (excluded asked y)
-        excluded_right p None y here written is = subst (λ (z : LockedReading). All Right (excluded asked z)) (sym is) (nothing (same_name n.name p.name))
-        excluded_right p (Some text) y here written (inl (r, d, is)) =
-            subst (λ (z : LockedReading). All Right (excluded asked z)) (sym is) (by_match p text r here written d (same_name n.name p.name) (list_matches n.specifiers r) refl refl)
-        excluded_right p (Some text) y here written (inr (f, r, is)) = subst (λ (z : LockedReading). All Right (excluded asked z)) (sym is) (nothing (same_name n.name p.name))
+        excludes : (p : LockedPackage) (text : List ℕ) (v : Record) → Contains u.packages p → p.version ≡ Some text → Derives text v → same_name n.name p.name ≡ true → list_matches n.specifiers v ≡ false
+            → Right (Conflicting PinOutside (string_line file s ∷ (package_line lock.name p ∷ [])))
+        excludes p text v here written d e f = inr (inr (inr (inr (inl (record {
+          file = file;
+          string = s;
+          lock = lock;
+          locked_package = p;
+          needed = n;
+          text = text;
+          version = v;
+          has = (t, known, at);
+          asks = asks;
+          known = (kind, u, other, here);
+          same = e;
+          written = written;
+          derives = d;
+          outside = λ m. true≢false (sym m ∙ f);
+          is = refl;
+        })))))
 
         -- a package has another name than the requirement
         abbrev pub HasOtherName : LockedPackage → Type 0
@@ -143,7 +182,7 @@ module _ (documents : List Document) where
         none_named (p ∷ ps) (y ∷ ys) h e =
             All-cons HasOtherName p ps (other_name p p.version y h.0 (left_false (has_name asked y) (list_any (has_name asked) ys) e)) (none_named ps ys h.1 (right_false (has_name asked y) (list_any (has_name asked) ys) e))
 
-        module _ (ys : List LockedReading) (h : AllZip (IsLockedReading lock.name) u ys) where
+        module _ (ys : List LockedReading) (h : AllZip (IsLockedReading lock.name) u.packages ys) where
           missing_right : (b c : Bool) → is_needed s.section ≡ b → list_any (has_name asked) ys ≡ c
               → All Right (if b then (if c then [] else NoRequirement (string_line file s) (codes "the lock has no package of this name") 0 ∷ []) else [])
           missing_right false c needs e = All-nil Right
@@ -155,24 +194,21 @@ module _ (documents : List Document) where
                 string = s;
                 lock = lock;
                 kind = kind;
-                packages = u;
+                contents = u;
                 needed = n;
                 has = (t, known, at);
                 counts = needs;
                 asks = asks;
                 known = other;
-                none = none_named u ys h e;
+                none = none_named u.packages ys h e;
                 is = refl;
               }))))) (All-nil Right)
 
           always_right : All Right (compared_demand ys s.section asked)
           always_right =
-              All-append Right _ (flat_map (excluded asked) ys) (missing_right (is_needed s.section) (list_any (has_name asked) ys) refl refl)
-              (all_flat Right (excluded asked) ys
-              (zip_each (IsLockedReading lock.name) (Contains u) (λ y. All Right (excluded asked y)) (λ p y here r. excluded_right p p.version y here refl r) u ys
-              (All-contains_itself u) h))
+              All-append Right _ (flat_map (excluded asked) ys) (missing_right (is_needed s.section) (list_any (has_name asked) ys) refl refl) (all_excluded lock.name u (string_line file s) n excludes ys h)
 
-      module _ (ys : List LockedReading) (h : AllZip (IsLockedReading lock.name) u ys) where
+      module _ (ys : List LockedReading) (h : AllZip (IsLockedReading lock.name) u.packages ys) where
         by_marker : (a : Demand) (k : AsksFor (string_line file s) (line_parts s.text) a) (marker : Option (List ℕ)) → (marker ≡ None → (line_parts s.text).marker ≡ None) → All Right (compared_demand ys s.section (line_demand (string_line file s) marker k.needed))
         by_marker a k None always = always_right k.needed (k.text, k.derives, always refl, k.url) ys h
         by_marker a k (Some m) always = All-nil Right
@@ -194,7 +230,7 @@ module _ (documents : List Document) where
         compared_right x (same, is) =
             subst (λ section. All Right (if is_locked section then flat_map (compared_demand ys section) (demands_in x.meaning) else [])) (sym same) (by_section (is_locked s.section) x.meaning is)
 
-    pub pair_right : (xs : List StringReading) (ys : List LockedReading) → AllZip (IsStringReading (groups t) file) (sources t) xs → AllZip (IsLockedReading lock.name) u ys → All Right (flat_map (compared ys) xs)
+    pub pair_right : (xs : List StringReading) (ys : List LockedReading) → AllZip (IsStringReading (groups t) file) (sources t) xs → AllZip (IsLockedReading lock.name) u.packages ys → All Right (flat_map (compared ys) xs)
     pair_right xs ys g h =
         all_flat Right (compared ys) xs (zip_each (IsStringReading (groups t) file) (Contains (sources t)) (λ x. All Right (compared ys x)) (λ s x at r. compared_right s at ys h x r) (sources t) xs (All-contains_itself (sources t)) g)
 
@@ -212,7 +248,7 @@ module _ (documents : List Document) where
     beside_project Project other y at (inr (text, inr (none, broken))) = beside_broken other y broken
     beside_project (Lock kind) other y at (inr (text, inr (none, broken))) = beside_broken other y broken
     beside_project Project other y at (inr (text, inl (u, e, (zs, h, is)))) = subst (λ (z : DocumentReading). All Right (found_beside (IsProject xs) z)) (sym is) (All-nil Right)
-    beside_project (Lock kind) other y at (inr (text, inl (u, e, (ys, h, is)))) =
+    beside_project (Lock kind) other y at (inr (text, inl (u, e, (ys, ms, h, required, is)))) =
         subst (λ (z : DocumentReading). All Right (found_beside (IsProject xs) z)) (sym is) (pair_right file other kind t u known (at, (text, e)) xs ys g h)
 
   beside_right : (kind : DocumentKind) (file : File) (other : Document) (x y : DocumentReading) → Contains documents (record { kind = kind; file = file }) → Contains documents other → IsDocumentReading (record { kind = kind; file = file }) x
@@ -220,7 +256,7 @@ module _ (documents : List Document) where
   beside_right kind file other x y known at (inl (none, broken)) r = broken_right file x y broken
   beside_right Project file other x y known at (inr (text, inr (none, broken))) r = broken_right file x y broken
   beside_right (Lock kind) file other x y known at (inr (text, inr (none, broken))) r = broken_right file x y broken
-  beside_right (Lock kind) file other x y known at (inr (text, inl (t, e, (ys, h, is)))) r = subst (λ (z : DocumentReading). All Right (found_beside z y)) (sym is) (All-nil Right)
+  beside_right (Lock kind) file other x y known at (inr (text, inl (t, e, (ys, ms, g, h, is)))) r = subst (λ (z : DocumentReading). All Right (found_beside z y)) (sym is) (All-nil Right)
   beside_right Project file other x y known at (inr (text, inl (t, e, (xs, h, is)))) r =
       subst (λ (z : DocumentReading). All Right (found_beside z y)) (sym is) (beside_project file t (known, (text, e)) xs h other.kind other.file y at r)
 

@@ -20,7 +20,7 @@ use Rattle.pyver_projects.specs.Meanings.{IsSectionMeaning, IsStringReading, Str
 use Rattle.pyver_projects.specs.ProjectLaws.{line_in_part, part_lines}
 use Rattle.pyver_projects.specs.ProjectStrings.{ProjectString, Section}
 use Rattle.pyver_projects.specs.Soundness.{IsSoundString}
-use Rattle.pyver_projects.specs.Together.{all_conflicts, conflicts_after, demand_in_part, has_group, holds_in, is_other, part_conflicts, part_demands, section_part, project_conflicts, same_finding, sections, turn_conflicts, with_new}
+use Rattle.pyver_projects.specs.Together.{demand_in_part, has_group, holds_in, part_conflicts, part_demands, parts, project_conflicts, same_finding, sections, with_new}
 
 -- what a string asks for, its line asks for
 asked : (read : List FileLine) (line : FileLine) (a : Demand) → Contains read line → AsksFor line (line_parts line.text) a → IsAsked read a
@@ -50,6 +50,11 @@ sound_part is part xs k =
     (All-weaker IsSoundString (λ x. All IsSound (demand_in_part (has_group is part) part x)) (λ x sound. sound_by (holds_in (has_group is part) part x.section) x sound) xs k)
 
 module _ {X : Type 0} (P : X → Type 0) where
+  -- what holds of everything holds of all
+  everywhere : ((x : X) → P x) → (xs : List X) → All P xs
+  everywhere f [] = All-nil P
+  everywhere f (x ∷ xs) = All-cons P x xs (f x) (everywhere f xs)
+
   left_all : (xs ys : List X) → All P (xs ++ ys) → All P xs
   left_all [] ys k = All-nil P
   left_all (x ∷ xs) ys k = All-cons P x xs (All-head P x (xs ++ ys) k) (left_all xs ys (All-tail P x (xs ++ ys) k))
@@ -98,7 +103,7 @@ module _ (P : Finding → Type 0) where
   by_new true found f k right = k
   by_new false found f k right = All-append P found (f ∷ []) k (All-cons P f [] right (All-nil P))
 
-  with_new_all : (found fs : List Finding) → All P found → All P fs → All P (with_new found fs)
+  with_new_all : (found fs : List Finding) → All P found → All P fs → All P (with_new same_finding found fs)
   with_new_all found [] k each = k
   with_new_all found (f ∷ fs) k each =
       with_new_all (if list_any (same_finding f) found then found else found ++ f ∷ []) fs (by_new (list_any (same_finding f) found) found f k (All-head P f fs each)) (All-tail P f fs each)
@@ -113,16 +118,6 @@ module _ (P : Finding → Type 0) (file : File) (t : Members) (so : (part : Sect
       All-weaker (IsRight read) P (so part) (part_conflicts xs part)
       (conflicts_right read (part_demands (inclusions (sections xs)) part xs) (subst (λ (is : List Inclusion). All (IsAsked read) (part_demands is part xs)) (sym same) asks))
 
-  turn_holds : (xs : List StringReading) → AllZip (IsStringReading (groups t) file) (sources t) xs → (part : Section) (b : Bool) → All P (if b then part_conflicts xs part else [])
-  turn_holds xs h part true = part_holds xs h part
-  turn_holds xs h part false = All-nil P
-
-  after_holds : (xs : List StringReading) → AllZip (IsStringReading (groups t) file) (sources t) xs → (last : Option Section) (ys : List StringReading) → All P (conflicts_after xs last ys)
-  after_holds xs h last [] = All-nil P
-  after_holds xs h last (y ∷ ys) =
-      All-append P (turn_conflicts xs last (section_part y.section)) (conflicts_after xs (Some (section_part y.section)) ys) (turn_holds xs h (section_part y.section) (is_other last (section_part y.section))) (after_holds xs h (Some (section_part y.section)) ys)
-
   pub conflicts_hold : (xs : List StringReading) → AllZip (IsStringReading (groups t) file) (sources t) xs → All P (project_conflicts xs)
   conflicts_hold xs h =
-      with_new_all P [] (all_conflicts xs) (All-nil P)
-      (after_holds xs h None xs)
+      with_new_all P [] (flat_map (part_conflicts xs) (parts xs)) (All-nil P) (all_flat P (part_conflicts xs) (parts xs) (everywhere (λ part. All P (part_conflicts xs part)) (part_holds xs h) (parts xs)))

@@ -1,5 +1,4 @@
 pub mod Steps
-pub mod Turns
 pub mod Walks
 pub mod Asking
 pub mod Holding

@@ -1,11 +1,12 @@
 -- Documents that are TOML or JSON in UTF-8 have at most one report.
-use Rattle.std.proofs.Common.{◌≡◌, ◌∙◌, ℕ, ◌+◌, List, Option, Some, None, length, sym, ap, subst, inl, inr}
+use Rattle.std.proofs.Common.{◌≡◌, ◌∙◌, ℕ, ◌+◌, List, [], Option, Some, None, length, sym, ap, subst, inl, inr}
 use Rattle.std.proofs.lemmas.List.Elements.{All-contains_itself}
 use Rattle.std.specs.List.{Contains}
 use Rattle.pep440_pick.specs.Names.{normal}
-use Rattle.pep440_rs.proofs.Reading.OneMeaning.{not_both_list, one_list_refusal}
+use Rattle.pep440_rs.proofs.Reading.OneMeaning.{not_both_list, one_list, one_list_refusal}
 use Rattle.pep440_rs.specs.ErrorTexts.{specifier_refusal_text}
 use Rattle.pep440_rs.specs.ListGrammar.{PieceRefusal}
+use Rattle.pep440_rs.specs.Specifiers.{Spec}
 use Rattle.pep440_version.proofs.Reading.Agreement.{one_record}
 use Rattle.pep440_version.proofs.Refusals.ExactlyOne.{not_both, one_refusal}
 use Rattle.pep440_version.specs.ErrorTexts.{refusal_text}
@@ -13,18 +14,19 @@ use Rattle.pep440_version.specs.Record.{Record}
 use Rattle.pep440_version.specs.Refusals.{Refusal}
 use Rattle.pyver_findings.proofs.Once.{one_parts}
 use Rattle.pyver_findings.specs.Columns.{list_column}
+use Rattle.pyver_findings.specs.Demands.{line_demand}
 use Rattle.pyver_findings.specs.FileLines.{File, FileLine}
 use Rattle.pyver_findings.specs.Findings.{NoRequirement}
-use Rattle.pyver_findings.specs.LineMeanings.{IsNone, LineMeaning}
+use Rattle.pyver_findings.specs.LineMeanings.{Asks, IsNone, LineMeaning}
 use Rattle.pyver_requirements.specs.LineParts.{line_parts}
 use Rattle.toml.specs.Data.{Members}
 use Rattle.pyver_projects.proofs.Walks.{zip_once}
 use Rattle.pyver_projects.specs.Comparing.{documents_report}
 use Rattle.pyver_projects.specs.Documents.{sources}
 use Rattle.pyver_projects.specs.Groups.{Groups, groups}
-use Rattle.pyver_projects.specs.Meanings.{Document, DocumentReading, IsDocumentReading, IsLock, IsLockReading, IsLockedReading, IsProject, IsProjectReading, IsSectionMeaning, IsStringReading, IsVersionReading, LockedReading, StringReading, string_line}
+use Rattle.pyver_projects.specs.Meanings.{Document, DocumentReading, IsDocumentReading, IsLock, IsLockReading, IsLockedReading, IsProject, IsProjectReading, IsRequirementReading, IsSectionMeaning, IsStringReading, IsVersionReading, LockedReading, StringReading, requirement_line, string_line}
 use Rattle.pyver_projects.specs.ProjectLaws.{DocumentReportsOnce, IsReadable, IsReadableAs}
-use Rattle.pyver_projects.specs.ProjectStrings.{Build, Dependencies, Extra, Group, Include, LockedPackage, Section, Python, ProjectString, Version}
+use Rattle.pyver_projects.specs.ProjectStrings.{Build, Dependencies, Extra, Group, Include, Invalid, LockContents, LockedRequirement, Section, Python, ProjectString, Version}
 use Rattle.pyver_projects.specs.declared.document_kind.DocumentKind.{DocumentKind}
 use Rattle.pyver_projects.specs.declared.document_kind.DocumentKind.TheVariants.{Lock, Project}
 
@@ -33,6 +35,7 @@ one_meaning all line text Dependencies x y a b = one_parts line (line_parts line
 one_meaning all line text (Extra name) x y a b = one_parts line (line_parts line.text) x y a b
 one_meaning all line text (Group name) x y a b = one_parts line (line_parts line.text) x y a b
 one_meaning all line text (Include group included) x y a b = a ∙ sym b
+one_meaning all line text (Invalid reason) x y a b = a ∙ sym b
 one_meaning all line text Build x y a b = one_parts line (line_parts line.text) x y a b
 one_meaning all line text Python x y (inl (l, d, a)) (inl (m, e, b)) = a ∙ sym b
 one_meaning all line text Python x y (inl (l, d, a)) (inr (f, r, b)) = absurd (not_both_list text l f d r)
@@ -62,10 +65,18 @@ one_project file t x y (xs, g, a) (ys, h, b) =
     a ∙ ap (λ (zs : List StringReading). IsProject zs)
     (zip_once (IsStringReading (groups t) file) (Contains (sources t)) (λ s v w known p q. one_string (groups t) file s v w p q) (sources t) xs ys (All-contains_itself (sources t)) g h) ∙ sym b
 
-one_lock : (file : List ℕ) (ps : List LockedPackage) (x y : DocumentReading) → IsLockReading file ps x → IsLockReading file ps y → x ≡ y
-one_lock file ps x y (xs, g, a) (ys, h, b) =
-    a ∙ ap (λ (zs : List LockedReading). IsLock zs)
-    (zip_once (IsLockedReading file) (Contains ps) (λ p v w known q r. one_version _ p.name p.version v w q r) ps xs ys (All-contains_itself ps) g h) ∙ sym b
+one_requirement : (file : List ℕ) (q : LockedRequirement) (x y : LineMeaning) → IsRequirementReading file q x → IsRequirementReading file q y → x ≡ y
+one_requirement file q x y (inl (l, d, a)) (inl (m, e, b)) =
+    a ∙ ap (λ (list : List Spec). Asks (line_demand (requirement_line file q) None (record { name = q.name; extras = []; specifiers = list }))) (one_list q.list l m d e) ∙ sym b
+one_requirement file q x y (inl (l, d, a)) (inr (f, r, b)) = absurd (not_both_list q.list l f d r)
+one_requirement file q x y (inr (f, r, a)) (inl (l, d, b)) = absurd (not_both_list q.list l f d r)
+one_requirement file q x y (inr (f, r, a)) (inr (g, s, b)) = a ∙ sym b
+
+one_lock : (file : List ℕ) (l : LockContents) (x y : DocumentReading) → IsLockReading file l x → IsLockReading file l y → x ≡ y
+one_lock file l x y (ys, ms, g, h, a) (zs, ns, j, k, b) =
+    let packages = zip_once (IsLockedReading file) (Contains l.packages) (λ p v w known q r. one_version _ p.name p.version v w q r) l.packages ys zs (All-contains_itself l.packages) g j in
+    let requirements = zip_once (IsRequirementReading file) (Contains l.requirements) (λ p v w known q r. one_requirement file p v w q r) l.requirements ms ns (All-contains_itself l.requirements) h k in
+    a ∙ (λ i. IsLock (packages i) (requirements i)) ∙ sym b
 
 one_document : (kind : DocumentKind) (file : File) (x y : DocumentReading) → IsReadableAs kind file → IsDocumentReading (record { kind = kind; file = file }) x → IsDocumentReading (record { kind = kind; file = file }) y → x ≡ y
 one_document Project file x y (t, (text, e)) (inl (none, a)) b = absurd (none text)
@@ -83,7 +94,7 @@ one_document (Lock kind) file x y (ps, (text, e)) (inr (u, inl a)) (inr (v, inr 
 one_document (Lock kind) file x y (ps, (text, e)) (inr (u, inl (ms, f, a))) (inr (v, inl (ns, g, b))) =
     let same : Some ns ≡ Some ms = sym g ∙ f in
     let equal : ns ≡ ms = cc same in
-    one_lock file.name ms x y a (subst (λ (qs : List LockedPackage). IsLockReading file.name qs y) equal b)
+    one_lock file.name ms x y a (subst (λ (l : LockContents). IsLockReading file.name l y) equal b)
 
 pub document_reports_once : DocumentReportsOnce
 document_reports_once documents r s readable (xs, g, a) (ys, h, b) = a ∙ ap documents_report (zip_once IsDocumentReading IsReadable (λ d v w known p q. one_document d.kind d.file v w known p q) documents xs ys readable g h) ∙ sym b

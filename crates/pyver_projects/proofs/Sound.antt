@@ -28,7 +28,7 @@ sound_document (Lock kind) file x (inr (text, inr (none, broken))) = sound_broke
 sound_document Project file x (inr (text, inl (t, e, (xs, h, is)))) =
     subst (λ (y : DocumentReading). IsSoundDocument y) (sym is)
     (zip_each (IsStringReading (groups t) file) (Contains (sources t)) IsSoundString (λ s z known r. sound_string (groups t) file s z r) (sources t) xs (All-contains_itself (sources t)) h)
-sound_document (Lock kind) file x (inr (text, inl (ps, e, (ys, h, is)))) = subst (λ (y : DocumentReading). IsSoundDocument y) (sym is) tt
+sound_document (Lock kind) file x (inr (text, inl (l, e, (ys, ms, g, h, is)))) = subst (λ (y : DocumentReading). IsSoundDocument y) (sym is) tt
 
 pub sound_documents : (documents : List Document) (xs : List DocumentReading) → AllZip IsDocumentReading documents xs → All IsSoundDocument xs
 sound_documents documents xs h = zip_each IsDocumentReading (Contains documents) IsSoundDocument (λ d x known r. sound_document d.kind d.file x r) documents xs (All-contains_itself documents) h

@@ -1,18 +1,28 @@
 -- Lists of values, and strings that are read one after another.
-use Rattle.std.proofs.Common.{◌≡◌, ◌+◌, ◌<◌, ◌≤◌, ◌∙◌, ℕ, List, [], ◌∷◌, ◌++◌, Bool, Option, Some, None, IfOk, IfSome, Result, Ok, Err, ◌⊎◌, true, false, inr, drop, if◌then◌else◌, is_none, length, get_or, take, take_all, map, refl, sym, ap, subst}
+use Rattle.std.proofs.Common.{◌≡◌, ◌+◌, ◌<◌, ◌≤◌, ◌∙◌, ℕ, List, [], ◌∷◌, ◌++◌, Bool, Option, Some, None, IfOk, IfSome, Result, Ok, Err, ◌⊎◌, true, false, inr, drop, if◌then◌else◌, is_none, length, get_or, take, take_all, map, refl, sym, ap, subst, suc, String}
 use Rattle.std.proofs.lemmas.Bool.{true≢false}
 use Rattle.std.proofs.lemmas.List.{append-nil, append_assoc, drop_more, map-append, take_more}
 use Rattle.std.specs.List.{AllZip}
 use Rattle.pep440_version.specs.ErrorTexts.{error_text, refusal_text}
 use Rattle.pep440_version.specs.Refusals.{Refusal, Refuses}
+use Rattle.pep440_rs.specs.ListErrors.{IsListLifted, lacks_list_memory, list_refusal_of}
+use Rattle.pep440_rs.specs.ListGrammar.{PieceRefusal, RefusesList}
+use Rattle.pep440_rs.specs.declared.list.error.SpecifiersErrorKind.{SpecifiersErrorKind}
 use Rattle.toml.specs.Data.{Data}
-use Rattle.toml.specs.View.{items_of}
-use Rattle.pyver_projects.specs.Documents.{items_list}
+use Rattle.toml.specs.View.{items_of, members_view}
+use Rattle.toml.specs.declared.value.Value.{Value}
+use Rattle.std.specs.declared.alloc.Global.{Global}
+use Rattle.pyver_projects.specs.TomlValues.{items_list, members_list}
 
 -- a list that was made items is the same
 pub items_list_of : (ds : List Data) → items_list (items_of ds) ≡ ds
 items_list_of [] = refl
 items_list_of (d ∷ ds) = ap (λ rest. d ∷ rest) (items_list_of ds)
+
+-- the members of a map are as many
+pub members_length : (es : List (String Global × Value)) → length (members_list (members_view es)) ≡ length es
+members_length [] = refl
+members_length (e ∷ es) = ap suc (members_length es)
 
 all_more : {A B : Type 0} (R : A → B → Type 0) (xs : List A) (ys : List B) (x : A) (y : B) → AllZip R xs ys → R x y → AllZip R (xs ++ x ∷ []) (ys ++ y ∷ [])
 all_more R [] [] x y h r = (r, tt)
@@ -40,6 +50,20 @@ refusal (Some f) e = (f, refl)
 -- the reason of the refusal is printed
 pub version_reason_is : (f : Refusal) (s : List ℕ) → error_text (Some f) ≡ Some (refusal_text f) → IfSome (error_text (Some f)) (λ t. s ≡ t) → s ≡ refusal_text f
 version_reason_is f s told is = subst (λ (o : Option (List ℕ)). IfSome o (λ t. s ≡ t)) told is
+
+-- a list that is no want of memory has a reason
+reason_by : (kind : SpecifiersErrorKind) (o : Option PieceRefusal) → list_refusal_of kind ≡ o → lacks_list_memory kind ≡ false → IsListLifted kind → (f : PieceRefusal) × (o ≡ Some f)
+reason_by kind None is some lifted = absurd (true≢false (sym (ap lacks_list_memory (lifted is)) ∙ some))
+reason_by kind (Some f) is some lifted = (f, refl)
+
+pub list_reason : (kind : SpecifiersErrorKind) → lacks_list_memory kind ≡ false → IsListLifted kind → (f : PieceRefusal) × (list_refusal_of kind ≡ Some f)
+list_reason kind some lifted = reason_by kind (list_refusal_of kind) refl some lifted
+
+-- a string is no list for its reason
+pub list_read : {Y E : Type 0} (r : Result Y E) (o : Option PieceRefusal) (text : List ℕ) (A Q : Y → Type 0) → IfSome o (RefusesList text) → IfOk r (λ y. (f : PieceRefusal) × (o ≡ Some f) × Q y)
+    → IfOk r (λ y. A y ⊎ ((f : PieceRefusal) × RefusesList text f × Q y))
+list_read (Ok y) o text A Q refuses (f, some, q) = inr (f, subst (λ (p : Option PieceRefusal). IfSome p (RefusesList text)) some refuses, q)
+list_read (Err e) o text A Q refuses h = tt
 
 -- a string is no version for its reason
 pub version_read : {Y E : Type 0} (r : Result Y E) (o : Option Refusal) (text : List ℕ) (A : Y → Type 0) (Q : Refusal → Y → Type 0) → IfSome o (Refuses text) → IfOk r (λ y. (f : Refusal) × (o ≡ Some f) × Q f y)

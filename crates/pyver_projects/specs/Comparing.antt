@@ -6,6 +6,7 @@ use Rattle.pep440_version.specs.Record.{Record}
 use Rattle.pyver_findings.specs.Demands.{Demand}
 use Rattle.pyver_findings.specs.FileLines.{FileLine}
 use Rattle.pyver_findings.specs.Findings.{Conflicting, Finding, NoRequirement}
+use Rattle.pyver_findings.specs.LineMeanings.{LineMeaning}
 use Rattle.pyver_findings.specs.Reports.{Report, demands_in, empty_report, invalid_in, joined_report, left_out_in}
 use Rattle.pyver_findings.specs.declared.cause.Cause.{Cause}
 use Rattle.pyver_findings.specs.declared.finding.Conflict.TheVariants.{PinOutside}
@@ -32,19 +33,6 @@ invalid_package y = found_or_none y.invalid
 abbrev pub left_out_string : StringReading → List Cause
 left_out_string x = left_out_in x.meaning
 
--- the report of a document by itself: the strings or the packages count as lines
-abbrev pub own_report : DocumentReading → Report
-own_report (IsProject xs) = record { findings = flat_map invalid_string xs ++ project_conflicts xs; lines = length xs; files = 1; left_out = flat_map left_out_string xs }
-own_report (IsLock ys) = record { findings = flat_map invalid_package ys; lines = length ys; files = 1; left_out = [] }
-own_report (IsBroken f) = record { findings = f ∷ []; lines = 0; files = 1; left_out = [] }
-
--- a report, and after it those of documents
-abbrev pub with_own_reports : Report → List DocumentReading → Report
-with_own_reports a [] = a
-with_own_reports a (x ∷ xs) = with_own_reports (joined_report a (own_report x)) xs
-
--- ---- a project beside a lock
-
 -- the package has the name of the requirement
 abbrev pub has_name : Demand → LockedReading → Bool
 has_name a y = bytes_eq a.name y.name
@@ -57,6 +45,23 @@ excluded_by a line (Some v) = if list_matches a.specifiers v then [] else Confli
 -- the list of the requirement does not contain the locked version of its name
 abbrev pub excluded : Demand → LockedReading → List Finding
 excluded a y = if has_name a y then excluded_by a y.line y.version else []
+
+-- what the requirement of a package excludes in its own lock
+abbrev pub unmet : List LockedReading → LineMeaning → List Finding
+unmet ys m = flat_map (λ a. flat_map (excluded a) ys) (demands_in m)
+
+-- the report of a document by itself: the strings or the packages count as lines
+abbrev pub own_report : DocumentReading → Report
+own_report (IsProject xs) = record { findings = flat_map invalid_string xs ++ project_conflicts xs; lines = length xs; files = 1; left_out = flat_map left_out_string xs }
+own_report (IsLock ys ms) = record { findings = flat_map invalid_package ys ++ flat_map (unmet ys) ms; lines = length ys; files = 1; left_out = flat_map left_out_in ms }
+own_report (IsBroken f) = record { findings = f ∷ []; lines = 0; files = 1; left_out = [] }
+
+-- a report, and after it those of documents
+abbrev pub with_own_reports : Report → List DocumentReading → Report
+with_own_reports a [] = a
+with_own_reports a (x ∷ xs) = with_own_reports (joined_report a (own_report x)) xs
+
+-- ---- a project beside a lock
 
 -- a lock has the dependencies of the project,
 abbrev pub is_needed : Section → Bool
@@ -84,10 +89,10 @@ compared ys x = if is_locked x.section then flat_map (compared_demand ys x.secti
 
 -- the first document beside the second, if that is a project and this a lock
 abbrev pub found_beside : DocumentReading → DocumentReading → List Finding
-found_beside (IsProject xs) (IsLock ys) = flat_map (compared ys) xs
+found_beside (IsProject xs) (IsLock ys ms) = flat_map (compared ys) xs
 found_beside (IsProject xs) (IsProject others) = []
 found_beside (IsProject xs) (IsBroken f) = []
-found_beside (IsLock ys) other = []
+found_beside (IsLock ys ms) other = []
 found_beside (IsBroken f) other = []
 
 -- a document beside each of these

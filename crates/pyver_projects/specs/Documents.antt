@@ -1,43 +1,11 @@
 -- What a parsed TOML document has to check: the strings of `pyproject.toml`, and the versions of a lock.
-use Rattle.std.specs.Prelude.{ℕ, ◌+◌, List, [], ◌∷◌, ◌++◌, Option, Some, None, codes, get_or, map, option_and_then}
+use Rattle.std.specs.Prelude.{ℕ, ◌+◌, List, [], ◌∷◌, ◌++◌, Option, Some, None, bytes_eq, codes, count_by, get_or, if◌then◌else◌, length, map, nat_eq, nat_lt}
 use Rattle.std.specs.List.{flat_map}
 use Rattle.pep440_pick.specs.Names.{normal}
-use Rattle.toml.specs.Data.{Data, Items, Members, as_array, as_str, as_table, get, get_member, item, member, no_items, no_members}
-use Rattle.pyver_projects.specs.ProjectStrings.{Build, Dependencies, Extra, Group, Include, LockedPackage, Section, Python, ProjectString, Version}
-
--- ---- values
-
-abbrev pub items_list : Items → List Data
-items_list no_items = []
-items_list (item d ds) = d ∷ items_list ds
-
-abbrev pub members_list : Members → List (List ℕ × Data)
-members_list no_members = []
-members_list (member k d ms) = (k, d) ∷ members_list ms
-
--- the value at a key, if there is a table that has it
-abbrev pub inside : List ℕ → Option Data → Option Data
-inside key value = option_and_then (get key) value
-
-abbrev pub items_or_none : Option Items → List Data
-items_or_none None = []
-items_or_none (Some ds) = items_list ds
-
--- the items, if there is an array
-abbrev pub listed : Option Data → List Data
-listed value = items_or_none (option_and_then as_array value)
-
-abbrev pub members_or_none : Option Members → List (List ℕ × Data)
-members_or_none None = []
-members_or_none (Some ms) = members_list ms
-
--- the members, if there is a table
-abbrev pub entries : Option Data → List (List ℕ × Data)
-entries value = members_or_none (option_and_then as_table value)
-
--- the string, if there is one
-abbrev pub text_in : Option Data → Option (List ℕ)
-text_in value = option_and_then as_str value
+use Rattle.toml.specs.Data.{Data, Members, as_str, get, get_member}
+use Rattle.pyver_projects.specs.PackageRequirements.{requirements_from}
+use Rattle.pyver_projects.specs.ProjectStrings.{Build, Dependencies, Extra, Group, Include, Invalid, LockContents, LockedPackage, Section, Python, ProjectString, Version}
+use Rattle.pyver_projects.specs.TomlValues.{entries, inside, listed, text_in}
 
 -- ---- `pyproject.toml`
 
@@ -58,18 +26,7 @@ array_sources section value = flat_map (source_from section) (listed value)
 abbrev pub extra_sources : List ℕ × Data → List ProjectString
 extra_sources e = array_sources (Extra (normal e.0)) (Some e.1)
 
--- the name of a group that is included, if there is one
-abbrev pub include_in : List ℕ → Option (List ℕ) → List ProjectString
-include_in group None = []
-include_in group (Some text) = record { section = Include group (normal text); text = text } ∷ []
-
--- an item of a group: a string, or a table with the key `include-group`
-abbrev pub item_sources : List ℕ → Data → List ProjectString
-item_sources group d = source_from (Group group) d ++ include_in group (text_in (get (codes "include-group") d))
-
--- the strings of the array of a group, and the names of those that it includes
-abbrev pub group_sources : List ℕ × Data → List ProjectString
-group_sources e = flat_map (item_sources (normal e.0)) (listed (Some e.1))
+-- ---- groups
 
 -- the table of groups
 abbrev pub groups_table : Members → List (List ℕ × Data)
@@ -83,6 +40,33 @@ group_name e = normal e.0
 abbrev pub group_names : Members → List (List ℕ)
 group_names document = map group_name (groups_table document)
 
+-- the name of a group that is invalid for this reason
+abbrev pub invalid_group : List ℕ → List ℕ → List ProjectString
+invalid_group name reason = record { section = Invalid reason; text = name } ∷ []
+
+-- the name of a group, if another of these has it, too
+abbrev pub repeated_name : List (List ℕ) → List ℕ → List ProjectString
+repeated_name names name = if nat_lt 1 (count_by (bytes_eq (normal name)) names) then invalid_group name (codes "another group has this name") else []
+
+-- the name of the group that an item includes: it is a table with the key `include-group` alone
+abbrev pub included_name : Data → Option (List ℕ)
+included_name d = if nat_eq (length (entries (Some d))) 1 then text_in (get (codes "include-group") d) else None
+
+-- an item of the group with this name, which is a string, or includes a group, or neither
+abbrev pub item_source : List ℕ → Option (List ℕ) → Option (List ℕ) → List ProjectString
+item_source name (Some text) included = record { section = Group (normal name); text = text } ∷ []
+item_source name None (Some included) = record { section = Include (normal name) (normal included); text = included } ∷ []
+item_source name None None = invalid_group name (codes "an item is neither a requirement nor an included group")
+
+abbrev pub item_sources : List ℕ → Data → List ProjectString
+item_sources name d = item_source name (as_str d) (included_name d)
+
+-- the strings of the array of a group, and the names of those that it includes, beside these groups
+abbrev pub group_sources : List (List ℕ) → List ℕ × Data → List ProjectString
+group_sources names e = repeated_name names e.0 ++ flat_map (item_sources e.0) (listed (Some e.1))
+
+-- ---- all strings
+
 -- the strings in the table `project`
 abbrev pub table_sources : Option Data → List ProjectString
 table_sources project = array_sources Dependencies (inside (codes "dependencies") project)
@@ -93,24 +77,28 @@ table_sources project = array_sources Dependencies (inside (codes "dependencies"
 -- the strings of `pyproject.toml`. Those of an included group stand in that group alone
 abbrev pub sources : Members → List ProjectString
 sources document = table_sources (get_member (codes "project") document)
-    ++ (flat_map group_sources (groups_table document)
+    ++ (flat_map (group_sources (group_names document)) (groups_table document)
     ++ array_sources Build (inside (codes "requires") (get_member (codes "build-system") document)))
 
 -- ---- locks
+
+-- the tables from a number on, each with the number of the line of its header, or with 1 if there are not so many headers
+abbrev pub numbered_tables : List ℕ → ℕ → List Data → List (ℕ × Data)
+numbered_tables lines i [] = []
+numbered_tables lines i (d ∷ ds) = (get_or lines i 1, d) ∷ numbered_tables lines (i + 1) ds
 
 -- a package on this line, if it has a name
 abbrev pub package_in : ℕ → Option (List ℕ) → Option (List ℕ) → List LockedPackage
 package_in line None version = []
 package_in line (Some name) version = record { line = line; name = name; version = version } ∷ []
 
-abbrev pub package_from : ℕ → Data → List LockedPackage
-package_from line d = package_in line (text_in (get (codes "name") d)) (text_in (get (codes "version") d))
+abbrev pub package_from : ℕ × Data → List LockedPackage
+package_from e = package_in e.0 (text_in (get (codes "name") e.1)) (text_in (get (codes "version") e.1))
 
--- the packages from a number on, each on the line with its number, or on the first line if there are not so many
-abbrev pub packages_from : List ℕ → ℕ → List Data → List LockedPackage
-packages_from lines i [] = []
-packages_from lines i (d ∷ ds) = package_from (get_or lines i 1) d ++ packages_from lines (i + 1) ds
+-- what the tables of packages have
+abbrev pub table_contents : List (ℕ × Data) → LockContents
+table_contents tables = record { packages = flat_map package_from tables; requirements = flat_map requirements_from tables }
 
--- the packages in the array of tables at this key, with these lines of headers
-abbrev pub packages : List ℕ → List ℕ → Members → List LockedPackage
-packages lines key document = packages_from lines 0 (listed (get_member key document))
+-- what a lock has in the array of tables at this key, with these lines of headers
+abbrev pub contents : List ℕ → List ℕ → Members → LockContents
+contents lines key document = table_contents (numbered_tables lines 0 (listed (get_member key document)))

@@ -6,7 +6,7 @@ use Rattle.pyver_findings.specs.FileLines.{FileLine}
 use Rattle.pyver_findings.specs.Findings.{NoRequirement}
 use Rattle.pyver_findings.specs.LineMeanings.{AsksNothing, IsNone, LineMeaning}
 use Rattle.pyver_projects.specs.Documents.{group_names, sources}
-use Rattle.pyver_projects.specs.ProjectStrings.{Build, Dependencies, Extra, Group, Include, ProjectString, Python, Section, Version}
+use Rattle.pyver_projects.specs.ProjectStrings.{Build, Dependencies, Extra, Group, Include, Invalid, ProjectString, Python, Section, Version}
 
 -- one group includes another: both names in their normal form
 pub record Inclusion : Type 0 where
@@ -19,6 +19,7 @@ inclusion (Include group included) = record { group = group; included = included
 inclusion Dependencies = []
 inclusion (Extra name) = []
 inclusion (Group name) = []
+inclusion (Invalid reason) = []
 inclusion Build = []
 inclusion Python = []
 inclusion Version = []
@@ -49,7 +50,7 @@ includes_within is group (suc n) name = includes_within is group n name || list_
 abbrev pub includes : List Inclusion → List ℕ → List ℕ → Bool
 includes is group name = includes_within is group (length is) name
 
--- the name of an included group on this line, for this reason
+-- the name of a group on this line, which is invalid for this reason
 abbrev pub no_group : FileLine → List ℕ → LineMeaning
 no_group line reason = IsNone (NoRequirement line reason 0)
 

@@ -1,4 +1,6 @@
 pub mod ProjectStrings
+pub mod TomlValues
+pub mod PackageRequirements
 pub mod Documents
 pub mod Places
 pub mod QuotedStrings

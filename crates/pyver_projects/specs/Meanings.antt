@@ -1,23 +1,28 @@
 -- What a string of `pyproject.toml`, a locked package and a document are to the check.
-use Rattle.std.specs.Prelude.{◌≡◌, ◌⊎◌, ℕ, ◌+◌, List, ◌++◌, Option, Some, None, codes, length}
+use Rattle.std.specs.Prelude.{◌≡◌, ◌⊎◌, ℕ, ◌+◌, List, [], ◌++◌, Option, Some, None, codes, length}
 use Rattle.std.specs.List.{AllZip}
 use Rattle.std.specs.Str.{IsUtf8}
 use Rattle.pep440_pick.specs.Names.{normal}
+use Rattle.pep440_rs.specs.ListGrammar.{DerivesList, PieceRefusal, RefusesList}
+use Rattle.pep440_rs.specs.Specifiers.{Spec}
 use Rattle.pep440_version.specs.ErrorTexts.{refusal_text}
 use Rattle.pep440_version.specs.Grammar.{Derives}
 use Rattle.pep440_version.specs.Record.{Record}
 use Rattle.pep440_version.specs.Refusals.{Refusal, Refuses}
+use Rattle.pyver_findings.specs.Demands.{line_demand}
 use Rattle.pyver_findings.specs.FileLines.{File, FileLine}
 use Rattle.pyver_findings.specs.Findings.{Finding, NoRequirement}
-use Rattle.pyver_findings.specs.LineMeanings.{AsksNothing, IsListMeaning, IsNone, IsPartsMeaning, LineMeaning}
+use Rattle.pyver_findings.specs.LineMeanings.{Asks, AsksNothing, IsListMeaning, IsNone, IsPartsMeaning, LeftOut, LineMeaning}
+use Rattle.pyver_findings.specs.declared.cause.Cause.TheVariants as cause
 use Rattle.pyver_requirements.specs.LineParts.{line_parts}
 use Rattle.toml.specs.Data.{Members}
 use Rattle.toml.specs.Parse.{parse_document}
 use Rattle.pyver_projects.specs.Documents.{sources}
-use Rattle.pyver_projects.specs.Groups.{Groups, groups, include_meaning}
+use Rattle.pyver_projects.specs.Groups.{Groups, groups, include_meaning, no_group}
 use Rattle.pyver_projects.specs.Locks.{locked}
+use Rattle.pyver_projects.specs.PackageRequirements.{package_text}
 use Rattle.pyver_projects.specs.Places.{first_line, number_or_one}
-use Rattle.pyver_projects.specs.ProjectStrings.{Build, Dependencies, Extra, Group, Include, LockedPackage, Section, Python, ProjectString, Version}
+use Rattle.pyver_projects.specs.ProjectStrings.{Build, Dependencies, Extra, Group, Include, Invalid, LockContents, LockedPackage, LockedRequirement, Section, Python, ProjectString, Version}
 use Rattle.pyver_projects.specs.declared.document_kind.DocumentKind.{DocumentKind}
 use Rattle.pyver_projects.specs.declared.document_kind.DocumentKind.TheVariants.{Lock, Project}
 
@@ -39,6 +44,7 @@ IsSectionMeaning all Dependencies line text x = IsPartsMeaning line (line_parts 
 IsSectionMeaning all (Extra name) line text x = IsPartsMeaning line (line_parts line.text) x
 IsSectionMeaning all (Group name) line text x = IsPartsMeaning line (line_parts line.text) x
 IsSectionMeaning all (Include group included) line text x = x ≡ include_meaning all line group included
+IsSectionMeaning all (Invalid reason) line text x = x ≡ no_group line reason
 IsSectionMeaning all Build line text x = IsPartsMeaning line (line_parts line.text) x
 
 -- a string that was read: its section, and what it is
@@ -58,11 +64,6 @@ pub record LockedReading : Type 0 where
   pub version : Option Record
   pub invalid : Option Finding
 
--- the name and the version
-abbrev pub package_text : List ℕ → Option (List ℕ) → List ℕ
-package_text name None = name
-package_text name (Some version) = name ++ (codes " " ++ version)
-
 -- a package as a line of the file with this name
 abbrev pub package_line : List ℕ → LockedPackage → FileLine
 package_line file p = record { file = file; number = p.line; text = package_text p.name p.version }
@@ -76,38 +77,49 @@ IsVersionReading line name (Some text) y = ((r : Record) × Derives text r × (y
 abbrev pub IsLockedReading : List ℕ → LockedPackage → LockedReading → Type 0
 IsLockedReading file p y = IsVersionReading (package_line file p) p.name p.version y
 
+-- ---- requirements of locked packages
+
+-- a requirement as a line of the file with this name
+abbrev pub requirement_line : List ℕ → LockedRequirement → FileLine
+requirement_line file q = record { file = file; number = q.line; text = q.requirer ++ (codes " requires " ++ (q.name ++ (codes " " ++ q.list))) }
+
+-- what it is: a name with a list, or left out, if the list is none of PEP 440
+abbrev pub IsRequirementReading : List ℕ → LockedRequirement → LineMeaning → Type 0
+IsRequirementReading file q x = ((list : List Spec) × DerivesList q.list list × (x ≡ Asks (line_demand (requirement_line file q) None (record { name = q.name; extras = []; specifiers = list }))))
+    ⊎ ((f : PieceRefusal) × RefusesList q.list f × (x ≡ LeftOut cause.OtherSyntax))
+
 -- ---- documents
 
 pub record Document : Type 0 where
   pub kind : DocumentKind
   pub file : File
 
--- a document that was read: the strings of a project, the packages of a lock, or why it was not read
+-- a document that was read: the strings of a project, the packages of a lock and what they require, or why it was not read
 pub data DocumentReading : Type 0 where
   IsProject : List StringReading → DocumentReading
-  IsLock : List LockedReading → DocumentReading
+  IsLock : List LockedReading → List LineMeaning → DocumentReading
   IsBroken : Finding → DocumentReading
 
 -- what a project with this table is
 abbrev pub IsProjectReading : File → Members → DocumentReading → Type 0
 IsProjectReading file t x = (xs : List StringReading) × AllZip (IsStringReading (groups t) file) (sources t) xs × (x ≡ IsProject xs)
 
--- what a lock with these packages is
-abbrev pub IsLockReading : List ℕ → List LockedPackage → DocumentReading → Type 0
-IsLockReading file ps x = (ys : List LockedReading) × AllZip (IsLockedReading file) ps ys × (x ≡ IsLock ys)
+-- what a lock is that has this
+abbrev pub IsLockReading : List ℕ → LockContents → DocumentReading → Type 0
+IsLockReading file l x = (ys : List LockedReading) × (ms : List LineMeaning) × AllZip (IsLockedReading file) l.packages ys × AllZip (IsRequirementReading file) l.requirements ms × (x ≡ IsLock ys ms)
 
 -- the document is not read, for some reason at some position of it
 abbrev pub IsBrokenReading : File → DocumentReading → Type 0
 IsBrokenReading file d = (line : FileLine) × (reason : List ℕ) × (column : ℕ) × (line.file ≡ file.name) × (d ≡ IsBroken (NoRequirement line reason column))
 
--- what a lock is that has these packages, or cannot be read
-abbrev pub IsPackagesReading : File → Option (List LockedPackage) → DocumentReading → Type 0
-IsPackagesReading file found x = ((ps : List LockedPackage) × (found ≡ Some ps) × IsLockReading file.name ps x) ⊎ ((found ≡ None) × IsBrokenReading file x)
+-- what a lock is that has this, or cannot be read
+abbrev pub IsContentsReading : File → Option LockContents → DocumentReading → Type 0
+IsContentsReading file found x = ((l : LockContents) × (found ≡ Some l) × IsLockReading file.name l x) ⊎ ((found ≡ None) × IsBrokenReading file x)
 
 -- what a document with this text is, which is UTF-8
 abbrev pub IsTextReading : DocumentKind → File → DocumentReading → Type 0
 IsTextReading Project file x = ((t : Members) × (parse_document file.text ≡ Some t) × IsProjectReading file t x) ⊎ ((parse_document file.text ≡ None) × IsBrokenReading file x)
-IsTextReading (Lock kind) file x = IsPackagesReading file (locked kind file.text) x
+IsTextReading (Lock kind) file x = IsContentsReading file (locked kind file.text) x
 
 -- what a document is
 abbrev pub IsDocumentReading : Document → DocumentReading → Type 0

@@ -1,5 +1,6 @@
 -- The packages of `Pipfile.lock`, which is JSON.
-use Rattle.std.specs.Prelude.{ℕ, List, [], ◌∷◌, ◌++◌, Option, Some, None, codes, map, option_and_then, option_map, unwrap_or}
+use Rattle.std.specs.Prelude.{ℕ, List, [], ◌∷◌, ◌++◌, Bool, true, false, Option, Some, None, bytes_eq, codes, if◌then◌else◌, option_and_then, option_map, unwrap_or}
+use Rattle.std.specs.List.{flat_map}
 use Rattle.pep440_version.specs.ChangeWords.{after}
 use Rattle.serde_json.specs.Data.{Data, Members, member, no_members}
 use Rattle.serde_json.specs.Find.{as_object, as_str, get}
@@ -22,10 +23,30 @@ section_members key document = object_entries_or_none (option_and_then as_object
 abbrev pub pinned_version : List ℕ → List ℕ
 pinned_version text = unwrap_or (after (codes "==") text) text
 
+-- the version of a package, if it has one
+abbrev pub package_version : Data → Option (List ℕ)
+package_version d = option_map pinned_version (option_and_then as_str (get (codes "version") d))
+
 -- a member as a package, on the first line of the lock on which its name stands in quotes
 abbrev pub member_package : List ℕ → List ℕ × Data → LockedPackage
-member_package text e = record { line = number_or_one (first_line text e.0); name = e.0; version = option_map pinned_version (option_and_then as_str (get (codes "version") e.1)) }
+member_package text e = record { line = number_or_one (first_line text e.0); name = e.0; version = package_version e.1 }
 
--- the packages of a lock with this text: those to run with, and those to develop with
+-- both are one version, or none
+abbrev pub same_version : Option (List ℕ) → Option (List ℕ) → Bool
+same_version None None = true
+same_version (Some v) (Some w) = bytes_eq v w
+same_version _ _ = false
+
+-- the package has this version, if there is a package
+abbrev pub has_version : Option (List ℕ) → Option Data → Bool
+has_version version None = false
+has_version version (Some d) = same_version version (package_version d)
+
+-- a member of a section as a package, unless the section before has it with the same version
+abbrev pub new_package : List ℕ → Option Data → List ℕ × Data → List LockedPackage
+new_package text before e = if has_version (package_version e.1) (option_and_then (get e.0) before) then [] else member_package text e ∷ []
+
+-- the packages of a lock with this text: those to run with, and those to develop with that are not the same
 abbrev pub member_packages : List ℕ → Data → List LockedPackage
-member_packages text document = map (member_package text) (section_members (codes "default") document) ++ map (member_package text) (section_members (codes "develop") document)
+member_packages text document = flat_map (new_package text None) (section_members (codes "default") document)
+    ++ flat_map (new_package text (get (codes "default") document)) (section_members (codes "develop") document)

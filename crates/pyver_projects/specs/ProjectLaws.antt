@@ -5,7 +5,9 @@ use Rattle.std.specs.List.{All, AllZip, Contains, filter, flat_map}
 use Rattle.std.specs.Str.{IsUtf8}
 use Rattle.pep440_pick.specs.Names.{same_name}
 use Rattle.pep440_pick.specs.RequirementGrammar.{DerivesRequirement, Needed}
+use Rattle.pep440_rs.specs.ListGrammar.{DerivesList}
 use Rattle.pep440_rs.specs.Matching.{list_matches}
+use Rattle.pep440_rs.specs.Specifiers.{Spec}
 use Rattle.pep440_version.specs.ErrorTexts.{refusal_text}
 use Rattle.pep440_version.specs.Grammar.{Derives}
 use Rattle.pep440_version.specs.Record.{Record}
@@ -25,8 +27,8 @@ use Rattle.pyver_projects.specs.Comparing.{IsDocumentsReport, is_locked, is_need
 use Rattle.pyver_projects.specs.Documents.{sources}
 use Rattle.pyver_projects.specs.Groups.{groups}
 use Rattle.pyver_projects.specs.Locks.{locked}
-use Rattle.pyver_projects.specs.Meanings.{Document, IsSectionMeaning, IsStringReading, StringReading, package_line, string_line}
-use Rattle.pyver_projects.specs.ProjectStrings.{LockedPackage, ProjectString, Section}
+use Rattle.pyver_projects.specs.Meanings.{Document, IsSectionMeaning, IsStringReading, StringReading, package_line, requirement_line, string_line}
+use Rattle.pyver_projects.specs.ProjectStrings.{LockContents, LockedPackage, LockedRequirement, ProjectString, Section}
 use Rattle.pyver_projects.specs.Together.{has_group, holds_in, part_demands, section_part}
 use Rattle.pyver_projects.specs.declared.document_kind.DocumentKind.{DocumentKind}
 use Rattle.pyver_projects.specs.declared.document_kind.DocumentKind.TheVariants.{Lock, Project}
@@ -36,14 +38,14 @@ use Rattle.pyver_projects.specs.declared.document_kind.LockKind.{LockKind}
 abbrev pub HasTable : File → Members → Type 0
 HasTable file t = IsUtf8 file.text × (parse_document file.text ≡ Some t)
 
--- the file is a lock of this kind in UTF-8, and has these packages
-abbrev pub HasPackages : LockKind → File → List LockedPackage → Type 0
-HasPackages kind file ps = IsUtf8 file.text × (locked kind file.text ≡ Some ps)
+-- the file is a lock of this kind in UTF-8, and has this
+abbrev pub HasContents : LockKind → File → LockContents → Type 0
+HasContents kind file l = IsUtf8 file.text × (locked kind file.text ≡ Some l)
 
 -- a file of this kind is TOML, or JSON, in UTF-8
 abbrev pub IsReadableAs : DocumentKind → File → Type 0
 IsReadableAs Project file = (t : Members) × HasTable file t
-IsReadableAs (Lock kind) file = (ps : List LockedPackage) × HasPackages kind file ps
+IsReadableAs (Lock kind) file = (l : LockContents) × HasContents kind file l
 
 abbrev pub IsReadable : Document → Type 0
 IsReadable d = IsReadableAs d.kind d.file
@@ -56,13 +58,17 @@ HasProject documents file t = Contains documents (record { kind = Project; file 
 abbrev pub HasString : List Document → File → ProjectString → Type 0
 HasString documents file s = (t : Members) × HasProject documents file t × Contains (sources t) s
 
--- one of the documents is a lock of this kind in this file, with these packages
-abbrev pub HasLock : List Document → LockKind → File → List LockedPackage → Type 0
-HasLock documents kind file ps = Contains documents (record { kind = Lock kind; file = file }) × HasPackages kind file ps
+-- one of the documents is a lock of this kind in this file, and has this
+abbrev pub HasLock : List Document → LockKind → File → LockContents → Type 0
+HasLock documents kind file l = Contains documents (record { kind = Lock kind; file = file }) × HasContents kind file l
 
 -- one of the documents is a lock in this file, and has this package
 abbrev pub HasPackage : List Document → File → LockedPackage → Type 0
-HasPackage documents file p = (kind : LockKind) × (ps : List LockedPackage) × HasLock documents kind file ps × Contains ps p
+HasPackage documents file p = (kind : LockKind) × (l : LockContents) × HasLock documents kind file l × Contains l.packages p
+
+-- one of the documents is a lock in this file, and has this package and this requirement of a package
+abbrev pub HasBoth : List Document → File → LockedRequirement → LockedPackage → Type 0
+HasBoth documents file q p = (kind : LockKind) × (l : LockContents) × HasLock documents kind file l × Contains l.requirements q × Contains l.packages p
 
 -- the string is this requirement, and has no marker and no URL
 abbrev pub AlwaysAsks : ProjectString → Needed → Type 0
@@ -123,13 +129,13 @@ pub record IsMissing (documents : List Document) (f : Finding) : Type 0 where
   pub string : ProjectString
   pub lock : File
   pub kind : LockKind
-  pub packages : List LockedPackage
+  pub contents : LockContents
   pub needed : Needed
   pub has : HasString documents file string
   pub counts : is_needed string.section ≡ true
   pub asks : AlwaysAsks string needed
-  pub known : HasLock documents kind lock packages
-  pub none : All (λ (p : LockedPackage). same_name needed.name p.name ≡ false) packages
+  pub known : HasLock documents kind lock contents
+  pub none : All (λ (p : LockedPackage). same_name needed.name p.name ≡ false) contents.packages
   pub is : f ≡ NoRequirement (string_line file string) (codes "the lock has no package of this name") 0
 
 -- the list of a requirement of a project does not contain the version of a package of its name
@@ -150,9 +156,26 @@ pub record IsExcluded (documents : List Document) (f : Finding) : Type 0 where
   pub outside : ¬ IsTrue (list_matches needed.specifiers version)
   pub is : f ≡ Conflicting PinOutside (string_line file string ∷ (package_line lock.name locked_package ∷ []))
 
+-- the list of a requirement of a package does not contain the version of a package of its name in the same lock
+pub record IsUnmet (documents : List Document) (f : Finding) : Type 0 where
+  pub lock : File
+  pub requirement : LockedRequirement
+  pub locked_package : LockedPackage
+  pub list : List Spec
+  pub text : List ℕ
+  pub version : Record
+  pub has : HasBoth documents lock requirement locked_package
+  pub read : DerivesList requirement.list list
+  pub same : IsTrue (same_name requirement.name locked_package.name)
+  pub written : locked_package.version ≡ Some text
+  pub derives : Derives text version
+  pub outside : ¬ IsTrue (list_matches list version)
+  pub is : f ≡ Conflicting PinOutside (requirement_line lock.name requirement ∷ (package_line lock.name locked_package ∷ []))
+
 -- the finding is right
 abbrev pub IsDocumentFinding : List Document → Finding → Type 0
-IsDocumentFinding documents f = IsInvalidString documents f ⊎ (IsInvalidPackage documents f ⊎ (IsUnread documents f ⊎ (IsMissing documents f ⊎ (IsExcluded documents f ⊎ IsConflict documents f))))
+IsDocumentFinding documents f = IsInvalidString documents f
+    ⊎ (IsInvalidPackage documents f ⊎ (IsUnread documents f ⊎ (IsMissing documents f ⊎ (IsExcluded documents f ⊎ (IsConflict documents f ⊎ IsUnmet documents f)))))
 
 -- each finding is right
 abbrev pub DocumentFindingsHold : Type 0
@@ -165,9 +188,14 @@ abbrev pub AllContained : List Document → Type 0
 AllContained documents = (file lock : File) (s : ProjectString) (p : LockedPackage) (n : Needed) (text : List ℕ) (v : Record) → HasString documents file s → HasPackage documents lock p
     → IsTrue (is_locked s.section) → AlwaysAsks s n → IsTrue (same_name n.name p.name) → p.version ≡ Some text → Derives text v → IsTrue (list_matches n.specifiers v)
 
+-- each requirement of a package whose list is one contains each version of its name in the same lock
+abbrev pub AllMet : List Document → Type 0
+AllMet documents = (lock : File) (q : LockedRequirement) (p : LockedPackage) (list : List Spec) (text : List ℕ) (v : Record) → HasBoth documents lock q p
+    → DerivesList q.list list → IsTrue (same_name q.name p.name) → p.version ≡ Some text → Derives text v → IsTrue (list_matches list v)
+
 -- where nothing is found, they do
 abbrev pub NoFindingMeansContained : Type 0
-NoFindingMeansContained = (documents : List Document) (r : Report) → IsDocumentsReport documents r → r.findings ≡ [] → AllContained documents
+NoFindingMeansContained = (documents : List Document) (r : Report) → IsDocumentsReport documents r → r.findings ≡ [] → AllContained documents × AllMet documents
 
 -- the requirements of the part of each string of each project that have one name, and the same marker or none, have a version in common
 abbrev pub AllSatisfiable : List Document → Type 0

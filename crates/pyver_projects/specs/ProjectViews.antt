@@ -3,13 +3,15 @@ use Rattle.std.specs.Prelude.{map, option_map, string_bytes}
 use Rattle.pyver_findings.specs.Views.{file_line_of, file_of, finding_of, line_meaning_of}
 use Rattle.pyver_projects.specs.Groups.{Groups, Inclusion}
 use Rattle.pyver_projects.specs.Meanings.{Document, DocumentReading, IsBroken, IsLock, IsProject, LockedReading, StringReading}
-use Rattle.pyver_projects.specs.ProjectStrings.{Build, Dependencies, Extra, Group, Include, LockedPackage, Section, Python, ProjectString, Version}
+use Rattle.pyver_projects.specs.ProjectStrings.{Build, Dependencies, Extra, Group, Include, Invalid, LockContents, LockedPackage, LockedRequirement, Section, Python, ProjectString, Version}
 use Rattle.pyver_projects.specs.declared.document.Document.{Document as DocumentValue}
 use Rattle.pyver_projects.specs.declared.document_reading.DocumentReading.{DocumentReading as DocumentReadingValue}
 use Rattle.pyver_projects.specs.declared.document_reading.DocumentReading.TheVariants as reading
 use Rattle.pyver_projects.specs.declared.groups.Groups.{Groups as GroupsValue}
 use Rattle.pyver_projects.specs.declared.groups.Inclusion.{Inclusion as InclusionValue}
+use Rattle.pyver_projects.specs.declared.locked_package.LockContents.{LockContents as ContentsValue}
 use Rattle.pyver_projects.specs.declared.locked_package.LockedPackage.{LockedPackage as LockedValue}
+use Rattle.pyver_projects.specs.declared.locked_package.LockedRequirement.{LockedRequirement as RequirementValue}
 use Rattle.pyver_projects.specs.declared.locked_reading.LockedReading.{LockedReading as LockedReadingValue}
 use Rattle.pyver_projects.specs.declared.project_string.ProjectString.{ProjectString as SourceValue}
 use Rattle.pyver_projects.specs.declared.section.Section.{Section as SectionValue}
@@ -21,6 +23,7 @@ section_of section.Dependencies = Dependencies
 section_of (section.Extra name) = Extra name.items
 section_of (section.Group name) = Group name.items
 section_of (section.Include group included) = Include group.items included.items
+section_of (section.Invalid reason) = Invalid reason.now
 section_of section.Build = Build
 section_of section.Python = Python
 section_of section.Version = Version
@@ -37,6 +40,12 @@ groups_of all = record { names = map (λ n. n.items) all.names.items; inclusions
 abbrev pub locked_of : LockedValue → LockedPackage
 locked_of l = record { line = l.line; name = string_bytes l.name; version = option_map string_bytes l.version }
 
+abbrev pub requirement_of : RequirementValue → LockedRequirement
+requirement_of q = record { line = q.line; requirer = q.requirer.items; name = string_bytes q.name; list = string_bytes q.list }
+
+abbrev pub contents_of : ContentsValue → LockContents
+contents_of l = record { packages = map locked_of l.packages.items; requirements = map requirement_of l.requirements.items }
+
 abbrev pub string_reading_of : StringReadingValue → StringReading
 string_reading_of x = record { section = section_of x.section; meaning = line_meaning_of x.meaning }
 
@@ -48,5 +57,5 @@ document_of d = record { kind = d.kind; file = file_of d.file }
 
 abbrev pub document_reading_of : DocumentReadingValue → DocumentReading
 document_reading_of (reading.Project xs) = IsProject (map string_reading_of xs.items)
-document_reading_of (reading.Lock ys) = IsLock (map locked_reading_of ys.items)
+document_reading_of (reading.Lock ys ms) = IsLock (map locked_reading_of ys.items) (map line_meaning_of ms.items)
 document_reading_of (reading.Broken f) = IsBroken (finding_of f)

@@ -12,5 +12,5 @@ IsSoundString x = All IsSound (demands_in x.meaning)
 -- and the lists of a project
 abbrev pub IsSoundDocument : DocumentReading → Type 0
 IsSoundDocument (IsProject xs) = All IsSoundString xs
-IsSoundDocument (IsLock ys) = ⊤
+IsSoundDocument (IsLock ys ms) = ⊤
 IsSoundDocument (IsBroken f) = ⊤

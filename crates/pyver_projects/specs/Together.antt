@@ -11,7 +11,7 @@ use Rattle.pyver_findings.specs.declared.finding.Conflict.{Conflict}
 use Rattle.pyver_findings.specs.declared.finding.Conflict.TheVariants.{NoVersion, PinOutside, TwoPins}
 use Rattle.pyver_projects.specs.Groups.{Inclusion, includes, inclusions}
 use Rattle.pyver_projects.specs.Meanings.{StringReading}
-use Rattle.pyver_projects.specs.ProjectStrings.{Build, Dependencies, Extra, Group, Include, Python, Section, Version}
+use Rattle.pyver_projects.specs.ProjectStrings.{Build, Dependencies, Extra, Group, Include, Invalid, Python, Section, Version}
 
 -- ---- parts of a project
 
@@ -21,6 +21,7 @@ section_part (Include group included) = Group group
 section_part Dependencies = Dependencies
 section_part (Extra name) = Extra name
 section_part (Group name) = Group name
+section_part (Invalid reason) = Invalid reason
 section_part Build = Build
 section_part Python = Python
 section_part Version = Version
@@ -51,6 +52,7 @@ has_group is (Group group) name = includes is group name
 has_group is Dependencies name = false
 has_group is (Extra other) name = false
 has_group is (Include group included) name = false
+has_group is (Invalid reason) name = false
 has_group is Build name = false
 has_group is Python name = false
 has_group is Version name = false
@@ -66,6 +68,7 @@ holds_in has part (Extra name) = is_extra name part
 holds_in has part (Group name) = has name
 holds_in has part Build = is_build part
 holds_in has part (Include group included) = false
+holds_in has part (Invalid reason) = false
 holds_in has part Python = false
 holds_in has part Version = false
 
@@ -77,12 +80,12 @@ demand_in_part has part x = if holds_in has part x.section then demands_in x.mea
 abbrev pub part_demands : List Inclusion → Section → List StringReading → List Demand
 part_demands is part xs = flat_map (demand_in_part (has_group is part) part) xs
 
--- the part is another than the last one
-abbrev pub is_other : Option Section → Section → Bool
-is_other None part = true
-is_other (Some last) part = if same_part last part then false else true
+-- ---- each once
 
--- ---- findings, each once
+-- these, and after them those that are not there yet
+abbrev pub with_new : {A : Type 0} → (A → A → Bool) → List A → List A → List A
+with_new same found [] = found
+with_new same found (x ∷ xs) = with_new same (if list_any (same x) found then found else found ++ x ∷ []) xs
 
 abbrev pub same_line : FileLine → FileLine → Bool
 same_line a b = nat_eq a.number b.number && (bytes_eq a.file b.file && bytes_eq a.text b.text)
@@ -99,34 +102,20 @@ same_finding (Conflicting kind xs) (Conflicting other ys) = same_lines xs ys
 same_finding (Conflicting kind xs) (NoRequirement line reason column) = false
 same_finding (NoRequirement line reason column) g = false
 
--- findings, and after them those whose lines are not there yet
-abbrev pub with_new : List Finding → List Finding → List Finding
-with_new found [] = found
-with_new found (f ∷ fs) = with_new (if list_any (same_finding f) found then found else found ++ f ∷ []) fs
-
 -- ---- a project
 
 -- the sections of strings
 abbrev pub sections : List StringReading → List Section
 sections xs = map (λ (x : StringReading). x.section) xs
 
+-- the parts of a project, each once
+abbrev pub parts : List StringReading → List Section
+parts xs = with_new same_part [] (map section_part (sections xs))
+
 -- the requirements of a part that have no version in common
 abbrev pub part_conflicts : List StringReading → Section → List Finding
 part_conflicts xs part = conflicts (part_demands (inclusions (sections xs)) part xs)
 
--- of a part, unless it is the last one again
-abbrev pub turn_conflicts : List StringReading → Option Section → Section → List Finding
-turn_conflicts xs last part = if is_other last part then part_conflicts xs part else []
-
--- of the parts of these strings in turn
-abbrev pub conflicts_after : List StringReading → Option Section → List StringReading → List Finding
-conflicts_after all last [] = []
-conflicts_after all last (x ∷ xs) = turn_conflicts all last (section_part x.section) ++ conflicts_after all (Some (section_part x.section)) xs
-
--- of each part in turn the requirements that have no version in common
-abbrev pub all_conflicts : List StringReading → List Finding
-all_conflicts xs = conflicts_after xs None xs
-
--- each of these once
+-- of each part the requirements that have no version in common, each finding once
 abbrev pub project_conflicts : List StringReading → List Finding
-project_conflicts xs = with_new [] (all_conflicts xs)
+project_conflicts xs = with_new same_finding [] (flat_map (part_conflicts xs) (parts xs))

@@ -1,8 +1,8 @@
 // What documents are to the check.
-ghost use Rattle.std.specs.Prelude.{◌≡◌, IfOk, map};
-ghost use Rattle.pyver_projects.specs.Locks.{locked, toml_packages};
-ghost use Rattle.pyver_projects.specs.Meanings.{IsBrokenReading, IsDocumentReading, IsLockReading, IsPackagesReading, IsProjectReading, IsTextReading};
-ghost use Rattle.pyver_projects.specs.ProjectViews.{document_of, document_reading_of, locked_of};
+ghost use Rattle.std.specs.Prelude.{◌≡◌, IfOk};
+ghost use Rattle.pyver_projects.specs.Locks.{locked, toml_contents};
+ghost use Rattle.pyver_projects.specs.Meanings.{IsBrokenReading, IsContentsReading, IsDocumentReading, IsLockReading, IsProjectReading, IsTextReading};
+ghost use Rattle.pyver_projects.specs.ProjectViews.{contents_of, document_of, document_reading_of};
 ghost use Rattle.pyver_projects.specs.declared.document_kind.DocumentKind.TheVariants as of_kind;
 ghost use Rattle.pyver_projects.specs.declared.document_kind.LockKind.TheVariants as lock_kind;
 ghost use Rattle.toml.specs.View.{table_view};
@@ -10,15 +10,16 @@ ghost use Rattle.toml.specs.View.{table_view};
 use crate::document::Document;
 use crate::document_kind::{DocumentKind, LockKind};
 use crate::groups::read_groups;
-use crate::locked_package::LockedPackage;
+use crate::locked_package::LockContents;
 use crate::locked_reading::{LockedReading, read_packages};
-use crate::pipfile_lock::pipfile_packages;
+use crate::pipfile_lock::pipfile_contents;
 use crate::place::{position_of, reject_document};
 use crate::project::project_strings;
 use crate::quoted_lines::read_quoted_lines;
+use crate::requirement_reading::read_requirements;
 use crate::string_reading::{StringReading, read_strings};
-use crate::toml_lock::toml_packages;
-use pyver_findings::Finding;
+use crate::toml_lock::toml_contents;
+use pyver_findings::{Finding, LineMeaning};
 use serde_json::Value;
 use std::alloc::{AllocError, Global};
 use toml::Table;
@@ -28,8 +29,8 @@ use toml::Table;
 pub(crate) enum DocumentReading {
     // The strings of a project.
     Project(Vec<StringReading>),
-    // The packages of a lock.
-    Lock(Vec<LockedReading>),
+    // The packages of a lock, and what they require of one another.
+    Lock(Vec<LockedReading>, Vec<LineMeaning>),
     // Why it was not read.
     Broken(Finding),
 }
@@ -49,15 +50,17 @@ fn read_project(
     Ok(DocumentReading::Project(readings))
 }
 
-// What a lock with this name is, which has these packages.
+// What a lock with this name is, which has this.
 fn read_lock(
     alloc: Global,
     name: &[u8],
-    packages: &[LockedPackage],
+    contents: &LockContents,
 ) -> Result<DocumentReading, AllocError>
-    ensures { IfOk result (λ x. IsLockReading name.now (map locked_of packages.now) (document_reading_of x)) }
+    ensures { IfOk result (λ x. IsLockReading name.now (contents_of contents.now) (document_reading_of x)) }
 {
-    Ok(DocumentReading::Lock(read_packages(alloc, name, packages)?))
+    let packages = read_packages(alloc, name, contents.packages.as_slice())?;
+    let requirements = read_requirements(alloc, name, contents.requirements.as_slice())?;
+    Ok(DocumentReading::Lock(packages, requirements))
 }
 
 fn reject_toml(
@@ -105,12 +108,12 @@ fn read_toml_lock(
     key: &str,
     header: &str,
 ) -> Result<DocumentReading, AllocError>
-    ensures { IfOk result (λ x. IsPackagesReading (record { name = name.now; text = text.now }) (toml_packages key.now header.now text.now) (document_reading_of x)) }
+    ensures { IfOk result (λ x. IsContentsReading (record { name = name.now; text = text.now }) (toml_contents key.now header.now text.now) (document_reading_of x)) }
 {
     match toml::table_from_str(alloc, text) {
         Ok(table) => {
-            let packages = toml_packages(alloc, key, header, text, &table)?;
-            read_lock(alloc, name, packages.as_slice())
+            let contents = toml_contents(alloc, key, header, text, &table)?;
+            read_lock(alloc, name, &contents)
         }
         Err(error) if error.is_memory() => Err(AllocError),
         Err(error) => reject_toml(alloc, name, text, &error),
@@ -118,13 +121,13 @@ fn read_toml_lock(
 }
 
 fn read_pipfile_lock(alloc: Global, name: &[u8], text: &str) -> Result<DocumentReading, AllocError>
-    ensures { IfOk result (λ x. IsPackagesReading (record { name = name.now; text = text.now }) (locked lock_kind.Pipfile text.now) (document_reading_of x)) }
+    ensures { IfOk result (λ x. IsContentsReading (record { name = name.now; text = text.now }) (locked lock_kind.Pipfile text.now) (document_reading_of x)) }
 {
     match Value::from_str(alloc, text) {
         Ok(document) => {
             let lines = read_quoted_lines(alloc, text.as_bytes())?;
-            let packages = pipfile_packages(alloc, &lines, &document)?;
-            read_lock(alloc, name, packages.as_slice())
+            let contents = pipfile_contents(alloc, &lines, &document)?;
+            read_lock(alloc, name, &contents)
         }
         Err(error) if error.is_memory() => Err(AllocError),
         Err(error) => reject_json(alloc, name, text, &error),

@@ -11,7 +11,7 @@ ghost use Rattle.pyver_projects.specs.ProjectViews.{document_of, document_readin
 
 use crate::document::Document;
 use crate::document_reading::{DocumentReading, read_document};
-use crate::lock_comparison::push_beside_all;
+use crate::lock_comparison::{push_all_unmet, push_beside_all};
 use crate::locked_reading::LockedReading;
 use crate::string_reading::StringReading;
 use crate::together::project_conflicts;
@@ -67,15 +67,55 @@ fn push_package(findings: &mut Vec<Finding>, locked: LockedReading) -> Result<()
     Ok(())
 }
 
-fn report_packages(alloc: Global, packages: Vec<LockedReading>) -> Result<Report, AllocError>
-    ensures { IfOk result (λ r. report_of r ≡ own_report (IsLock (map locked_reading_of packages.items))) }
+fn push_packages(
+    findings: &mut Vec<Finding>,
+    packages: Vec<LockedReading>,
+) -> Result<(), AllocError>
+    ensures { IfOk result (λ _. map finding_of findings.new.items ≡ map finding_of findings.old.items ++ flat_map invalid_package (map locked_reading_of packages.items)) }
+{
+    for locked in packages {
+        push_package(findings, locked)?;
+    }
+    Ok(())
+}
+
+// Adds why the requirement is left out, if it is.
+fn push_left_out(causes: &mut Vec<Cause>, requirement: &LineMeaning) -> Result<(), AllocError>
+    ensures { IfOk result (λ _. causes.new.items ≡ causes.old.items ++ left_out_in (line_meaning_of requirement.now)) }
+{
+    if let LineMeaning::LeftOut(cause) = requirement {
+        causes.push(*cause)?;
+    }
+    Ok(())
+}
+
+fn push_all_left_out(
+    causes: &mut Vec<Cause>,
+    requirements: &[LineMeaning],
+) -> Result<(), AllocError>
+    ensures { IfOk result (λ _. causes.new.items ≡ causes.old.items ++ flat_map left_out_in (map line_meaning_of requirements.now)) }
+{
+    for requirement in requirements {
+        push_left_out(causes, requirement)?;
+    }
+    Ok(())
+}
+
+fn report_packages(
+    alloc: Global,
+    packages: Vec<LockedReading>,
+    requirements: &[LineMeaning],
+) -> Result<Report, AllocError>
+    ensures { IfOk result (λ r. report_of r ≡ own_report (IsLock (map locked_reading_of packages.items) (map line_meaning_of requirements.now))) }
 {
     let mut report = Report::empty(alloc);
     report.lines = packages.len();
     report.files = 1;
-    for locked in packages {
-        push_package(&mut report.findings, locked)?;
-    }
+    let mut unmet = Vec::new(alloc);
+    push_all_unmet(alloc, &mut unmet, packages.as_slice(), requirements)?;
+    push_packages(&mut report.findings, packages)?;
+    report.findings.append(&mut unmet)?;
+    push_all_left_out(&mut report.left_out, requirements)?;
     Ok(report)
 }
 
@@ -86,7 +126,9 @@ fn report_document(alloc: Global, document: DocumentReading) -> Result<Report, A
 {
     match document {
         DocumentReading::Project(strings) => report_strings(alloc, strings),
-        DocumentReading::Lock(packages) => report_packages(alloc, packages),
+        DocumentReading::Lock(packages, requirements) => {
+            report_packages(alloc, packages, requirements.as_slice())
+        }
         DocumentReading::Broken(finding) => {
             let mut report = Report::empty(alloc);
             report.files = 1;
@@ -130,22 +172,26 @@ fn read_documents(alloc: Global, documents: &[Document]) -> Result<Vec<DocumentR
 
 #[tactic(auto, using(crate::proofs::Sound::sound_documents))]
 /// What is wrong in the documents. First what is wrong in each by itself, in order: strings of a project that are no requirement, no list
-/// of specifiers or no version, names of included groups (PEP 735) that no group has, or that include the group in turn, versions of a lock
-/// that are none, and a document that is not TOML, or JSON, in UTF-8; and, after the strings of a project, its requirements that hold together and
-/// have no version in common, as `pyver_findings` reports them, each once: `project.dependencies`; these with each extra, and
-/// with each group and all that it includes; and what the build requires. Then what is wrong in each
-/// project beside each lock: for each requirement, in order, whether the lock lacks a package of its name, and the lines of the locked
-/// versions of its name that it does not contain, each with the line of the requirement.
+/// of specifiers or no version, groups (PEP 735) with the normal name of another, with an item that is neither a string nor a table of
+/// `include-group` alone, or that include a group that does not exist or that includes them in turn, versions of a lock that are none, and a
+/// document that is not TOML, or JSON, in UTF-8. After the strings of a project its requirements that hold together and have no version in
+/// common, as `pyver_findings` reports them, each once: `project.dependencies`; these with each extra, and with each group and all that it
+/// includes; and what the build requires. After the packages of a lock, for each of their requirements, the locked versions of its name that
+/// it does not contain. Then what is wrong in each project beside each lock: for each requirement, in order, whether the lock lacks a
+/// package of its name, and the lines of the locked versions of its name that it does not contain, each with the line of the requirement.
 ///
 /// Of `pyproject.toml` these are read: `project.dependencies`, `project.optional-dependencies`, `project.requires-python`,
 /// `project.version`, `dependency-groups` with the names of included groups, and `build-system.requires`; of a lock
-/// the names and versions of its packages, in `Pipfile.lock` of the members of `default` and `develop`. Values of other types are passed
-/// over. Extras and groups come in the order of their names. A string has the number of the first line on which it stands in quotes, a
-/// package of `Pipfile.lock` the number of the first line with its name in quotes, another package the number of its header. Either has 1
+/// the names and versions of its packages, in `Pipfile.lock` of the members of `default` and of those of `develop` that are not there with
+/// the same version. Their requirements are the `specifier` of each item of uv's `metadata.requires-dist`, and the lists of Poetry's table
+/// `dependencies`, but `*`; one that PEP 440 does not know, as `^1.0`, is left out. Values of other types are passed over. Extras and groups
+/// come in the order of their names. A string has the number of the first line on which it stands in quotes, a package of `Pipfile.lock`
+/// the number of the first line with its name in quotes, another package, with what it requires, the number of its header. Either has 1
 /// without one. Each string and each package counts as a line.
 ///
-/// A requirement with a marker or a URL, or of the build, is not compared, and only `project.dependencies` are to be in each lock.
-/// Takes time for each requirement and locked version, and for each extra or group and requirement.
+/// A requirement with a marker or a URL, of a package with markers, of the build, or that is optional, is not compared, and only
+/// `project.dependencies` are to be in each lock. Takes time for each requirement and locked version, and for each extra or group and
+/// requirement.
 ///
 /// Allocates.
 pub fn find_document_problems(alloc: Global, documents: &[Document]) -> Result<Report, AllocError>

@@ -1,12 +1,13 @@
 // Groups that include others.
-ghost use Rattle.std.specs.Prelude.{◌≡◌, ◌++◌, ◌||◌, ◌&&◌, IfOk, List, bytes_eq, map, ℕ};
+ghost use Rattle.std.specs.Prelude.{◌≡◌, ◌++◌, ◌||◌, ◌&&◌, IfOk, List, bytes_eq, count_by, map, nat_lt, ℕ};
 ghost use Rattle.std.specs.List.{flat_map, list_any};
-ghost use Rattle.pyver_projects.specs.Documents.{group_name, group_names, members_list};
+ghost use Rattle.pyver_projects.specs.Documents.{group_name, group_names};
 ghost use Rattle.pyver_projects.specs.Groups.{groups, includes, includes_by, inclusion, inclusions};
 ghost use Rattle.pyver_projects.specs.ProjectStrings.{ProjectString as StringModel};
 ghost use Rattle.pyver_projects.specs.ProjectViews.{groups_of, inclusion_of, project_string_of, section_of, string_reading_of};
 ghost use Rattle.pyver_projects.specs.Together.{sections};
 ghost use Rattle.pyver_projects.specs.Documents.{sources};
+ghost use Rattle.pyver_projects.specs.TomlValues.{members_list};
 ghost use Rattle.toml.specs.View.{table_view};
 
 use crate::project_string::ProjectString;
@@ -83,7 +84,8 @@ fn table_names(alloc: Global, groups: &Table) -> Result<Vec<Vec<u8>>, AllocError
     Ok(names)
 }
 
-fn group_names(alloc: Global, document: &Table) -> Result<Vec<Vec<u8>>, AllocError>
+// The names of the groups of the document.
+pub(crate) fn group_names(alloc: Global, document: &Table) -> Result<Vec<Vec<u8>>, AllocError>
     ensures { IfOk result (λ names. map (λ n. n.items) names.items ≡ group_names (table_view document.now)) }
 {
     match table(top(document, "dependency-groups")) {
@@ -117,6 +119,23 @@ pub(crate) fn has_name(names: &[Vec<u8>], name: &[u8]) -> bool
         }
     }
     false
+}
+
+// How often the name is one of these.
+fn count_name(names: &[Vec<u8>], name: &[u8]) -> usize
+    ensures { result ≡ count_by (bytes_eq name.now) (map (λ n. n.items) names.now) }
+{
+    names
+        .iter()
+        .filter(|other| name == other.as_slice())
+        .count()
+}
+
+// The name is two of these, or more.
+pub(crate) fn is_repeated(names: &[Vec<u8>], name: &[u8]) -> bool
+    ensures { result ≡ nat_lt 1 (count_by (bytes_eq name.now) (map (λ n. n.items) names.now)) }
+{
+    count_name(names, name) > 1
 }
 
 // Adds the name of the group that is included, if that which includes it is known.

@@ -1,16 +1,17 @@
 //! What holds of reports of documents, as the contract of a function that does nothing.
 ghost use Rattle.pyver_projects.specs.ProjectLaws.{DocumentReportsOnce, DocumentFindingsHold, NoFindingMeansContained, NoFindingMeansSatisfiable};
 
-/// What is reported by itself is a string of a project that is not what it is to be there, a package whose version is none, a document that
-/// is not TOML, or JSON, in UTF-8, or a requirement whose name no package of some lock has. Lines that are reported together belong to a requirement and
-/// to a package of its name whose version it does not contain, or to requirements of a project that hold together, have no version in
-/// common, and have one without any one of them.
+/// What is reported by itself is a string of a project that is not what it is to be there, a group that is invalid, a package whose version
+/// is none, a document that is not TOML, or JSON, in UTF-8, or a requirement whose name no package of some lock has. Lines that are
+/// reported together belong to a requirement, of a project or of a package in the same lock, and to a package of its name whose version it
+/// does not contain, or to requirements of a project that hold together, have no version in common, and have one without any one of them.
 pub fn findings_hold()
     ensures { DocumentFindingsHold }
 {}
 
 /// Where nothing is reported, each requirement of a project without a marker and a URL, but of its build, contains each version of its
-/// name in a lock.
+/// name in a lock, and each requirement of a locked package that is read and is in PEP 440's syntax contains each version of its name in
+/// the same lock.
 pub fn no_finding_means_contained()
     ensures { NoFindingMeansContained }
 {}

@@ -1,11 +1,11 @@
-// A project beside a lock.
+// A project beside a lock, and the requirements of a lock beside its packages.
 ghost use Rattle.std.specs.Prelude.{◌≡◌, ◌∷◌, ◌++◌, [], IfOk, map};
 ghost use Rattle.std.specs.List.{flat_map, list_any};
 ghost use Rattle.pyver_findings.specs.Findings.{Conflicting};
 ghost use Rattle.pyver_findings.specs.Reports.{demands_in};
 ghost use Rattle.pyver_findings.specs.Views.{demand_of, file_line_of, finding_of, line_meaning_of};
 ghost use Rattle.pyver_findings.specs.declared.finding.Conflict.TheVariants.{PinOutside};
-ghost use Rattle.pyver_projects.specs.Comparing.{found_beside, beside_all, compared, compared_demand, excluded, excluded_by, has_name, is_locked, is_needed, missing};
+ghost use Rattle.pyver_projects.specs.Comparing.{found_beside, beside_all, compared, compared_demand, excluded, excluded_by, has_name, is_locked, is_needed, missing, unmet};
 ghost use Rattle.pyver_projects.specs.ProjectViews.{document_reading_of, locked_reading_of, section_of, string_reading_of};
 
 use crate::document_reading::DocumentReading;
@@ -96,6 +96,36 @@ fn push_all_excluded(
 {
     for locked in packages {
         push_excluded(alloc, findings, demand, locked)?;
+    }
+    Ok(())
+}
+
+// Adds what a requirement of a package excludes in its own lock.
+fn push_unmet(
+    alloc: Global,
+    findings: &mut Vec<Finding>,
+    packages: &[LockedReading],
+    requirement: &LineMeaning,
+) -> Result<(), AllocError>
+    ensures { IfOk result (λ _. map finding_of findings.new.items ≡ map finding_of findings.old.items ++ unmet (map locked_reading_of packages.now) (line_meaning_of requirement.now)) }
+{
+    match requirement {
+        LineMeaning::Asks(demand) => push_all_excluded(alloc, findings, demand, packages),
+        LineMeaning::IsNone(_) | LineMeaning::LeftOut(_) | LineMeaning::AsksNothing => Ok(()),
+    }
+}
+
+// Adds what requirements of packages exclude in their own lock.
+pub(crate) fn push_all_unmet(
+    alloc: Global,
+    findings: &mut Vec<Finding>,
+    packages: &[LockedReading],
+    requirements: &[LineMeaning],
+) -> Result<(), AllocError>
+    ensures { IfOk result (λ _. map finding_of findings.new.items ≡ map finding_of findings.old.items ++ flat_map (unmet (map locked_reading_of packages.now)) (map line_meaning_of requirements.now)) }
+{
+    for requirement in requirements {
+        push_unmet(alloc, findings, packages, requirement)?;
     }
     Ok(())
 }
@@ -202,7 +232,7 @@ fn push_beside(
     let DocumentReading::Project(strings) = document else {
         return Ok(());
     };
-    let DocumentReading::Lock(packages) = other else {
+    let DocumentReading::Lock(packages, _) = other else {
         return Ok(());
     };
     push_all_compared(alloc, findings, packages.as_slice(), strings.as_slice())

@@ -1,5 +1,6 @@
-// Packages in locks, as they are written.
+// Packages in locks and what they require, as it is written.
 ghost use Rattle.std.specs.Prelude.{◌≡◌, IfOk, option_map, string_bytes};
+ghost use Rattle.pyver_projects.specs.PackageRequirements.{package_text};
 
 use std::alloc::{AllocError, Global};
 
@@ -10,6 +11,42 @@ pub(crate) struct LockedPackage {
     pub(crate) line: u64,
     pub(crate) name: String,
     pub(crate) version: Option<String>,
+}
+
+// A requirement of a package in a lock.
+#[derive(Drop)]
+pub(crate) struct LockedRequirement {
+    // The number of the line of the package, from 1.
+    pub(crate) line: u64,
+    // Its name and its version.
+    pub(crate) requirer: Vec<u8>,
+    // The name that it requires.
+    pub(crate) name: String,
+    // The list of specifiers.
+    pub(crate) list: String,
+}
+
+// What is read of a lock.
+#[derive(Drop)]
+pub(crate) struct LockContents {
+    pub(crate) packages: Vec<LockedPackage>,
+    pub(crate) requirements: Vec<LockedRequirement>,
+}
+
+// The name and the version.
+pub(crate) fn package_text(
+    alloc: Global,
+    name: &str,
+    version: Option<&str>,
+) -> Result<Vec<u8>, AllocError>
+    ensures { IfOk result (λ text. text.items ≡ package_text name.now (option_map (λ t. t.now) version.entry)) }
+{
+    let mut text = Vec::from_slice(alloc, name.as_bytes())?;
+    if let Some(version) = version {
+        text.push(b' ')?;
+        text.extend_from_slice(version.as_bytes())?;
+    }
+    Ok(text)
 }
 
 pub(crate) fn copy_text(alloc: Global, text: Option<&str>) -> Result<Option<String>, AllocError>

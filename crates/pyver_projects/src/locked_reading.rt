@@ -7,16 +7,16 @@ ghost use Rattle.pep440_version.specs.ErrorTexts.{error_text, refusal_text};
 ghost use Rattle.pep440_version.specs.Refusals.{Refusal};
 ghost use Rattle.pyver_findings.specs.Findings.{NoRequirement};
 ghost use Rattle.pyver_findings.specs.Views.{file_line_of};
-ghost use Rattle.pyver_projects.specs.Meanings.{IsLockedReading, IsVersionReading, package_line, package_text};
+ghost use Rattle.pyver_projects.specs.Meanings.{IsLockedReading, IsVersionReading, package_line};
 ghost use Rattle.pyver_projects.specs.ProjectViews.{locked_of, locked_reading_of};
 
-use crate::locked_package::LockedPackage;
+use crate::locked_package::{LockedPackage, package_text};
 use crate::version_reason::version_reason;
 use pep440_rs::{Version, VersionParseError};
 use pyver_findings::{FileLine, Finding, normalize_name};
 use std::alloc::{AllocError, Global};
 
-// A locked, and what is wrong with it.
+// A package, and what is wrong with it.
 #[derive(Drop)]
 pub(crate) struct LockedReading {
     pub(crate) line: FileLine,
@@ -27,16 +27,13 @@ pub(crate) struct LockedReading {
     pub(crate) invalid: Option<Finding>,
 }
 
-// The name and the version.
-fn package_text(alloc: Global, name: &str, version: &Option<String>) -> Result<Vec<u8>, AllocError>
-    ensures { IfOk result (λ text. text.items ≡ package_text name.now (option_map string_bytes version.now)) }
+fn version_text(version: &Option<String>) -> Option<&str>
+    ensures { option_map (λ t. t.now) result ≡ option_map string_bytes version.now }
 {
-    let mut text = Vec::from_slice(alloc, name.as_bytes())?;
-    if let Some(version) = version {
-        text.push(b' ')?;
-        text.extend_from_slice(version.as_bytes())?;
+    match version {
+        Some(version) => Some(version.as_str()),
+        None => None,
     }
-    Ok(text)
 }
 
 // The package as a line of the file with this name.
@@ -46,7 +43,7 @@ fn package_line(alloc: Global, file: &[u8], locked: &LockedPackage) -> Result<Fi
     Ok(FileLine {
         file: Vec::from_slice(alloc, file)?,
         number: locked.line,
-        text: package_text(alloc, locked.name.as_str(), &locked.version)?,
+        text: package_text(alloc, locked.name.as_str(), version_text(&locked.version))?,
     })
 }
 

@@ -1,11 +1,14 @@
 // What is read of `pyproject.toml`.
-ghost use Rattle.std.specs.Prelude.{◌≡◌, ◌++◌, IfOk, map, option_map, string_bytes};
+ghost use Rattle.std.specs.Prelude.{◌≡◌, ◌∷◌, ◌++◌, [], IfOk, Some, length, map, nat_eq, option_map, string_bytes};
 ghost use Rattle.std.specs.List.{flat_map};
-ghost use Rattle.pyver_projects.specs.Documents.{array_sources, entries, extra_sources, group_sources, groups_table, include_in, item_sources, members_list, source_from, source_in, sources, table_sources};
+ghost use Rattle.pep440_pick.specs.Names.{normal};
+ghost use Rattle.pyver_projects.specs.Documents.{array_sources, extra_sources, group_names, group_sources, groups_table, included_name, item_source, item_sources, repeated_name, source_from, source_in, sources, table_sources};
 ghost use Rattle.pyver_projects.specs.ProjectStrings.{Group, Include};
 ghost use Rattle.pyver_projects.specs.ProjectViews.{section_of, project_string_of};
+ghost use Rattle.pyver_projects.specs.TomlValues.{entries, listed, members_list};
 ghost use Rattle.toml.specs.View.{table_view, view};
 
+use crate::groups::{group_names, is_repeated};
 use crate::project_string::ProjectString;
 use crate::section::Section;
 use crate::table::{inside, items, table, text, top};
@@ -69,63 +72,113 @@ fn push_extra(
     push_array(alloc, sources, &section, Some(value))
 }
 
-fn group_section(group: &Vec<u8>) -> Result<Section, AllocError>
-    ensures { IfOk result (λ section. section_of section ≡ Group group.now.items) }
+fn group_section(alloc: Global, name: &str) -> Result<Section, AllocError>
+    ensures { IfOk result (λ section. section_of section ≡ Group (normal name.now)) }
 {
-    Ok(Section::Group(group.clone()?))
+    Ok(Section::Group(normalize_name(alloc, name)?))
 }
 
-fn include_section(group: &Vec<u8>, included: Vec<u8>) -> Result<Section, AllocError>
-    ensures { IfOk result (λ section. section_of section ≡ Include group.now.items included.items) }
+fn include_section(alloc: Global, name: &str, included: &str) -> Result<Section, AllocError>
+    ensures { IfOk result (λ section. section_of section ≡ Include (normal name.now) (normal included.now)) }
 {
-    Ok(Section::Include(group.clone()?, included))
+    let group = normalize_name(alloc, name)?;
+    Ok(Section::Include(group, normalize_name(alloc, included)?))
 }
 
-// Adds the name of the group that is included, if there is one.
-fn push_include(
+fn push_string(
     alloc: Global,
     sources: &mut Vec<ProjectString>,
-    group: &Vec<u8>,
-    text: Option<&str>,
+    section: Section,
+    text: &str,
 ) -> Result<(), AllocError>
-    ensures { IfOk result (λ _. map project_string_of sources.new.items ≡ map project_string_of sources.old.items ++ include_in group.now.items (option_map (λ t. t.now) text.entry)) }
+    ensures { IfOk result (λ _. map project_string_of sources.new.items ≡ map project_string_of sources.old.items ++ record { section = section_of section; text = text.now } ∷ []) }
 {
-    if let Some(text) = text {
-        let included = normalize_name(alloc, text)?;
-        let section = include_section(group, included)?;
-        let text = String::from_str(alloc, text)?;
-        sources.push(ProjectString { section, text })?;
-    }
+    let text = String::from_str(alloc, text)?;
+    sources.push(ProjectString { section, text })?;
     Ok(())
 }
 
-fn push_group_item(
+// Adds the name of the group, if another of these has it, too.
+fn push_repeated(
     alloc: Global,
     sources: &mut Vec<ProjectString>,
-    group: &Vec<u8>,
-    item: &Value,
+    names: &[Vec<u8>],
+    name: &str,
 ) -> Result<(), AllocError>
-    ensures { IfOk result (λ _. map project_string_of sources.new.items ≡ map project_string_of sources.old.items ++ item_sources group.now.items (view item.now)) }
+    ensures { IfOk result (λ _. map project_string_of sources.new.items ≡ map project_string_of sources.old.items ++ repeated_name (map (λ n. n.items) names.now) name.now) }
 {
-    let section = group_section(group)?;
-    push_item(alloc, sources, &section, item)?;
-    push_include(alloc, sources, group, text(item.get("include-group")))
+    let normal = normalize_name(alloc, name)?;
+    if !is_repeated(names, normal.as_slice()) {
+        return Ok(());
+    }
+    let section = Section::Invalid("another group has this name");
+    push_string(alloc, sources, section, name)
+}
+
+// The table has one key.
+fn has_one_key(table: &Table) -> bool
+    ensures { result ≡ nat_eq (length (members_list (table_view table.now))) 1 }
+{
+    table.len() == 1
+}
+
+// The name of the group that the item includes: it is a table with the key `include-group` alone.
+fn included_name(item: &Value) -> Option<&str>
+    ensures { option_map (λ t. t.now) result ≡ included_name (view item.now) }
+{
+    match table(Some(item)) {
+        Some(keys) if has_one_key(keys) => text(item.get("include-group")),
+        _ => None,
+    }
+}
+
+// Adds an item of the group with this name: a string, or the name of a group that it includes, or neither.
+fn push_item_source(
+    alloc: Global,
+    sources: &mut Vec<ProjectString>,
+    name: &str,
+    text: Option<&str>,
+    included: Option<&str>,
+) -> Result<(), AllocError>
+    ensures { IfOk result (λ _. map project_string_of sources.new.items ≡ map project_string_of sources.old.items ++ item_source name.now (option_map (λ t. t.now) text.entry) (option_map (λ t. t.now) included.entry)) }
+{
+    let reason = "an item is neither a requirement nor an included group";
+    match (text, included) {
+        (Some(text), _) => push_string(alloc, sources, group_section(alloc, name)?, text),
+        (None, Some(included)) => {
+            let section = include_section(alloc, name, included)?;
+            push_string(alloc, sources, section, included)
+        }
+        (None, None) => push_string(alloc, sources, Section::Invalid(reason), name),
+    }
+}
+
+fn push_items(
+    alloc: Global,
+    sources: &mut Vec<ProjectString>,
+    name: &str,
+    value: &Value,
+) -> Result<(), AllocError>
+    ensures { IfOk result (λ _. map project_string_of sources.new.items ≡ map project_string_of sources.old.items ++ flat_map (item_sources name.now) (listed (Some (view value.now)))) }
+{
+    let found = items(Some(value));
+    for item in found {
+        push_item_source(alloc, sources, name, item.as_str(), included_name(item))?;
+    }
+    Ok(())
 }
 
 fn push_group(
     alloc: Global,
     sources: &mut Vec<ProjectString>,
+    names: &[Vec<u8>],
     name: &String,
     value: &Value,
 ) -> Result<(), AllocError>
-    ensures { IfOk result (λ _. map project_string_of sources.new.items ≡ map project_string_of sources.old.items ++ group_sources (string_bytes name.now, view value.now)) }
+    ensures { IfOk result (λ _. map project_string_of sources.new.items ≡ map project_string_of sources.old.items ++ group_sources (map (λ n. n.items) names.now) (string_bytes name.now, view value.now)) }
 {
-    let group = normalize_name(alloc, name.as_str())?;
-    let found = items(Some(value));
-    for item in found {
-        push_group_item(alloc, sources, &group, item)?;
-    }
-    Ok(())
+    push_repeated(alloc, sources, names, name.as_str())?;
+    push_items(alloc, sources, name.as_str(), value)
 }
 
 fn push_extras(
@@ -144,12 +197,13 @@ fn push_extras(
 fn push_groups(
     alloc: Global,
     sources: &mut Vec<ProjectString>,
+    names: &[Vec<u8>],
     groups: &Table,
 ) -> Result<(), AllocError>
-    ensures { IfOk result (λ _. map project_string_of sources.new.items ≡ map project_string_of sources.old.items ++ flat_map group_sources (members_list (table_view groups.now))) }
+    ensures { IfOk result (λ _. map project_string_of sources.new.items ≡ map project_string_of sources.old.items ++ flat_map (group_sources (map (λ n. n.items) names.now)) (members_list (table_view groups.now))) }
 {
     for (name, value) in groups.iter() {
-        push_group(alloc, sources, name, value)?;
+        push_group(alloc, sources, names, name, value)?;
     }
     Ok(())
 }
@@ -170,12 +224,13 @@ fn push_all_extras(
 fn push_all_groups(
     alloc: Global,
     sources: &mut Vec<ProjectString>,
-    value: Option<&Value>,
+    document: &Table,
 ) -> Result<(), AllocError>
-    ensures { IfOk result (λ _. map project_string_of sources.new.items ≡ map project_string_of sources.old.items ++ flat_map group_sources (entries (option_map (λ v. view v.now) value.entry))) }
+    ensures { IfOk result (λ _. map project_string_of sources.new.items ≡ map project_string_of sources.old.items ++ flat_map (group_sources (group_names (table_view document.now))) (groups_table (table_view document.now))) }
 {
-    match table(value) {
-        Some(groups) => push_groups(alloc, sources, groups),
+    let names = group_names(alloc, document)?;
+    match table(top(document, "dependency-groups")) {
+        Some(groups) => push_groups(alloc, sources, names.as_slice(), groups),
         None => Ok(()),
     }
 }
@@ -206,7 +261,7 @@ pub(crate) fn project_strings(
 {
     let mut found = Vec::new(alloc);
     push_project(alloc, &mut found, top(document, "project"))?;
-    push_all_groups(alloc, &mut found, top(document, "dependency-groups"))?;
+    push_all_groups(alloc, &mut found, document)?;
     let build = inside(top(document, "build-system"), "requires");
     push_array(alloc, &mut found, &Section::Build, build)?;
     Ok(found)

@@ -15,6 +15,8 @@ pub(crate) enum Section {
     Group(Vec<u8>),
     // There, as the name of a group that is included: this group includes that one.
     Include(Vec<u8>, Vec<u8>),
+    // There, as the name of a group that is invalid for this reason.
+    Invalid(&'static str),
     // In `build-system.requires`.
     Build,
     // `project.requires-python`.
@@ -34,6 +36,7 @@ impl Clone for Section {
             Section::Include(group, included) => {
                 Ok(Section::Include(group.clone()?, included.clone()?))
             }
+            Section::Invalid(reason) => Ok(Section::Invalid(*reason)),
             Section::Build => Ok(Section::Build),
             Section::Python => Ok(Section::Python),
             Section::Version => Ok(Section::Version),

@@ -101,6 +101,7 @@ fn parse_string(
         Section::Extra(_) => parse_requirement(alloc, line),
         Section::Group(_) => parse_requirement(alloc, line),
         Section::Build => parse_requirement(alloc, line),
+        Section::Invalid(reason) => no_group(alloc, line, reason),
         Section::Include(group, included) => {
             include_meaning(alloc, groups, line, group.as_slice(), included.as_slice())
         }

@@ -7,7 +7,7 @@ ghost use Rattle.pyver_findings.specs.Views.{demand_of, file_line_of, finding_of
 ghost use Rattle.pyver_projects.specs.Groups.{inclusions as inclusions_in};
 ghost use Rattle.pyver_projects.specs.ProjectViews.{inclusion_of, section_of, string_reading_of};
 ghost use Rattle.pyver_projects.specs.Soundness.{IsSoundString};
-ghost use Rattle.pyver_projects.specs.Together.{all_conflicts, demand_in_part, has_dependencies, has_group, holds_in, is_build, is_extra, is_other, part_conflicts, part_demands, section_part, project_conflicts, same_finding, same_line, same_lines, same_part, sections, turn_conflicts, with_new};
+ghost use Rattle.pyver_projects.specs.Together.{demand_in_part, has_dependencies, has_group, holds_in, is_build, is_extra, part_conflicts, part_demands, parts, project_conflicts, same_finding, same_line, same_lines, same_part, section_part, sections, with_new};
 ghost use Rattle.pyver_findings.specs.Conflicts.{conflicts};
 
 use crate::groups::{Inclusion, has_name, included_groups, inclusions};
@@ -39,13 +39,29 @@ fn same_part(one: &Section, other: &Section) -> bool
     }
 }
 
-fn is_other(last: &Option<Section>, part: &Section) -> bool
-    ensures { result ≡ is_other (option_map section_of last.now) (section_of part.now) }
+fn has_part(parts: &[Section], part: &Section) -> bool
+    ensures { result ≡ list_any (same_part (section_of part.now)) (map section_of parts.now) }
 {
-    match last {
-        Some(last) => !same_part(last, part),
-        None => true,
+    for other in parts {
+        if same_part(part, other) {
+            return true;
+        }
     }
+    false
+}
+
+// The parts of the strings, each once.
+fn parts(alloc: Global, strings: &[StringReading]) -> Result<Vec<Section>, AllocError>
+    ensures { IfOk result (λ found. map section_of found.items ≡ parts (map string_reading_of strings.now)) }
+{
+    let mut found = Vec::new(alloc);
+    for string in strings {
+        let part = section_part(&string.section)?;
+        if !has_part(found.as_slice(), &part) {
+            found.push(part)?;
+        }
+    }
+    Ok(found)
 }
 
 fn has_dependencies(part: &Section) -> bool
@@ -95,7 +111,7 @@ fn holds_in(groups: &[Vec<u8>], part: &Section, section: &Section) -> bool
         Section::Extra(name) => is_extra(name.as_slice(), part),
         Section::Group(name) => has_name(groups, name.as_slice()),
         Section::Build => is_build(part),
-        Section::Include(_, _) | Section::Python | Section::Version => false,
+        Section::Include(_, _) | Section::Invalid(_) | Section::Python | Section::Version => false,
     }
 }
 
@@ -190,44 +206,34 @@ fn push_part_conflicts(
     push_conflicts(alloc, findings, demands.as_slice())
 }
 
-// Adds what is wrong with the requirements of the part, unless it is the last one again.
-fn push_turn(
+// Adds what is wrong with the requirements of the part, which includes by these inclusions of the strings.
+fn push_part(
     alloc: Global,
     findings: &mut Vec<Finding>,
     inclusions: &[Inclusion],
-    last: &Option<Section>,
     part: &Section,
     strings: &[StringReading],
 ) -> Result<(), AllocError>
     requires known { map inclusion_of inclusions.now ≡ inclusions_in (sections (map string_reading_of strings.now)) }
     requires sound { All IsSoundString (map string_reading_of strings.now) }
-    ensures { IfOk result (λ _. map finding_of findings.new.items ≡ map finding_of findings.old.items ++ turn_conflicts (map string_reading_of strings.now) (option_map section_of last.now) (section_of part.now)) }
+    ensures { IfOk result (λ _. map finding_of findings.new.items ≡ map finding_of findings.old.items ++ part_conflicts (map string_reading_of strings.now) (section_of part.now)) }
 {
-    if is_other(last, part) {
-        push_part_conflicts(alloc, findings, inclusions, part, strings)?;
-    }
-    Ok(())
+    push_part_conflicts(alloc, findings, inclusions, part, strings)
 }
 
-// What is wrong with the requirements of each part together.
-fn all_conflicts(alloc: Global, strings: &[StringReading]) -> Result<Vec<Finding>, AllocError>
+// What is wrong with the requirements of each of the parts together.
+fn conflicts_of_parts(
+    alloc: Global,
+    parts: &[Section],
+    strings: &[StringReading],
+) -> Result<Vec<Finding>, AllocError>
     requires { All IsSoundString (map string_reading_of strings.now) }
-    ensures { IfOk result (λ found. map finding_of found.items ≡ all_conflicts (map string_reading_of strings.now)) }
+    ensures { IfOk result (λ found. map finding_of found.items ≡ flat_map (part_conflicts (map string_reading_of strings.now)) (map section_of parts.now)) }
 {
     let inclusions = inclusions(alloc, strings)?;
     let mut findings = Vec::new(alloc);
-    let mut last = None;
-    for string in strings {
-        let part = section_part(&string.section)?;
-        push_turn(
-            alloc,
-            &mut findings,
-            inclusions.as_slice(),
-            &last,
-            &part,
-            strings,
-        )?;
-        last = Some(part);
+    for part in parts {
+        push_part(alloc, &mut findings, inclusions.as_slice(), part, strings)?;
     }
     Ok(findings)
 }
@@ -278,7 +284,7 @@ fn has_finding(findings: &[Finding], finding: &Finding) -> bool
 
 // The findings, each once.
 fn each_once(alloc: Global, findings: Vec<Finding>) -> Result<Vec<Finding>, AllocError>
-    ensures { IfOk result (λ found. map finding_of found.items ≡ with_new [] (map finding_of findings.items)) }
+    ensures { IfOk result (λ found. map finding_of found.items ≡ with_new same_finding [] (map finding_of findings.items)) }
 {
     let mut found = Vec::new(alloc);
     for finding in findings {
@@ -297,6 +303,7 @@ pub(crate) fn project_conflicts(
     requires { All IsSoundString (map string_reading_of strings.now) }
     ensures { IfOk result (λ found. map finding_of found.items ≡ project_conflicts (map string_reading_of strings.now)) }
 {
-    let findings = all_conflicts(alloc, strings)?;
+    let parts = parts(alloc, strings)?;
+    let findings = conflicts_of_parts(alloc, parts.as_slice(), strings)?;
     each_once(alloc, findings)
 }

@@ -1,11 +1,12 @@
-// The packages of a TOML lock.
+// What a TOML lock has.
 ghost use Rattle.std.specs.Prelude.{◌≡◌, ◌++◌, IfOk, get_or, map, option_map};
-ghost use Rattle.pyver_projects.specs.Documents.{package_from, package_in, packages};
+ghost use Rattle.pyver_projects.specs.Documents.{contents, numbered_tables, package_from, package_in, table_contents};
 ghost use Rattle.pyver_projects.specs.Places.{header_lines};
-ghost use Rattle.pyver_projects.specs.ProjectViews.{locked_of};
+ghost use Rattle.pyver_projects.specs.ProjectViews.{contents_of, locked_of};
 ghost use Rattle.toml.specs.View.{table_view, view};
 
-use crate::locked_package::{LockedPackage, copy_text};
+use crate::locked_package::{LockContents, LockedPackage, copy_text};
+use crate::package_requirements::push_requirements;
 use crate::place::header_lines;
 use crate::table::{items, text, top};
 use std::alloc::{AllocError, Global};
@@ -40,7 +41,7 @@ fn push_item(
     line: u64,
     item: &Value,
 ) -> Result<(), AllocError>
-    ensures { IfOk result (λ _. map locked_of packages.new.items ≡ map locked_of packages.old.items ++ package_from line (view item.now)) }
+    ensures { IfOk result (λ _. map locked_of packages.new.items ≡ map locked_of packages.old.items ++ package_from (line, view item.now)) }
 {
     let name = text(item.get("name"));
     let version = text(item.get("version"));
@@ -53,33 +54,33 @@ fn line_or_one(lines: &[u64], index: usize) -> u64
     if index < lines.len() { lines[index] } else { 1 }
 }
 
-// The packages in the array of tables at this key, with these lines of headers.
-fn read_packages(
-    alloc: Global,
-    lines: &[u64],
-    key: &str,
-    document: &Table,
-) -> Result<Vec<LockedPackage>, AllocError>
-    ensures { IfOk result (λ found. map locked_of found.items ≡ packages lines.now key.now (table_view document.now)) }
+// What the tables have, with these lines of headers.
+fn read_tables(alloc: Global, lines: &[u64], tables: &[Value]) -> Result<LockContents, AllocError>
+    ensures { IfOk result (λ found. contents_of found ≡ table_contents (numbered_tables lines.now 0 (map view tables.now))) }
 {
-    let mut found = Vec::new(alloc);
-    let packages = items(top(document, key));
-    for (index, item) in packages.iter().enumerate() {
-        push_item(alloc, &mut found, line_or_one(lines, index), item)?;
+    let mut packages = Vec::new(alloc);
+    let mut requirements = Vec::new(alloc);
+    for (index, item) in tables.iter().enumerate() {
+        let line = line_or_one(lines, index);
+        push_item(alloc, &mut packages, line, item)?;
+        push_requirements(alloc, &mut requirements, line, item)?;
     }
-    Ok(found)
+    Ok(LockContents {
+        packages,
+        requirements,
+    })
 }
 
-// The packages of a lock with this text, at the key, each under the header.
-pub(crate) fn toml_packages(
+// What a lock with this text has: packages at the key, each under the header.
+pub(crate) fn toml_contents(
     alloc: Global,
     key: &str,
     header: &str,
     text: &str,
     document: &Table,
-) -> Result<Vec<LockedPackage>, AllocError>
-    ensures { IfOk result (λ found. map locked_of found.items ≡ packages (header_lines header.now text.now) key.now (table_view document.now)) }
+) -> Result<LockContents, AllocError>
+    ensures { IfOk result (λ found. contents_of found ≡ contents (header_lines header.now text.now) key.now (table_view document.now)) }
 {
     let lines = header_lines(alloc, header.as_bytes(), text.as_bytes())?;
-    read_packages(alloc, lines.as_slice(), key, document)
+    read_tables(alloc, lines.as_slice(), items(top(document, key)))
 }

@@ -3,9 +3,9 @@ use Rattle.std.specs.List.{flat_map}
 use Rattle.toml.specs.View.{view}
 use Rattle.pyver_projects.specs.Documents.{item_sources}
 use Rattle.pyver_projects.specs.ProjectViews.{project_string_of}
-use Rattle.pyver_projects.proofs.project.push_group.Given as goal
+use Rattle.pyver_projects.proofs.project.push_items.Given as goal
 
 abbrev pub invariant-loop-item : goal.invariant-loop-item
 invariant-loop-item l =
-    map project_string_of l.sources.items ++ flat_map (item_sources l.group.items) (map view (drop l.item-index l.found))
-    ≡ map project_string_of l.initial.sources.items ++ flat_map (item_sources l.group.items) (map view l.found)
+    map project_string_of l.sources.items ++ flat_map (item_sources l.name) (map view (drop l.item-index l.found))
+    ≡ map project_string_of l.initial.sources.items ++ flat_map (item_sources l.name) (map view l.found)

@@ -1,0 +1,57 @@
+-- What locked packages require of one another.
+use Rattle.std.specs.Prelude.{ℕ, ◌&&◌, List, [], ◌∷◌, ◌++◌, Bool, Option, Some, None, bytes_eq, codes, if◌then◌else◌, is_none}
+use Rattle.std.specs.List.{flat_map}
+use Rattle.toml.specs.Data.{Data, as_str, get}
+use Rattle.pyver_projects.specs.ProjectStrings.{LockedRequirement}
+use Rattle.pyver_projects.specs.TomlValues.{entries, inside, listed, text_in}
+
+-- the name and the version of a package
+abbrev pub package_text : List ℕ → Option (List ℕ) → List ℕ
+package_text name None = name
+package_text name (Some version) = name ++ (codes " " ++ version)
+
+-- the value has nothing at the key
+abbrev pub lacks : List ℕ → Data → Bool
+lacks key d = is_none (get key d)
+
+module _ (line : ℕ) (requirer : List ℕ) where
+  -- a requirement of this name, if it has a list: `*` excludes no version
+  abbrev pub requirement_in : List ℕ → Option (List ℕ) → List LockedRequirement
+  requirement_in name None = []
+  requirement_in name (Some list) = if bytes_eq list (codes "*") then [] else record { line = line; requirer = requirer; name = name; list = list } ∷ []
+
+  -- the same, if it has a name
+  abbrev pub requirement_of : Option (List ℕ) → Option (List ℕ) → List LockedRequirement
+  requirement_of None list = []
+  requirement_of (Some name) list = requirement_in name list
+
+  -- an item of uv's `requires-dist`, unless it has a marker
+  abbrev pub item_requirements : Data → List LockedRequirement
+  item_requirements d = if lacks (codes "marker") d then requirement_of (text_in (get (codes "name") d)) (text_in (get (codes "specifier") d)) else []
+
+  -- Poetry's requirement of this name: a list, or a table with one, unless it has markers or is optional
+  abbrev pub version_requirements : List ℕ → Data → List LockedRequirement
+  version_requirements name d = requirement_in name (as_str d)
+      ++ (if lacks (codes "markers") d && lacks (codes "optional") d then requirement_in name (text_in (get (codes "version") d)) else [])
+
+  -- a member of Poetry's `dependencies`: such a requirement, or an array of them
+  abbrev pub member_requirements : List ℕ × Data → List LockedRequirement
+  member_requirements e = version_requirements e.0 e.1 ++ flat_map (version_requirements e.0) (listed (Some e.1))
+
+  -- the requirements of uv, and of Poetry
+  abbrev pub table_requirements : Data → List LockedRequirement
+  table_requirements d = flat_map item_requirements (listed (inside (codes "requires-dist") (get (codes "metadata") d)))
+      ++ flat_map member_requirements (entries (get (codes "dependencies") d))
+
+-- the package is locked without markers
+abbrev pub is_unconditional : Data → Bool
+is_unconditional d = lacks (codes "markers") d && lacks (codes "resolution-markers") d
+
+-- the requirements of a package with this name, if it has one
+abbrev pub requirements_by : ℕ → Option (List ℕ) → Data → List LockedRequirement
+requirements_by line None d = []
+requirements_by line (Some name) d = table_requirements line (package_text name (text_in (get (codes "version") d))) d
+
+-- the requirements of the package on this line, unless it has markers
+abbrev pub requirements_from : ℕ × Data → List LockedRequirement
+requirements_from e = if is_unconditional e.1 then requirements_by e.0 (text_in (get (codes "name") e.1)) e.1 else []

@@ -1,0 +1,232 @@
+// What locked packages require of one another, as it is written.
+ghost use Rattle.std.specs.Prelude.{◌≡◌, ◌++◌, IfOk, map, option_map, string_bytes};
+ghost use Rattle.std.specs.List.{flat_map};
+ghost use Rattle.pyver_projects.specs.PackageRequirements.{is_unconditional, item_requirements, lacks, member_requirements, requirement_in, requirement_of as named_requirement, requirements_by, requirements_from, table_requirements, version_requirements};
+ghost use Rattle.pyver_projects.specs.ProjectViews.{requirement_of};
+ghost use Rattle.pyver_projects.specs.TomlValues.{entries, listed, members_list};
+ghost use Rattle.toml.specs.View.{table_view, view};
+
+use crate::locked_package::{LockedRequirement, package_text};
+use crate::table::{inside, items, table, text};
+use std::alloc::{AllocError, Global};
+use toml::{Table, Value};
+
+fn lacks(value: &Value, key: &str) -> bool
+    ensures { result ≡ lacks key.now (view value.now) }
+{
+    value.get(key).is_none()
+}
+
+// Adds the requirement of this name, if there is a list other than `*`.
+fn push_list(
+    alloc: Global,
+    found: &mut Vec<LockedRequirement>,
+    line: u64,
+    requirer: &[u8],
+    name: &str,
+    list: Option<&str>,
+) -> Result<(), AllocError>
+    ensures { IfOk result (λ _. map requirement_of found.new.items ≡ map requirement_of found.old.items ++ requirement_in line requirer.now name.now (option_map (λ t. t.now) list.entry)) }
+{
+    let Some(list) = list else {
+        return Ok(());
+    };
+    if list != "*" {
+        found.push(LockedRequirement {
+            line,
+            requirer: Vec::from_slice(alloc, requirer)?,
+            name: String::from_str(alloc, name)?,
+            list: String::from_str(alloc, list)?,
+        })?;
+    }
+    Ok(())
+}
+
+fn push_named(
+    alloc: Global,
+    found: &mut Vec<LockedRequirement>,
+    line: u64,
+    requirer: &[u8],
+    name: Option<&str>,
+    list: Option<&str>,
+) -> Result<(), AllocError>
+    ensures { IfOk result (λ _. map requirement_of found.new.items ≡ map requirement_of found.old.items ++ named_requirement line requirer.now (option_map (λ t. t.now) name.entry) (option_map (λ t. t.now) list.entry)) }
+{
+    match name {
+        Some(name) => push_list(alloc, found, line, requirer, name, list),
+        None => Ok(()),
+    }
+}
+
+// Adds the item of uv's `requires-dist`, unless it has a marker.
+fn push_item(
+    alloc: Global,
+    found: &mut Vec<LockedRequirement>,
+    line: u64,
+    requirer: &[u8],
+    item: &Value,
+) -> Result<(), AllocError>
+    ensures { IfOk result (λ _. map requirement_of found.new.items ≡ map requirement_of found.old.items ++ item_requirements line requirer.now (view item.now)) }
+{
+    if !lacks(item, "marker") {
+        return Ok(());
+    }
+    let name = text(item.get("name"));
+    let list = text(item.get("specifier"));
+    push_named(alloc, found, line, requirer, name, list)
+}
+
+fn push_items(
+    alloc: Global,
+    found: &mut Vec<LockedRequirement>,
+    line: u64,
+    requirer: &[u8],
+    list: &[Value],
+) -> Result<(), AllocError>
+    ensures { IfOk result (λ _. map requirement_of found.new.items ≡ map requirement_of found.old.items ++ flat_map (item_requirements line requirer.now) (map view list.now)) }
+{
+    for item in list {
+        push_item(alloc, found, line, requirer, item)?;
+    }
+    Ok(())
+}
+
+// Adds Poetry's requirement of this name: a list, or a table with one, unless it has markers or is optional.
+fn push_version(
+    alloc: Global,
+    found: &mut Vec<LockedRequirement>,
+    line: u64,
+    requirer: &[u8],
+    name: &str,
+    value: &Value,
+) -> Result<(), AllocError>
+    ensures { IfOk result (λ _. map requirement_of found.new.items ≡ map requirement_of found.old.items ++ version_requirements line requirer.now name.now (view value.now)) }
+{
+    push_list(alloc, found, line, requirer, name, value.as_str())?;
+    if lacks(value, "markers") && lacks(value, "optional") {
+        let list = text(value.get("version"));
+        push_list(alloc, found, line, requirer, name, list)?;
+    }
+    Ok(())
+}
+
+fn push_versions(
+    alloc: Global,
+    found: &mut Vec<LockedRequirement>,
+    line: u64,
+    requirer: &[u8],
+    name: &str,
+    list: &[Value],
+) -> Result<(), AllocError>
+    ensures { IfOk result (λ _. map requirement_of found.new.items ≡ map requirement_of found.old.items ++ flat_map (version_requirements line requirer.now name.now) (map view list.now)) }
+{
+    for value in list {
+        push_version(alloc, found, line, requirer, name, value)?;
+    }
+    Ok(())
+}
+
+// Adds a member of Poetry's `dependencies`: such a requirement, or an array of them.
+fn push_member(
+    alloc: Global,
+    found: &mut Vec<LockedRequirement>,
+    line: u64,
+    requirer: &[u8],
+    name: &String,
+    value: &Value,
+) -> Result<(), AllocError>
+    ensures { IfOk result (λ _. map requirement_of found.new.items ≡ map requirement_of found.old.items ++ member_requirements line requirer.now (string_bytes name.now, view value.now)) }
+{
+    push_version(alloc, found, line, requirer, name.as_str(), value)?;
+    push_versions(
+        alloc,
+        found,
+        line,
+        requirer,
+        name.as_str(),
+        items(Some(value)),
+    )
+}
+
+fn push_members(
+    alloc: Global,
+    found: &mut Vec<LockedRequirement>,
+    line: u64,
+    requirer: &[u8],
+    members: &Table,
+) -> Result<(), AllocError>
+    ensures { IfOk result (λ _. map requirement_of found.new.items ≡ map requirement_of found.old.items ++ flat_map (member_requirements line requirer.now) (members_list (table_view members.now))) }
+{
+    for (name, value) in members.iter() {
+        push_member(alloc, found, line, requirer, name, value)?;
+    }
+    Ok(())
+}
+
+fn push_dependencies(
+    alloc: Global,
+    found: &mut Vec<LockedRequirement>,
+    line: u64,
+    requirer: &[u8],
+    value: Option<&Value>,
+) -> Result<(), AllocError>
+    ensures { IfOk result (λ _. map requirement_of found.new.items ≡ map requirement_of found.old.items ++ flat_map (member_requirements line requirer.now) (entries (option_map (λ v. view v.now) value.entry))) }
+{
+    match table(value) {
+        Some(members) => push_members(alloc, found, line, requirer, members),
+        None => Ok(()),
+    }
+}
+
+// Adds the requirements of uv, and of Poetry.
+fn push_table(
+    alloc: Global,
+    found: &mut Vec<LockedRequirement>,
+    line: u64,
+    requirer: &[u8],
+    table: &Value,
+) -> Result<(), AllocError>
+    ensures { IfOk result (λ _. map requirement_of found.new.items ≡ map requirement_of found.old.items ++ table_requirements line requirer.now (view table.now)) }
+{
+    let list = items(inside(table.get("metadata"), "requires-dist"));
+    push_items(alloc, found, line, requirer, list)?;
+    push_dependencies(alloc, found, line, requirer, table.get("dependencies"))
+}
+
+fn push_by(
+    alloc: Global,
+    found: &mut Vec<LockedRequirement>,
+    line: u64,
+    name: Option<&str>,
+    table: &Value,
+) -> Result<(), AllocError>
+    ensures { IfOk result (λ _. map requirement_of found.new.items ≡ map requirement_of found.old.items ++ requirements_by line (option_map (λ t. t.now) name.entry) (view table.now)) }
+{
+    let Some(name) = name else {
+        return Ok(());
+    };
+    let requirer = package_text(alloc, name, text(table.get("version")))?;
+    push_table(alloc, found, line, requirer.as_slice(), table)
+}
+
+// The package is locked without markers.
+fn is_unconditional(table: &Value) -> bool
+    ensures { result ≡ is_unconditional (view table.now) }
+{
+    lacks(table, "markers") && lacks(table, "resolution-markers")
+}
+
+// Adds the requirements of the package on this line, unless it has markers.
+pub(crate) fn push_requirements(
+    alloc: Global,
+    found: &mut Vec<LockedRequirement>,
+    line: u64,
+    table: &Value,
+) -> Result<(), AllocError>
+    ensures { IfOk result (λ _. map requirement_of found.new.items ≡ map requirement_of found.old.items ++ requirements_from (line, view table.now)) }
+{
+    if !is_unconditional(table) {
+        return Ok(());
+    }
+    push_by(alloc, found, line, text(table.get("name")), table)
+}
