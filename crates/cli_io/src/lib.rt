@@ -3,6 +3,7 @@
 
 mod escape;
 mod newlines;
+pub mod status;
 mod stream;
 
 pub use escape::{is_printable, push_escaped, push_escaped_lines, push_hex_digits};

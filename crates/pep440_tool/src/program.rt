@@ -6,6 +6,7 @@ ghost use Rattle.pep440_tool.specs.Runs.{RunEnds};
 ghost use Rattle.cli_io.specs.Streams.{WroteBeginning};
 
 use crate::command::Command;
+use cli_io::status::{FAILED, OUT_OF_MEMORY};
 use cli_io::{ReadFailure, read_whole, write_whole};
 use std::alloc::Global;
 use std::io::{Read, Write};
@@ -29,7 +30,7 @@ pub fn run<R: Read, W: Write>(alloc: Global, words: &[String], reader: &mut R, w
     if command.reads_input() {
         match read_whole(alloc, MOST_READS, &mut 0, reader) {
             Ok(bytes) => input = bytes,
-            Err(ReadFailure::Io) => return 4,
+            Err(ReadFailure::Io) => return FAILED,
             Err(ReadFailure::OutOfMemory) => return refuse(writer),
         }
     }
@@ -38,7 +39,7 @@ pub fn run<R: Read, W: Write>(alloc: Global, words: &[String], reader: &mut R, w
     };
     match write_whole(writer, answer.output.as_slice()) {
         Ok(()) => answer.status,
-        Err(_) => 4,
+        Err(_) => FAILED,
     }
 }
 
@@ -50,7 +51,7 @@ pub fn refuse<W: Write>(writer: &mut W) -> u8
     ensures beginning { WroteBeginning (W.contents writer.old) (W.contents writer.new) memory_text }
 {
     match write_whole(writer, MEMORY.as_bytes()) {
-        Ok(()) => 3,
-        Err(_) => 4,
+        Ok(()) => OUT_OF_MEMORY,
+        Err(_) => FAILED,
     }
 }

@@ -1,6 +1,7 @@
 -- The tasks that the words of a call name, and their outcomes.
-use Rattle.std.specs.Prelude.{◌≡◌, ⊤, ℕ, List, [], ◌∷◌, ◌++◌, Bool, true, false, Option, Some, None, bytes_eq, codes, is_some, map, if◌then◌else◌}
+use Rattle.std.specs.Prelude.{◌≡◌, ⊤, ℕ, List, [], ◌∷◌, ◌++◌, Bool, true, false, Option, Some, None, bytes_eq, codes, get_or, is_some, length, map, take, if◌then◌else◌}
 use Rattle.std.specs.List.{list_any}
+use Rattle.std.specs.Option.{option_map_or}
 use Rattle.pep440_rs.specs.ListGrammar.{DerivesList}
 use Rattle.pep440_rs.specs.Specifiers.{Spec}
 use Rattle.pyver_commands.specs.BumpInputs.{BumpsInput}
@@ -132,29 +133,10 @@ wrong_count topic = usage_message (usage topic) (help_words topic)
 
 -- ---- operands
 
--- the comparison, or the message of an unknown operator
-abbrev pub compare_by : List ℕ → List ℕ → List ℕ → Option Comparison → Task
-compare_by left word right None = Misused (wrong_operator word)
-compare_by left word right (Some operator) = Compare left operator right
-
--- what is done with the part that the word names, if it names one
-abbrev pub by_bump_part : List ℕ → Option BumpPart → (BumpPart → Task) → Task
-by_bump_part word None with_part = Misused (wrong_part word)
-by_bump_part word (Some part) with_part = with_part part
-
 -- the version is raised by these parts and then by those that the words name
 abbrev pub bump_from_words : Option ℕ → List BumpPart → List (List ℕ) → Option (List ℕ) → Task
 bump_from_words to parts [] version = Bump to parts version
-bump_from_words to parts (word ∷ rest) version = by_bump_part word (bump_part_of word) (λ part. bump_from_words to (parts ++ part ∷ []) rest version)
-
-abbrev pub put_before : List ℕ → Option (List (List ℕ) × List ℕ) → Option (List (List ℕ) × List ℕ)
-put_before word None = Some ([], word)
-put_before word (Some p) = Some (word ∷ p.0, p.1)
-
--- all words but the last, and the last
-abbrev pub split_last : List (List ℕ) → Option (List (List ℕ) × List ℕ)
-split_last [] = None
-split_last (word ∷ rest) = put_before word (split_last rest)
+bump_from_words to parts (word ∷ rest) version = option_map_or (λ part. bump_from_words to (parts ++ part ∷ []) rest version) (bump_part_of word) (Misused (wrong_part word))
 
 -- parts, at least one, and then this version
 abbrev pub bump_word : Option ℕ → List (List ℕ) → List ℕ → Task
@@ -162,25 +144,21 @@ bump_word to [] version = Misused (wrong_count topic.Bump)
 bump_word to (word ∷ words) version = bump_from_words to [] (word ∷ words) (Some version)
 
 -- the last of the words is the version, unless it names a part: then all name parts, and the version is read
-abbrev pub by_last : Option ℕ → List (List ℕ) → Option (List (List ℕ) × List ℕ) → Task
-by_last to words None = Misused (wrong_count topic.Bump)
-by_last to words (Some p) = if is_some (bump_part_of p.1) then bump_from_words to [] words None else bump_word to p.0 p.1
+abbrev pub by_last : Option ℕ → List (List ℕ) → List (List ℕ) → List ℕ → Task
+by_last to words before last = if is_some (bump_part_of last) then bump_from_words to [] words None else bump_word to before last
 
 abbrev pub bump_operands : Option ℕ → List (List ℕ) → Task
-bump_operands to words = by_last to words (split_last words)
+bump_operands to [] = Misused (wrong_count topic.Bump)
+bump_operands to (word ∷ rest) = by_last to (word ∷ rest) (take (length rest) (word ∷ rest)) (get_or (word ∷ rest) (length rest) [])
 
 -- JSON is printed
 abbrev pub is_json : ShowFormat → Bool
 is_json format.Json = true
 is_json _ = false
 
--- what the settings say of `check`
-abbrev pub check_options : Settings → CheckOptions
-check_options settings = record { json = is_json settings.format; each = settings.each; quiet = settings.quiet; kind = settings.kind }
-
 -- the task of a command with these settings and operands
 abbrev pub task_with : Settings → Topic → List (List ℕ) → Task
-task_with settings topic.Compare (left ∷ word ∷ right ∷ []) = compare_by left word right (comparison_of word)
+task_with settings topic.Compare (left ∷ word ∷ right ∷ []) = option_map_or (λ operator. Compare left operator right) (comparison_of word) (Misused (wrong_operator word))
 task_with settings topic.Match (specifiers ∷ word ∷ words) = Match (record { quiet = settings.quiet; prereleases = settings.prereleases }) specifiers (word ∷ words)
 task_with settings topic.Filter (specifiers ∷ names) = Filter (record { inverted = settings.inverted; prereleases = settings.prereleases; lines = settings.lines }) specifiers names
 task_with settings topic.Sort names = Sort (record { reversed = settings.reversed; unique = settings.unique; last = settings.last; lines = settings.lines }) names
@@ -188,7 +166,7 @@ task_with settings topic.Newest (specifiers ∷ names) = Newest (record { prerel
 task_with settings topic.Show (word ∷ words) = Show settings.format (word ∷ words)
 task_with settings topic.Bump words = bump_operands settings.to words
 task_with settings topic.Range (word ∷ words) = Range (record { cover = settings.cover; json = is_json settings.format }) (word ∷ words)
-task_with settings topic.Check names = Check (check_options settings) names
+task_with settings topic.Check names = Check (record { json = is_json settings.format; each = settings.each; quiet = settings.quiet; kind = settings.kind }) names
 task_with settings topic _ = Misused (wrong_count topic)
 
 -- ---- words
@@ -208,20 +186,15 @@ by_split topic (Given given operands) = if asks_help given then Help topic else 
 by_split topic (UnknownWord word) = Misused (wrong_option topic word)
 by_split topic Missing = Misused (wrong_count topic)
 
--- the task of the words after a command
-abbrev pub by_topic : List ℕ → Option Topic → (Topic → Task) → Task
-by_topic word None of_topic = Misused (wrong_command word)
-by_topic word (Some topic) of_topic = of_topic topic
-
 -- the help of the program or of the command that is named
 abbrev pub help_task : List (List ℕ) → Task
 help_task [] = Help topic.Program
-help_task (word ∷ []) = by_topic word (topic_of word) Help
+help_task (word ∷ []) = option_map_or Help (topic_of word) (Misused (wrong_command word))
 help_task _ = Misused (wrong_count topic.Program)
 
 -- the task of a word that names a command, and the words after it
 abbrev pub named_task : List ℕ → List (List ℕ) → Task
-named_task word rest = by_topic word (topic_of word) (λ topic. by_split topic (split_words (options topic) None rest))
+named_task word rest = option_map_or (λ topic. by_split topic (split_words (options topic) None rest)) (topic_of word) (Misused (wrong_command word))
 
 -- the task that the words ask for, of which the first is a command
 abbrev pub task_of : List (List ℕ) → Task

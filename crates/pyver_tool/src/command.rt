@@ -5,7 +5,7 @@ ghost use Rattle.pyver_tool.specs.TaskViews.{task, words_task};
 ghost use Rattle.pyver_commands.specs.Outcomes.{message_outcome};
 ghost use Rattle.pyver_tool.specs.Settings.{effect, no_settings};
 ghost use Rattle.pyver_tool.specs.SplitViews.{given_of, split_of};
-ghost use Rattle.pyver_tool.specs.Tasks.{Check, Filter, Newest, asks_help, bump_from_words, bump_operands, bump_word, by_effect, by_last, by_split, check_options, is_json, printed, task_with};
+ghost use Rattle.pyver_tool.specs.Tasks.{Check, Filter, Newest, asks_help, bump_from_words, bump_operands, bump_word, by_effect, by_last, by_split, is_json, printed, task_with};
 ghost use Rattle.pyver_tool.specs.TaskViews.{misuse_message};
 ghost use Rattle.pyver_tool.specs.WorkViews.{IsWork};
 
@@ -174,7 +174,7 @@ fn parse_bump_last<'a>(
     before: &'a [String],
     last: &'a str,
 ) -> Command<'a>
-    ensures { task result ≡ by_last to (map string_bytes words.now) (Some (map string_bytes before.now, last.now)) }
+    ensures { task result ≡ by_last to (map string_bytes words.now) (map string_bytes before.now) last.now }
 {
     if parse_bump_part(last).is_some() {
         Command::Bump(to, words, None)
@@ -194,7 +194,7 @@ fn parse_bump<'a>(to: Option<u64>, words: &'a [String]) -> Command<'a>
 }
 
 fn parse_check<'a>(settings: Settings, words: &'a [String]) -> Command<'a>
-    ensures { task result ≡ Check (check_options settings) (map string_bytes words.now) }
+    ensures { task result ≡ task_with settings Topic.Check (map string_bytes words.now) }
 {
     let options = CheckOptions {
         json: is_json(settings.format),

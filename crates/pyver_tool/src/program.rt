@@ -12,6 +12,7 @@ ghost use Rattle.pyver_tool.specs.declared.check.CheckOptions.{CheckOptions};
 use crate::check::check_files;
 use crate::command::{Command, Work};
 use crate::words::Words;
+use cli_io::status::{FAILED, NOBODY_READS, OUT_OF_MEMORY};
 use cli_io::{WriteFailure, write_whole};
 use pyver_commands::filter_sources::filter_sources;
 use pyver_commands::{Answer, Files, RunFailure, answer_input};
@@ -28,8 +29,8 @@ fn failure_status(failure: WriteFailure) -> u8
     ensures { (result ≡ 4) ⊎ (result ≡ 141) }
 {
     match failure {
-        WriteFailure::BrokenPipe => 141,
-        WriteFailure::Other => 4,
+        WriteFailure::BrokenPipe => NOBODY_READS,
+        WriteFailure::Other => FAILED,
     }
 }
 
@@ -39,10 +40,10 @@ fn report_write_failure<E: Write>(failure: WriteFailure, err: &mut E) -> u8
     ensures written { (message : List ℕ) × IsWriteFailure result message × WroteBeginning (E.contents err.old) (E.contents err.new) message }
 {
     match failure {
-        WriteFailure::BrokenPipe => 141,
+        WriteFailure::BrokenPipe => NOBODY_READS,
         WriteFailure::Other => {
             let _ = write_whole(err, WRITE.as_bytes());
-            4
+            FAILED
         }
     }
 }
@@ -68,11 +69,11 @@ fn report_run_failure<E: Write>(failure: RunFailure, err: &mut E) -> u8
         RunFailure::OutOfMemory => refuse(err),
         RunFailure::Read => {
             let _ = write_whole(err, READ.as_bytes());
-            4
+            FAILED
         }
         RunFailure::ReadFile(message) => {
             let _ = write_whole(err, message.as_slice());
-            4
+            FAILED
         }
         RunFailure::Output(failure) => report_write_failure(failure, err),
         RunFailure::Errors(failure) => failure_status(failure),
@@ -130,5 +131,5 @@ pub fn refuse<E: Write>(err: &mut E) -> u8
     ensures written { WroteBeginning (E.contents err.old) (E.contents err.new) memory_message }
 {
     let _ = write_whole(err, MEMORY.as_bytes());
-    3
+    OUT_OF_MEMORY
 }
