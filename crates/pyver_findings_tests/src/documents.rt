@@ -94,7 +94,7 @@ fn push_finding(printed: &mut String, finding: &Finding) -> Result<(), CaseError
 /// then its lines; and the numbers of strings and packages, of files, and of strings that are left out.
 pub fn print_document_report(alloc: Global, files: &[String]) -> Result<String, CaseError> {
     let documents = documents(alloc, files)?;
-    // so `push_conflicts` allocates, too: what a project requires together goes through it
+    // so `push_conflicts` and `Demand::new` allocate, too: what a project, or a locked package, requires goes through them
     let report = find_document_problems(alloc, documents.as_slice())?;
     let mut printed = String::new(alloc);
     for finding in &report.findings {

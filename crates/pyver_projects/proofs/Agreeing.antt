@@ -24,7 +24,7 @@ use Rattle.pyver_projects.proofs.Walks.{beside_it, left_nil, nil_at, right_nil}
 use Rattle.pyver_projects.specs.Comparing.{found_beside, beside_all, compared, compared_demand, excluded, invalid_package, is_locked, missing, own_report, unmet, with_own_reports}
 use Rattle.pyver_projects.specs.Documents.{sources}
 use Rattle.pyver_projects.specs.Groups.{groups}
-use Rattle.pyver_projects.specs.Meanings.{Document, DocumentReading, IsDocumentReading, IsLock, IsLockReading, IsLockedReading, IsProject, IsRequirementReading, IsStringReading, IsVersionReading, LockedReading, StringReading, package_line, requirement_line, string_line}
+use Rattle.pyver_projects.specs.Meanings.{Document, DocumentReading, IsDocumentReading, IsLockReading, IsLockedReading, IsProject, IsRequirementReading, IsStringReading, IsVersionReading, LockedReading, StringReading, package_line, requirement_line, string_line}
 use Rattle.pyver_projects.specs.ProjectLaws.{AllContained, AllMet, HasContents, HasTable, NoFindingMeansContained}
 use Rattle.pyver_projects.specs.ProjectStrings.{LockContents, LockedPackage, LockedRequirement, Section}
 use Rattle.pyver_projects.specs.declared.document_kind.DocumentKind.TheVariants.{Lock, Project}

@@ -29,7 +29,7 @@ use Rattle.pyver_projects.specs.Documents.{sources}
 use Rattle.pyver_projects.specs.Groups.{groups}
 use Rattle.pyver_projects.specs.Locks.{locked}
 use Rattle.pyver_projects.specs.Meanings.{Document, DocumentReading, IsBrokenReading, IsDocumentReading, IsLockedReading, IsProject, IsRequirementReading, IsSectionMeaning, IsStringReading, IsVersionReading, LockedReading, StringReading, package_line, requirement_line, string_line}
-use Rattle.pyver_projects.specs.ProjectLaws.{AlwaysAsks, DocumentFindingsHold, HasLock, HasPackage, HasProject, HasString, IsReadable, IsReadableAs, IsDocumentFinding}
+use Rattle.pyver_projects.specs.ProjectLaws.{AlwaysAsks, DocumentFindingsHold, HasLock, HasPackage, HasProject, IsReadable, IsReadableAs, IsDocumentFinding}
 use Rattle.pyver_projects.specs.ProjectStrings.{LockContents, LockedPackage, LockedRequirement, ProjectString}
 use Rattle.pyver_projects.specs.declared.document_kind.DocumentKind.{DocumentKind}
 use Rattle.pyver_projects.specs.declared.document_kind.DocumentKind.TheVariants.{Lock, Project}

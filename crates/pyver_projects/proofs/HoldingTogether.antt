@@ -1,12 +1,12 @@
 -- Requirements of a project that have no version in common are reported rightly.
-use Rattle.std.proofs.Common.{◌≡◌, ◌∙◌, ℕ, List, [], ◌∷◌, ◌++◌, Bool, true, false, Option, None, Some, refl, sym, ap, subst, map, inl, inr, if◌then◌else◌}
+use Rattle.std.proofs.Common.{◌≡◌, ℕ, List, [], ◌∷◌, ◌++◌, Bool, true, false, refl, sym, ap, subst, map, if◌then◌else◌}
 use Rattle.std.proofs.lemmas.Bool.{true≢false}
 use Rattle.std.proofs.lemmas.List.Elements.{All-append, All-cons, All-contains_itself, All-head, All-nil, All-tail, All-weaker}
 use Rattle.std.specs.List.{All, AllZip, Contains, flat_map, list_any}
-use Rattle.pyver_findings.proofs.Holding.{IsAsked, IsDerived, conflicts_right, derived_sound}
-use Rattle.pyver_findings.specs.Demands.{Demand, IsSound, line_demand}
+use Rattle.pyver_findings.proofs.Holding.{IsAsked, conflicts_right, derived_sound}
+use Rattle.pyver_findings.specs.Demands.{Demand, IsSound}
 use Rattle.pyver_findings.specs.FileLines.{File, FileLine}
-use Rattle.pyver_findings.specs.FindingLaws.{HasMarker, IsRight}
+use Rattle.pyver_findings.specs.FindingLaws.{IsRight}
 use Rattle.pyver_findings.specs.Findings.{Finding}
 use Rattle.pyver_findings.specs.LineMeanings.{Asks, AsksNothing, IsNone, LeftOut, LineMeaning}
 use Rattle.pyver_findings.specs.Reports.{demands_in}

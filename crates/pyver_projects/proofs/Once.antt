@@ -24,7 +24,7 @@ use Rattle.pyver_projects.proofs.Walks.{zip_once}
 use Rattle.pyver_projects.specs.Comparing.{documents_report}
 use Rattle.pyver_projects.specs.Documents.{sources}
 use Rattle.pyver_projects.specs.Groups.{Groups, groups}
-use Rattle.pyver_projects.specs.Meanings.{Document, DocumentReading, IsDocumentReading, IsLock, IsLockReading, IsLockedReading, IsProject, IsProjectReading, IsRequirementReading, IsSectionMeaning, IsStringReading, IsVersionReading, LockedReading, StringReading, requirement_line, string_line}
+use Rattle.pyver_projects.specs.Meanings.{DocumentReading, IsDocumentReading, IsLock, IsLockReading, IsLockedReading, IsProject, IsProjectReading, IsRequirementReading, IsSectionMeaning, IsStringReading, IsVersionReading, LockedReading, StringReading, requirement_line, string_line}
 use Rattle.pyver_projects.specs.ProjectLaws.{DocumentReportsOnce, IsReadable, IsReadableAs}
 use Rattle.pyver_projects.specs.ProjectStrings.{Build, Dependencies, Extra, Group, Include, Invalid, LockContents, LockedRequirement, Section, Python, ProjectString, Version}
 use Rattle.pyver_projects.specs.declared.document_kind.DocumentKind.{DocumentKind}

@@ -1,18 +1,16 @@
 -- Where nothing is found, requirements that hold together have a version in common.
-use Rattle.std.proofs.Common.{arith, ◌≡◌, ◌∙◌, ◌<◌, ◌||◌, ℕ, List, [], ◌∷◌, ◌++◌, Bool, true, false, Option, get_or, length, map, refl, sym, ap, subst, suc, zero, if◌then◌else◌}
+use Rattle.std.proofs.Common.{arith, ◌≡◌, ◌∙◌, ◌<◌, ◌||◌, ℕ, List, [], ◌∷◌, ◌++◌, Bool, true, false, get_or, length, map, refl, sym, ap, subst, suc, zero, if◌then◌else◌}
 use Rattle.std.proofs.lemmas.Bool.{true≢false}
 use Rattle.std.proofs.lemmas.Grind.{flat_map-append}
 use Rattle.std.proofs.lemmas.List.Elements.{All-contains_itself, All-filter}
 use Rattle.std.proofs.lemmas.Slice.Eq.{bytes_eq-Decides}
-use Rattle.std.specs.List.{All, AllZip, Contains, filter, flat_map, list_any}
+use Rattle.std.specs.List.{All, Contains, filter, flat_map, list_any}
 use Rattle.pyver_findings.proofs.Complete.{none_found}
 use Rattle.pyver_findings.proofs.Found.{Fits, Some_is, some_found}
 use Rattle.pyver_findings.specs.Conflicts.{conflicts, counts_under, has_same_name, under}
-use Rattle.pyver_findings.specs.Demands.{Demand, IsSound}
-use Rattle.pyver_findings.specs.FileLines.{File}
+use Rattle.pyver_findings.specs.Demands.{IsSound}
 use Rattle.pyver_findings.specs.Findings.{Finding}
 use Rattle.pyver_findings.specs.Reports.{Report, empty_report}
-use Rattle.toml.specs.Data.{Members}
 use Rattle.pyver_projects.proofs.Agreeing.{project_read}
 use Rattle.pyver_projects.proofs.Holding.{findings_of}
 use Rattle.pyver_projects.proofs.HoldingTogether.{sections_same, sound_part, sound_string}
@@ -23,7 +21,7 @@ use Rattle.pyver_projects.specs.Documents.{sources}
 use Rattle.pyver_projects.specs.Groups.{groups, inclusions}
 use Rattle.pyver_projects.specs.Meanings.{DocumentReading, IsDocumentReading, IsProject, IsStringReading, StringReading}
 use Rattle.pyver_projects.specs.ProjectLaws.{NoFindingMeansSatisfiable}
-use Rattle.pyver_projects.specs.ProjectStrings.{Build, Dependencies, Extra, Group, ProjectString, Section}
+use Rattle.pyver_projects.specs.ProjectStrings.{Build, Dependencies, Extra, Group, Section}
 use Rattle.pyver_projects.specs.Soundness.{IsSoundString}
 use Rattle.pyver_projects.specs.Together.{part_conflicts, part_demands, parts, project_conflicts, same_finding, same_part, section_part, sections, with_new}
 use Rattle.pyver_projects.specs.declared.document_kind.DocumentKind.TheVariants.{Project}

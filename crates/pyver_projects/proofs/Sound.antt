@@ -3,16 +3,14 @@ use Rattle.std.proofs.Common.{arith, ◌≡◌, ◌∙◌, ℕ, ◌+◌, ◌||�
 use Rattle.std.proofs.lemmas.List.Elements.{All-contains_itself, All-head, All-tail}
 use Rattle.std.proofs.lemmas.List.Folds.{list_any-append}
 use Rattle.std.proofs.lemmas.Slice.Eq.{bytes_eq-Decides}
-use Rattle.std.specs.List.{All, AllZip, Contains, flat_map, list_any}
+use Rattle.std.specs.List.{All, AllZip, Contains, list_any}
 use Rattle.pyver_findings.specs.FileLines.{File}
 use Rattle.pyver_projects.proofs.HoldingTogether.{sound_string}
 use Rattle.pyver_projects.proofs.Walks.{zip_each}
 use Rattle.pyver_projects.specs.Documents.{sources}
 use Rattle.pyver_projects.specs.Groups.{Inclusion, groups, includes_by, includes_within}
 use Rattle.pyver_projects.specs.Meanings.{Document, DocumentReading, IsBrokenReading, IsDocumentReading, IsStringReading}
-use Rattle.pyver_projects.specs.ProjectStrings.{Section}
 use Rattle.pyver_projects.specs.Soundness.{IsSoundDocument, IsSoundString}
-use Rattle.pyver_projects.specs.Together.{has_group}
 use Rattle.pyver_projects.specs.ProjectViews.{document_reading_of}
 use Rattle.pyver_projects.specs.declared.document_kind.DocumentKind.{DocumentKind}
 use Rattle.pyver_projects.specs.declared.document_reading.DocumentReading.{DocumentReading as DocumentReadingValue}

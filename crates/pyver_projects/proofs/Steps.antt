@@ -1,7 +1,7 @@
 -- Lists of values, and strings that are read one after another.
-use Rattle.std.proofs.Common.{◌≡◌, ◌+◌, ◌<◌, ◌≤◌, ◌∙◌, ℕ, List, [], ◌∷◌, ◌++◌, Bool, Option, Some, None, IfOk, IfSome, Result, Ok, Err, ◌⊎◌, true, false, inr, drop, if◌then◌else◌, is_none, length, get_or, take, take_all, map, refl, sym, ap, subst, suc, String}
+use Rattle.std.proofs.Common.{◌≡◌, ◌+◌, ◌<◌, ◌≤◌, ◌∙◌, ℕ, List, [], ◌∷◌, ◌++◌, Option, Some, None, IfOk, IfSome, Result, Ok, Err, ◌⊎◌, false, inr, is_none, length, get_or, take, take_all, map, refl, sym, ap, subst, suc, String}
 use Rattle.std.proofs.lemmas.Bool.{true≢false}
-use Rattle.std.proofs.lemmas.List.{append-nil, append_assoc, drop_more, map-append, take_more}
+use Rattle.std.proofs.lemmas.List.{map-append, take_more}
 use Rattle.std.specs.List.{AllZip}
 use Rattle.pep440_version.specs.ErrorTexts.{error_text, refusal_text}
 use Rattle.pep440_version.specs.Refusals.{Refusal, Refuses}

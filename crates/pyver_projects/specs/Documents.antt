@@ -48,7 +48,7 @@ invalid_group name reason = record { section = Invalid reason; text = name } ∷
 abbrev pub repeated_name : List (List ℕ) → List ℕ → List ProjectString
 repeated_name names name = if nat_lt 1 (count_by (bytes_eq (normal name)) names) then invalid_group name (codes "another group has this name") else []
 
--- the name of the group that an item includes: it is a table with the key `include-group` alone
+-- the name of the group that an item includes: it is a table with the key `include-group` only
 abbrev pub included_name : Data → Option (List ℕ)
 included_name d = if nat_eq (length (entries (Some d))) 1 then text_in (get (codes "include-group") d) else None
 

@@ -14,7 +14,7 @@ use Rattle.pyver_projects.specs.declared.document_kind.LockKind.TheVariants.{Pip
 abbrev pub toml_contents : List ℕ → List ℕ → List ℕ → Option LockContents
 toml_contents key header text = option_map (contents (header_lines header text) key) (parse_document text)
 
--- what `Pipfile.lock` has: packages alone
+-- what `Pipfile.lock` has: only packages
 abbrev pub pipfile_contents : List ℕ → Data → LockContents
 pipfile_contents text document = record { packages = member_packages text document; requirements = [] }
 

@@ -21,13 +21,13 @@ module _ (line : ℕ) (requirer : List ℕ) where
   requirement_in name (Some list) = if bytes_eq list (codes "*") then [] else record { line = line; requirer = requirer; name = name; list = list } ∷ []
 
   -- the same, if it has a name
-  abbrev pub requirement_of : Option (List ℕ) → Option (List ℕ) → List LockedRequirement
-  requirement_of None list = []
-  requirement_of (Some name) list = requirement_in name list
+  abbrev pub named_requirement : Option (List ℕ) → Option (List ℕ) → List LockedRequirement
+  named_requirement None list = []
+  named_requirement (Some name) list = requirement_in name list
 
   -- an item of uv's `requires-dist`, unless it has a marker
   abbrev pub item_requirements : Data → List LockedRequirement
-  item_requirements d = if lacks (codes "marker") d then requirement_of (text_in (get (codes "name") d)) (text_in (get (codes "specifier") d)) else []
+  item_requirements d = if lacks (codes "marker") d then named_requirement (text_in (get (codes "name") d)) (text_in (get (codes "specifier") d)) else []
 
   -- Poetry's requirement of this name: a list, or a table with one, unless it has markers or is optional
   abbrev pub version_requirements : List ℕ → Data → List LockedRequirement

@@ -1,7 +1,7 @@
 // What locked packages require of one another, as it is written.
 ghost use Rattle.std.specs.Prelude.{◌≡◌, ◌++◌, IfOk, map, option_map, string_bytes};
 ghost use Rattle.std.specs.List.{flat_map};
-ghost use Rattle.pyver_projects.specs.PackageRequirements.{is_unconditional, item_requirements, lacks, member_requirements, requirement_in, requirement_of as named_requirement, requirements_by, requirements_from, table_requirements, version_requirements};
+ghost use Rattle.pyver_projects.specs.PackageRequirements.{is_unconditional, item_requirements, lacks, member_requirements, requirement_in, named_requirement, requirements_by, requirements_from, table_requirements, version_requirements};
 ghost use Rattle.pyver_projects.specs.ProjectViews.{requirement_of};
 ghost use Rattle.pyver_projects.specs.TomlValues.{entries, listed, members_list};
 ghost use Rattle.toml.specs.View.{table_view, view};

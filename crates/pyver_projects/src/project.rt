@@ -122,7 +122,7 @@ fn has_one_key(table: &Table) -> bool
     table.len() == 1
 }
 
-// The name of the group that the item includes: it is a table with the key `include-group` alone.
+// The name of the group that the item includes: it is a table with the key `include-group` only.
 fn included_name(item: &Value) -> Option<&str>
     ensures { option_map (λ t. t.now) result ≡ included_name (view item.now) }
 {

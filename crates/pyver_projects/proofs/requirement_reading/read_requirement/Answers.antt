@@ -1,4 +1,4 @@
-use Rattle.std.proofs.Common.{◌≡◌, [], IfSome, List, None, string_bytes, subst, ℕ}
+use Rattle.std.proofs.Common.{◌≡◌, [], IfSome, List, None, subst, ℕ}
 use Rattle.pep440_rs.specs.ListAnswers.{list_kind_of}
 use Rattle.pep440_rs.specs.ListErrors.{list_refusal_of}
 use Rattle.pep440_rs.specs.ListGrammar.{DerivesList, RefusesList}
