@@ -1,4 +1,4 @@
-//! The exit statuses that both programs have beside those of their answers.
+//! The exit statuses of both programs if they are stopped.
 
 /// An allocation failed.
 pub const OUT_OF_MEMORY: u8 = 3;
