@@ -1,8 +1,6 @@
 -- The lines that are left of an input.
-use Rattle.std.proofs.Common.{Bor, ◌≡◌, ◌==◌, ◌+◌, ◌<◌, ◌^◌, ◌∙◌, ℕ, List, [], ◌∷◌, ◌++◌, Bool, true, false, cond, not, length, Option, Some, IfSome, arith, get_or, take, drop, All, refl, sym, ap, take-append-drop}
-use Rattle.std.proofs.lemmas.List.{drop_more}
+use Rattle.std.proofs.Common.{Bor, ◌≡◌, ◌+◌, ◌<◌, ◌^◌, ◌∙◌, ℕ, List, [], ◌∷◌, Bool, true, false, cond, not, length, Option, Some, IfSome, arith, ap}
 use Rattle.std.specs.Option.{option_map_or}
-use Rattle.std.proofs.lemmas.List.Splits.{slice_split_at}
 use Rattle.pep440_tool.specs.Lines.{is_skipped, numbered_from}
 use Rattle.cli_io.specs.Newlines.{input_lines}
 use Rattle.pep440_tool.specs.LinesLeft.{left_of}

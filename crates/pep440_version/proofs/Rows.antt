@@ -1,4 +1,4 @@
--- Worked rows of the key order, the feed, changes, the reading and the refusals, by computation; `pep440_version_tests` has more.
+-- Worked rows of the key order, the feed, changes, the reading and the refusals, by computation.
 use Rattle.std.proofs.Common.{◌≡◌, refl, codes, Ok, Err, Some, [], ◌∷◌, ◌++◌, ℕ, Option, true}
 use Rattle.std.specs.Hash.{u64}
 use Rattle.std.specs.declared.cmp.Ordering.TheVariants.{Less, Equal}

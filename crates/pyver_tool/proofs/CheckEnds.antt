@@ -4,7 +4,7 @@ use Rattle.std.specs.List.{flat_map}
 use Rattle.std.specs.Prelude.{Err, IfOk, Ok, Result, is_ok}
 use Rattle.pyver_tool.proofs.FileReads.{stops_at_once}
 use Rattle.pyver_tool.proofs.RunEnds.{some_source}
-use Rattle.pyver_tool.specs.Checks.{CheckResult, Checks, ChecksGroup, ChecksGroups, EndsCheck, GainsReport, StopsCheck, StopsGroup, StopsGroups, check_outcome, check_status, findings_text, none_checked, summary, together_note, unopened_text, word_groups}
+use Rattle.pyver_tool.specs.Checks.{CheckResult, Checks, ChecksGroup, ChecksGroups, EndsCheck, StopsCheck, StopsGroups, check_outcome, check_status, findings_text, none_checked, summary, together_note, unopened_text, word_groups}
 use Rattle.pyver_commands.specs.Outcomes.{Outcome}
 use Rattle.pyver_tool.specs.RequirementFiles.{StopsInFiles, word_file}
 use Rattle.cli_io.specs.Streams.{WroteBeginning}

@@ -1,5 +1,5 @@
 -- Groups of words that `check` checks in turn.
-use Rattle.std.proofs.Common.{arith, ◌≡◌, ◌≤◌, ◌<◌, ◌-◌, ◌==◌, ℕ, List, [], ◌∷◌, Bool, true, false, Option, ap, drop, inl, inr, length, map, refl, subst, sym, take, take_all}
+use Rattle.std.proofs.Common.{arith, ◌≡◌, ◌≤◌, ◌<◌, ◌-◌, ℕ, List, [], ◌∷◌, Bool, true, false, Option, ap, drop, inl, inr, length, map, refl, subst, sym, take, take_all}
 use Rattle.pyver_tool.specs.Checks.{CheckResult, ChecksGroup, ChecksGroups, StopsGroup, StopsGroups, word_groups}
 use Rattle.pyver_commands.specs.Sources.{KnownFile, source_names}
 use Rattle.pyver_tool.specs.declared.file_kind.FileKind.{FileKind}

@@ -1,6 +1,6 @@
 -- How a run of the program may end. `known` is what is known of each file, `remaining` are the bytes that the reader has left,
 -- `contents` and `error_contents` those that the writers hold.
-use Rattle.std.specs.Prelude.{◌≡◌, ◌⊎◌, ◌≤◌, ℕ, List, [], ◌++◌, Option, None}
+use Rattle.std.specs.Prelude.{◌≡◌, ◌⊎◌, ◌≤◌, ℕ, List, ◌++◌, Option, None}
 use Rattle.std.specs.Io.KnownBytes.{Appends}
 use Rattle.cli_io.specs.Streams.{WroteBeginning}
 use Rattle.pyver_commands.specs.InputLines.{Source}
