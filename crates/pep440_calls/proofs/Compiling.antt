@@ -1,17 +1,21 @@
 -- Each version and each list that a string denotes has a compiled form.
-use Rattle.std.proofs.Common.{◌≡◌, ℕ, List, inl, inr, refl, subst, sym}
+use Rattle.arrayvec.specs.ArrayVec.{ArrayVec}
+use Rattle.std.proofs.Common.{◌≡◌, ℕ, List, Option, Some, None, IfSome, inl, inr, refl, subst, sym}
 use Rattle.std.proofs.lemmas.List.Elements.{All-weaker}
 use Rattle.std.specs.List.{All}
 use Rattle.pep440_compiled.proofs.Exact.{parsed}
 use Rattle.pep440_compiled.specs.Lists.{IsParsedMember}
-use Rattle.pep440_compiled.specs.Version.{IsParsed}
+use Rattle.pep440_compiled.specs.Version.{DenotesVersion, HasVersionFormat, IsParsed}
 use Rattle.pep440_compiled.specs.declared.error.CompileError.{CompileError}
 use Rattle.pep440_compiled.specs.declared.error.CompileError.TheVariants.{NotParsed, OutOfMemory}
 use Rattle.pep440_rs.proofs.Agreement.Operands.{list_has_texts}
 use Rattle.pep440_rs.proofs.Covering.Lists.{is_coverable}
 use Rattle.pep440_rs.specs.SpecifierGrammar.{HasText}
 use Rattle.pep440_rs.specs.Specifiers.{Spec}
+use Rattle.pep440_version.specs.Grammar.{Derives}
 use Rattle.pep440_version.specs.Record.{Record}
+use Rattle.pep440_calls.proofs.Ascii.{derived_utf8}
+use Rattle.pep440_calls.specs.CallResults.{IsCompiled}
 use Rattle.pep440_calls.specs.Meaning.{MeansBytes, MeansListBytes}
 use Rattle.pep440_calls.specs.Statuses.{Faults, fault_of_compile}
 use Rattle.pep440_calls.specs.declared.fault.Fault.{Fault}
@@ -34,3 +38,8 @@ members_parsed bytes list (inr d) = All-weaker IsParsedMember IsParsedSpec (λ s
 pub only_memory : (version list range : Type 0) (f : Fault) (e : CompileError) → f ≡ fault_of_compile e → (e ≡ NotParsed → ⊥) → Faults version list range f
 only_memory version list range f NotParsed is never = absurd (never refl)
 only_memory version list range f OutOfMemory is never = subst (Faults version list range) (sym is) tt
+
+-- the compiled form of a string that needs no version
+pub string_compiled : (bytes : List ℕ) → (¬ HasVersionFormat bytes) → (result : Option (ArrayVec ℕ)) → IfSome result (λ form. (r : Record) × Derives bytes r × DenotesVersion form.items r) → IfSome result (λ form. IsCompiled bytes form.items)
+string_compiled bytes plain None h = h
+string_compiled bytes plain (Some form) (r, d, denotes) = (r, inl (plain, (derived_utf8 bytes r d, d)), denotes)

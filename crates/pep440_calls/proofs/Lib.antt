@@ -1,3 +1,4 @@
+pub mod Ascii
 pub mod Refused
 pub mod Joining
 pub mod Placed

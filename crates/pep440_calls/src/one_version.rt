@@ -1,14 +1,15 @@
 //! What is made of one version: its normal form, compiled form, parts, sort key and word.
-ghost use Rattle.std.specs.Prelude.{string_bytes, ◌≡◌};
+ghost use Rattle.std.specs.Prelude.{IfSome, string_bytes, ◌≡◌};
 ghost use Rattle.pep440_compiled.specs.Version.{HasVersionFormat};
 ghost use Rattle.pep440_calls.specs.CallResults.{IsCompiled, IsKey, IsNormal, PartsAnswer, TellsParts, TellsWord, WordAnswer, kind_number};
 ghost use Rattle.pep440_calls.specs.Meaning.{RefusesBytes};
 ghost use Rattle.pep440_calls.specs.Statuses.{Gives, PutsBytes};
 ghost use Rattle.pep440_calls.specs.declared.fault.Fault.TheVariants.{OutOfMemory};
 
-use crate::buffer::{NOT_PACKED, OK, flag, put, put_bytes, put_slice, put_text};
+use crate::buffer::{NOT_PACKED, OK, flag, put, put_and_count, put_bytes, put_slice, put_text};
 use crate::fault::Fault;
 use crate::read::read;
+use arrayvec::ArrayVec;
 use pep440_compiled::{CompiledError, compile_version, has_version_format};
 use pep440_keys::sort_key;
 use pep440_rs::{PrereleaseKind, Version};
@@ -49,7 +50,21 @@ fn normalize(alloc: Global, bytes: &[u8]) -> Result<String, Fault>
 pub fn write_compiled(alloc: Global, text: &[u8], out: &mut [u8], written: &mut usize) -> u8
     ensures { PutsBytes (RefusesBytes text.now) ⊥ ⊥ (IsCompiled text.now) out.old out.new written.old written.new result }
 {
+    if let Some(form) = compile_normal(text) {
+        return put_and_count(form.as_slice(), out, written);
+    }
     put_bytes(compile(alloc, text), out, written)
+}
+
+// The compiled form of a string in a normal spelling.
+#[inline(always)]
+fn compile_normal(bytes: &[u8]) -> Option<ArrayVec<u8, 64>>
+    ensures { IfSome result (λ form. IsCompiled bytes.now form.items) }
+{
+    if has_version_format(bytes) {
+        return None;
+    }
+    pep440_compiled::compile_normal(bytes)
 }
 
 fn compile(alloc: Global, text: &[u8]) -> Result<Vec<u8>, Fault>

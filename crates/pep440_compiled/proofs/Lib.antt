@@ -15,4 +15,5 @@ pub mod Printing
 pub mod Rewritten
 pub mod Shared
 pub mod Suffixes
+pub mod WrittenForm
 pub mod Zeros

@@ -11,33 +11,32 @@ ghost use Rattle.pep440_version.specs.Segments.{segment};
 use pep440_version::{LocalSegment, Version};
 
 // Only lower-case letters and digits.
-fn is_lower(text: &str) -> bool
+pub(crate) fn is_lower(text: &[u8]) -> bool
     ensures { result ≡ list_all is_lower text.now }
 {
-    text.as_bytes()
-        .iter()
+    text.iter()
         .all(|byte| byte.is_ascii_digit() || byte.is_ascii_lowercase())
 }
 
 // Only digits.
-fn is_digits(text: &str) -> bool
+pub(crate) fn is_digits(text: &[u8]) -> bool
     ensures { result ≡ list_all is_ascii_digit text.now }
 {
-    text.as_bytes().iter().all(|byte| byte.is_ascii_digit())
+    text.iter().all(|byte| byte.is_ascii_digit())
 }
 
 // Only digits, whose value is below 2^64; the value of no digits is 0.
 fn is_numeral(text: &str) -> bool
     ensures { result ≡ is_numeral text.now }
 {
-    is_digits(text) && (text.is_empty() || text.parse::<u64>().is_ok())
+    is_digits(text.as_bytes()) && (text.is_empty() || text.parse::<u64>().is_ok())
 }
 
 // A string of a local part as parsing gives it.
 pub(crate) fn is_normal_string(text: &str) -> bool
     ensures { (result ≡ true) ↔ SegmentRereads (Text text.now) }
 {
-    !text.is_empty() && is_lower(text) && !is_numeral(text)
+    !text.is_empty() && is_lower(text.as_bytes()) && !is_numeral(text)
 }
 
 fn is_normal(part: &LocalSegment) -> bool

@@ -16,19 +16,19 @@ use crate::error::{CompileError, CompiledError, NotCompiled};
 use crate::parsed::is_parsed;
 use crate::print::push_version as push_version_text;
 use crate::views::{VERSION, has_version_format, view_version, view_version_parts};
-use pep440_keys::push_sort_key;
+use pep440_keys::{KeySink, push_sort_key};
 use pep440_version::Version;
 use pep440_version::key::trim_trailing_zeros;
 use std::alloc::{AllocError, Global};
 use std::cmp::Ordering;
 
 // A byte 1 for each zero that ends the release.
-fn push_zeros(bytes: &mut Vec<u8>, release: &[u64]) -> Result<(), AllocError>
-    ensures { OnOk result (bytes.new.items ≡ bytes.old.items ++ zero_bytes release.now) }
+pub(crate) fn push_zeros<K: KeySink>(bytes: &mut K, release: &[u64]) -> Result<(), AllocError>
+    ensures { OnOk result (K.written bytes.new ≡ K.written bytes.old ++ zero_bytes release.now) }
 {
     let kept = trim_trailing_zeros(release).len();
     for _ in kept..release.len() {
-        bytes.push(1)?;
+        bytes.append(&[1])?;
     }
     Ok(())
 }

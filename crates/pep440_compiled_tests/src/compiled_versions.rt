@@ -1,8 +1,9 @@
 //! Compiled versions.
 use crate::bytes::{bytes_argument, print_bytes};
 use pep440_compiled::{
-    CompileError, CompiledError, ContainsError, any_prerelease, compare, compile_version, contains,
-    has_version_format, normalize, push_compiled_form, read_sort_key, read_version, sort_key,
+    CompileError, CompiledError, ContainsError, any_prerelease, compare, compile_normal,
+    compile_version, contains, has_version_format, normalize, push_compiled_form, read_sort_key,
+    read_version, sort_key,
 };
 use pep440_version::{LocalSegment, Version};
 use std::alloc::Global;
@@ -55,6 +56,14 @@ pub fn compile_local(alloc: Global, text: &str) -> Result<String, CaseError> {
     let local = vec![in alloc; segment]?;
     let version = Version::new(alloc, &[1])?.with_local(alloc, local)?;
     print_compiled(alloc, &version)
+}
+
+/// The compiled form of a string in a normal spelling.
+pub fn compile_text(alloc: Global, text: &str) -> Result<String, CaseError> {
+    match compile_normal(text.as_bytes()) {
+        Some(form) => print_bytes(alloc, form.as_slice()),
+        None => Ok(String::from_str(alloc, "not normal")?),
+    }
 }
 
 /// `1` and `>=1`, compiled.

@@ -18,7 +18,7 @@ mod written_strings;
 use compiled_lists::{
     compile_list_of, compile_unchecked, contains_bytes, denotes_list, list_contains, requests,
 };
-use compiled_versions::{compile, compile_local, denotes};
+use compiled_versions::{compile, compile_local, compile_text, denotes};
 use given::given_arguments;
 use intervals::{is_outside, range_intervals, segment_interval};
 use numbers::{between, complement, contains, intersection, of_number, segments};
@@ -41,6 +41,7 @@ fn of_one(alloc: Global, call: &str, text: &str) -> Result<String, CaseError> {
         "key" => key(alloc, text),
         "compile" => compile(alloc, text),
         "compile-local" => compile_local(alloc, text),
+        "compile-normal" => compile_text(alloc, text),
         "compile-list" => compile_list_of(alloc, text),
         "denotes" => denotes(alloc, text),
         "denotes-list" => denotes_list(alloc, text),

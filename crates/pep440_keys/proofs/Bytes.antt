@@ -1,6 +1,6 @@
 -- Numbers by their bytes: of as many bytes the greatest first decides, and without the zeros in front how many there are
 -- decides first.
-use Rattle.std.proofs.Common.{◌≡◌, ◌∙◌, ℕ, zero, suc, ◌+◌, ◌*◌, ◌/◌, ◌%◌, ◌^◌, ◌<◌, ◌≤◌, List, [], ◌∷◌, ◌++◌, refl, sym, ap, add-zero, append_assoc, arith, length, if◌then◌else◌}
+use Rattle.std.proofs.Common.{◌≡◌, ◌∙◌, ℕ, zero, suc, ◌+◌, ◌*◌, ◌/◌, ◌%◌, ◌^◌, ◌<◌, ◌≤◌, List, [], ◌∷◌, ◌++◌, refl, sym, ap, add-zero, append_assoc, arith, length, Option, None, if◌then◌else◌}
 use Rattle.std.proofs.Math.Arith.{mod-mul}
 use Rattle.std.proofs.Math.Dec.{eqb-suc-zero}
 use Rattle.std.proofs.Math.Nat.{div-one, div-eq_of_lt, mod-one, mod-lt, mod-eq_of_lt, one-le-pow, pow-succ', zero-lt-suc}
@@ -11,9 +11,11 @@ use Rattle.std.specs.Ordering.{nat_cmp, ordering_then}
 use Rattle.std.specs.declared.cmp.Ordering.{Ordering}
 use Rattle.pep440_version.proofs.Ordering.Comparisons.{then_assoc}
 use Rattle.pep440_version.proofs.Words.Blocks.{is_above, is_below, is_same, nat_cmp_block}
+use Rattle.pep440_version.specs.Key.{dev_of, dev_rank, post_of, post_rank, stage_of, stage_rank}
 use Rattle.pep440_version.specs.Record.{Fits, from_release}
 use Rattle.pep440_version.specs.Trim.{trim}
-use Rattle.pep440_keys.specs.SortKeys.{key_bytes, needed_bytes, number_bytes, trim_leading_zeros}
+use Rattle.pep440_version.specs.declared.prerelease.Prerelease.{Prerelease}
+use Rattle.pep440_keys.specs.SortKeys.{key_bytes, needed_bytes, number_bytes, rank_bytes, trim_leading_zeros}
 
 -- ---- bytes without the zeros in front
 
@@ -128,3 +130,10 @@ one_byte base n some small = (λ i. (base + length (one_needed n some small i)) 
 pub release_only_bytes : (release : List ℕ) → key_bytes (from_release release) ≡ 0 ∷ (flat_map (number_bytes 1) (trim release) ++ 0 ∷ 80 ∷ 0 ∷ 16 ∷ 0 ∷ [])
 unfolding needed_bytes
 release_only_bytes release = simp append_assoc
+
+-- ---- what follows a release without a suffix
+
+pub final_bytes : (pre : Option Prerelease) (post dev : Option ℕ) → pre ≡ None → post ≡ None → dev ≡ None
+    → rank_bytes (stage_rank (stage_of None pre dev post None)) ++ rank_bytes (post_rank (post_of None post)) ++ rank_bytes (dev_rank (dev_of None dev)) ≡ 80 ∷ 0 ∷ 16 ∷ []
+unfolding needed_bytes
+final_bytes pre post dev e f g = λ i. rank_bytes (stage_rank (stage_of None (e i) (g i) (f i) None)) ++ rank_bytes (post_rank (post_of None (f i))) ++ rank_bytes (dev_rank (dev_of None (g i)))

@@ -7,13 +7,14 @@ ghost use Rattle.pep440_version.specs.Segments.{segment};
 ghost use Rattle.pep440_version.specs.Trim.{trim};
 
 use crate::number_bytes::push_number;
+use crate::sink::KeySink;
 use pep440_version::key::{RankedNumber, trim_trailing_zeros};
 use pep440_version::{LocalSegment, Version};
 use std::alloc::{AllocError, Global};
 
 #[inline(always)]
-fn push_numbers(key: &mut Vec<u8>, release: &[u64]) -> Result<(), AllocError>
-    ensures { OnOk result (key.new.items ≡ key.old.items ++ flat_map (number_bytes 1) (trim release.now)) }
+pub(crate) fn push_numbers<K: KeySink>(key: &mut K, release: &[u64]) -> Result<(), AllocError>
+    ensures { OnOk result (K.written key.new ≡ K.written key.old ++ flat_map (number_bytes 1) (trim release.now)) }
 {
     for number in trim_trailing_zeros(release) {
         push_number(key, 1, *number)?;
@@ -21,23 +22,23 @@ fn push_numbers(key: &mut Vec<u8>, release: &[u64]) -> Result<(), AllocError>
     Ok(())
 }
 
-fn push_ranked(key: &mut Vec<u8>, ranked: RankedNumber) -> Result<(), AllocError>
-    ensures { OnOk result (key.new.items ≡ key.old.items ++ rank_bytes (ranked.rank, ranked.number)) }
+fn push_ranked<K: KeySink>(key: &mut K, ranked: RankedNumber) -> Result<(), AllocError>
+    ensures { OnOk result (K.written key.new ≡ K.written key.old ++ rank_bytes (ranked.rank, ranked.number)) }
 {
     push_number(key, 16 * ranked.rank, ranked.number)
 }
 
 // A byte each, and so one piece, if none of them has a number.
-fn push_suffix(
-    key: &mut Vec<u8>,
+pub(crate) fn push_suffix<K: KeySink>(
+    key: &mut K,
     stage: RankedNumber,
     post: RankedNumber,
     dev: RankedNumber,
 ) -> Result<(), AllocError>
-    ensures { OnOk result (key.new.items ≡ key.old.items ++ (rank_bytes (stage.rank, stage.number) ++ rank_bytes (post.rank, post.number) ++ rank_bytes (dev.rank, dev.number))) }
+    ensures { OnOk result (K.written key.new ≡ K.written key.old ++ (rank_bytes (stage.rank, stage.number) ++ rank_bytes (post.rank, post.number) ++ rank_bytes (dev.rank, dev.number))) }
 {
     if stage.number == 0 && post.number == 0 && dev.number == 0 {
-        return key.extend_from_slice(&[16 * stage.rank, 16 * post.rank, 16 * dev.rank]);
+        return key.append(&[16 * stage.rank, 16 * post.rank, 16 * dev.rank]);
     }
     push_ranked(key, stage)?;
     push_ranked(key, post)?;

@@ -20,8 +20,12 @@ mod interval;
 mod key_bytes;
 pub mod laws;
 mod number_bytes;
+mod parts_key;
 mod range_intervals;
+mod sink;
 
 pub use interval::KeyInterval;
 pub use key_bytes::{push_sort_key, sort_key};
+pub use parts_key::push_parts_key;
 pub use range_intervals::{range_keys, segment_keys};
+pub use sink::KeySink;

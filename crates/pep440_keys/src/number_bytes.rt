@@ -2,6 +2,7 @@
 ghost use Rattle.std.specs.Prelude.{◌≡◌, ◌≤◌, ◌++◌, length, OnOk};
 ghost use Rattle.pep440_keys.specs.SortKeys.{number_bytes, trim_leading_zeros};
 
+use crate::sink::KeySink;
 use std::alloc::AllocError;
 
 // The bytes without leading zeros.
@@ -19,25 +20,25 @@ fn skip_leading_zeros(bytes: &[u8]) -> &[u8]
 
 // The same as `push_number`, of any number.
 #[inline(never)]
-fn push_any_number(key: &mut Vec<u8>, base: u8, number: u64) -> Result<(), AllocError>
+fn push_any_number<K: KeySink>(key: &mut K, base: u8, number: u64) -> Result<(), AllocError>
     requires { base ≤ 80 }
-    ensures { OnOk result (key.new.items ≡ key.old.items ++ number_bytes base number) }
+    ensures { OnOk result (K.written key.new ≡ K.written key.old ++ number_bytes base number) }
 {
     let padded = number.to_be_bytes();
     let bytes = skip_leading_zeros(&padded);
-    key.push(base + bytes.len() as u8)?;
-    key.extend_from_slice(bytes)
+    key.append(&[base + bytes.len() as u8])?;
+    key.append(bytes)
 }
 
 // Appends the number; its length byte is added to this base. A number of one byte, as most are, is one piece of two.
 #[inline(always)]
-pub(crate) fn push_number(key: &mut Vec<u8>, base: u8, number: u64) -> Result<(), AllocError>
+pub(crate) fn push_number<K: KeySink>(key: &mut K, base: u8, number: u64) -> Result<(), AllocError>
     requires { base ≤ 80 }
-    ensures { OnOk result (key.new.items ≡ key.old.items ++ number_bytes base number) }
+    ensures { OnOk result (K.written key.new ≡ K.written key.old ++ number_bytes base number) }
 {
     match number {
-        0 => key.extend_from_slice(&[base]),
-        1..=255 => key.extend_from_slice(&[base + 1, number as u8]),
+        0 => key.append(&[base]),
+        1..=255 => key.append(&[base + 1, number as u8]),
         _ => push_any_number(key, base, number),
     }
 }

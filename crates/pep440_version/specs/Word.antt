@@ -1,5 +1,5 @@
 -- The packed word: one number for the release of a record and the one suffix that it may have, ordered as the records are.
-use Rattle.std.specs.Prelude.{ℕ, ◌+◌, ◌*◌, ◌/◌, ◌%◌, ◌^◌, ◌==◌, ◌&&◌, ◌||◌, Bool, true, false, if◌then◌else◌, List, [], ◌∷◌, length, slice_index, Option, None, Some, unwrap_or, nat_le}
+use Rattle.std.specs.Prelude.{ℕ, ◌+◌, ◌*◌, ◌/◌, ◌%◌, ◌^◌, ◌==◌, ◌&&◌, Bool, false, List, length, slice_index, Option, None, Some, unwrap_or, nat_le}
 use Rattle.pep440_version.specs.declared.prerelease.Prerelease.{Prerelease}
 use Rattle.pep440_version.specs.Key.{kind_rank}
 use Rattle.pep440_version.specs.Record.{Record}

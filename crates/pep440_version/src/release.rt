@@ -5,8 +5,9 @@ ghost use Rattle.pep440_version.specs.Record.{Fits};
 use std::alloc::{AllocError, Global};
 use std::marker::Model;
 
+/// The numbers of a release; up to four need no allocation.
 #[derive(Drop)]
-pub(crate) struct Release {
+pub struct Release {
     storage: Storage,
 }
 
@@ -83,7 +84,8 @@ impl Release {
         })
     }
 
-    pub(crate) fn as_slice(&self) -> &[u64]
+    /// The numbers.
+    pub fn as_slice(&self) -> &[u64]
         ensures { result.now ≡ self.now }
     {
         match &self.storage {

@@ -5,10 +5,10 @@ use Rattle.std.specs.Char.{is_ascii_digit}
 use Rattle.pep440_version.specs.declared.prerelease.Prerelease.{Prerelease}
 use Rattle.pep440_version.specs.declared.prerelease.PrereleaseKind.{PrereleaseKind}
 use Rattle.pep440_version.specs.declared.prerelease.PrereleaseKind.TheVariants.{Alpha, Beta, Rc}
-use Rattle.pep440_version.specs.Grammar.{Derives, IsEpoch, IsLeadingV, IsNumber, IsRelease, IsPre, IsPost, IsDev, pre_spellings, post_spellings, dev_spellings, starts}
+use Rattle.pep440_version.specs.Grammar.{Derives, IsEpoch, IsLeadingV, IsLocal, IsNumber, IsRelease, IsPre, IsPost, IsDev, pre_spellings, post_spellings, dev_spellings, starts}
 use Rattle.pep440_version.specs.Normal.{HasSuffix, IsClassOfKind, spelling}
-use Rattle.pep440_version.specs.Record.{from_parts}
-use Rattle.pep440_version.proofs.Reading.NormalVersions.{rest_of, spelled_so, with_epoch}
+use Rattle.pep440_version.specs.Record.{LocalSegmentValue, from_parts}
+use Rattle.pep440_version.proofs.Reading.NormalVersions.{rest_of, spelled_so, with_local}
 
 -- the text of a part, which is there or not
 abbrev pub PartOf : (List ℕ → Type 0) → List ℕ → List ℕ → Type 0
@@ -53,11 +53,11 @@ dev_part text rest None h = ([], refl, h)
 dev_part text rest (Some n) (digits, hn, ended, e) =
     (spelling 1 ++ digits, spelled_so dev_spellings (codes ".") (codes "dev") digits rest tt n (inr (46, refl, refl)) (inl (refl, refl)) hn ended, split_at 1 text digits rest e)
 
--- a letter v and parts to the end are a version
-pub parts_derive : (text v a b c d f ns : List ℕ) (epoch : ℕ) (pre : Option Prerelease) (post dev : Option ℕ) → text ≡ v ++ a → IsLeadingV v → PartOf (λ e. IsEpoch e epoch) a b → PartOf (λ n. IsRelease n ns) b c
-    → PartOf (λ p. IsPre p d pre) c d → PartOf (λ q. IsPost q f post) d f → PartOf (λ t. IsDev t [] dev) f [] → Derives text (from_parts epoch ns pre post dev [])
-parts_derive text v a b c d f ns epoch pre post dev whole hv (e, he, ea) (n, hn, eb) (p, hp, ec) (q, hq, ed) (t, ht, ef) =
-    let to_d : d ≡ q ++ (t ++ []) = ed ∙ ap (λ s. q ++ s) ef in
-    let to_c : c ≡ p ++ (q ++ (t ++ [])) = ec ∙ ap (λ s. p ++ s) to_d in
-    let to_b : b ≡ n ++ (p ++ (q ++ (t ++ []))) = eb ∙ ap (λ s. n ++ s) to_c in
-    with_epoch text v e n p q t ns epoch pre post dev (whole ∙ ap (λ s. v ++ s) (ea ∙ ap (λ s. e ++ s) to_b)) hv he hn (subst (λ s. IsPre p s pre) to_d hp) (subst (λ s. IsPost q s post) ef hq) ht
+-- a letter v and parts up to a local part, or to the end, are a version
+pub parts_derive : (text v a b c d f l ns : List ℕ) (epoch : ℕ) (pre : Option Prerelease) (post dev : Option ℕ) (local : List LocalSegmentValue) → text ≡ v ++ a → IsLeadingV v → PartOf (λ e. IsEpoch e epoch) a b → PartOf (λ n. IsRelease n ns) b c
+    → PartOf (λ p. IsPre p d pre) c d → PartOf (λ q. IsPost q f post) d f → PartOf (λ t. IsDev t l dev) f l → IsLocal l local → Derives text (from_parts epoch ns pre post dev local)
+parts_derive text v a b c d f l ns epoch pre post dev local whole hv (e, he, ea) (n, hn, eb) (p, hp, ec) (q, hq, ed) (t, ht, ef) hl =
+    let to_d : d ≡ q ++ (t ++ l) = ed ∙ ap (λ s. q ++ s) ef in
+    let to_c : c ≡ p ++ (q ++ (t ++ l)) = ec ∙ ap (λ s. p ++ s) to_d in
+    let to_b : b ≡ n ++ (p ++ (q ++ (t ++ l))) = eb ∙ ap (λ s. n ++ s) to_c in
+    with_local text v e n p q t l ns epoch pre post dev local (whole ∙ ap (λ s. v ++ s) (ea ∙ ap (λ s. e ++ s) to_b)) hv he hn (subst (λ s. IsPre p s pre) to_d hp) (subst (λ s. IsPost q s post) ef hq) ht hl

@@ -15,10 +15,10 @@ use Rattle.std.specs.Str.Parse.{digits_value}
 use Rattle.pep440_version.specs.declared.prerelease.Prerelease.{Prerelease}
 use Rattle.pep440_version.specs.declared.prerelease.PrereleaseKind.TheVariants.{Alpha, Beta, Rc}
 use Rattle.pep440_version.specs.Form.{IsWord, packed_record, record_in}
-use Rattle.pep440_version.specs.Grammar.{Derives, IsEpoch, IsLeadingV, IsNumber, IsRelease, IsSpelled, IsSpelling, IsPre, IsPost, IsDev, Spellings, IsSeparator, pre_spellings, post_spellings, dev_spellings, starts}
+use Rattle.pep440_version.specs.Grammar.{Derives, IsEpoch, IsLeadingV, IsLocal, IsNumber, IsRelease, IsSpelled, IsSpelling, IsPre, IsPost, IsDev, Spellings, IsSeparator, pre_spellings, post_spellings, dev_spellings, starts}
 use Rattle.pep440_version.specs.Normal.{IsClass, IsKnown, IsPadded, IsSuffix, spelling}
 use Rattle.pep440_version.specs.Patterns.{DerivesStar}
-use Rattle.pep440_version.specs.Record.{from_parts}
+use Rattle.pep440_version.specs.Record.{LocalSegmentValue, from_parts}
 use Rattle.pep440_version.specs.Word.{is_short, word_of}
 use Rattle.pep440_version.proofs.Words.Shown.{Given, shown}
 
@@ -200,6 +200,35 @@ with_epoch text v e release p q d ns epoch pre post dev decomposition hv he hr h
   no_min = refl;
   no_max = refl;
 }
+
+-- the same before a local part
+pub with_local : (text v e release p q d l ns : List ℕ) (epoch : ℕ) (pre : Option Prerelease) (post dev : Option ℕ) (local : List LocalSegmentValue) → text ≡ v ++ (e ++ (release ++ (p ++ (q ++ (d ++ l)))))
+    → IsLeadingV v → IsEpoch e epoch → IsRelease release ns → IsPre p (q ++ (d ++ l)) pre → IsPost q (d ++ l) post → IsDev d l dev → IsLocal l local → Derives text (from_parts epoch ns pre post dev local)
+with_local text v e release p q d l ns epoch pre post dev local decomposition hv he hr hp hq hd hl =
+    let to_end : l ≡ l ++ [] = sym (append-nil l) in
+    record {
+      w1 = [];
+      v = v;
+      e = e;
+      n = release;
+      p = p;
+      q = q;
+      d = d;
+      l = l;
+      w2 = [];
+      decomposition = decomposition ∙ ap (λ t. v ++ (e ++ (release ++ (p ++ (q ++ (d ++ t)))))) to_end;
+      blanks = refl;
+      letter = hv;
+      epoch = he;
+      release = hr;
+      pre = subst (λ t. IsPre p (q ++ (d ++ t)) pre) to_end hp;
+      post = subst (λ t. IsPost q (d ++ t) post) to_end hq;
+      dev = subst (λ t. IsDev d t dev) to_end hd;
+      local = hl;
+      end = refl;
+      no_min = refl;
+      no_max = refl;
+    }
 
 parted : (text v release p q d ns : List ℕ) (pre : Option Prerelease) (post dev : Option ℕ) → text ≡ v ++ (release ++ (p ++ (q ++ (d ++ [])))) → IsLeadingV v
     → IsRelease release ns → IsPre p (q ++ (d ++ [])) pre → IsPost q (d ++ []) post → IsDev d [] dev → Derives text (from_parts 0 ns pre post dev [])

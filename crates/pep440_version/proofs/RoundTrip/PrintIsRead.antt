@@ -125,7 +125,7 @@ digits_kept : (t : List ℕ) → list_all is_ascii_digit (map to_ascii_lowercase
 digits_kept [] = refl
 digits_kept (b ∷ t) = rw (digit_kept b, digits_kept t) refl
 
-segment_reads : (s : LocalSegmentValue) → SegmentFits s → SegmentRereads s → IsSegment (segment_print s) s
+pub segment_reads : (s : LocalSegmentValue) → SegmentFits s → SegmentRereads s → IsSegment (segment_print s) s
 segment_reads (Number n) fits h =
     let digits : list_all is_ascii_digit (decimal n) ≡ true = digits_decimal digits_model n fits in (
       decimal_nonempty n fits,

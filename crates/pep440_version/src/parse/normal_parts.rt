@@ -1,23 +1,36 @@
 //! The short pass for what is not packed: the letter `v`, an epoch, up to four small numbers and a suffix of each kind in
 //! its normal spelling, read byte by byte.
 ghost use Rattle.std.specs.Prelude.{◌≡◌, ◌++◌, [], ℕ, List, IfSome};
-ghost use Rattle.pep440_version.specs.Grammar.{Derives, IsEpoch, IsPre};
+ghost use Rattle.pep440_version.specs.Grammar.{Derives, IsEpoch, IsLocal, IsPre};
 ghost use Rattle.pep440_version.specs.Normal.{HasSuffix, IsClassOfKind};
-ghost use Rattle.pep440_version.specs.Record.{from_parts};
+ghost use Rattle.pep440_version.specs.Reading.{skip_v};
+ghost use Rattle.pep440_version.specs.Record.{LocalSegmentValue, from_parts};
 
 use super::normal::{parse_class, parse_small_number, parse_small_release};
-use super::skip_v;
 use crate::prerelease::{Prerelease, PrereleaseKind};
 use crate::release::Release;
 use crate::word::{ALPHA, BETA, DEV, POST, RC};
 
-// The parts of a version that has no local part.
-pub(crate) struct NormalParts {
-    pub(crate) epoch: u64,
-    pub(crate) release: Release,
-    pub(crate) pre: Option<Prerelease>,
-    pub(crate) post: Option<u64>,
-    pub(crate) dev: Option<u64>,
+/// The parts of a version but for a local part and sentinels.
+#[derive(Drop)]
+pub struct NormalParts {
+    pub epoch: u64,
+    pub release: Release,
+    pub pre: Option<Prerelease>,
+    pub post: Option<u64>,
+    pub dev: Option<u64>,
+}
+
+// The bytes without a leading letter v.
+#[inline(always)]
+fn skip_letter(text: &[u8]) -> &[u8]
+    ensures { result.now ≡ skip_v text.now }
+{
+    match text {
+        [b'v', rest @ ..] => rest,
+        [b'V', rest @ ..] => rest,
+        _ => text,
+    }
 }
 
 // The leading epoch, 0 if none is written, and the rest.
@@ -78,24 +91,33 @@ fn parse_suffix_of(class: u64, text: &[u8]) -> Option<(Option<u64>, &[u8])>
     Some((Some(number), rest))
 }
 
-// The parts of the version that the string parses to; `None` if this pass cannot parse it.
+/// The leading parts of a string in a normal spelling, by its bytes, with up to four small release numbers; and the rest. If
+/// this is a local part, or nothing, the string parses to a version of these parts. `None` of other strings, which
+/// `Version::from_str` parses.
 #[inline(always)]
-pub(crate) fn parse_normal_parts(text: &str) -> Option<NormalParts>
-    ensures { IfSome result (λ parts. Derives text.now (from_parts parts.epoch parts.release parts.pre parts.post parts.dev [])) }
+pub fn parse_leading_parts(text: &[u8]) -> Option<(NormalParts, &[u8])>
+    ensures { IfSome result (λ x. (local : List LocalSegmentValue) → IsLocal x.1.now local → Derives text.now (from_parts x.0.epoch x.0.release x.0.pre x.0.post x.0.dev local)) }
 {
-    let (epoch, after_epoch) = parse_normal_epoch(skip_v(text).as_bytes())?;
+    let (epoch, after_epoch) = parse_normal_epoch(skip_letter(text))?;
     let (numbers, count, after_release) = parse_small_release(after_epoch)?;
     let (pre, after_pre) = parse_normal_pre(after_release)?;
     let (post, after_post) = parse_suffix_of(POST, after_pre)?;
     let (dev, rest) = parse_suffix_of(DEV, after_post)?;
-    if !rest.is_empty() {
-        return None;
-    }
-    Some(NormalParts {
+    let parts = NormalParts {
         epoch,
         release: Release::from_array(numbers, count),
         pre,
         post,
         dev,
-    })
+    };
+    Some((parts, rest))
+}
+
+// The parts of the version that the string parses to; `None` if this pass cannot parse it.
+#[inline(always)]
+pub(crate) fn parse_normal_parts(text: &str) -> Option<NormalParts>
+    ensures { IfSome result (λ parts. Derives text.now (from_parts parts.epoch parts.release parts.pre parts.post parts.dev [])) }
+{
+    let (parts, rest) = parse_leading_parts(text.as_bytes())?;
+    if rest.is_empty() { Some(parts) } else { None }
 }

@@ -4,4 +4,4 @@ use Rattle.pep440_keys.specs.SortKeys.{number_bytes}
 use Rattle.pep440_keys.proofs.key_bytes.push_numbers.Given as goal
 
 abbrev pub invariant-loop-number : goal.invariant-loop-number
-invariant-loop-number l = l.key.items ≡ l.initial.key.items ++ flat_map (number_bytes 1) (take l.number-index l.number-items)
+invariant-loop-number g l = g.K.KeySink.written l.key ≡ g.K.KeySink.written l.initial.key ++ flat_map (number_bytes 1) (take l.number-index l.number-items)

@@ -1,0 +1,15 @@
+use Rattle.std.proofs.Common.{◌∙◌, subst, sym, take}
+use Rattle.pep440_version.specs.Grammar.{Derives}
+use Rattle.pep440_version.specs.Record.{from_parts}
+use Rattle.pep440_version.proofs.Reading.NormalParts.{dev_part, parts_derive, post_part}
+use Rattle.pep440_version.proofs.Reading.ReadIsDerived.{v_takes}
+use Rattle.pep440_version.proofs.parse.normal_parts.parse_leading_parts.Goals as goal
+
+pub returns : goal.returns
+returns c = λ local is_local.
+    let text = c.args.text.now in
+    let v = v_takes text in
+    let e = c.in_ok-epoch.ensures in
+    let is = parts_derive text v.0 _ _ _ _ _ _ (take c.in_ok-numbers.count c.in_ok-numbers.numbers) c.in_ok-epoch.epoch c.in_ok-pre.pre c.in_ok-post.post c.in_ok-dev.dev local v.2 v.1
+    (e.0, e.1, sym c.skip_letter.ensures ∙ e.2) c.in_ok-numbers.ensures.1 c.in_ok-pre.ensures (post_part _ _ _ c.in_ok-post.ensures) (dev_part _ _ _ c.in_ok-dev.ensures) is_local in
+    subst (λ ns. Derives text (from_parts c.in_ok-epoch.epoch ns c.in_ok-pre.pre c.in_ok-post.post c.in_ok-dev.dev local)) (sym c.from_array.ensures) is
