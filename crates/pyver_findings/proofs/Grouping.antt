@@ -28,8 +28,8 @@ swap_by m n false false e f = refl
 swap : (m n : List ℕ) → bytes_eq m n ≡ bytes_eq n m
 swap m n = swap_by m n (bytes_eq m n) (bytes_eq n m) refl refl
 
--- a line is added to the group of its name, which is taken out and put back
-module _ {X : Type 0} (f : Option X → List Demand) (name q : List ℕ) (x : Demand) (old taken new : List ℕ → Option X) (group : Option X) (value : X) where
+-- something is added to the group of its name, which is taken out and put back
+module _ {X D : Type 0} (f : Option X → List D) (name q : List ℕ) (x : D) (old taken new : List ℕ → Option X) (group : Option X) (value : X) where
   added_by : (b : Bool) → bytes_eq name q ≡ b → group ≡ old name → f (Some value) ≡ f group ++ x ∷ [] → taken q ≡ cond (bytes_eq name q) None (old q)
       → new q ≡ cond (bytes_eq name q) (Some value) (taken q) → f (new q) ≡ f (old q) ++ (if bytes_eq q name then x ∷ [] else [])
   added_by true e is more out back =
@@ -43,15 +43,15 @@ module _ {X : Type 0} (f : Option X → List Demand) (name q : List ℕ) (x : De
       → f (new q) ≡ f (old q) ++ (if bytes_eq q name then x ∷ [] else [])
   added is more out back = added_by (bytes_eq name q) refl is more out back
 
--- one line more in a group
-pub grouped_more : {L : Type 0} (view : L → Demand) (q : List ℕ) (xs : List L) (i : ℕ) (x : L) (old new : List Demand) → i < length xs → x ≡ get_or xs i x
-    → new ≡ old ++ (if bytes_eq q (view x).name then view x ∷ [] else []) → old ≡ filter (λ (a : Demand). bytes_eq q a.name) (map view (take i xs))
-    → new ≡ filter (λ (a : Demand). bytes_eq q a.name) (map view (take (i + 1) xs))
-grouped_more view q xs i x old new inside is changed was =
-    let has = λ (a : Demand). bytes_eq q a.name in
+-- one more in a group
+pub grouped_more : {L D : Type 0} (view : L → D) (name_of : D → List ℕ) (q : List ℕ) (xs : List L) (i : ℕ) (x : L) (old new : List D) → i < length xs → x ≡ get_or xs i x
+    → new ≡ old ++ (if bytes_eq q (name_of (view x)) then view x ∷ [] else []) → old ≡ filter (λ a. bytes_eq q (name_of a)) (map view (take i xs))
+    → new ≡ filter (λ a. bytes_eq q (name_of a)) (map view (take (i + 1) xs))
+grouped_more {D = D} view name_of q xs i x old new inside is changed was =
+    let has = λ (a : D). bytes_eq q (name_of a) in
     let before = map view (take i xs) in
     let taken : map view (take (i + 1) xs) ≡ before ++ view x ∷ [] = ap (map view) (take_more xs i x inside ∙ ap (λ y. take i xs ++ y ∷ []) (sym is)) ∙ map-append view (take i xs) (x ∷ []) in
-    changed ∙ ap (λ o. o ++ (if bytes_eq q (view x).name then view x ∷ [] else [])) was ∙ sym (filter-append has before (view x ∷ [])) ∙ ap (filter has) (sym taken)
+    changed ∙ ap (λ o. o ++ (if bytes_eq q (name_of (view x)) then view x ∷ [] else [])) was ∙ sym (filter-append has before (view x ∷ [])) ∙ ap (filter has) (sym taken)
 
 module _ {X : Type 0} (f : Option X → List Demand) (none : f None ≡ []) where
   taken_by : (b any : Bool) (all : List Demand) (old new : Option X) → new ≡ cond b None old → f old ≡ (if any then [] else all) → f new ≡ (if any || (b || false) then [] else all)

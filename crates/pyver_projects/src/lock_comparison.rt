@@ -6,10 +6,12 @@ ghost use Rattle.pyver_findings.specs.Reports.{demands_in};
 ghost use Rattle.pyver_findings.specs.Views.{demand_of, file_line_of, finding_of, line_meaning_of};
 ghost use Rattle.pyver_findings.specs.declared.finding.Conflict.TheVariants.{PinOutside};
 ghost use Rattle.pyver_projects.specs.Comparing.{found_beside, beside_all, compared, compared_demand, excluded, excluded_by, has_name, is_locked, is_needed, missing, unmet};
+ghost use Rattle.pyver_projects.specs.PackageIndexes.{IsIndex, packages_of};
 ghost use Rattle.pyver_projects.specs.ProjectViews.{document_reading_of, locked_reading_of, section_of, string_reading_of};
 
 use crate::document_reading::DocumentReading;
 use crate::locked_reading::LockedReading;
+use crate::package_index::PackageIndex;
 use crate::section::Section;
 use crate::string_reading::StringReading;
 use pep440_rs::Version;
@@ -29,13 +31,6 @@ fn is_locked(section: &Section) -> bool
         section,
         Section::Dependencies | Section::Extra(_) | Section::Group(_)
     )
-}
-
-// The package has the name of the requirement.
-fn has_name(demand: &Demand, locked: &LockedReading) -> bool
-    ensures { result ≡ has_name (demand_of demand.now) (locked_reading_of locked.now) }
-{
-    demand.name.as_slice() == locked.name.as_slice()
 }
 
 fn push_pair(
@@ -76,43 +71,60 @@ fn push_excluded(
     alloc: Global,
     findings: &mut Vec<Finding>,
     demand: &Demand,
-    locked: &LockedReading,
+    group: &[&LockedReading],
 ) -> Result<(), AllocError>
-    ensures { IfOk result (λ _. map finding_of findings.new.items ≡ map finding_of findings.old.items ++ excluded (demand_of demand.now) (locked_reading_of locked.now)) }
+    ensures { IfOk result (λ _. map finding_of findings.new.items ≡ map finding_of findings.old.items ++ flat_map (λ y. excluded_by (demand_of demand.now) y.line y.version) (map (λ y. locked_reading_of y.now) group.now)) }
 {
-    if !has_name(demand, locked) {
-        return Ok(());
+    for locked in group {
+        push_excluded_by(alloc, findings, demand, &locked.line, &locked.version)?;
     }
-    push_excluded_by(alloc, findings, demand, &locked.line, &locked.version)
+    Ok(())
 }
 
 fn push_all_excluded(
     alloc: Global,
     findings: &mut Vec<Finding>,
     demand: &Demand,
-    packages: &[LockedReading],
+    packages: &PackageIndex<'_>,
 ) -> Result<(), AllocError>
-    ensures { IfOk result (λ _. map finding_of findings.new.items ≡ map finding_of findings.old.items ++ flat_map (excluded (demand_of demand.now)) (map locked_reading_of packages.now)) }
+    requires { IsIndex packages.now }
+    ensures { IfOk result (λ _. map finding_of findings.new.items ≡ map finding_of findings.old.items ++ flat_map (excluded (demand_of demand.now)) (packages_of packages.now)) }
 {
-    for locked in packages {
-        push_excluded(alloc, findings, demand, locked)?;
+    match packages.of_name(demand.name.as_slice()) {
+        Some(group) => push_excluded(alloc, findings, demand, group.as_slice()),
+        None => Ok(()),
     }
-    Ok(())
 }
 
 // Adds what a requirement of a package excludes in its own lock.
 fn push_unmet(
     alloc: Global,
     findings: &mut Vec<Finding>,
-    packages: &[LockedReading],
+    packages: &PackageIndex<'_>,
     requirement: &LineMeaning,
 ) -> Result<(), AllocError>
-    ensures { IfOk result (λ _. map finding_of findings.new.items ≡ map finding_of findings.old.items ++ unmet (map locked_reading_of packages.now) (line_meaning_of requirement.now)) }
+    requires { IsIndex packages.now }
+    ensures { IfOk result (λ _. map finding_of findings.new.items ≡ map finding_of findings.old.items ++ unmet (packages_of packages.now) (line_meaning_of requirement.now)) }
 {
     match requirement {
         LineMeaning::Asks(demand) => push_all_excluded(alloc, findings, demand, packages),
         LineMeaning::IsNone(_) | LineMeaning::LeftOut(_) | LineMeaning::AsksNothing => Ok(()),
     }
+}
+
+fn push_each_unmet(
+    alloc: Global,
+    findings: &mut Vec<Finding>,
+    packages: &PackageIndex<'_>,
+    requirements: &[LineMeaning],
+) -> Result<(), AllocError>
+    requires { IsIndex packages.now }
+    ensures { IfOk result (λ _. map finding_of findings.new.items ≡ map finding_of findings.old.items ++ flat_map (unmet (packages_of packages.now)) (map line_meaning_of requirements.now)) }
+{
+    for requirement in requirements {
+        push_unmet(alloc, findings, packages, requirement)?;
+    }
+    Ok(())
 }
 
 // Adds what requirements of packages exclude in their own lock.
@@ -124,32 +136,30 @@ pub(crate) fn push_all_unmet(
 ) -> Result<(), AllocError>
     ensures { IfOk result (λ _. map finding_of findings.new.items ≡ map finding_of findings.old.items ++ flat_map (unmet (map locked_reading_of packages.now)) (map line_meaning_of requirements.now)) }
 {
-    for requirement in requirements {
-        push_unmet(alloc, findings, packages, requirement)?;
-    }
-    Ok(())
+    let packages = PackageIndex::new(alloc, packages)?;
+    push_each_unmet(alloc, findings, &packages, requirements)
 }
 
 // Some package has the name of the requirement.
-fn has_package(demand: &Demand, packages: &[LockedReading]) -> bool
-    ensures { result ≡ list_any (has_name (demand_of demand.now)) (map locked_reading_of packages.now) }
+fn has_package(demand: &Demand, packages: &PackageIndex<'_>) -> bool
+    requires { IsIndex packages.now }
+    ensures { result ≡ list_any (has_name (demand_of demand.now)) (packages_of packages.now) }
 {
-    for locked in packages {
-        if has_name(demand, locked) {
-            return true;
-        }
+    match packages.of_name(demand.name.as_slice()) {
+        Some(group) => !group.as_slice().is_empty(),
+        None => false,
     }
-    false
 }
 
 fn push_missing(
     alloc: Global,
     findings: &mut Vec<Finding>,
-    packages: &[LockedReading],
+    packages: &PackageIndex<'_>,
     section: &Section,
     demand: &Demand,
 ) -> Result<(), AllocError>
-    ensures { IfOk result (λ _. map finding_of findings.new.items ≡ map finding_of findings.old.items ++ missing (map locked_reading_of packages.now) (section_of section.now) (demand_of demand.now)) }
+    requires { IsIndex packages.now }
+    ensures { IfOk result (λ _. map finding_of findings.new.items ≡ map finding_of findings.old.items ++ missing (packages_of packages.now) (section_of section.now) (demand_of demand.now)) }
 {
     if !is_needed(section) || has_package(demand, packages) {
         return Ok(());
@@ -162,11 +172,12 @@ fn push_missing(
 fn push_compared_demand(
     alloc: Global,
     findings: &mut Vec<Finding>,
-    packages: &[LockedReading],
+    packages: &PackageIndex<'_>,
     section: &Section,
     demand: &Demand,
 ) -> Result<(), AllocError>
-    ensures { IfOk result (λ _. map finding_of findings.new.items ≡ map finding_of findings.old.items ++ compared_demand (map locked_reading_of packages.now) (section_of section.now) (demand_of demand.now)) }
+    requires { IsIndex packages.now }
+    ensures { IfOk result (λ _. map finding_of findings.new.items ≡ map finding_of findings.old.items ++ compared_demand (packages_of packages.now) (section_of section.now) (demand_of demand.now)) }
 {
     if demand.marker.is_some() {
         return Ok(());
@@ -178,11 +189,12 @@ fn push_compared_demand(
 fn push_compared_meaning(
     alloc: Global,
     findings: &mut Vec<Finding>,
-    packages: &[LockedReading],
+    packages: &PackageIndex<'_>,
     section: &Section,
     meaning: &LineMeaning,
 ) -> Result<(), AllocError>
-    ensures { IfOk result (λ _. map finding_of findings.new.items ≡ map finding_of findings.old.items ++ flat_map (compared_demand (map locked_reading_of packages.now) (section_of section.now)) (demands_in (line_meaning_of meaning.now))) }
+    requires { IsIndex packages.now }
+    ensures { IfOk result (λ _. map finding_of findings.new.items ≡ map finding_of findings.old.items ++ flat_map (compared_demand (packages_of packages.now) (section_of section.now)) (demands_in (line_meaning_of meaning.now))) }
 {
     match meaning {
         LineMeaning::Asks(demand) => {
@@ -195,10 +207,11 @@ fn push_compared_meaning(
 fn push_compared(
     alloc: Global,
     findings: &mut Vec<Finding>,
-    packages: &[LockedReading],
+    packages: &PackageIndex<'_>,
     string: &StringReading,
 ) -> Result<(), AllocError>
-    ensures { IfOk result (λ _. map finding_of findings.new.items ≡ map finding_of findings.old.items ++ compared (map locked_reading_of packages.now) (string_reading_of string.now)) }
+    requires { IsIndex packages.now }
+    ensures { IfOk result (λ _. map finding_of findings.new.items ≡ map finding_of findings.old.items ++ compared (packages_of packages.now) (string_reading_of string.now)) }
 {
     if !is_locked(&string.section) {
         return Ok(());
@@ -209,10 +222,11 @@ fn push_compared(
 fn push_all_compared(
     alloc: Global,
     findings: &mut Vec<Finding>,
-    packages: &[LockedReading],
+    packages: &PackageIndex<'_>,
     strings: &[StringReading],
 ) -> Result<(), AllocError>
-    ensures { IfOk result (λ _. map finding_of findings.new.items ≡ map finding_of findings.old.items ++ flat_map (compared (map locked_reading_of packages.now)) (map string_reading_of strings.now)) }
+    requires { IsIndex packages.now }
+    ensures { IfOk result (λ _. map finding_of findings.new.items ≡ map finding_of findings.old.items ++ flat_map (compared (packages_of packages.now)) (map string_reading_of strings.now)) }
 {
     for string in strings {
         push_compared(alloc, findings, packages, string)?;
@@ -235,7 +249,8 @@ fn push_beside(
     let DocumentReading::Lock(packages, _) = other else {
         return Ok(());
     };
-    push_all_compared(alloc, findings, packages.as_slice(), strings.as_slice())
+    let packages = PackageIndex::new(alloc, packages.as_slice())?;
+    push_all_compared(alloc, findings, &packages, strings.as_slice())
 }
 
 // What is found in the document beside each of the others.
