@@ -10,7 +10,7 @@ use crate::locked_reading::LockedReading;
 use std::alloc::{AllocError, Global};
 use std::collections::HashMap;
 
-// All packages, and those of each name in their order.
+// All packages, and the packages of each name in their order.
 #[derive(Drop)]
 pub(crate) struct PackageIndex<'a> {
     pub(crate) packages: &'a [LockedReading],
@@ -30,7 +30,7 @@ fn packages_or_none<'a>(
     }
 }
 
-// Adds the package to those of its name.
+// Adds the package to the group of its name.
 fn push_to_group<'a>(
     alloc: Global,
     groups: &mut HashMap<&'a [u8], Vec<&'a LockedReading>>,
