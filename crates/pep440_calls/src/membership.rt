@@ -9,10 +9,11 @@ ghost use Rattle.pep440_calls.specs.Statuses.{Gives};
 use crate::buffer::{OK, flag};
 use crate::fault::Fault;
 use crate::read::{read, read_list};
-use pep440_compiled::{ContainsError, has_list_format, has_version_format};
+use pep440_compiled::{ContainsError, contains_final, has_list_format, has_version_format};
 use std::alloc::Global;
 
 // Writes whether a list contains a version, and whether this is a pre-release or a developmental release.
+#[inline(always)]
 fn put_match(given: Result<(bool, bool), Fault>, contained: &mut u8, prerelease: &mut u8) -> u8
     ensures { (list version : List ℕ) → Gives (RefusesSecond list version) (RefusesListBytes list) ⊥ (λ found. Contains list version found.0 × IsPrerelease version found.1) given → ContainsAnswer list version contained.old contained.new prerelease.old prerelease.new result }
 {
@@ -50,9 +51,9 @@ fn contains(alloc: Global, list: &[u8], bytes: &[u8]) -> Result<(bool, bool), Fa
     Ok((contained, version.any_prerelease()))
 }
 
-// As `write_match`, of any bytes. A call of its own, so that two compiled forms pay nothing for strings.
+// As `write_match`. A call of its own, so that what `contains_final` decides pays nothing for the rest.
 #[inline(never)]
-fn write_parsed_match(
+fn write_any_match(
     alloc: Global,
     list: &[u8],
     text: &[u8],
@@ -61,6 +62,9 @@ fn write_parsed_match(
 ) -> u8
     ensures { ContainsAnswer list.now text.now contained.old contained.new prerelease.old prerelease.new result }
 {
+    if has_list_format(list) && has_version_format(text) {
+        return put_match(contains_compiled(list, text), contained, prerelease);
+    }
     put_match(contains(alloc, list, text), contained, prerelease)
 }
 
@@ -76,10 +80,10 @@ pub fn write_match(
 ) -> u8
     ensures { ContainsAnswer list.now text.now contained.old contained.new prerelease.old prerelease.new result }
 {
-    if has_list_format(list) && has_version_format(text) {
-        return put_match(contains_compiled(list, text), contained, prerelease);
+    match contains_final(list, text) {
+        Some(found) => put_match(Ok((found, false)), contained, prerelease),
+        None => write_any_match(alloc, list, text, contained, prerelease),
     }
-    write_parsed_match(alloc, list, text, contained, prerelease)
 }
 
 /// Whether the list allows the version, 1 or 0 (PEP 440, "Handling of pre-releases"): it contains the version, and this is no
@@ -103,6 +107,9 @@ fn allows_compiled(list: &[u8], version: &[u8]) -> Result<bool, Fault>
     requires version { HasVersionFormat version.now }
     ensures { Gives (RefusesSecond list.now version.now) (RefusesListBytes list.now) ⊥ (Allows list.now version.now) result }
 {
+    if let Some(found) = contains_final(list, version) {
+        return Ok(found);
+    }
     let (contained, is_early) = contains_compiled(list, version)?;
     if !is_early {
         return Ok(contained);

@@ -30,7 +30,8 @@ mod views;
 pub use byte_order::cmp_bytes;
 pub use error::{CompileError, CompiledError, ContainsError, NotCompiled};
 pub use list::{
-    compile_list, contains, has_list_format, normalize_list, read_list, requests_prereleases,
+    compile_list, contains, contains_final, has_list_format, normalize_list, read_list,
+    requests_prereleases,
 };
 pub use version::{
     any_prerelease, compare, compile_version, normalize, push_compiled_form, read_sort_key,
