@@ -51,9 +51,9 @@ fn contains(alloc: Global, list: &[u8], bytes: &[u8]) -> Result<(bool, bool), Fa
     Ok((contained, version.any_prerelease()))
 }
 
-// As `write_match`. A call of its own, so that what `contains_final` decides pays nothing for the rest.
+// As `write_match`, of any bytes. A call of its own, so that two compiled forms pay nothing for strings.
 #[inline(never)]
-fn write_any_match(
+fn write_parsed_match(
     alloc: Global,
     list: &[u8],
     text: &[u8],
@@ -62,10 +62,17 @@ fn write_any_match(
 ) -> u8
     ensures { ContainsAnswer list.now text.now contained.old contained.new prerelease.old prerelease.new result }
 {
-    if has_list_format(list) && has_version_format(text) {
-        return put_match(contains_compiled(list, text), contained, prerelease);
-    }
     put_match(contains(alloc, list, text), contained, prerelease)
+}
+
+// The same of compiled forms, so that what `contains_final` finds pays nothing for the others.
+#[inline(never)]
+fn write_compiled_match(list: &[u8], text: &[u8], contained: &mut u8, prerelease: &mut u8) -> u8
+    requires list { HasListFormat list.now }
+    requires version { HasVersionFormat text.now }
+    ensures { ContainsAnswer list.now text.now contained.old contained.new prerelease.old prerelease.new result }
+{
+    put_match(contains_compiled(list, text), contained, prerelease)
 }
 
 /// Whether the list contains the version, 1 or 0 (PEP 440, "Version specifiers"); and whether the version is a pre-release or
@@ -80,9 +87,12 @@ pub fn write_match(
 ) -> u8
     ensures { ContainsAnswer list.now text.now contained.old contained.new prerelease.old prerelease.new result }
 {
+    if !has_list_format(list) || !has_version_format(text) {
+        return write_parsed_match(alloc, list, text, contained, prerelease);
+    }
     match contains_final(list, text) {
         Some(found) => put_match(Ok((found, false)), contained, prerelease),
-        None => write_any_match(alloc, list, text, contained, prerelease),
+        None => write_compiled_match(list, text, contained, prerelease),
     }
 }
 

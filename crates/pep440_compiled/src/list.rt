@@ -38,6 +38,11 @@ const LIST: u8 = 5;
 // Added to the number of an operator, so that no member begins as the zeros after a key do.
 const OPERATOR: u8 = 16;
 
+// The first bytes of members of the star forms.
+const EQUAL_STAR: u8 = 17;
+
+const NOT_EQUAL_STAR: u8 = 20;
+
 /// Whether the bytes begin with the format byte of compiled lists, which no string of a list begins with.
 pub fn has_list_format(bytes: &[u8]) -> bool
     ensures { (result ≡ true) ↔ HasListFormat bytes.now }
@@ -140,18 +145,20 @@ fn skip_key<'a>(member: &'a [u8], order: Ordering, version: &KeyView<'_>) -> Opt
     Some(rest)
 }
 
-// What follows a member, of an operator that only compares, if the version meets it.
+// What follows a member, whose first byte this is, if the version meets it; of the operators that only compare.
 #[inline(always)]
 fn compare_member<'a>(
-    operator: Operator,
+    first: u8,
     member: &'a [u8],
     version: &KeyView<'_>,
 ) -> Option<Option<&'a [u8]>>
-    ensures found { (s v : Record) (rest : List ℕ) → IsParsed s → HasKey version.now v → BeginsOtherwise 1 rest → member.now ≡ version_bytes s ++ rest → IfSome result (λ o. MatchOption o (matches operator s v ≡ false) (λ r. (matches operator s v ≡ true) × (r.now ≡ rest))) }
+    ensures found { (s : Spec) (v : Record) (rest : List ℕ) → first ≡ 16 + operator_rank s.operator → IsParsed s.version → HasKey version.now v → BeginsOtherwise 1 rest → member.now ≡ version_bytes s.version ++ rest → IfSome result (λ o. MatchOption o (matches s.operator s.version v ≡ false) (λ r. (matches s.operator s.version v ≡ true) × (r.now ≡ rest))) }
     ensures shorter { IfSome result (λ o. IfSome o (λ r. length r.now ≤ length member.now)) }
 {
     let order = cmp_common(version.key, member);
     let rest = skip_key(member, order, version)?;
+    // After the order, so that one test serves for reading the operator and for the choice.
+    let operator = read_operator(first)?;
     if matches_order(operator, order)? {
         Some(Some(skip_zeros(rest)))
     } else {
@@ -180,21 +187,19 @@ fn match_star<'a>(
     Some(Some(rest))
 }
 
-// What follows a member, whose first byte this is, if the version meets it; of most members.
+// The same of most members.
 #[inline(always)]
-fn meet_member<'a>(
-    first: u8,
-    member: &'a [u8],
-    version: &KeyView<'_>,
-) -> Option<Option<&'a [u8]>>
+fn meet_member<'a>(first: u8, member: &'a [u8], version: &KeyView<'_>) -> Option<Option<&'a [u8]>>
     ensures found { (s : Spec) (v : Record) (rest : List ℕ) → first ≡ 16 + operator_rank s.operator → IsParsed s.version → HasKey version.now v → BeginsOtherwise 1 rest → member.now ≡ version_bytes s.version ++ rest → IfSome result (λ o. MatchOption o (matches s.operator s.version v ≡ false) (λ r. (matches s.operator s.version v ≡ true) × (r.now ≡ rest))) }
     ensures shorter { IfSome result (λ o. IfSome o (λ r. length r.now ≤ length member.now)) }
 {
-    match read_operator(first)? {
-        Operator::EqualStar => match_star(false, member, version),
-        Operator::NotEqualStar => match_star(true, member, version),
-        operator => compare_member(operator, member, version),
+    if first == EQUAL_STAR {
+        return match_star(false, member, version);
     }
+    if first == NOT_EQUAL_STAR {
+        return match_star(true, member, version);
+    }
+    compare_member(first, member, version)
 }
 
 /// Whether the list contains the version, as `contains` and in fewer instructions, if that is soon found; never of a pre-release

@@ -1,4 +1,4 @@
-use Rattle.std.proofs.Common.{◌∙◌, ◌++◌, ap, arith, length, sym}
+use Rattle.std.proofs.Common.{◌∙◌, ap, length, sym}
 use Rattle.pep440_compiled.proofs.Comparing.{decided_by_order, decided_by_tie, same_keys}
 use Rattle.pep440_compiled.proofs.Fronts.{eq_true}
 use Rattle.pep440_compiled.proofs.Loops.{behind}
