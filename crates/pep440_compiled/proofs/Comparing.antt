@@ -1,6 +1,6 @@
 -- Versions in order by the parts of their sort keys.
-use Rattle.std.proofs.Common.{◌≡◌, ◌∙◌, ◌==◌, ◌&&◌, ℕ, refl, sym, ap, arith, Bool, true, false, not, List, [], ◌∷◌, ◌++◌, length, nat_eq}
-use Rattle.std.proofs.lemmas.Bool.{not-false, eqb-true}
+use Rattle.std.proofs.Common.{◌≡◌, ◌∙◌, ◌==◌, ◌&&◌, ℕ, refl, sym, ap, arith, inl, inr, Bool, true, false, not, List, [], ◌∷◌, ◌++◌, length, nat_eq}
+use Rattle.std.proofs.lemmas.Bool.{cases_Bool, not-false, eqb-true}
 use Rattle.std.proofs.lemmas.Bool.Decides.{nat_tests}
 use Rattle.std.proofs.lemmas.List.{append-nil}
 use Rattle.std.specs.Cmp.Lexicographic.{pointwise, slice_cmp}
@@ -8,12 +8,16 @@ use Rattle.std.specs.Ordering.{is_eq, nat_cmp, ordering_then}
 use Rattle.std.specs.List.{starts_with}
 use Rattle.std.specs.Prelude.{drop, if◌then◌else◌}
 use Rattle.std.specs.declared.cmp.Ordering.{Ordering}
-use Rattle.pep440_compiled.proofs.Fronts.{keyed, public_cmp, public_in_order, same_release_bytes, tied_last}
-use Rattle.pep440_compiled.proofs.Keys.{key_split}
+use Rattle.std.specs.declared.cmp.Ordering.TheVariants.{Equal}
+use Rattle.pep440_compiled.proofs.Fronts.{both_tie, keyed, public_cmp, public_in_order, same_bytes, same_release_bytes, tied_last}
+use Rattle.pep440_compiled.proofs.Keys.{key_public, key_split}
 use Rattle.pep440_compiled.proofs.Prefixes.{none_continue}
+use Rattle.pep440_compiled.proofs.Suffixes.{no_local_left}
 use Rattle.pep440_compiled.proofs.Zeros.{prefix_by_bytes}
 use Rattle.pep440_compiled.specs.KeyParts.{base_bytes, continues_with_zeros, ending_zeros, public_bytes, suffix_bytes}
+use Rattle.pep440_compiled.specs.KeyViews.{HasKey, IsDecided}
 use Rattle.pep440_compiled.specs.Version.{IsParsed}
+use Rattle.pep440_compiled.specs.declared.views.KeyView.{KeyView}
 use Rattle.pep440_keys.proofs.Order.{keys_in_order}
 use Rattle.pep440_keys.specs.SortKeys.{key_bytes, local_bytes}
 use Rattle.pep440_rs.specs.Matching.{candidate, has_local, has_prefix, same_release}
@@ -51,6 +55,29 @@ same_candidate s v h = ap (λ r. record_cmp r s) (without s v (has_local s) (emp
 
 pub no_locals : (s v : Record) → IsParsed s → IsParsed v → has_local v ≡ false → slice_cmp nat_cmp (key_bytes v) (key_bytes s) ≡ record_cmp (candidate s v) s
 no_locals s v p q h = keys_in_order v s (keyed v q) (keyed s p) ∙ same_candidate s v h
+
+-- versions that tie have one local part
+tied_candidate : (s v : Record) → IsParsed s → IsParsed v → record_cmp v s ≡ Equal → record_cmp v s ≡ record_cmp (candidate s v) s
+tied_candidate s v p q e =
+    let both = sym (public_in_order v s q p (local_bytes v.local) (local_bytes s.local)) ∙ (λ i. slice_cmp nat_cmp (sym (key_public v) i) (sym (key_public s) i)) ∙ keys_in_order v s (keyed v q) (keyed s p) ∙ e in
+    let same = same_bytes (local_bytes v.local) (local_bytes s.local) (both_tie _ _ both).1 in
+    elim (cases_Bool (has_local s)) [
+      | inl h ↦ ap (λ (b : Bool). record_cmp (if b then v else record v { local = [] }) s) (sym h)
+      | inr h ↦ same_candidate s v (ap (λ l. not (length l == 0)) (no_local_left v.local [] [] (sym (append-nil (local_bytes v.local) ∙ same ∙ ap local_bytes (empty s.local h)))).0)
+    ]
+
+pub same_keys : (s v : Record) → IsParsed s → IsParsed v → record_cmp v s ≡ Equal → key_bytes v ≡ key_bytes s
+same_keys s v p q e = same_bytes _ _ (keys_in_order v s (keyed v q) (keyed s p) ∙ e)
+
+-- ---- where the order decides
+
+pub decided_by_tie : (s v : Record) (view : KeyView) (order : Ordering) → IsParsed s → HasKey view v → order ≡ record_cmp v s → order ≡ Equal → IsDecided order s v
+decided_by_tie s v view order p k o e = record { found = o ∙ tied_candidate s v p k.parsed (sym o ∙ e); alone = inl e }
+
+pub decided_by_order : (s v : Record) (view : KeyView) (order : Ordering) → HasKey view v → order ≡ record_cmp v s → view.is_final ≡ true → IsDecided order s v
+decided_by_order s v view order k o f =
+    let final = k.final f in
+    record { found = o ∙ same_candidate s v final.local; alone = inr final }
 
 -- ---- the release
 

@@ -105,5 +105,6 @@ followed r q p o u v more =
 pub versions_in_order : (r q : Record) → IsParsed r → IsParsed q → shared_cmp (version_bytes r) (version_bytes q) ≡ record_cmp r q
 versions_in_order r q p o = followed r q p o (zero_bytes r.release) (zero_bytes q.release) (ones_begin _ _)
 
-pub version_and_key : (v s : Record) → IsParsed v → IsParsed s → shared_cmp (version_bytes v) (key_bytes s) ≡ record_cmp v s
-version_and_key v s q p = ap (shared_cmp (version_bytes v)) (sym (append-nil (key_bytes s))) ∙ followed v s q p (zero_bytes v.release) [] (inr (zero_bytes v.release, refl))
+-- a key, and one that something follows
+pub key_first : (v s : Record) → IsParsed v → IsParsed s → (w : List ℕ) → shared_cmp (key_bytes v) (key_bytes s ++ w) ≡ record_cmp v s
+key_first v s q p w = ap (λ l. shared_cmp l (key_bytes s ++ w)) (sym (append-nil (key_bytes v))) ∙ followed v s q p [] w (inl (w, refl))

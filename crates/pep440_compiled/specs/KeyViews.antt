@@ -1,16 +1,19 @@
 -- What the views of compiled versions say; no public clause cites it.
-use Rattle.std.specs.Prelude.{◌≡◌, ◌++◌, ◌∷◌, [], Bool, true, false, is_some}
+use Rattle.std.specs.Prelude.{◌≡◌, ◌⊎◌, ◌++◌, ◌∷◌, [], Bool, true, false, is_some}
 use Rattle.std.specs.List.{flat_map}
 use Rattle.pep440_compiled.specs.KeyParts.{ending_zeros, base_bytes, public_bytes, suffix_bytes}
 use Rattle.pep440_compiled.specs.Version.{IsParsed}
 use Rattle.pep440_compiled.specs.declared.checked_version.CheckedVersion.{CheckedVersion}
-use Rattle.pep440_compiled.specs.declared.views.FinalView.{FinalView}
+use Rattle.pep440_compiled.specs.declared.views.KeyView.{KeyView}
 use Rattle.pep440_compiled.specs.declared.views.PartsView.{PartsView}
 use Rattle.pep440_compiled.specs.declared.views.VersionView.{VersionView}
 use Rattle.pep440_keys.specs.SortKeys.{key_bytes, local_bytes, number_bytes}
-use Rattle.pep440_rs.specs.Matching.{any_prerelease, has_local}
+use Rattle.std.specs.declared.cmp.Ordering.{Ordering}
+use Rattle.std.specs.declared.cmp.Ordering.TheVariants.{Equal}
+use Rattle.pep440_rs.specs.Matching.{any_prerelease, candidate, has_local}
 use Rattle.pep440_rs.specs.declared.specifier.operator.Operator.{Operator}
 use Rattle.pep440_rs.specs.declared.specifier.operator.Operator.TheVariants.{EqualStar, ExactEqual, NotEqualStar, TildeEqual}
+use Rattle.pep440_version.specs.Key.{record_cmp}
 use Rattle.pep440_version.specs.Record.{Record}
 use Rattle.pep440_version.specs.Trim.{trim}
 
@@ -35,11 +38,17 @@ pub record IsFinal (r : Record) : Type 0 where
   pub post : is_some r.post ≡ false
   pub local : has_local r ≡ false
 
--- the parts are those of such a release
-pub record HasFinalParts (view : FinalView) (r : Record) : Type 0 where
-  pub final : IsFinal r
-  pub version : IsViewOf view.version r
-  pub release : view.release.now ≡ base_bytes r.epoch r.release ++ 0 ∷ []
+-- the key is that of this version, which is no pre-release
+pub record HasKey (view : KeyView) (r : Record) : Type 0 where
+  pub parsed : IsParsed r
+  pub key : view.key.now ≡ key_bytes r
+  pub prerelease : any_prerelease r ≡ false
+  pub final : view.is_final ≡ true → IsFinal r
+
+-- the order of the candidate and a specifier's version, where nothing else counts to `<` and `>`
+pub record IsDecided (order : Ordering) (s v : Record) : Type 0 where
+  pub found : order ≡ record_cmp (candidate s v) s
+  pub alone : (order ≡ Equal) ⊎ IsFinal v
 
 -- the tested parts are those of this version
 pub record HasCheckedParts (version : CheckedVersion) (r : Record) : Type 0 where

@@ -1,5 +1,5 @@
 //! The order of bytes, eight at a time.
-ghost use Rattle.std.specs.Prelude.{◌≡◌, ◌≤◌, length, take};
+ghost use Rattle.std.specs.Prelude.{◌≡◌, ◌≤◌, ◌-◌, drop, length, take};
 ghost use Rattle.std.specs.Cmp.Lexicographic.{slice_cmp};
 ghost use Rattle.std.specs.Ordering.{nat_cmp};
 ghost use Rattle.std.specs.Slice.Scan.{big_endian};
@@ -15,6 +15,15 @@ fn read_word(bytes: &[u8]) -> u64
     u64::from_be_bytes([
         bytes[0], bytes[1], bytes[2], bytes[3], bytes[4], bytes[5], bytes[6], bytes[7],
     ])
+}
+
+// The same of the last eight.
+#[inline(always)]
+fn read_last_word(bytes: &[u8]) -> u64
+    requires { 8 ≤ length bytes.now }
+    ensures { result ≡ big_endian 0 (take 8 (drop (length bytes.now - 8) bytes.now)) }
+{
+    read_word(&bytes[bytes.len() - 8..])
 }
 
 // The same of the first four.
@@ -46,6 +55,10 @@ pub fn cmp_bytes(a: &[u8], b: &[u8]) -> Ordering
     }
     if left.is_empty() {
         return 0.cmp(&right.len());
+    }
+    if a.len() >= 8 && a.len() == b.len() {
+        // What was compared is the same, and so may be compared again.
+        return read_last_word(a).cmp(&read_last_word(b));
     }
     left.cmp(right)
 }

@@ -19,6 +19,7 @@ pub(crate) fn skip_ranked_number(bytes: &[u8]) -> Option<(u8, &[u8])>
 }
 
 // What follows release numbers and the 0 that ends them.
+#[inline(always)]
 fn skip_numbers(bytes: &[u8]) -> Option<&[u8]>
     ensures found { (numbers rest : List ℕ) → bytes.now ≡ flat_map (number_bytes 1) numbers ++ 0 ∷ rest → MatchOption result ⊥ (λ r. r.now ≡ rest) }
     ensures shorter { IfSome result (λ r. length r.now < length bytes.now) }
@@ -36,6 +37,7 @@ fn skip_numbers(bytes: &[u8]) -> Option<&[u8]>
 }
 
 // The epoch, the release and the 0 that ends it; and the rest.
+#[inline(always)]
 pub(crate) fn split_release(bytes: &[u8]) -> Option<(&[u8], &[u8])>
     ensures found { (epoch : ℕ) (numbers rest : List ℕ) → bytes.now ≡ base_bytes epoch numbers ++ 0 ∷ rest → MatchOption result ⊥ (λ p. (p.0.now ≡ base_bytes epoch numbers ++ 0 ∷ []) × (p.1.now ≡ rest)) }
     ensures shorter { IfSome result (λ p. length p.1.now < length bytes.now) }

@@ -1,38 +1,47 @@
 //! Compiled lists of specifiers: made, read, asked.
-ghost use Rattle.std.specs.Prelude.{◌≡◌, ◌↔◌, ◌+◌, ◌++◌, ◌∷◌, ◌<◌, ℕ, List, false, true, length, Ok, Some, IfErr, IfOk, IfSome, MatchOption, OnOk, string_bytes};
+ghost use Rattle.std.specs.Prelude.{◌≡◌, ◌↔◌, ◌+◌, ◌++◌, ◌∷◌, ◌<◌, ◌≤◌, ℕ, not, if◌then◌else◌, List, false, true, length, Ok, Some, IfErr, IfOk, IfSome, MatchOption, OnOk, string_bytes};
 ghost use Rattle.std.specs.List.{All, flat_map};
 ghost use Rattle.pep440_compiled.specs.KeyParts.{BeginsOtherwise};
 ghost use Rattle.pep440_compiled.specs.Lists.{DenotesList, HasListFormat, IsParsedMember, member_bytes};
 ghost use Rattle.pep440_compiled.specs.Version.{DenotesVersion, HasVersionFormat, IsParsed, version_bytes};
-ghost use Rattle.pep440_compiled.specs.KeyViews.{HasFinalParts, HasParts, IsFinal};
+ghost use Rattle.pep440_compiled.specs.KeyViews.{HasKey, HasParts, IsDecided};
 ghost use Rattle.pep440_compiled.specs.declared.error.CompileError.TheVariants.{NotParsed};
 ghost use Rattle.pep440_compiled.specs.declared.error.CompiledError.TheVariants as unread;
 ghost use Rattle.pep440_compiled.specs.declared.error.ContainsError.TheVariants.{NoList, NoVersion};
 ghost use Rattle.pep440_rs.specs.Arrangement.{IsArranged};
 ghost use Rattle.pep440_rs.specs.Lists.{list_print};
-ghost use Rattle.pep440_rs.specs.Matching.{any_prerelease, list_matches, matches};
+ghost use Rattle.pep440_rs.specs.Matching.{any_prerelease, candidate, has_prefix, list_matches, matches};
 ghost use Rattle.pep440_rs.specs.Operators.{operator_rank};
 ghost use Rattle.pep440_rs.specs.Prereleases.{requests_prerelease, requests_prereleases};
 ghost use Rattle.pep440_rs.specs.Specifiers.{Spec};
+ghost use Rattle.pep440_keys.specs.SortKeys.{key_bytes};
+ghost use Rattle.pep440_version.specs.Key.{record_cmp};
 ghost use Rattle.pep440_version.specs.Record.{Record};
 
 use crate::byte_order::cmp_common;
 use crate::decode::decode_version;
 use crate::error::{CompileError, CompiledError, ContainsError, NotCompiled};
-use crate::matching::{matches_bytes, matches_final};
+use crate::key_parts::skip_zeros;
+use crate::matching::{begins_with_release, matches_bytes, matches_order};
 use crate::parsed::is_parsed;
 use crate::version::push_version;
 use crate::views::{
-    FinalView, PartsView, split_final, strip_format, view_final, view_parts, view_version_parts,
+    KeyView, PartsView, split_final, strip_format, view_key, view_parts, view_version_parts,
 };
 use pep440_rs::{Operator, VersionSpecifier, VersionSpecifiers};
 use std::alloc::{AllocError, Global};
+use std::cmp::Ordering;
 
 // The format of lists.
 const LIST: u8 = 5;
 
 // Added to the number of an operator, so that no member begins as the zeros after a key do.
 const OPERATOR: u8 = 16;
+
+// The first bytes of members of the star forms.
+const EQUAL_STAR: u8 = 17;
+
+const NOT_EQUAL_STAR: u8 = 20;
 
 /// Whether the bytes begin with the format byte of compiled lists, which no string of a list begins with.
 pub fn has_list_format(bytes: &[u8]) -> bool
@@ -119,40 +128,108 @@ fn view_members(bytes: &[u8]) -> Option<&[u8]>
     }
 }
 
-// Whether a final release meets a member, by the member's first byte; of most operators.
+// What follows the sort key of a member, and the order decides; `None` if more than the order counts.
 #[inline(always)]
-fn meets_final(first: u8, member: &FinalView<'_>, version: &[u8]) -> Option<bool>
-    ensures { (s : Spec) (v : Record) → first ≡ 16 + operator_rank s.operator → HasFinalParts member.now s.version → IsParsed v → IsFinal v → version.now ≡ version_bytes v → IfSome result (λ b. b ≡ matches s.operator s.version v) }
+fn skip_key<'a>(member: &'a [u8], order: Ordering, version: &KeyView<'_>) -> Option<&'a [u8]>
+    ensures found { (s v : Record) (rest : List ℕ) → IsParsed s → HasKey version.now v → order ≡ record_cmp v s → member.now ≡ key_bytes s ++ rest → IfSome result (λ r. (r.now ≡ rest) × IsDecided order s v) }
+    ensures shorter { IfSome result (λ r. length r.now ≤ length member.now) }
 {
-    let order = cmp_common(version, member.version.key);
-    // After the order, so that one test serves for reading the operator and for the choice.
-    let operator = read_operator(first)?;
-    matches_final(operator, order, member, version)
+    if order.is_eq() {
+        let (_, rest) = member.split_at_checked(version.key.len())?;
+        return Some(rest);
+    }
+    if !version.is_final {
+        return None;
+    }
+    let (_, rest) = split_final(member)?;
+    Some(rest)
 }
 
-// As `contains`, if each version is a final release without a local part, as most are; of most operators.
+// What follows a member, whose first byte this is, if the version meets it; of the operators that only compare.
 #[inline(always)]
-fn contains_final(list: &[u8], version: &[u8]) -> Option<bool>
+fn compare_member<'a>(
+    first: u8,
+    member: &'a [u8],
+    version: &KeyView<'_>,
+) -> Option<Option<&'a [u8]>>
+    ensures found { (s : Spec) (v : Record) (rest : List ℕ) → first ≡ 16 + operator_rank s.operator → IsParsed s.version → HasKey version.now v → BeginsOtherwise 1 rest → member.now ≡ version_bytes s.version ++ rest → IfSome result (λ o. MatchOption o (matches s.operator s.version v ≡ false) (λ r. (matches s.operator s.version v ≡ true) × (r.now ≡ rest))) }
+    ensures shorter { IfSome result (λ o. IfSome o (λ r. length r.now ≤ length member.now)) }
+{
+    let order = cmp_common(version.key, member);
+    let rest = skip_key(member, order, version)?;
+    // After the order, so that one test serves for reading the operator and for the choice.
+    let operator = read_operator(first)?;
+    if matches_order(operator, order)? {
+        Some(Some(skip_zeros(rest)))
+    } else {
+        Some(None)
+    }
+}
+
+// The same of a star form, but for those of a release that zeros end.
+#[inline(always)]
+fn match_star<'a>(
+    is_exclusion: bool,
+    member: &'a [u8],
+    version: &KeyView<'_>,
+) -> Option<Option<&'a [u8]>>
+    ensures found { (s v : Record) (rest : List ℕ) → IsParsed s → HasKey version.now v → BeginsOtherwise 1 rest → member.now ≡ version_bytes s ++ rest → let found = (if is_exclusion then not (has_prefix s s.release v) else has_prefix s s.release v) in IfSome result (λ o. MatchOption o (found ≡ false) (λ r. (found ≡ true) × (r.now ≡ rest))) }
+    ensures shorter { IfSome result (λ o. IfSome o (λ r. length r.now ≤ length member.now)) }
+{
+    let (release, after) = split_final(member)?;
+    let rest = skip_zeros(after);
+    if rest.len() < after.len() {
+        return None;
+    }
+    if begins_with_release(version.key, release) == is_exclusion {
+        return Some(None);
+    }
+    Some(Some(rest))
+}
+
+// The same of most members.
+#[inline(always)]
+fn meet_member<'a>(first: u8, member: &'a [u8], version: &KeyView<'_>) -> Option<Option<&'a [u8]>>
+    ensures found { (s : Spec) (v : Record) (rest : List ℕ) → first ≡ 16 + operator_rank s.operator → IsParsed s.version → HasKey version.now v → BeginsOtherwise 1 rest → member.now ≡ version_bytes s.version ++ rest → IfSome result (λ o. MatchOption o (matches s.operator s.version v ≡ false) (λ r. (matches s.operator s.version v ≡ true) × (r.now ≡ rest))) }
+    ensures shorter { IfSome result (λ o. IfSome o (λ r. length r.now ≤ length member.now)) }
+{
+    if first == EQUAL_STAR {
+        return match_star(false, member, version);
+    }
+    if first == NOT_EQUAL_STAR {
+        return match_star(true, member, version);
+    }
+    compare_member(first, member, version)
+}
+
+/// Whether the list contains the version, as `contains` and in fewer instructions, if that is soon found; never of a pre-release
+/// or a developmental release.
+///
+/// Does not allocate.
+#[inline(always)]
+pub fn contains_final(list: &[u8], version: &[u8]) -> Option<bool>
     ensures found { (l : List Spec) (r : Record) → DenotesList list.now l → DenotesVersion version.now r → IfSome result (λ b. b ≡ list_matches l r) }
     ensures prerelease { (r : Record) → DenotesVersion version.now r → IfSome result (λ _. any_prerelease r ≡ false) }
     ensures format { IfSome result (λ _. HasListFormat list.now × HasVersionFormat version.now) }
 {
-    let version = strip_format(version)?;
-    split_final(version)?;
+    let version = view_key(strip_format(version)?)?;
     let mut left = view_members(list)?;
     while let Some((first, member)) = left.split_first() {
-        let (member, rest) = view_final(member)?;
-        if !meets_final(*first, &member, version)? {
-            return Some(false);
+        match meet_member(*first, member, &version)? {
+            Some(rest) => left = rest,
+            None => return Some(false),
         }
-        left = rest;
     }
     Some(true)
 }
 
-// As `contains`, of any versions.
+/// Whether the list that the one bytes denote contains the version that the others denote, as `VersionSpecifiers::contains`
+/// (PEP 440, "Version specifiers"); and whether the version is a pre-release or a developmental release. If one is of another
+/// format, the error names it; if `list` denotes no list or `version` no version, an error or any result.
+///
+/// Does not allocate.
 #[inline(never)]
-fn contains_any(list: &[u8], version: &[u8]) -> Result<(bool, bool), ContainsError>
+pub fn contains(list: &[u8], version: &[u8]) -> Result<(bool, bool), ContainsError>
     ensures found { (l : List Spec) (r : Record) → DenotesList list.now l → DenotesVersion version.now r → result ≡ Ok (list_matches l r, any_prerelease r) }
     ensures prerelease { (r : Record) → DenotesVersion version.now r → IfOk result (λ found. found.1 ≡ any_prerelease r) }
     ensures format { IfOk result (λ _. HasListFormat list.now × HasVersionFormat version.now) }
@@ -176,25 +253,6 @@ fn contains_any(list: &[u8], version: &[u8]) -> Result<(bool, bool), ContainsErr
         left = rest;
     }
     Ok((true, is_prerelease))
-}
-
-/// Whether the list that the one bytes denote contains the version that the others denote, as `VersionSpecifiers::contains`
-/// (PEP 440, "Version specifiers"); and whether the version is a pre-release or a developmental release. If one is of another
-/// format, the error names it; if `list` denotes no list or `version` no version, an error or any result.
-///
-/// Does not allocate.
-#[inline(always)]
-pub fn contains(list: &[u8], version: &[u8]) -> Result<(bool, bool), ContainsError>
-    ensures found { (l : List Spec) (r : Record) → DenotesList list.now l → DenotesVersion version.now r → result ≡ Ok (list_matches l r, any_prerelease r) }
-    ensures prerelease { (r : Record) → DenotesVersion version.now r → IfOk result (λ found. found.1 ≡ any_prerelease r) }
-    ensures format { IfOk result (λ _. HasListFormat list.now × HasVersionFormat version.now) }
-    ensures version { IfErr result (λ e. e ≡ NoVersion → (r : Record) → DenotesVersion version.now r → ⊥) }
-    ensures list { IfErr result (λ e. e ≡ NoList → (l : List Spec) → DenotesList list.now l → ⊥) }
-{
-    match contains_final(list, version) {
-        Some(found) => Ok((found, false)),
-        None => contains_any(list, version),
-    }
 }
 
 fn requests_prerelease(member: MemberView<'_>) -> bool

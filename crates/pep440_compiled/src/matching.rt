@@ -1,8 +1,8 @@
 //! What matching asks of two compiled versions, by their bytes (PEP 440, "Version specifiers").
 ghost use Rattle.std.specs.Prelude.{◌≡◌, ◌≤◌, ◌<◌, ◌++◌, ◌∷◌, ◌&&◌, ◌==◌, [], ℕ, List, false, true, is_some, length, nat_eq, MatchOption, IfSome};
 ghost use Rattle.pep440_compiled.specs.KeyParts.{begins_with_ones, continues_with_zeros, ending_zeros, base_bytes, suffix_bytes};
-ghost use Rattle.pep440_compiled.specs.Version.{IsParsed, version_bytes};
-ghost use Rattle.pep440_compiled.specs.KeyViews.{HasFinalParts, HasParts, IsFinal, IsViewOf, is_compared};
+ghost use Rattle.pep440_compiled.specs.Version.{IsParsed};
+ghost use Rattle.pep440_compiled.specs.KeyViews.{HasParts, IsDecided, IsViewOf, is_compared};
 ghost use Rattle.pep440_keys.specs.SortKeys.{key_bytes, local_bytes};
 ghost use Rattle.pep440_rs.specs.Matching.{begins_with, candidate, has_local, has_prefix, is_early, is_late, matches, same_release, without_last};
 ghost use Rattle.pep440_rs.specs.Specifiers.{IsSpec};
@@ -12,7 +12,7 @@ ghost use Rattle.std.specs.List.{All, starts_with};
 
 use crate::byte_order::cmp_bytes;
 use crate::key_parts::skip_ranked_number;
-use crate::views::{FinalView, PartsView};
+use crate::views::PartsView;
 use pep440_rs::Operator;
 use std::cmp::Ordering;
 
@@ -190,27 +190,18 @@ pub(crate) fn matches_bytes(
     }
 }
 
-// The release of the final version begins with that of the specifier; `None` if this ends in zeros.
+// The release of the version begins with this one, which no zeros end.
 #[inline(always)]
-fn has_final_release(specifier: &FinalView<'_>, version: &[u8]) -> Option<bool>
-    ensures { (s v : Record) → HasFinalParts specifier.now s → IsParsed v → version.now ≡ version_bytes v → IfSome result (λ b. b ≡ has_prefix s s.release v) }
+pub(crate) fn begins_with_release(key: &[u8], release: &[u8]) -> bool
+    ensures { (s v : Record) → IsParsed s → IsParsed v → ending_zeros s.release ≡ 0 → key.now ≡ key_bytes v → release.now ≡ base_bytes s.epoch s.release ++ 0 ∷ [] → result ≡ has_prefix s s.release v }
 {
-    if specifier.version.zeros > 0 {
-        return None;
-    }
-    Some(version.starts_with(base(specifier.release)))
+    key.starts_with(base(release))
 }
 
-// Whether the specifier contains the version, if both are final releases without a local part, in this order; `None` for `===`
-// and `~=`.
+// Whether a version in this order to the specifier's matches, if the order decides; `None` for `===`, `~=` and the star forms.
 #[inline(always)]
-pub(crate) fn matches_final(
-    operator: Operator,
-    order: Ordering,
-    specifier: &FinalView<'_>,
-    version: &[u8],
-) -> Option<bool>
-    ensures { (s v : Record) → HasFinalParts specifier.now s → IsParsed v → IsFinal v → version.now ≡ version_bytes v → order ≡ record_cmp (candidate s v) s → IfSome result (λ b. b ≡ matches operator s v) }
+pub(crate) fn matches_order(operator: Operator, order: Ordering) -> Option<bool>
+    ensures { (s v : Record) → IsDecided order s v → IfSome result (λ b. b ≡ matches operator s v) }
 {
     Some(match operator {
         Operator::Equal => order.is_eq(),
@@ -219,8 +210,6 @@ pub(crate) fn matches_final(
         Operator::LessThanEqual => order.is_le(),
         Operator::LessThan => order.is_lt(),
         Operator::GreaterThan => order.is_gt(),
-        Operator::EqualStar => has_final_release(specifier, version)?,
-        Operator::NotEqualStar => !has_final_release(specifier, version)?,
         _ => return None,
     })
 }

@@ -3,7 +3,7 @@ ghost use Rattle.std.specs.Prelude.{◌≡◌, ◌↔◌, ◌<◌, ◌++◌, ◌
 ghost use Rattle.pep440_compiled.specs.KeyParts.{BeginsOtherwise, base_bytes, suffix_bytes};
 ghost use Rattle.pep440_compiled.specs.Version.{DenotesVersion, HasVersionFormat, IsParsed, version_bytes, zero_bytes};
 ghost use Rattle.pep440_keys.specs.SortKeys.{key_bytes, local_bytes};
-ghost use Rattle.pep440_compiled.specs.KeyViews.{HasFinalParts, HasParts, IsFinal, IsViewOf};
+ghost use Rattle.pep440_compiled.specs.KeyViews.{HasKey, HasParts, IsFinal, IsViewOf};
 ghost use Rattle.pep440_version.specs.Record.{Record};
 
 use crate::byte_order::read_half_word;
@@ -30,11 +30,11 @@ pub(crate) struct PartsView<'a> {
     pub(crate) has_local: bool,
 }
 
-// A final release without a local part, and epoch and release with the 0 that ends it.
+// The sort key of a version that is no pre-release; and whether it is known to be a final release without a local part.
 #[derive(Clone, Copy)]
-pub(crate) struct FinalView<'a> {
-    pub(crate) version: VersionView<'a>,
-    pub(crate) release: &'a [u8],
+pub(crate) struct KeyView<'a> {
+    pub(crate) key: &'a [u8],
+    pub(crate) is_final: bool,
 }
 
 /// Whether the bytes begin with the format byte of compiled versions, which no string of a version begins with.
@@ -133,19 +133,26 @@ pub(crate) fn split_final(bytes: &[u8]) -> Option<(&[u8], &[u8])>
     Some((release, rest))
 }
 
-// The leading version, if it is such a release, and the rest.
+// The sort key of a version, if it is neither a pre-release nor a developmental release, as few are.
 #[inline(always)]
-pub(crate) fn view_final(bytes: &[u8]) -> Option<(FinalView<'_>, &[u8])>
-    ensures found { (r : Record) (rest : List ℕ) → IsParsed r → BeginsOtherwise 1 rest → bytes.now ≡ version_bytes r ++ rest → IfSome result (λ p. HasFinalParts p.0 r × (p.1.now ≡ rest)) }
-    ensures shorter { IfSome result (λ p. length p.1.now < length bytes.now) }
+pub(crate) fn view_key(bytes: &[u8]) -> Option<KeyView<'_>>
+    ensures { (r : Record) → IsParsed r → bytes.now ≡ version_bytes r → IfSome result (λ view. HasKey view r) }
 {
-    let (release, after) = split_final(bytes)?;
-    let rest = skip_zeros(after);
-    let version = VersionView {
-        key: &bytes[..bytes.len() - after.len()],
-        zeros: after.len() - rest.len(),
-    };
-    Some((FinalView { version, release }, rest))
+    let (_, suffix) = split_release(bytes)?;
+    if let Some(rest) = strip_final_suffix(suffix) {
+        return Some(KeyView {
+            key: &bytes[..bytes.len() - rest.len()],
+            is_final: true,
+        });
+    }
+    let (suffix, _) = split_suffix(suffix)?;
+    if suffix.is_prerelease {
+        return None;
+    }
+    Some(KeyView {
+        key: trim_zeros(bytes),
+        is_final: false,
+    })
 }
 
 // The parts of the compiled version.

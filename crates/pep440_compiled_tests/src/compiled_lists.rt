@@ -3,7 +3,8 @@ use crate::bytes::{bytes_argument, print_bytes};
 use crate::compiled_versions::{ONE, case_error, print_rejection};
 use pep440_compiled::{
     CompileError, CompiledError, ContainsError, NotCompiled, any_prerelease, compile_list,
-    compile_version, contains, has_list_format, normalize_list, read_list, requests_prereleases,
+    compile_version, contains, contains_final, has_list_format, normalize_list, read_list,
+    requests_prereleases,
 };
 use pep440_rs::{SpecifiersErrorKind, VersionSpecifier, VersionSpecifiers};
 use pep440_version::Version;
@@ -83,7 +84,11 @@ pub fn requests(alloc: Global, text: &str) -> Result<String, CaseError> {
 
 // Whether the list contains the version, of which it also reports whether it is a pre-release.
 fn print_contained(alloc: Global, list: &[u8], version: &[u8]) -> Result<String, CaseError> {
-    let text = match contains(list, version) {
+    let found = match contains_final(list, version) {
+        Some(is_contained) => Ok((is_contained, false)),
+        None => contains(list, version),
+    };
+    let text = match found {
         Ok((_, is_prerelease)) if any_prerelease(version) != Ok(is_prerelease) => {
             return Err(CaseError::Disagreement);
         }

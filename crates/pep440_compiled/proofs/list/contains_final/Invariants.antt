@@ -9,8 +9,8 @@ use Rattle.pep440_version.specs.Record.{Record}
 
 -- what is left of the list decides
 abbrev pub invariant-loop-first : goal.invariant-loop-first
-invariant-loop-first l = (list : List Spec) → DenotesList l.fn.list list
-    → (more : List Spec) × AllByRecursion IsParsedMember more × (l.left ≡ flat_map member_bytes more) × ((v : Record) → DenotesVersion l.fn.version v → list_matches list v ≡ list_matches more v)
+invariant-loop-first l = (list : List Spec) (v : Record) → DenotesList l.fn.list list → DenotesVersion l.fn.version v
+    → (more : List Spec) × AllByRecursion IsParsedMember more × (l.left ≡ flat_map member_bytes more) × (list_matches list v ≡ list_matches more v)
 
 abbrev pub decreases-loop-first : goal.decreases-loop-first
 decreases-loop-first l = length l.left
