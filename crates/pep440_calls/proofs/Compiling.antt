@@ -1,6 +1,5 @@
 -- Each version and each list that a string denotes has a compiled form.
-use Rattle.arrayvec.specs.ArrayVec.{ArrayVec}
-use Rattle.std.proofs.Common.{◌≡◌, ℕ, List, Option, Some, None, IfSome, inl, inr, refl, subst, sym}
+use Rattle.std.proofs.Common.{◌≡◌, ℕ, List, inl, inr, refl, subst, sym}
 use Rattle.std.proofs.lemmas.List.Elements.{All-weaker}
 use Rattle.std.specs.List.{All}
 use Rattle.pep440_compiled.proofs.Exact.{parsed}
@@ -40,6 +39,5 @@ only_memory version list range f NotParsed is never = absurd (never refl)
 only_memory version list range f OutOfMemory is never = subst (Faults version list range) (sym is) tt
 
 -- the compiled form of a string that needs no version
-pub string_compiled : (bytes : List ℕ) → (¬ HasVersionFormat bytes) → (result : Option (ArrayVec ℕ)) → IfSome result (λ form. (r : Record) × Derives bytes r × DenotesVersion form.items r) → IfSome result (λ form. IsCompiled bytes form.items)
-string_compiled bytes plain None h = h
-string_compiled bytes plain (Some form) (r, d, denotes) = (r, inl (plain, (derived_utf8 bytes r d, d)), denotes)
+pub string_compiled : (bytes form : List ℕ) → (¬ HasVersionFormat bytes) → (r : Record) × Derives bytes r × DenotesVersion form r → IsCompiled bytes form
+string_compiled bytes form plain (r, d, denotes) = (r, inl (plain, (derived_utf8 bytes r d, d)), denotes)

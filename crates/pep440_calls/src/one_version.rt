@@ -1,5 +1,5 @@
 //! What is made of one version: its normal form, compiled form, parts, sort key and word.
-ghost use Rattle.std.specs.Prelude.{IfSome, string_bytes, ◌≡◌};
+ghost use Rattle.std.specs.Prelude.{[], string_bytes, true, ◌≡◌};
 ghost use Rattle.pep440_compiled.specs.Version.{HasVersionFormat};
 ghost use Rattle.pep440_calls.specs.CallResults.{IsCompiled, IsKey, IsNormal, PartsAnswer, TellsParts, TellsWord, WordAnswer, kind_number};
 ghost use Rattle.pep440_calls.specs.Meaning.{RefusesBytes};
@@ -50,21 +50,20 @@ fn normalize(alloc: Global, bytes: &[u8]) -> Result<String, Fault>
 pub fn write_compiled(alloc: Global, text: &[u8], out: &mut [u8], written: &mut usize) -> u8
     ensures { PutsBytes (RefusesBytes text.now) ⊥ ⊥ (IsCompiled text.now) out.old out.new written.old written.new result }
 {
-    if let Some(form) = compile_normal(text) {
+    let mut form = ArrayVec::new();
+    if compile_normal(&mut form, text) {
         return put_and_count(form.as_slice(), out, written);
     }
     put_bytes(compile(alloc, text), out, written)
 }
 
-// The compiled form of a string in a normal spelling.
+// Writes the compiled form of a string in a normal spelling; `false` of other bytes.
 #[inline(always)]
-fn compile_normal(bytes: &[u8]) -> Option<ArrayVec<u8, 64>>
-    ensures { IfSome result (λ form. IsCompiled bytes.now form.items) }
+fn compile_normal(form: &mut ArrayVec<u8, 64>, bytes: &[u8]) -> bool
+    requires { form.old.items ≡ [] }
+    ensures { result ≡ true → IsCompiled bytes.now form.new.items }
 {
-    if has_version_format(bytes) {
-        return None;
-    }
-    pep440_compiled::compile_normal(bytes)
+    !has_version_format(bytes) && pep440_compiled::compile_normal(form, bytes)
 }
 
 fn compile(alloc: Global, text: &[u8]) -> Result<Vec<u8>, Fault>

@@ -22,9 +22,9 @@ mod key_parts;
 pub mod laws;
 mod list;
 mod matching;
-mod normal;
 mod parsed;
 mod print;
+mod stack_form;
 mod version;
 mod views;
 
@@ -33,7 +33,7 @@ pub use error::{CompileError, CompiledError, ContainsError, NotCompiled};
 pub use list::{
     compile_list, contains, has_list_format, normalize_list, read_list, requests_prereleases,
 };
-pub use normal::compile_normal;
+pub use stack_form::compile_normal;
 pub use version::{
     any_prerelease, compare, compile_version, normalize, push_compiled_form, read_sort_key,
     read_version, sort_key,

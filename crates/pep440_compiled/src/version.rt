@@ -23,6 +23,7 @@ use std::alloc::{AllocError, Global};
 use std::cmp::Ordering;
 
 // A byte 1 for each zero that ends the release.
+#[inline(always)]
 pub(crate) fn push_zeros<K: KeySink>(bytes: &mut K, release: &[u64]) -> Result<(), AllocError>
     ensures { OnOk result (K.written bytes.new ≡ K.written bytes.old ++ zero_bytes release.now) }
 {

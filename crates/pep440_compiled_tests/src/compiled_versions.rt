@@ -1,5 +1,6 @@
 //! Compiled versions.
 use crate::bytes::{bytes_argument, print_bytes};
+use arrayvec::ArrayVec;
 use pep440_compiled::{
     CompileError, CompiledError, ContainsError, any_prerelease, compare, compile_normal,
     compile_version, contains, has_version_format, normalize, push_compiled_form, read_sort_key,
@@ -60,10 +61,11 @@ pub fn compile_local(alloc: Global, text: &str) -> Result<String, CaseError> {
 
 /// The compiled form of a string in a normal spelling.
 pub fn compile_text(alloc: Global, text: &str) -> Result<String, CaseError> {
-    match compile_normal(text.as_bytes()) {
-        Some(form) => print_bytes(alloc, form.as_slice()),
-        None => Ok(String::from_str(alloc, "not normal")?),
+    let mut form = ArrayVec::new();
+    if compile_normal(&mut form, text.as_bytes()) {
+        return Ok(print_bytes(alloc, form.as_slice())?);
     }
+    Ok(String::from_str(alloc, "not normal")?)
 }
 
 /// `1` and `>=1`, compiled.

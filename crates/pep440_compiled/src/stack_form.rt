@@ -1,5 +1,5 @@
 //! The compiled form of a string in a normal spelling, written from its parts before a version is made of them.
-ghost use Rattle.std.specs.Prelude.{◌≡◌, ◌++◌, List, IfOk, IfSome, true};
+ghost use Rattle.std.specs.Prelude.{◌≡◌, ◌++◌, List, [], IfOk, true};
 ghost use Rattle.pep440_compiled.specs.Version.{DenotesVersion, compiled_bytes};
 ghost use Rattle.pep440_keys.specs.SortKeys.{local_bytes};
 ghost use Rattle.pep440_version.specs.Grammar.{Derives, IsLocal};
@@ -51,18 +51,21 @@ fn push_form(
     Ok(true)
 }
 
-/// The compiled form of the version that the string of these bytes parses to, if the string is in a normal spelling and the form
-/// has at most 64 bytes; `None` of any other string, which `compile_version` compiles once it is parsed.
+/// Writes the compiled form of the version that the string of these bytes parses to, if the string is in a normal spelling and the
+/// form has at most 64 bytes. `false` of any other string, which `compile_version` compiles once it is parsed; part of a form may
+/// then have been written.
 ///
 /// Does not allocate.
 #[inline(always)]
-pub fn compile_normal(text: &[u8]) -> Option<ArrayVec<u8, 64>>
-    ensures { IfSome result (λ form. (r : Record) × Derives text.now r × DenotesVersion form.items r) }
+pub fn compile_normal(form: &mut ArrayVec<u8, 64>, text: &[u8]) -> bool
+    requires { form.old.items ≡ [] }
+    ensures { result ≡ true → (r : Record) × Derives text.now r × DenotesVersion form.new.items r }
 {
-    let (parts, rest) = parse_leading_parts(text)?;
-    let mut form = ArrayVec::new();
-    match push_form(&mut form, &parts, rest) {
-        Ok(true) => Some(form),
-        _ => None,
+    let Some((parts, rest)) = parse_leading_parts(text) else {
+        return false;
+    };
+    match push_form(form, &parts, rest) {
+        Ok(done) => done,
+        Err(_) => false,
     }
 }

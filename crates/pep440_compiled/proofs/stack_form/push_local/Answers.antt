@@ -2,7 +2,7 @@ use Rattle.std.proofs.Common.{rules, arith, ◌≡◌, ◌<◌, ◌-◌, ◌∷�
 use Rattle.pep440_version.proofs.Reading.NormalParts.{by_first}
 use Rattle.pep440_version.specs.Record.{Text}
 use Rattle.pep440_compiled.proofs.WrittenForm.{string_local, string_written}
-use Rattle.pep440_compiled.proofs.normal.push_local.Goals as goal
+use Rattle.pep440_compiled.proofs.stack_form.push_local.Goals as goal
 
 pub returns-in_ok-append-in-43-3 : goal.returns-in_ok-append-in-43-3
 returns-in_ok-append-in-43-3 c = λ _.
