@@ -32,7 +32,7 @@ told_more a b c xs message wrote k = record {
 }
 
 -- the message of a failed write with this status
-write_failure : (status : ℕ) → (status ≡ 4) ⊎ (status ≡ 141) → (message : List ℕ) × IsWriteFailure status message
+pub write_failure : (status : ℕ) → (status ≡ 4) ⊎ (status ≡ 141) → (message : List ℕ) × IsWriteFailure status message
 write_failure status (inl four) = (write_message, inl (four, refl))
 write_failure status (inr unread) = ([], inr (unread, refl))
 
