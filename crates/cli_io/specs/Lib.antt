@@ -1,3 +1,4 @@
 pub mod Escapes
 pub mod Newlines
 pub mod Streams
+pub mod Runs

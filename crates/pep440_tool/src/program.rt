@@ -1,9 +1,10 @@
 // The program over any reader and any writer.
-ghost use Rattle.std.specs.Prelude.{◌≡◌, ◌⊎◌, ◌≤◌, map, string_bytes};
-ghost use Rattle.pep440_tool.specs.Texts.{memory_text};
+ghost use Rattle.std.specs.Prelude.{◌≡◌, ◌⊎◌, false, map, string_bytes};
 ghost use Rattle.std.specs.Io.KnownBytes.{Appends};
-ghost use Rattle.pep440_tool.specs.Runs.{RunEnds};
 ghost use Rattle.cli_io.specs.Streams.{WroteBeginning};
+ghost use Rattle.pep440_tool.specs.Commands.{asked, reads_input};
+ghost use Rattle.pep440_tool.specs.Runs.{RunEnds};
+ghost use Rattle.pep440_tool.specs.Texts.{memory_text};
 
 use crate::command::Command;
 use cli_io::status::{FAILED, OUT_OF_MEMORY};
@@ -23,7 +24,9 @@ const MEMORY: &str = "error: out of memory\n";
 /// written and nothing else. With 4 a prefix was written, of the output, after the input that it needs was read, or of that
 /// message. Only `filter` and `pick`, with a right number of words, read the input.
 pub fn run<R: Read, W: Write>(alloc: Global, words: &[String], reader: &mut R, writer: &mut W) -> u8
-    ensures { RunEnds R.remaining W.contents (map string_bytes words.now) reader.old reader.new writer.old writer.new result }
+    ensures ends { RunEnds R.remaining W.contents (map string_bytes words.now) reader.old reader.new writer.old writer.new result }
+    ensures memory { result ≡ 3 → Appends (W.contents writer.old) (W.contents writer.new) memory_text }
+    ensures unread { reads_input (asked (map string_bytes words.now)) ≡ false → reader.new ≡ reader.old }
 {
     let command = Command::parse(words);
     let mut input = Vec::new(alloc);

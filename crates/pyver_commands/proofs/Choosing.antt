@@ -16,7 +16,7 @@ use Rattle.pep440_version.specs.KeyLaws.{record_total}
 use Rattle.pep440_version.specs.Record.{Record}
 use Rattle.pyver_commands.specs.NewestOutcomes.{IsNewestLine, NewestLine, allowed_lines, or_else}
 use Rattle.pyver_commands.specs.NewestViews.{kept_line}
-use Rattle.pyver_commands.specs.VersionLines.{VersionLine}
+use Rattle.pyver_commands.specs.Sources.VersionLines.{VersionLine}
 use Rattle.pyver_commands.specs.declared.newest_lines.KeptLine.{KeptLine}
 use Rattle.pyver_commands.specs.declared.prerelease_rule.Prereleases.{Prereleases}
 use Rattle.pyver_commands.specs.declared.prerelease_rule.Prereleases.TheVariants as prereleases

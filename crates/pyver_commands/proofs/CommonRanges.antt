@@ -22,7 +22,7 @@ use Rattle.pep440_version.specs.KeyLaws.{record_total}
 use Rattle.pep440_version.specs.Record.{Record}
 use Rattle.pyver_commands.specs.CommonRanges.{FindsCommon, RangeReading, ReadsRange, common, common_outcome, covers_in, lists_outcome, members_in, message_in, ranges_in, with_cover}
 use Rattle.pyver_commands.specs.Matches.{DenotesList, ListFails}
-use Rattle.pyver_commands.specs.Outcomes.{Outcome}
+use Rattle.cli_io.specs.Runs.{Outcome}
 use Rattle.pyver_commands.specs.RangeLaws.{AllowsVersion, CommonIsInEach, NoVersionIsCommon, VersionIsCommon}
 use Rattle.pep440_version.proofs.RoundTrip.PrintIsRead.{none_all}
 use Rattle.pep440_witness.proofs.Finding.{first_contained, is_none}

@@ -12,14 +12,14 @@ use Rattle.pyver_commands.specs.FilterSteps.{Cuts, Goes, Keeps, KeepsMore, Sourc
 use Rattle.pep440_rs.specs.Prereleases.{list_allows}
 use Rattle.pyver_commands.specs.Filters.{is_printed, is_wanted, printed_lines}
 use Rattle.cli_io.specs.Newlines.{input_lines}
-use Rattle.pyver_commands.specs.InputLines.{SourceLine, Origin, Source, filled_lines_from, is_blank, numbered}
-use Rattle.pyver_commands.specs.InvalidLines.{message_limit}
-use Rattle.pyver_commands.specs.LineOptions.{is_header}
-use Rattle.pyver_commands.specs.ReadLines.{Entry, IsEntry, IsRead, LineReading, ReadLine, fault_at, faults}
+use Rattle.pyver_commands.specs.Sources.InputLines.{SourceLine, Origin, Source, filled_lines_from, is_blank, numbered}
+use Rattle.pyver_commands.specs.Sources.InvalidLines.{message_limit}
+use Rattle.pyver_commands.specs.Sources.LineOptions.{is_header}
+use Rattle.pyver_commands.specs.Sources.ReadLines.{Entry, IsEntry, IsRead, LineReading, ReadLine, fault_at, faults}
 use Rattle.pyver_commands.specs.NewestViews.{KeepsNewest}
 use Rattle.pyver_commands.specs.Readings.{Denotes}
 use Rattle.cli_io.specs.Streams.{WroteBeginning}
-use Rattle.pyver_commands.specs.VersionLines.{VersionLine, line_with, version_lines}
+use Rattle.pyver_commands.specs.Sources.VersionLines.{VersionLine, line_with, version_lines}
 use Rattle.pyver_commands.specs.declared.filter.FilterRule.{FilterRule}
 use Rattle.pyver_commands.specs.declared.filter.FilterState.{FilterState}
 use Rattle.pyver_commands.specs.declared.filter.Selection.TheVariants as wanted

@@ -7,7 +7,7 @@ use Rattle.std.proofs.lemmas.List.Elements.{All-nil, All-push, filter-append}
 use Rattle.std.proofs.lemmas.List.Splits.{length-slice_split, slice_split_at, slice_split_none}
 use Rattle.pyver_commands.specs.FilterSteps.{Cuts, HasNoNewline}
 use Rattle.cli_io.specs.Newlines.{input_lines}
-use Rattle.pyver_commands.specs.InputLines.{SourceLine, Origin, Source, filled_lines, filled_lines_from, is_blank, line_in, numbered, source_lines}
+use Rattle.pyver_commands.specs.Sources.InputLines.{SourceLine, Origin, Source, filled_lines, filled_lines_from, is_blank, line_in, numbered, source_lines}
 
 -- ---- the lines of a string
 

@@ -8,18 +8,18 @@ use Rattle.std.specs.Option.{option_map_or}
 use Rattle.pyver_commands.proofs.Filtering.{first-append, length-faults}
 use Rattle.pyver_commands.proofs.InputLines.{all_append, filled_lines-last, filled_lines_from-append, filled_one}
 use Rattle.cli_io.specs.Newlines.{input_lines}
-use Rattle.pyver_commands.specs.InputLines.{Origin, SourceLine, filled_lines, filled_lines_from, is_blank, numbered, source_lines}
-use Rattle.pyver_commands.specs.InvalidLines.{last_message, message_limit}
-use Rattle.pyver_commands.specs.LineOptions.{is_header}
-use Rattle.pyver_commands.specs.ReadLines.{Entry, Header, IsEntry, IsRead, LineReading, ReadLine, faults}
+use Rattle.pyver_commands.specs.Sources.InputLines.{Origin, SourceLine, filled_lines, filled_lines_from, is_blank, numbered, source_lines}
+use Rattle.pyver_commands.specs.Sources.InvalidLines.{last_message, message_limit}
+use Rattle.pyver_commands.specs.Sources.LineOptions.{is_header}
+use Rattle.pyver_commands.specs.Sources.ReadLines.{Entry, Header, IsEntry, IsRead, LineReading, ReadLine, faults}
 use Rattle.pyver_commands.specs.Readings.{Denotes, Fails}
-use Rattle.pyver_commands.specs.SourceTexts.{size_of, source_of}
-use Rattle.pyver_commands.specs.VersionLines.{header_text, header_with, kept_lines, kept_with, line_with, version_lines}
-use Rattle.pyver_commands.specs.VersionLineViews.{IsOfLines, KeepsLines, KeepsOne, version_line_of}
-use Rattle.pyver_commands.specs.declared.invalid_lines.InvalidLines.{InvalidLines}
-use Rattle.pyver_commands.specs.declared.line_options.LineOptions.{LineOptions}
-use Rattle.pyver_commands.specs.declared.source_texts.SourceText.{SourceText}
-use Rattle.pyver_commands.specs.declared.version_line.VersionLines.{VersionLines}
+use Rattle.pyver_commands.specs.Sources.SourceTexts.{size_of, source_of}
+use Rattle.pyver_commands.specs.Sources.VersionLines.{header_text, header_with, kept_lines, kept_with, line_with, version_lines}
+use Rattle.pyver_commands.specs.Sources.VersionLineViews.{IsOfLines, KeepsLines, KeepsOne, version_line_of}
+use Rattle.pyver_commands.specs.declared.sources.invalid_lines.InvalidLines.{InvalidLines}
+use Rattle.pyver_commands.specs.declared.sources.line_options.LineOptions.{LineOptions}
+use Rattle.pyver_commands.specs.declared.sources.source_texts.SourceText.{SourceText}
+use Rattle.pyver_commands.specs.declared.sources.version_line.VersionLines.{VersionLines}
 
 header_text-append : (xs ys : List ReadLine) → header_text (xs ++ ys) ≡ header_text xs ++ header_text ys
 header_text-append xs ys = flat_map-append (λ (x : ReadLine). header_with x.line x.reading) xs ys

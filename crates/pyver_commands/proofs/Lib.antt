@@ -7,7 +7,6 @@ pub mod Keeping
 pub mod SourceReads
 pub mod Sorting
 pub mod Choosing
-pub mod Whole
 pub mod NewestAnswers
 pub mod Appended
 pub mod CommonRanges

@@ -3,22 +3,21 @@ use Rattle.std.proofs.Common.{◌≡◌, ◌∙◌, ◌<◌, ℕ, List, [], ◌+
 use Rattle.std.specs.Io.KnownBytes.{Appends}
 use Rattle.std.specs.List.{concat}
 use Rattle.pyver_commands.specs.FilterSteps.{AllFinish, AllStop}
-use Rattle.pyver_commands.specs.InvalidLines.{last_message, lines_status, message_limit}
+use Rattle.pyver_commands.specs.Sources.InvalidLines.{last_message, lines_status, message_limit}
 use Rattle.pyver_commands.specs.NewestOutcomes.{FindsNewest, NewestLine, allowed_lines, newest_outcome, or_else}
 use Rattle.pyver_commands.specs.NewestViews.{KeepsNewest}
-use Rattle.pyver_commands.specs.Outcomes.{Outcome}
+use Rattle.cli_io.specs.Runs.{Outcome}
 use Rattle.pyver_commands.specs.PrereleaseRules.{takes_prereleases}
-use Rattle.pyver_commands.specs.ReadLines.{faults}
-use Rattle.pyver_commands.specs.SourceViews.{IsRunFailureOf}
-use Rattle.pyver_commands.specs.Sources.{KnownFile, StopsReading, UnopenedSource, last_name}
-use Rattle.pyver_commands.specs.VersionLines.{OfVersions, VersionLine, line_messages, unopened_outcome, version_lines}
-use Rattle.pyver_commands.specs.WholeInputs.{AnswersSources, StopsUnanswered}
+use Rattle.pyver_commands.specs.Sources.ReadLines.{faults}
+use Rattle.pyver_commands.specs.Sources.RunFailures.{IsRunFailureOf, StopsUnanswered}
+use Rattle.pyver_commands.specs.Sources.{AnswersSources, KnownFile, StopsReading, UnopenedSource, last_name}
+use Rattle.pyver_commands.specs.Sources.VersionLines.{OfVersions, VersionLine, line_messages, unopened_outcome, version_lines}
 use Rattle.pyver_commands.specs.declared.filter.FilterRule.{FilterRule}
 use Rattle.pyver_commands.specs.declared.filter.FilterState.{FilterState}
 use Rattle.pyver_commands.specs.declared.filter.Selection.TheVariants as wanted
 use Rattle.pyver_commands.specs.declared.newest.NewestRule.{NewestRule}
-use Rattle.pyver_commands.specs.declared.stream.RunFailure.{RunFailure}
-use Rattle.pyver_commands.specs.declared.stream.RunFailure.TheVariants as run_failure
+use Rattle.pyver_commands.specs.declared.sources.stream.RunFailure.{RunFailure}
+use Rattle.pyver_commands.specs.declared.sources.stream.RunFailure.TheVariants as run_failure
 
 abbrev pub newest_filter : NewestRule → Bool → FilterRule
 newest_filter rule takes = record { wanted = wanted.Newest; takes = takes; lines = rule.lines; list = rule.list }
@@ -34,7 +33,7 @@ module _ {R W E : Type 0} (files : List ℕ → KnownFile) (remaining : R → Op
 
   -- an allocation failed after all was read
   pub stops_after : (unopened : Option UnopenedSource) → AllFinish files remaining contents error_contents (newest_filter rule takes) names unopened b reader reader' out out' err err' → StopsUnanswered files remaining names reader reader' run_failure.OutOfMemory
-  stops_after unopened k = record { input = record { sources = k.sources; unopened = unopened }; reads = inl k.reads; stops = tt }
+  stops_after unopened k = record { input = record { sources = k.sources; unopened = unopened }; reads = inr (refl, k.reads); stops = tt }
 
   module _ (unopened : Option UnopenedSource) (all : AllFinish files remaining contents error_contents (newest_filter rule takes) names unopened b reader reader' out out' err err') (none : unopened ≡ None) (told messages : List ℕ) (old : error_contents err ≡ Some []) (new : error_contents err' ≡ Some told) (ends : messages ≡ told ++ last_message rule.lines.invalid b.fault_count) where
     k : AllFinish files remaining contents error_contents (newest_filter rule takes) names None b reader reader' out out' err err'
@@ -81,7 +80,7 @@ module _ {R W E : Type 0} (files : List ℕ → KnownFile) (remaining : R → Op
 module _ {R W E : Type 0} (files : List ℕ → KnownFile) (remaining : R → Option (List ℕ)) (contents : W → Option (List ℕ)) (error_contents : E → Option (List ℕ)) (rule : FilterRule) (names : List (List ℕ)) (reader reader' : R) (out out' : W) (err err' : E) (why stop : RunFailure) where
   pub stops_within : AllStop files remaining contents error_contents rule names reader reader' out out' err err' why → (why ≡ run_failure.OutOfMemory → stop ≡ run_failure.OutOfMemory) → ((last : Option (List ℕ)) → IsRunFailureOf last why → IsRunFailureOf last stop)
       → StopsUnanswered files remaining names reader reader' stop
-  stops_within k memory of = record { input = record { sources = k.sources; unopened = None }; reads = inr (by k.reads); stops = of (last_name k.sources) k.stops }
+  stops_within k memory of = record { input = record { sources = k.sources; unopened = None }; reads = inl (by k.reads); stops = of (last_name k.sources) k.stops }
     where
       by : StopsReading files remaining (why ≡ run_failure.OutOfMemory) names reader reader' k.sources → StopsReading files remaining (stop ≡ run_failure.OutOfMemory) names reader reader' k.sources
       by (inl front) = inl front

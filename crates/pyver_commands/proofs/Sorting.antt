@@ -13,12 +13,12 @@ use Rattle.pep440_rs.specs.Arrangement.{ArrangesBy}
 use Rattle.pep440_version.specs.Key.{record_cmp}
 use Rattle.pep440_version.specs.KeyLaws.{record_total}
 use Rattle.pep440_version.specs.Record.{Record}
-use Rattle.pyver_commands.specs.Outcomes.{Outcome}
+use Rattle.cli_io.specs.Runs.{Outcome}
 use Rattle.pyver_commands.specs.Sorts.{SortsParts, firsts, last_texts, line_order, lines_text, sort_outcome, sorted_texts, version_order, without_repeats}
-use Rattle.pyver_commands.specs.VersionLines.{InputParts, VersionLine}
-use Rattle.pyver_commands.specs.VersionLineViews.{version_line_of, version_line_order}
+use Rattle.pyver_commands.specs.Sources.VersionLines.{InputParts, VersionLine}
+use Rattle.pyver_commands.specs.Sources.VersionLineViews.{version_line_of, version_line_order}
 use Rattle.pyver_commands.specs.declared.sort.SortOptions.{SortOptions}
-use Rattle.pyver_commands.specs.declared.version_line.VersionLine.{VersionLine as LineInMemory}
+use Rattle.pyver_commands.specs.declared.sources.version_line.VersionLine.{VersionLine as LineInMemory}
 
 -- ---- the order
 

@@ -10,20 +10,20 @@ use Rattle.pyver_commands.proofs.InputLines.{all_append, filled_lines-last}
 use Rattle.pyver_commands.specs.FilterSteps.{AllFinish, AllStop, FilterFinishes, FilterStops, FinishesBy, OneReads, OneRefuses, OneStops, SourceFinishes, SourceStops, WroteAll}
 use Rattle.pyver_commands.specs.Filters.{filter_outcome, printed_lines}
 use Rattle.cli_io.specs.Newlines.{input_lines}
-use Rattle.pyver_commands.specs.InputLines.{Origin, Source}
-use Rattle.pyver_commands.specs.InvalidLines.{last_message, lines_status, message_limit}
+use Rattle.pyver_commands.specs.Sources.InputLines.{Origin, Source}
+use Rattle.pyver_commands.specs.Sources.InvalidLines.{last_message, lines_status, message_limit}
 use Rattle.pyver_commands.specs.NewestViews.{HasNoLine, kept_line}
 use Rattle.pyver_commands.specs.NewestOutcomes.{NewestLine}
-use Rattle.pyver_commands.specs.ReadLines.{IsRead, faults}
+use Rattle.pyver_commands.specs.Sources.ReadLines.{IsRead, faults}
 use Rattle.cli_io.specs.Streams.{WroteBeginning}
-use Rattle.pyver_commands.specs.SourceViews.{IsRunFailureOf}
+use Rattle.pyver_commands.specs.Sources.RunFailures.{IsRunFailureOf}
 use Rattle.pyver_commands.specs.Sources.{KnownFile, MayOpen, ReadsAll, ReadsSource, ReadsText, UnopenedSource, input_name, input_origin, is_input, is_none, last_name, source_names, unopened_message, unopened_status}
 use Rattle.pyver_commands.specs.declared.filter.FilterRule.{FilterRule}
 use Rattle.pyver_commands.specs.declared.filter.FilterState.{FilterState}
 use Rattle.pyver_commands.specs.declared.newest_lines.KeptLine.{KeptLine}
-use Rattle.pyver_commands.specs.declared.open_failure.OpenFailure.{OpenFailure}
-use Rattle.pyver_commands.specs.declared.stream.RunFailure.{RunFailure}
-use Rattle.pyver_commands.specs.declared.stream.RunFailure.TheVariants as run_failure
+use Rattle.pyver_commands.specs.declared.sources.open_failure.OpenFailure.{OpenFailure}
+use Rattle.pyver_commands.specs.declared.sources.stream.RunFailure.{RunFailure}
+use Rattle.pyver_commands.specs.declared.sources.stream.RunFailure.TheVariants as run_failure
 
 pub last_is : (sources : List Source) (source : Source) → last_name (sources ++ source ∷ []) ≡ Some source.origin.name
 last_is [] source = refl
@@ -266,13 +266,10 @@ module _ {R W E : Type 0} (files : List ℕ → KnownFile) (remaining : R → Op
     -- nothing more was written
     pub stops_at_end : (stop : RunFailure) → IsRunFailureOf (last_name k.sources) stop → FilterStops files remaining contents error_contents rule names reader reader' out out' err err' stop
     stops_at_end stop stops = let w = k.wrote in record {
-      input = record { sources = k.sources; unopened = unopened };
-      reads = inl k.reads;
       outcome = filter_outcome rule w.found unopened;
-      is = (w.found, w.are, refl);
+      stops = record { input = record { sources = k.sources; unopened = unopened }; reads = inl k.reads; is = (w.found, w.are, refl); stops = stops };
       output = wrote_front _ _ (printed_lines rule w.found) [] _ w.output (sym (append-nil (printed_lines rule w.found)));
       errors = wrote_front _ _ (concat (take (message_limit rule.lines.invalid) (faults w.found))) (last_message rule.lines.invalid (length (faults w.found)) ++ unopened_message unopened) _ w.errors refl;
-      stops = stops;
     }
 
     module _ (out'' : W) (err'' : E) (c : FilterState) (status : ℕ) (f : FinishesBy rule unopened b c status) where
@@ -285,43 +282,36 @@ module _ {R W E : Type 0} (files : List ℕ → KnownFile) (remaining : R → Op
       pub filter_finishes : Appends (contents out') (contents out'') c.output.items → Appends (error_contents err') (error_contents err'') c.errors.items
           → FilterFinishes files remaining contents error_contents rule names reader reader' out out'' err err'' status
       filter_finishes output errors = let w = k.wrote in record {
-        input = record { sources = k.sources; unopened = unopened };
-        reads = k.reads;
         outcome = filter_outcome rule w.found unopened;
-        is = (w.found, w.are, refl);
+        is = record { input = record { sources = k.sources; unopened = unopened }; reads = k.reads; is = (w.found, w.are, refl) };
         output = subst (Appends (contents out) (contents out'')) (append-nil (printed_lines rule w.found))
             (Appends-trans (contents out) (contents out') (contents out'') (printed_lines rule w.found) [] w.output (subst (Appends (contents out') (contents out'')) nothing_left output));
         errors = Appends-trans (error_contents err) (error_contents err') (error_contents err'') (concat (take (message_limit rule.lines.invalid) (faults w.found))) (last_message rule.lines.invalid (length (faults w.found)) ++ unopened_message unopened)
             w.errors (subst (Appends (error_contents err') (error_contents err'')) messages_left errors);
         ended = f.ended ∙ ap (λ n. unopened_status unopened (lines_status rule.lines.invalid n)) w.fault_count;
+        low = f.low;
       }
 
       -- a beginning was written
       pub stops_at_last : (stop : RunFailure) → IsRunFailureOf (last_name k.sources) stop → WroteBeginning (contents out') (contents out'') c.output.items → WroteBeginning (error_contents err') (error_contents err'') c.errors.items
           → FilterStops files remaining contents error_contents rule names reader reader' out out'' err err'' stop
       stops_at_last stop stops output errors = let w = k.wrote in record {
-        input = record { sources = k.sources; unopened = unopened };
-        reads = inl k.reads;
         outcome = filter_outcome rule w.found unopened;
-        is = (w.found, w.are, refl);
+        stops = record { input = record { sources = k.sources; unopened = unopened }; reads = inl k.reads; is = (w.found, w.are, refl); stops = stops };
         output = began _ _ _ (printed_lines rule w.found) c.output.items [] _ w.output output
             (sym (append-nil (printed_lines rule w.found)) ∙ sym (append-nil (printed_lines rule w.found ++ [])) ∙ ap (λ t. (printed_lines rule w.found ++ t) ++ []) (sym nothing_left));
         errors = began _ _ _ (concat (take (message_limit rule.lines.invalid) (faults w.found))) c.errors.items [] _ w.errors errors
             (ap (λ t. concat (take (message_limit rule.lines.invalid) (faults w.found)) ++ t) (sym messages_left) ∙ sym (append-nil _));
-        stops = stops;
       }
 
   -- a run that stopped before the end of the sources
   pub stops_before : (rule : FilterRule) (names : List (List ℕ)) (reader reader' : R) (out out' : W) (err err' : E) (stop : RunFailure) → AllStop files remaining contents error_contents rule names reader reader' out out' err err' stop
       → FilterStops files remaining contents error_contents rule names reader reader' out out' err err' stop
   stops_before rule names reader reader' out out' err err' stop k = record {
-    input = record { sources = k.sources; unopened = None };
-    reads = inr (k.reads, refl);
     outcome = filter_outcome rule k.found None;
-    is = (k.found, k.are, refl);
+    stops = record { input = record { sources = k.sources; unopened = None }; reads = inr (k.reads, refl); is = (k.found, k.are, refl); stops = k.stops };
     output = k.output;
     errors = begun_more _ _ (concat (take (message_limit rule.lines.invalid) (faults k.found))) (last_message rule.lines.invalid (length (faults k.found)) ++ []) _ k.errors refl;
-    stops = k.stops;
   }
 
 -- the messages of a source, of equal files, and of a source that is the first or not

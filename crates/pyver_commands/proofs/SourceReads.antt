@@ -8,14 +8,14 @@ use Rattle.pyver_commands.proofs.InputLines.{some_line}
 use Rattle.pyver_commands.proofs.Keeping.{size_of-append}
 use Rattle.pyver_commands.proofs.SourceFilters.{last_is, reads_last}
 use Rattle.cli_io.specs.Newlines.{input_lines}
-use Rattle.pyver_commands.specs.InputLines.{Origin, Source}
-use Rattle.pyver_commands.specs.SourceTexts.{GainsSource, StopsInSource, StopsInSources, StopsInText, size_of, source_of}
-use Rattle.pyver_commands.specs.SourceViews.{IsReadingFailure, IsRunFailureOf}
+use Rattle.pyver_commands.specs.Sources.InputLines.{Origin, Source}
+use Rattle.pyver_commands.specs.Sources.SourceTexts.{GainsSource, StopsInSource, StopsInSources, StopsInText, size_of, source_of}
+use Rattle.pyver_commands.specs.Sources.RunFailures.{IsReadingFailure, IsRunFailureOf}
 use Rattle.pyver_commands.specs.Sources.{KnownFile, MayOpen, ReadsAll, ReadsInput, ReadsLines, ReadsSource, ReadsText, ReadsWhole, input_name, input_origin, is_input, is_none, last_name, source_names}
-use Rattle.pyver_commands.specs.declared.open_failure.OpenFailure.{OpenFailure}
-use Rattle.pyver_commands.specs.declared.source_texts.SourceText.{SourceText}
-use Rattle.pyver_commands.specs.declared.stream.RunFailure.{RunFailure}
-use Rattle.pyver_commands.specs.declared.stream.RunFailure.TheVariants as run_failure
+use Rattle.pyver_commands.specs.declared.sources.open_failure.OpenFailure.{OpenFailure}
+use Rattle.pyver_commands.specs.declared.sources.source_texts.SourceText.{SourceText}
+use Rattle.pyver_commands.specs.declared.sources.stream.RunFailure.{RunFailure}
+use Rattle.pyver_commands.specs.declared.sources.stream.RunFailure.TheVariants as run_failure
 
 -- one text more
 pub size_pushed : (xs : List SourceText) (x : SourceText) → size_of (xs ++ x ∷ []) ≡ size_of xs + (length x.text.items + 1)

@@ -1,10 +1,11 @@
 -- `bump PART..` without a version among the words: the version is the only one on standard input.
 use Rattle.std.specs.Prelude.{◌≡◌, ℕ, List, [], ◌∷◌, Option, codes}
 use Rattle.pyver_commands.specs.Bumps.{bump, result_outcome}
-use Rattle.pyver_commands.specs.LineOptions.{no_line_options}
-use Rattle.pyver_commands.specs.Outcomes.{Outcome, message_outcome}
+use Rattle.pyver_commands.specs.Sources.LineOptions.{no_line_options}
+use Rattle.cli_io.specs.Runs.{Outcome}
+use Rattle.pyver_commands.specs.Outcomes.{message_outcome}
 use Rattle.pyver_commands.specs.Sources.{Input}
-use Rattle.pyver_commands.specs.VersionLines.{InputParts, OfVersions, VersionLine}
+use Rattle.pyver_commands.specs.Sources.VersionLines.{InputParts, OfVersions, VersionLine}
 use Rattle.pyver_commands.specs.declared.bump.BumpPart.{BumpPart}
 
 -- what is written of the lines that are versions, of which there has to be one

@@ -8,7 +8,8 @@ use Rattle.pep440_version.specs.Record.{Record, epoch_and_release}
 use Rattle.pep440_version.specs.declared.prerelease.Prerelease.{Prerelease}
 use Rattle.pep440_version.specs.declared.prerelease.PrereleaseKind.{PrereleaseKind}
 use Rattle.pep440_version.specs.declared.prerelease.PrereleaseKind.TheVariants as kind
-use Rattle.pyver_commands.specs.Outcomes.{Outcome, fault}
+use Rattle.cli_io.specs.Runs.{Outcome}
+use Rattle.pyver_commands.specs.Outcomes.{fault}
 use Rattle.pyver_commands.specs.Readings.{Denotes, Fails, Reading, Reads}
 use Rattle.pyver_commands.specs.declared.bump.BumpError.{BumpError}
 use Rattle.pyver_commands.specs.declared.bump.BumpError.TheVariants as error

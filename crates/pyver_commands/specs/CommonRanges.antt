@@ -14,7 +14,7 @@ use Rattle.pep440_version.specs.Record.{Record}
 use Rattle.pep440_witness.specs.Probes.{first_match}
 use Rattle.pyver_commands.specs.Matches.{DenotesList, ListFails, ReadsSpecifiers, SpecifiersReading, list_message}
 use Rattle.pyver_commands.specs.Messages.{fault_message}
-use Rattle.pyver_commands.specs.Outcomes.{Outcome}
+use Rattle.cli_io.specs.Runs.{Outcome}
 use Rattle.pyver_commands.specs.RangeObjects.{json_segments}
 use Rattle.pyver_commands.specs.declared.common_range.RangeOptions.{RangeOptions}
 

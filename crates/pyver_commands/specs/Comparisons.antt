@@ -3,7 +3,8 @@ use Rattle.std.specs.Prelude.{◌≡◌, ℕ, List, [], ◌∷◌, Bool, not, co
 use Rattle.std.specs.Ordering.{is_eq, is_ge, is_gt, is_le, is_lt}
 use Rattle.std.specs.declared.cmp.Ordering.{Ordering}
 use Rattle.pep440_version.specs.Key.{record_cmp}
-use Rattle.pyver_commands.specs.Outcomes.{Outcome, in_turn, silent}
+use Rattle.cli_io.specs.Runs.{Outcome}
+use Rattle.pyver_commands.specs.Outcomes.{in_turn, silent}
 use Rattle.pyver_commands.specs.Readings.{Denotes, Fails, Reading, Reads, reading_fault}
 use Rattle.pyver_commands.specs.declared.comparison.Comparison.{Comparison}
 use Rattle.pyver_commands.specs.declared.comparison.Comparison.TheVariants as comparison

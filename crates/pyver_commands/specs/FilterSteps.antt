@@ -4,22 +4,22 @@ use Rattle.std.specs.Io.KnownBytes.{Appends, Consumes, IsAtEnd}
 use Rattle.std.specs.List.{All, AllZip, concat}
 use Rattle.pyver_commands.specs.Filters.{Filters, printed_lines}
 use Rattle.cli_io.specs.Newlines.{input_lines}
-use Rattle.pyver_commands.specs.InputLines.{Origin, Source, filled_lines, filled_lines_from, source_lines}
-use Rattle.pyver_commands.specs.InvalidLines.{last_message, lines_status, message_limit}
+use Rattle.pyver_commands.specs.Sources.InputLines.{Origin, Source, filled_lines, filled_lines_from, source_lines}
+use Rattle.pyver_commands.specs.Sources.InvalidLines.{last_message, lines_status, message_limit}
 use Rattle.pyver_commands.specs.NewestViews.{KeepsNewest}
-use Rattle.pyver_commands.specs.Outcomes.{Outcome}
-use Rattle.pyver_commands.specs.ReadLines.{IsRead, ReadLine, faults}
+use Rattle.cli_io.specs.Runs.{Finished, Outcome}
+use Rattle.pyver_commands.specs.Sources.ReadLines.{IsRead, ReadLine, faults}
 use Rattle.cli_io.specs.Streams.{WroteBeginning}
-use Rattle.pyver_commands.specs.SourceViews.{IsRunFailureOf}
-use Rattle.pyver_commands.specs.Sources.{Input, KnownFile, MayRefuse, ReadsInput, ReadsLines, ReadsSource, StopsReading, UnopenedSource, is_input, last_name, unopened_message, unopened_status}
-use Rattle.pyver_commands.specs.VersionLines.{version_lines}
+use Rattle.pyver_commands.specs.Sources.RunFailures.{IsRunFailureOf, StopsWithin}
+use Rattle.pyver_commands.specs.Sources.{AnswersSources, KnownFile, MayRefuse, ReadsInput, ReadsLines, ReadsSource, StopsReading, UnopenedSource, is_input, last_name, unopened_message, unopened_status}
+use Rattle.pyver_commands.specs.Sources.VersionLines.{version_lines}
 use Rattle.pyver_commands.specs.declared.filter.FilterRule.{FilterRule}
 use Rattle.pyver_commands.specs.declared.filter.FilterState.{FilterState}
 use Rattle.pyver_commands.specs.declared.filter.Selection.TheVariants as wanted
 use Rattle.pyver_commands.specs.declared.newest_lines.NewestLines.{NewestLines}
-use Rattle.pyver_commands.specs.declared.open_failure.OpenFailure.{OpenFailure}
-use Rattle.pyver_commands.specs.declared.stream.RunFailure.{RunFailure}
-use Rattle.pyver_commands.specs.declared.stream.RunFailure.TheVariants as run_failure
+use Rattle.pyver_commands.specs.declared.sources.open_failure.OpenFailure.{OpenFailure}
+use Rattle.pyver_commands.specs.declared.sources.stream.RunFailure.{RunFailure}
+use Rattle.pyver_commands.specs.declared.sources.stream.RunFailure.TheVariants as run_failure
 
 abbrev pub HasNoNewline : List ℕ → Type 0
 HasNoNewline line = All (λ b. (b == 10) ≡ false) line
@@ -178,21 +178,12 @@ module _ {R W E : Type 0} (files : List ℕ → KnownFile) (remaining : R → Op
     pub stops : IsRunFailureOf (last_name sources) why
 
   -- all was read, up to a file that was not opened if there was one, and all was written
-  pub record FilterFinishes (rule : FilterRule) (names : List (List ℕ)) (reader reader' : R) (out out' : W) (err err' : E) (status : ℕ) : Type 0 where
-    pub input : Input
-    pub reads : ReadsInput files remaining names reader reader' input
-    pub outcome : Outcome
-    pub is : Filters rule input outcome
-    pub output : Appends (contents out) (contents out') outcome.output
-    pub errors : Appends (error_contents err) (error_contents err') outcome.errors
-    pub ended : status ≡ outcome.status
+  abbrev pub FilterFinishes : FilterRule → List (List ℕ) → R → R → W → W → E → E → ℕ → Type 0
+  FilterFinishes rule names reader reader' out out' err err' status = Finished contents error_contents (AnswersSources files remaining (Filters rule) names reader reader') out out' err err' status
 
   -- some lines were read, and a beginning of what they ask for was written
   pub record FilterStops (rule : FilterRule) (names : List (List ℕ)) (reader reader' : R) (out out' : W) (err err' : E) (why : RunFailure) : Type 0 where
-    pub input : Input
-    pub reads : ReadsInput files remaining names reader reader' input ⊎ (StopsReading files remaining (why ≡ run_failure.OutOfMemory) names reader reader' input.sources × (input.unopened ≡ None))
     pub outcome : Outcome
-    pub is : Filters rule input outcome
+    pub stops : StopsWithin files remaining (Filters rule) names reader reader' outcome why
     pub output : WroteBeginning (contents out) (contents out') outcome.output
     pub errors : WroteBeginning (error_contents err) (error_contents err') outcome.errors
-    pub stops : IsRunFailureOf (last_name input.sources) why

@@ -3,12 +3,13 @@ use Rattle.std.specs.Prelude.{◌≡◌, ℕ, List, ◌++◌, Bool, false, Optio
 use Rattle.std.specs.List.{AllZip, concat, filter, flat_map}
 use Rattle.pep440_rs.specs.Prereleases.{list_allows}
 use Rattle.pep440_rs.specs.Specifiers.{Spec}
-use Rattle.pyver_commands.specs.InputLines.{filled_lines}
-use Rattle.pyver_commands.specs.InvalidLines.{last_message, lines_status, message_limit}
+use Rattle.pyver_commands.specs.Sources.InputLines.{filled_lines}
+use Rattle.pyver_commands.specs.Sources.InvalidLines.{last_message, lines_status, message_limit}
 use Rattle.pyver_commands.specs.Matches.{DenotesList, ListFails, ReadsSpecifiers, SpecifiersReading, list_fault}
-use Rattle.pyver_commands.specs.Outcomes.{Outcome, followed_by, no_outcome}
+use Rattle.cli_io.specs.Runs.{Outcome}
+use Rattle.pyver_commands.specs.Outcomes.{followed_by, no_outcome}
 use Rattle.pyver_commands.specs.PrereleaseRules.{takes_prereleases}
-use Rattle.pyver_commands.specs.ReadLines.{Entry, Header, IsRead, LineReading, ReadLine, faults}
+use Rattle.pyver_commands.specs.Sources.ReadLines.{Entry, Header, IsRead, LineReading, ReadLine, faults}
 use Rattle.pyver_commands.specs.Readings.{Denotes, Fails}
 use Rattle.pyver_commands.specs.Sources.{Input, UnopenedSource, unopened_message, unopened_status}
 use Rattle.pep440_version.specs.Record.{Record}

@@ -6,7 +6,8 @@ use Rattle.pep440_rs.specs.ListGrammar.{DerivesList, PieceRefusal, RefusesList}
 use Rattle.pep440_rs.specs.Prereleases.{list_allows}
 use Rattle.pep440_rs.specs.Specifiers.{Spec}
 use Rattle.cli_io.specs.Escapes.{escaped, escaped_lines}
-use Rattle.pyver_commands.specs.Outcomes.{Outcome, fault, in_turn, followed_by, no_outcome}
+use Rattle.cli_io.specs.Runs.{Outcome}
+use Rattle.pyver_commands.specs.Outcomes.{fault, in_turn, followed_by, no_outcome}
 use Rattle.pyver_commands.specs.PrereleaseRules.{takes_prereleases}
 use Rattle.pyver_commands.specs.Readings.{Denotes, Fails, Reading, Reads}
 use Rattle.pyver_commands.specs.declared.allowed.MatchOptions.{MatchOptions}

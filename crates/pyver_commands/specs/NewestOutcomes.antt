@@ -6,10 +6,11 @@ use Rattle.pep440_rs.specs.Prereleases.{list_allows}
 use Rattle.pep440_rs.specs.Specifiers.{Spec}
 use Rattle.pep440_version.specs.Key.{record_cmp}
 use Rattle.pyver_commands.specs.Matches.{DenotesList, ListFails, ReadsSpecifiers, SpecifiersReading, list_fault}
-use Rattle.pyver_commands.specs.Outcomes.{Outcome, followed_by, no_outcome}
+use Rattle.cli_io.specs.Runs.{Outcome}
+use Rattle.pyver_commands.specs.Outcomes.{followed_by, no_outcome}
 use Rattle.pyver_commands.specs.PrereleaseRules.{takes_prereleases}
 use Rattle.pyver_commands.specs.Sources.{Input}
-use Rattle.pyver_commands.specs.VersionLines.{InputParts, OfVersions, VersionLine}
+use Rattle.pyver_commands.specs.Sources.VersionLines.{InputParts, OfVersions, VersionLine}
 use Rattle.pyver_commands.specs.declared.newest.NewestOptions.{NewestOptions}
 use Rattle.pyver_commands.specs.declared.newest.NewestRule.{NewestRule}
 use Rattle.pyver_commands.specs.declared.prerelease_rule.Prereleases.{Prereleases}

@@ -3,7 +3,7 @@ use Rattle.std.specs.Prelude.{◌≡◌, List, Bool, None, true}
 use Rattle.std.specs.Option.{option_map}
 use Rattle.pep440_rs.specs.Specifiers.{Spec}
 use Rattle.pyver_commands.specs.NewestOutcomes.{NewestLine, allowed_lines}
-use Rattle.pyver_commands.specs.VersionLines.{VersionLine}
+use Rattle.pyver_commands.specs.Sources.VersionLines.{VersionLine}
 use Rattle.pyver_commands.specs.declared.newest_lines.KeptLine.{KeptLine}
 use Rattle.pyver_commands.specs.declared.newest_lines.NewestLines.{NewestLines}
 

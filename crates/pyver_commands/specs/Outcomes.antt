@@ -1,13 +1,8 @@
--- What a run writes on standard output and on standard error, and its status.
+-- Outcomes of words and lines, and of several one after another.
 use Rattle.std.specs.Prelude.{ℕ, List, [], ◌++◌, max}
 use Rattle.std.specs.List.{fold}
+use Rattle.cli_io.specs.Runs.{Outcome}
 use Rattle.pyver_commands.specs.Messages.{fault_message}
-
--- the bytes of standard output and of standard error, and the status
-pub record Outcome : Type 0 where
-  pub output : List ℕ
-  pub errors : List ℕ
-  pub status : ℕ
 
 -- no bytes, and status 0
 abbrev pub no_outcome : Outcome

@@ -4,7 +4,8 @@ use Rattle.pep440_version.specs.ErrorTexts.{refusal_text}
 use Rattle.pep440_version.specs.Grammar.{Derives}
 use Rattle.pep440_version.specs.Record.{Record}
 use Rattle.pep440_version.specs.Refusals.{Refusal, Refuses}
-use Rattle.pyver_commands.specs.Outcomes.{Outcome, fault, no_outcome}
+use Rattle.cli_io.specs.Runs.{Outcome}
+use Rattle.pyver_commands.specs.Outcomes.{fault, no_outcome}
 
 -- a version, or the message of an invalid one
 pub data Reading : Type 0 where

@@ -4,7 +4,8 @@ use Rattle.std.specs.List.{AllZip}
 use Rattle.pep440_version.specs.Print.{print}
 use Rattle.pep440_version.specs.Record.{Record}
 use Rattle.pyver_commands.specs.JsonObjects.{json_object}
-use Rattle.pyver_commands.specs.Outcomes.{Outcome, fault, in_turn}
+use Rattle.cli_io.specs.Runs.{Outcome}
+use Rattle.pyver_commands.specs.Outcomes.{fault, in_turn}
 use Rattle.pyver_commands.specs.Parts.{part_text}
 use Rattle.pyver_commands.specs.Readings.{Denotes, Fails, Reading, Reads}
 use Rattle.pyver_commands.specs.declared.show.ShowFormat.{ShowFormat}

@@ -1,11 +1,21 @@
 -- The sources that a run reads, standard input and files, by their names.
+pub mod InputLines
+pub mod LineOptions
+pub mod InvalidLines
+pub mod ReadLines
+pub mod VersionLines
+pub mod SourceViews
+pub mod RunFailures
+pub mod SourceTexts
+pub mod VersionLineViews
 use Rattle.std.specs.Prelude.{◌≡◌, ◌⊎◌, ⊤, ℕ, List, [], ◌∷◌, ◌++◌, Bool, true, false, Option, Some, None, bytes_eq, codes, if◌then◌else◌}
 use Rattle.std.specs.Io.KnownBytes.{Consumes, IsAtEnd}
 use Rattle.cli_io.specs.Newlines.{input_lines}
-use Rattle.pyver_commands.specs.InputLines.{Origin, Source}
+use Rattle.cli_io.specs.Runs.{Outcome}
+use Rattle.pyver_commands.specs.Sources.InputLines.{Origin, Source}
 use Rattle.pyver_commands.specs.Messages.{file_message}
-use Rattle.pyver_commands.specs.declared.open_failure.OpenFailure.{OpenFailure}
-use Rattle.pyver_commands.specs.declared.open_failure.OpenFailure.TheVariants as failure
+use Rattle.pyver_commands.specs.declared.sources.open_failure.OpenFailure.{OpenFailure}
+use Rattle.pyver_commands.specs.declared.sources.open_failure.OpenFailure.TheVariants as failure
 
 -- ---- names
 
@@ -157,6 +167,12 @@ module _ {R : Type 0} (files : List ℕ → KnownFile) (remaining : R → Option
     pub sources : ReadsAll true read reader reader' input.sources
     pub ends : EndsAt left input.unopened
 
+  -- all was read, up to a file that was not opened if there was one, and this is the outcome
+  pub record AnswersSources (Gives : Input → Outcome → Type 0) (names : List (List ℕ)) (reader reader' : R) (o : Outcome) : Type 0 where
+    pub input : Input
+    pub reads : ReadsInput names reader reader' input
+    pub is : Gives input o
+
   -- some sources were read to their ends, and of the next one some lines
   pub record ReadsFront (names : List (List ℕ)) (reader reader' : R) (sources : List Source) : Type 0 where
     pub read : List (List ℕ)
@@ -181,8 +197,3 @@ module _ {R : Type 0} (files : List ℕ → KnownFile) (remaining : R → Option
   -- some sources were read to their ends, and of the next one some lines, or, where an allocation failed, nothing
   abbrev pub StopsReading : Type 0 → List (List ℕ) → R → R → List Source → Type 0
   StopsReading memory_ran_out names reader reader' sources = ReadsFront names reader reader' sources ⊎ (memory_ran_out × ReadsBefore names reader reader' sources)
-
-  -- all sources were read to their ends; or some, and of the next one some lines, or, where an allocation failed, nothing
-  abbrev pub ReadsFirst : Type 0 → List (List ℕ) → R → R → List Source → Type 0
-  ReadsFirst memory_ran_out names reader reader' sources =
-      ReadsInput names reader reader' (record { sources = sources; unopened = None }) ⊎ StopsReading memory_ran_out names reader reader' sources

@@ -3,11 +3,11 @@ ghost use Rattle.std.specs.Prelude.{◌≡◌, IfOk, map};
 ghost use Rattle.pyver_commands.specs.AnswerViews.{outcome_of};
 ghost use Rattle.pyver_commands.specs.BumpInputs.{BumpsOnly, only_outcome};
 ghost use Rattle.pyver_commands.specs.Outcomes.{message_outcome};
-ghost use Rattle.pyver_commands.specs.VersionLineViews.{input_parts_of, version_line_of};
+ghost use Rattle.pyver_commands.specs.Sources.VersionLineViews.{input_parts_of, version_line_of};
 
 use crate::answer::Answer;
 use crate::bump::{BumpPart, bump, push_result};
-use crate::version_line::{VersionLine, VersionLines};
+use crate::sources::version_line::{VersionLine, VersionLines};
 use std::alloc::{AllocError, Global};
 
 /// Which parts are raised, and the number of the last one if it is given.

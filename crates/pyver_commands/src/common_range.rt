@@ -6,11 +6,11 @@ ghost use Rattle.pep440_rs.specs.Cover.{cover_of};
 ghost use Rattle.pep440_version.specs.Key.{record_cmp};
 ghost use Rattle.pyver_commands.specs.AnswerViews.{outcome_of};
 ghost use Rattle.pyver_commands.specs.CommonRanges.{FindsCommon, HasNone, ReadsRange, common_outcome, covers_in, lists_outcome, members_in, message_in, no_version_text, ranges_in, segments_text, allowed_text, with_cover};
-ghost use Rattle.pyver_commands.specs.RangeViews.{range_reading_of};
+ghost use Rattle.pyver_commands.specs.AnswerViews.{range_reading_of};
 
-use crate::allowed::{SpecifiersReading, parse_specifiers, push_list_message};
 use crate::answer::{Answer, push_fault};
 use crate::range_json::push_segments;
+use crate::specifiers::{SpecifiersReading, parse_specifiers, push_list_message};
 use crate::version_json::push_text;
 use pep440_rs::{
     RangeError, RangeLines, Ranges, Version, VersionSpecifier, VersionSpecifiers,

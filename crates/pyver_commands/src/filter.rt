@@ -1,18 +1,17 @@
 // The lines of the commands `filter` and `newest`, one after another: which are wanted, and what is to be written of them.
 ghost use Rattle.std.specs.Prelude.{◌≡◌, ◌≤◌, ◌++◌, IfOk};
 ghost use Rattle.std.specs.Option.{option_map};
-ghost use Rattle.pyver_commands.specs.Messages.{line_fault_message};
 ghost use Rattle.pyver_commands.specs.Sources.{unopened_message, unopened_status};
-ghost use Rattle.pyver_commands.specs.SourceViews.{unopened_of};
+ghost use Rattle.pyver_commands.specs.Sources.SourceViews.{unopened_of};
 
-use crate::line_options::LineOptions;
 use crate::newest_lines::NewestLines;
-use crate::open_failure::{OpenFailure, push_file_fault};
-use crate::origin::Origin;
 use crate::prerelease_rule::Prereleases;
 use crate::reading::Reading;
-use crate::source_lines::{is_blank, line_text, parse_line};
-use cli_io::push_escaped;
+use crate::sources::invalid_lines::push_line_fault;
+use crate::sources::line_options::LineOptions;
+use crate::sources::open_failure::{UnopenedSource, push_file_fault};
+use crate::sources::origin::Origin;
+use crate::sources::source_lines::{is_blank, line_text, parse_line};
 use pep440_rs::{Version, VersionSpecifiers};
 use std::alloc::{AllocError, Global};
 
@@ -94,33 +93,6 @@ impl FilterRule {
     }
 }
 
-// The message of an invalid line of the source with this name, at the end.
-pub(crate) fn push_line_fault(
-    alloc: Global,
-    errors: &mut Vec<u8>,
-    name: &str,
-    number: u64,
-    reason: &str,
-) -> Result<(), AllocError>
-    ensures { IfOk result (λ _. errors.new.items ≡ errors.old.items ++ line_fault_message name.now number reason.now) }
-{
-    errors.extend_from_slice(b"pyver: ")?;
-    push_escaped(errors, name.as_bytes())?;
-    errors.extend_from_slice(b": line ")?;
-    errors.extend_from_slice(number.to_string(alloc)?.as_bytes())?;
-    errors.extend_from_slice(b": ")?;
-    push_escaped(errors, reason.as_bytes())?;
-    errors.push(b'\n')?;
-    Ok(())
-}
-
-// A file that was not opened.
-#[derive(Clone, Copy)]
-pub(crate) struct UnopenedSource<'a> {
-    pub(crate) name: &'a str,
-    pub(crate) failure: OpenFailure,
-}
-
 fn push_open_failure(
     errors: &mut Vec<u8>,
     unopened: Option<UnopenedSource<'_>>,
@@ -165,9 +137,9 @@ impl FilterState {
     ghost use Rattle.pyver_commands.specs.AnswerViews.{reading_of};
     ghost use Rattle.pyver_commands.specs.NewestViews.{HasNoLine};
     ghost use Rattle.pyver_commands.specs.FilterSteps.{Cuts, FinishesBy, HasNoNewline, Steps, StepsBy};
-    ghost use Rattle.pyver_commands.specs.ReadLines.{Entry, Header, ReadLine};
+    ghost use Rattle.pyver_commands.specs.Sources.ReadLines.{Entry, Header, ReadLine};
     ghost use Rattle.pyver_commands.specs.Readings.{Denotes, Fails};
-    ghost use Rattle.pyver_commands.specs.SourceViews.{origin_line, origin_of};
+    ghost use Rattle.pyver_commands.specs.Sources.SourceViews.{origin_line, origin_of};
 
     pub(crate) fn new(alloc: Global) -> FilterState
         ensures counts { (result.read_count ≡ 0) × (result.fault_count ≡ 0) }

@@ -1,33 +1,15 @@
 // The loop of `filter` and `newest` over a source.
-ghost use Rattle.std.specs.Prelude.{◌≡◌, ◌≤◌, ◌*◌, [], Some, IfErr, IfOk};
+ghost use Rattle.std.specs.Prelude.{◌≡◌, ◌≤◌, ◌*◌, [], IfErr, IfOk, Some};
 ghost use Rattle.pyver_commands.specs.FilterSteps.{SourceFinishes, SourceStops};
-ghost use Rattle.pyver_commands.specs.SourceViews.{IsReadingFailure, IsRunFailureOf, origin_of};
+ghost use Rattle.pyver_commands.specs.Sources.SourceViews.{origin_of};
+ghost use Rattle.pyver_commands.specs.Sources.RunFailures.{IsRunFailureOf};
 
 use crate::filter::{FilterRule, FilterState};
-use crate::open_failure::push_file_fault;
-use crate::origin::{Origin, is_input};
-use crate::stream::{RunFailure, write_both};
+use crate::sources::origin::Origin;
+use crate::sources::stream::{MOST_READS, RunFailure, fail_reading, write_both};
 use cli_io::READ_SIZE;
 use std::alloc::Global;
 use std::io::{Read, Write};
-
-// So many reads are made at most, which takes years.
-pub(crate) const MOST_READS: u64 = 562949953421312;
-
-// A read of the source with this name failed.
-pub(crate) fn fail_reading(alloc: Global, name: &str) -> RunFailure
-    ensures of { IsRunFailureOf (Some name.now) result }
-    ensures reading { IsReadingFailure name.now result }
-{
-    if is_input(name) {
-        return RunFailure::Read;
-    }
-    let mut message = Vec::new(alloc);
-    match push_file_fault(&mut message, name.as_bytes(), "a read failed") {
-        Ok(()) => RunFailure::ReadFile(message),
-        Err(_) => RunFailure::OutOfMemory,
-    }
-}
 
 // Writes what the rule asks for of each line of the source, before more is read.
 pub(crate) fn filter_input<R: Read, W: Write, E: Write>(

@@ -4,14 +4,14 @@ ghost use Rattle.std.specs.Option.{option_map};
 ghost use Rattle.pyver_commands.specs.FilterSteps.{AllFinish, AllStop, FilterFinishes, FilterStops, OneFinishes, OneStops};
 ghost use Rattle.pyver_commands.specs.NewestViews.{HasNoLine};
 ghost use Rattle.pyver_commands.specs.Sources.{source_names};
-ghost use Rattle.pyver_commands.specs.SourceViews.{origin_of, unopened_of};
+ghost use Rattle.pyver_commands.specs.Sources.SourceViews.{origin_of, unopened_of};
 
-use crate::files::Files;
-use crate::filter::{FilterRule, FilterState, UnopenedSource};
+use crate::filter::{FilterRule, FilterState};
 use crate::filter_input::filter_input;
-use crate::open_failure::OpenFailure;
-use crate::origin::{Origin, is_input};
-use crate::stream::{RunFailure, write_both};
+use crate::sources::files::Files;
+use crate::sources::open_failure::{OpenFailure, UnopenedSource};
+use crate::sources::origin::{Origin, is_input};
+use crate::sources::stream::{RunFailure, write_both};
 use std::alloc::Global;
 use std::io::{Read, Write};
 
@@ -112,7 +112,7 @@ pub fn filter_sources<F: Files, R: Read, W: Write, E: Write>(
     out: &mut W,
     err: &mut E,
 ) -> Result<u8, RunFailure>
-    ensures finished { IfOk result (λ status. (status ≤ 2) × FilterFinishes (F.known files.old) R.remaining W.contents E.contents rule.now (source_names (map string_bytes names.now)) input.old input.new out.old out.new err.old err.new status) }
+    ensures finished { IfOk result (FilterFinishes (F.known files.old) R.remaining W.contents E.contents rule.now (source_names (map string_bytes names.now)) input.old input.new out.old out.new err.old err.new) }
     ensures stopped { IfErr result (FilterStops (F.known files.old) R.remaining W.contents E.contents rule.now (source_names (map string_bytes names.now)) input.old input.new out.old out.new err.old err.new) }
     ensures kept { F.known files.new ≡ F.known files.old }
 {

@@ -5,7 +5,7 @@ ghost use Rattle.std.specs.Ordering.{is_lt};
 ghost use Rattle.pep440_version.specs.Key.{record_cmp};
 ghost use Rattle.pyver_commands.specs.NewestOutcomes.{NewestLine, allowed_lines};
 ghost use Rattle.pyver_commands.specs.NewestViews.{kept_line};
-ghost use Rattle.pyver_commands.specs.VersionLines.{VersionLine};
+ghost use Rattle.pyver_commands.specs.Sources.VersionLines.{VersionLine};
 
 use crate::prerelease_rule::Prereleases;
 use pep440_rs::{Version, VersionSpecifiers};

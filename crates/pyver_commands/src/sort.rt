@@ -5,11 +5,11 @@ ghost use Rattle.std.specs.Option.{option_map, option_map_or};
 ghost use Rattle.pep440_rs.specs.Arrangement.{ArrangesBy};
 ghost use Rattle.pyver_commands.specs.AnswerViews.{outcome_of};
 ghost use Rattle.pyver_commands.specs.Sorts.{SortsParts, is_repeat, version_order, without_repeats};
-ghost use Rattle.pyver_commands.specs.VersionLineViews.{input_parts_of, version_line_of, version_line_order};
+ghost use Rattle.pyver_commands.specs.Sources.VersionLineViews.{input_parts_of, version_line_of, version_line_order};
 
 use crate::answer::Answer;
-use crate::line_options::LineOptions;
-use crate::version_line::{VersionLine, VersionLines};
+use crate::sources::line_options::LineOptions;
+use crate::sources::version_line::{VersionLine, VersionLines};
 use pep440_rs::Version;
 use std::alloc::{AllocError, Global};
 use std::cmp::Ordering;

@@ -1,27 +1,27 @@
 // Commands that read all sources before they write.
-ghost use Rattle.std.specs.Prelude.{◌≡◌, ◌≤◌, ◌<◌, ◌^◌, IfErr, IfOk, List, None, map, string_bytes};
+ghost use Rattle.std.specs.Prelude.{◌≡◌, ◌<◌, ◌^◌, IfErr, IfOk, List, None, map, string_bytes};
 ghost use Rattle.std.specs.Option.{option_map};
 ghost use Rattle.pyver_commands.specs.AnswerViews.{outcome_of};
-ghost use Rattle.pyver_commands.specs.InputLines.{Source, filled_lines};
-ghost use Rattle.pyver_commands.specs.Sources.{source_names};
-ghost use Rattle.pyver_commands.specs.SourceTexts.{size_of, source_of};
-ghost use Rattle.pyver_commands.specs.SourceViews.{unopened_of};
-ghost use Rattle.pyver_commands.specs.VersionLineViews.{IsOfLines, input_parts_of};
-ghost use Rattle.pyver_commands.specs.WholeInputs.{AnswersSources, AnswersInput, AnswersLines, AnswersParts, StopsUnanswered, WholeFinishes, WholeStops, question_lines};
+ghost use Rattle.pyver_commands.specs.Sources.InputLines.{Source, filled_lines};
+ghost use Rattle.pyver_commands.specs.Sources.RunFailures.{StopsUnanswered};
+ghost use Rattle.pyver_commands.specs.Sources.{AnswersSources, source_names};
+ghost use Rattle.pyver_commands.specs.Sources.SourceTexts.{size_of, source_of};
+ghost use Rattle.pyver_commands.specs.Sources.SourceViews.{unopened_of};
+ghost use Rattle.pyver_commands.specs.Sources.VersionLineViews.{IsOfLines, input_parts_of};
+ghost use Rattle.pyver_commands.specs.WholeInputs.{AnswersInput, AnswersLines, AnswersParts, question_lines};
 
 use crate::answer::Answer;
 use crate::bump_input::{BumpRule, bump_only};
-use crate::files::Files;
-use crate::filter::UnopenedSource;
-use crate::line_options::LineOptions;
 use crate::newest::{NewestRule, find_newest};
-use crate::open_failure::report_open_failure;
 use crate::sort::{SortOptions, sort_versions};
-use crate::source_texts::{SourceText, SourceTexts, read_sources};
-use crate::stream::{RunFailure, write_both};
-use crate::version_line::VersionLines;
+use crate::sources::files::Files;
+use crate::sources::line_options::LineOptions;
+use crate::sources::open_failure::{UnopenedSource, report_open_failure};
+use crate::sources::source_texts::{SourceText, SourceTexts, read_sources};
+use crate::sources::stream::RunFailure;
+use crate::sources::version_line::VersionLines;
 use std::alloc::{AllocError, Global};
-use std::io::{Read, Write};
+use std::io::Read;
 
 /// What is asked of all lines together.
 #[derive(Drop)]
@@ -119,8 +119,8 @@ fn answer_sources<F: Files, R: Read>(
     Ok(answer_texts(alloc, question, state.texts.as_slice(), unopened)?)
 }
 
-// The same of any question.
-fn answer_question<F: Files, R: Read>(
+/// The answer to the question, once all sources are read.
+pub fn answer_input<F: Files, R: Read>(
     alloc: Global,
     question: Question,
     names: &[String],
@@ -135,23 +135,4 @@ fn answer_question<F: Files, R: Read>(
         Question::Newest(rule) => find_newest(alloc, rule, names, files, input),
         Question::Lines(question) => answer_sources(alloc, &question, names, files, input),
     }
-}
-
-/// Writes the answer to the question, once all sources are read, and returns the status.
-pub fn answer_input<F: Files, R: Read, W: Write, E: Write>(
-    alloc: Global,
-    question: Question,
-    names: &[String],
-    files: &mut F,
-    input: &mut R,
-    out: &mut W,
-    err: &mut E,
-) -> Result<u8, RunFailure>
-    ensures finished { IfOk result (λ status. (status ≤ 2) × WholeFinishes (F.known files.old) R.remaining W.contents E.contents question (source_names (map string_bytes names.now)) input.old input.new out.old out.new err.old err.new status) }
-    ensures stopped { IfErr result (WholeStops (F.known files.old) R.remaining W.contents E.contents question (source_names (map string_bytes names.now)) input.old input.new out.old out.new err.old err.new) }
-    ensures kept { F.known files.new ≡ F.known files.old }
-{
-    let answer = answer_question(alloc, question, names, files, input)?;
-    write_both(out, err, answer.output.as_slice(), answer.errors.as_slice())?;
-    Ok(answer.status)
 }

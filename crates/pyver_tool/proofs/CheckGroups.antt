@@ -3,7 +3,7 @@ use Rattle.std.proofs.Common.{arith, ◌≡◌, ◌≤◌, ◌<◌, ◌-◌, ℕ
 use Rattle.pyver_tool.specs.Checks.{CheckResult, ChecksGroup, ChecksGroups, StopsGroup, StopsGroups, word_groups}
 use Rattle.pyver_commands.specs.Sources.{KnownFile, source_names}
 use Rattle.pyver_tool.specs.declared.file_kind.FileKind.{FileKind}
-use Rattle.pyver_commands.specs.declared.stream.RunFailure.{RunFailure}
+use Rattle.pyver_commands.specs.declared.sources.stream.RunFailure.{RunFailure}
 
 -- all words but the first
 later_words : {X : Type 0} (x : X) (words : List X) → words ≡ take (length (x ∷ words) - 1) words

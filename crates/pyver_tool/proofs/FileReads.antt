@@ -7,14 +7,14 @@ use Rattle.std.specs.Str.{IsUtf8}
 use Rattle.pyver_commands.proofs.SourceReads.{stops_before}
 use Rattle.pyver_tool.specs.FileSteps.{GainsFile, GainsUnopened, HasNames, HasReads, OpensStep, ReadsStep, StepsOrRefused, names_in, names_of_files, read_of}
 use Rattle.pyver_tool.specs.RequirementFiles.{FilesRead, HasPath, ReadsFilesInTurn, ReadsNames, ReadsNext, StopsInNames, file_with, has_path, none_read, with_unopened}
-use Rattle.pyver_commands.specs.SourceTexts.{StopsInText}
+use Rattle.pyver_commands.specs.Sources.SourceTexts.{StopsInText}
 use Rattle.pyver_commands.specs.Sources.{KnownFile, ReadsWhole}
 use Rattle.pyver_tool.specs.declared.file_kind.FileKind.{FileKind}
 use Rattle.pyver_tool.specs.declared.file_kind.FileKind.TheVariants as file_kind
-use Rattle.pyver_commands.specs.declared.open_failure.OpenFailure.{OpenFailure}
+use Rattle.pyver_commands.specs.declared.sources.open_failure.OpenFailure.{OpenFailure}
 use Rattle.pyver_tool.specs.declared.requirement_files.RequirementFiles.{RequirementFiles}
-use Rattle.pyver_commands.specs.declared.stream.RunFailure.{RunFailure}
-use Rattle.pyver_commands.specs.declared.stream.RunFailure.TheVariants as run_failure
+use Rattle.pyver_commands.specs.declared.sources.stream.RunFailure.{RunFailure}
+use Rattle.pyver_commands.specs.declared.sources.stream.RunFailure.TheVariants as run_failure
 use Rattle.pyver_findings.specs.FileLines.{File}
 use Rattle.pyver_findings.specs.NamedFiles.{NamedFile, named_files}
 use Rattle.pyver_tool.specs.FileKinds.{kind_by_name}

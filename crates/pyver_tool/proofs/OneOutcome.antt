@@ -14,10 +14,10 @@ use Rattle.pyver_commands.proofs.Choosing.{one_newest}
 use Rattle.pyver_commands.proofs.Sorting.{one_sorted}
 use Rattle.pyver_commands.specs.CommonRanges.{FindsCommon, RangeReading, ReadsRange, found_outcome, range_reading}
 use Rattle.pyver_commands.specs.Comparisons.{Compares, comparison_outcome}
-use Rattle.pyver_commands.specs.Fields.{field}
+use Rattle.pyver_commands.specs.Sources.ReadLines.{field}
 use Rattle.pyver_commands.specs.Filters.{Filters, FiltersBy, FiltersLines, filter_outcome, rule_of}
-use Rattle.pyver_commands.specs.InputLines.{SourceLine, Source, filled_lines}
-use Rattle.pyver_commands.specs.LineOptions.{is_header, no_line_options}
+use Rattle.pyver_commands.specs.Sources.InputLines.{SourceLine, Source, filled_lines}
+use Rattle.pyver_commands.specs.Sources.LineOptions.{is_header, no_line_options}
 use Rattle.pyver_commands.specs.Matches.{Matches, MatchesBy, MatchesWord, MatchesWords, ReadsSpecifiers, SpecifiersReading, DenotesList, ListFails, word_outcome}
 use Rattle.pyver_commands.specs.NewestOutcomes.{FindsNewest, FindsNewestBy, FindsNewestLine, candidates, newest_outcome, newest_rule}
 use Rattle.pyver_tool.specs.CheckLaws.{ChecksOnce}
@@ -26,21 +26,22 @@ use Rattle.pyver_findings.proofs.Once.{reports_once}
 use Rattle.pyver_findings.specs.Reports.{joined_report}
 use Rattle.pyver_projects.proofs.Once.{document_reports_once}
 use Rattle.pyver_tool.specs.OneOutcome.{OutcomesOnce}
-use Rattle.pyver_commands.specs.Outcomes.{Outcome, in_turn}
-use Rattle.pyver_commands.specs.ReadLines.{Entry, Header, IsEntry, IsRead, LineReading, ReadLine, ReadsBytes, ReadsField, ReadsPart}
+use Rattle.cli_io.specs.Runs.{Outcome}
+use Rattle.pyver_commands.specs.Outcomes.{in_turn}
+use Rattle.pyver_commands.specs.Sources.ReadLines.{Entry, Header, IsEntry, IsRead, LineReading, ReadLine, ReadsBytes, ReadsField, ReadsPart}
 use Rattle.pyver_commands.specs.Readings.{Reading, Reads, Denotes, Fails}
 use Rattle.pyver_commands.specs.Shows.{Shows, ShowsWord, show_outcome}
 use Rattle.pyver_commands.specs.Sorts.{SortsParts, sort_outcome}
 use Rattle.pyver_commands.specs.Sources.{Input, UnopenedSource}
 use Rattle.pyver_tool.specs.Tasks.{Help, NameVersion, Compare, Match, Filter, Sort, Newest, Show, Bump, Range, Check, Misused}
-use Rattle.pyver_commands.specs.VersionLines.{InputParts, OfFound, OfSources, OfVersions, input_parts}
+use Rattle.pyver_commands.specs.Sources.VersionLines.{InputParts, OfFound, OfSources, OfVersions, input_parts}
 use Rattle.pyver_commands.specs.declared.allowed.MatchOptions.{MatchOptions}
 use Rattle.pyver_commands.specs.declared.bump.BumpPart.{BumpPart}
 use Rattle.pyver_commands.specs.declared.comparison.Comparison.{Comparison}
 use Rattle.pyver_commands.specs.declared.filter.FilterOptions.{FilterOptions}
 use Rattle.pyver_commands.specs.declared.filter.FilterRule.{FilterRule}
-use Rattle.pyver_commands.specs.declared.invalid_lines.InvalidLines.{InvalidLines}
-use Rattle.pyver_commands.specs.declared.line_options.LineOptions.{LineOptions}
+use Rattle.pyver_commands.specs.declared.sources.invalid_lines.InvalidLines.{InvalidLines}
+use Rattle.pyver_commands.specs.declared.sources.line_options.LineOptions.{LineOptions}
 use Rattle.pyver_commands.specs.declared.newest.NewestOptions.{NewestOptions}
 use Rattle.pyver_commands.specs.declared.newest.NewestRule.{NewestRule}
 use Rattle.pyver_commands.specs.declared.common_range.RangeOptions.{RangeOptions}

@@ -1,6 +1,7 @@
 -- The words of a call, one after another.
 use Rattle.std.proofs.Common.{◌≡◌, ◌∙◌, ◌-◌, ◌≤◌, ◌++◌, ℕ, List, [], ◌∷◌, true, false, Some, None, append_assoc, arith, ap, bytes_eq, codes, cond, drop, get_or, length, map, refl, sym, take}
 use Rattle.std.proofs.lemmas.List.{take_all}
+use Rattle.std.specs.Prelude.{Bool, ◌||◌}
 use Rattle.pyver_tool.specs.Options.{Row}
 use Rattle.pyver_tool.specs.Tasks.{Help, NameVersion, help_task, named_task, task_of}
 use Rattle.pyver_tool.specs.declared.help.Topic.TheVariants as topic
@@ -48,12 +49,12 @@ module _ (rows : List Row) (word : List ℕ) (rest : List (List ℕ)) (goes_on :
   pub awaits_next : (row : Row) → is_option word ≡ true → Awaits row ≡ (word_options rows word).1 → split_words rows None (word ∷ rest) ≡ before (word_options rows word).0 [] (split_words rows (Some row) rest)
   awaits_next row one is = options_next one ∙ ap (λ (e : End). by_end word ((word_options rows word).0, e) (λ awaited. split_words rows awaited rest)) (sym is)
 
+neither : (a b : Bool) → a ≡ false → b ≡ false → (a || b) ≡ false
+neither a b x y = rw (x, y) refl
+
 -- a word that neither asks for help nor for the version of the program
 pub named_word : (word : List ℕ) (rest : List (List ℕ)) → bytes_eq word (codes "-h") ≡ false → bytes_eq word (codes "--help") ≡ false → bytes_eq word (codes "-V") ≡ false → bytes_eq word (codes "--version") ≡ false → bytes_eq word (codes "help") ≡ false → task_of (word ∷ rest) ≡ named_task word rest
 named_word word rest no_h no_help no_v no_version no_word =
-    let after_help = cond (bytes_eq word (codes "help")) (help_task rest) (named_task word rest) in
-    let after_v = cond (bytes_eq word (codes "--version")) NameVersion after_help in
-    let after_long = cond (bytes_eq word (codes "-V")) NameVersion after_v in
-    let after_h = cond (bytes_eq word (codes "--help")) (Help topic.Program) after_long in
-    ap (λ b. cond b (Help topic.Program) after_h) no_h ∙ ap (λ b. cond b (Help topic.Program) after_long) no_help ∙ ap (λ b. cond b NameVersion after_v) no_v ∙ ap (λ b. cond b NameVersion after_help) no_version
-    ∙ ap (λ b. cond b (help_task rest) (named_task word rest)) no_word
+    let after_version = cond (bytes_eq word (codes "help")) (help_task rest) (named_task word rest) in
+    let after_help = cond (bytes_eq word (codes "-V") || bytes_eq word (codes "--version")) NameVersion after_version in
+    ap (λ b. cond b (Help topic.Program) after_help) (neither _ _ no_h no_help) ∙ ap (λ b. cond b NameVersion after_version) (neither _ _ no_v no_version) ∙ ap (λ b. cond b (help_task rest) (named_task word rest)) no_word

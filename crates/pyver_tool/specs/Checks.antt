@@ -2,16 +2,13 @@
 use Rattle.std.specs.Prelude.{◌≡◌, ◌⊎◌, ℕ, List, [], ◌∷◌, ◌++◌, Bool, true, false, Option, Some, None, codes, map, if◌then◌else◌}
 use Rattle.std.specs.Fmt.{decimal}
 use Rattle.std.specs.List.{flat_map, list_any}
-use Rattle.pyver_commands.specs.Outcomes.{Outcome}
+use Rattle.cli_io.specs.Runs.{Outcome}
 use Rattle.pyver_tool.specs.RequirementFiles.{FilesRead, ReadsFiles, StopsInFiles, UnopenedFile}
-use Rattle.cli_io.specs.Streams.{WroteBeginning}
-use Rattle.pyver_tool.specs.Runs.{WritesAnswer}
-use Rattle.pyver_commands.specs.SourceViews.{Reports}
 use Rattle.pyver_commands.specs.Sources.{KnownFile, failure_reason, source_names}
 use Rattle.pyver_tool.specs.declared.check.CheckOptions.{CheckOptions}
 use Rattle.pyver_tool.specs.declared.file_kind.FileKind.{FileKind}
-use Rattle.pyver_commands.specs.declared.stream.RunFailure.{RunFailure}
-use Rattle.pyver_commands.specs.declared.stream.RunFailure.TheVariants as run_failure
+use Rattle.pyver_commands.specs.declared.sources.stream.RunFailure.{RunFailure}
+use Rattle.pyver_commands.specs.declared.sources.stream.RunFailure.TheVariants as run_failure
 use Rattle.cli_io.specs.Escapes.{escaped}
 use Rattle.pyver_findings.specs.Findings.{Finding}
 use Rattle.pyver_findings.specs.NamedFiles.{Position}
@@ -115,24 +112,3 @@ module _ {R : Type 0} (files : List ℕ → KnownFile) (paths : List ℕ → Opt
   abbrev pub StopsCheck : CheckOptions → List (List ℕ) → R → R → RunFailure → Type 0
   StopsCheck options words reader reader' why = StopsGroups options.kind files paths remaining (word_groups options.each words) none_checked reader reader' why
       ⊎ ((why ≡ run_failure.OutOfMemory) × ((c : CheckResult) × ChecksGroups options.kind files paths remaining (word_groups options.each words) none_checked c reader reader'))
-
-module _ {F R W E : Type 0} (known : F → List ℕ → KnownFile) (path : F → List ℕ → Option (List ℕ)) (remaining : R → Option (List ℕ)) (contents : W → Option (List ℕ)) (error_contents : E → Option (List ℕ)) where
-  -- nothing was written but a beginning of the message of why reading stopped, or that an allocation failed
-  pub record EndsUnchecked (options : CheckOptions) (words : List (List ℕ)) (files : F) (reader reader' : R) (out out' : W) (err err' : E) (status : ℕ) : Type 0 where
-    pub why : RunFailure
-    pub stops : StopsCheck (known files) (path files) remaining options words reader reader' why
-    pub message : List ℕ
-    pub reports : Reports why status message
-    pub silent : out' ≡ out
-    pub errors : WroteBeginning (error_contents err) (error_contents err') message
-
-  -- all was read and this was written, or a beginning of it where a write failed
-  pub record EndsChecked (options : CheckOptions) (words : List (List ℕ)) (files : F) (reader reader' : R) (out out' : W) (err err' : E) (status : ℕ) : Type 0 where
-    pub outcome : Outcome
-    pub is : Checks (known files) (path files) remaining options words reader reader' outcome
-    pub written : WritesAnswer contents error_contents outcome out out' err err' status
-
-  -- how `check` may end
-  abbrev pub EndsCheck : CheckOptions → List (List ℕ) → F → F → R → R → W → W → E → E → ℕ → Type 0
-  EndsCheck options words files files' reader reader' out out' err err' status = (known files' ≡ known files)
-      × (EndsChecked options words files reader reader' out out' err err' status ⊎ EndsUnchecked options words files reader reader' out out' err err' status)

@@ -5,7 +5,7 @@ use Rattle.pyver_tool.specs.RequirementFiles.{FilesRead, IsRefused, OpensNext, R
 use Rattle.pyver_commands.specs.Sources.{KnownFile}
 use Rattle.pyver_tool.specs.declared.file_kind.FileKind.{FileKind}
 use Rattle.pyver_tool.specs.declared.file_kind.FileKind.TheVariants as file_kind
-use Rattle.pyver_commands.specs.declared.open_failure.OpenFailure.{OpenFailure}
+use Rattle.pyver_commands.specs.declared.sources.open_failure.OpenFailure.{OpenFailure}
 use Rattle.pyver_tool.specs.declared.requirement_files.RequirementFiles.{RequirementFiles}
 use Rattle.pyver_tool.specs.declared.requirement_files.UnopenedFile.{UnopenedFile as UnopenedFileValue}
 use Rattle.pyver_findings.specs.FileLines.{File}

@@ -7,10 +7,10 @@ pub mod FileKinds
 pub mod Settings
 pub mod Tasks
 pub mod TaskViews
-pub mod Runs
 pub mod RequirementFiles
 pub mod FileSteps
 pub mod Checks
+pub mod Runs
 pub mod CheckViews
 pub mod CheckLaws
 pub mod WorkViews

@@ -1,6 +1,6 @@
 -- That a task and what is read have at most one outcome.
 use Rattle.std.specs.Prelude.{◌≡◌}
-use Rattle.pyver_commands.specs.Outcomes.{Outcome}
+use Rattle.cli_io.specs.Runs.{Outcome}
 use Rattle.pyver_commands.specs.Sources.{Input}
 use Rattle.pyver_tool.specs.Tasks.{IsOutcome, Task}
 

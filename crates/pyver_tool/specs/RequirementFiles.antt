@@ -2,13 +2,13 @@
 use Rattle.std.specs.Prelude.{◌≡◌, ◌⊎◌, ℕ, List, [], ◌∷◌, ◌++◌, Bool, true, false, Option, None, bytes_eq, map}
 use Rattle.std.specs.List.{flat_map, list_any}
 use Rattle.std.specs.Str.{IsUtf8}
-use Rattle.pyver_commands.specs.SourceTexts.{StopsInText}
+use Rattle.pyver_commands.specs.Sources.SourceTexts.{StopsInText}
 use Rattle.pyver_commands.specs.Sources.{IsKnownPath, KnownFile, MayRefuse, ReadsWhole, is_input}
 use Rattle.pyver_tool.specs.declared.file_kind.FileKind.{FileKind}
 use Rattle.pyver_tool.specs.declared.file_kind.FileKind.TheVariants as file_kind
-use Rattle.pyver_commands.specs.declared.open_failure.OpenFailure.{OpenFailure}
-use Rattle.pyver_commands.specs.declared.open_failure.OpenFailure.TheVariants as failure
-use Rattle.pyver_commands.specs.declared.stream.RunFailure.{RunFailure}
+use Rattle.pyver_commands.specs.declared.sources.open_failure.OpenFailure.{OpenFailure}
+use Rattle.pyver_commands.specs.declared.sources.open_failure.OpenFailure.TheVariants as failure
+use Rattle.pyver_commands.specs.declared.sources.stream.RunFailure.{RunFailure}
 use Rattle.pyver_findings.specs.FileLines.{File}
 use Rattle.pyver_findings.specs.NamedFiles.{NamedFile, named_files}
 use Rattle.pyver_projects.specs.Meanings.{Document}

@@ -2,13 +2,13 @@
 use Rattle.std.specs.Prelude.{ℕ, ◌==◌, List, [], ◌∷◌, true, false, Option, Some, None, bytes_eq, codes, if◌then◌else◌}
 use Rattle.std.specs.Option.{option_map}
 use Rattle.pyver_tool.specs.FileKinds.{file_kind_of}
-use Rattle.pyver_commands.specs.InvalidLines.{invalid_lines_of}
-use Rattle.pyver_commands.specs.LineOptions.{no_line_options}
+use Rattle.pyver_commands.specs.Sources.InvalidLines.{invalid_lines_of}
+use Rattle.pyver_commands.specs.Sources.LineOptions.{no_line_options}
 use Rattle.pyver_commands.specs.Numbers.{word_number}
 use Rattle.pyver_tool.specs.Options.{Row}
 use Rattle.pyver_commands.specs.Parts.{part_of}
 use Rattle.pyver_tool.specs.declared.file_kind.FileKind.TheVariants as file_kind
-use Rattle.pyver_commands.specs.declared.line_options.LineOptions.{LineOptions}
+use Rattle.pyver_commands.specs.declared.sources.line_options.LineOptions.{LineOptions}
 use Rattle.pyver_commands.specs.declared.prerelease_rule.Prereleases.TheVariants as prereleases
 use Rattle.pyver_tool.specs.declared.settings.Settings.{Settings}
 use Rattle.pyver_commands.specs.declared.show.ShowFormat.TheVariants as format

@@ -1,5 +1,5 @@
 -- The tasks that the words of a call name, and their outcomes.
-use Rattle.std.specs.Prelude.{◌≡◌, ⊤, ℕ, List, [], ◌∷◌, ◌++◌, Bool, true, false, Option, Some, None, bytes_eq, codes, get_or, is_some, length, map, take, if◌then◌else◌}
+use Rattle.std.specs.Prelude.{◌≡◌, ⊤, ℕ, List, [], ◌∷◌, ◌++◌, Bool, true, false, ◌||◌, Option, Some, None, bytes_eq, codes, get_or, is_some, length, map, take, if◌then◌else◌}
 use Rattle.std.specs.List.{list_any}
 use Rattle.std.specs.Option.{option_map_or}
 use Rattle.pep440_rs.specs.ListGrammar.{DerivesList}
@@ -13,7 +13,8 @@ use Rattle.pyver_commands.specs.Matches.{Matches}
 use Rattle.pyver_tool.specs.MisuseMessages.{unknown_message, usage_message, value_message}
 use Rattle.pyver_commands.specs.NewestOutcomes.{FindsNewestLine}
 use Rattle.pyver_tool.specs.Options.{Row, options}
-use Rattle.pyver_commands.specs.Outcomes.{Outcome, message_outcome}
+use Rattle.cli_io.specs.Runs.{Outcome}
+use Rattle.pyver_commands.specs.Outcomes.{message_outcome}
 use Rattle.pyver_tool.specs.Settings.{Effect, Sets, WrongValue, effect, no_settings}
 use Rattle.pyver_commands.specs.Shows.{Shows}
 use Rattle.pyver_commands.specs.Sorts.{SortsLines}
@@ -200,10 +201,8 @@ named_task word rest = option_map_or (λ topic. by_split topic (split_words (opt
 abbrev pub task_of : List (List ℕ) → Task
 task_of [] = Misused (wrong_count topic.Program)
 task_of (word ∷ rest) =
-    if bytes_eq word (codes "-h") then Help topic.Program
-    else if bytes_eq word (codes "--help") then Help topic.Program
-    else if bytes_eq word (codes "-V") then NameVersion
-    else if bytes_eq word (codes "--version") then NameVersion
+    if bytes_eq word (codes "-h") || bytes_eq word (codes "--help") then Help topic.Program
+    else if bytes_eq word (codes "-V") || bytes_eq word (codes "--version") then NameVersion
     else if bytes_eq word (codes "help") then help_task rest
     else named_task word rest
 
@@ -227,19 +226,16 @@ IsOutcome (Range options words) input o = FindsCommon options words o
 IsOutcome (Check options names) input o = ⊥
 IsOutcome (Misused message) input o = o ≡ message_outcome message
 
--- the task is to check files
-abbrev pub IsCheck : Task → Type 0
-IsCheck task = (options : CheckOptions) × (names : List (List ℕ)) × (task ≡ Check options names)
-
--- of the others only `sort`, `filter` and `newest` with a valid list, and `bump` without a version, read sources
+-- `sort` and `check`, `filter` and `newest` with a valid list, and `bump` without a version read sources
 abbrev pub NeedsInput : Task → Type 0
 NeedsInput (Filter options specifiers names) = (list : List Spec) × DerivesList specifiers list
 NeedsInput (Sort options names) = ⊤
 NeedsInput (Newest options specifiers names) = (list : List Spec) × DerivesList specifiers list
 NeedsInput (Bump to parts None) = ⊤
+NeedsInput (Check options names) = ⊤
 NeedsInput _ = ⊥
 
--- the names of the sources that are read
+-- the names of the sources that are read, but those of `check`, which reads whole files
 abbrev pub names_of : Task → List (List ℕ)
 names_of (Filter options specifiers names) = source_names names
 names_of (Sort options names) = source_names names

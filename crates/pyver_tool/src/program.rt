@@ -1,13 +1,10 @@
 // The program over any reader and any writers.
-ghost use Rattle.std.specs.Prelude.{◌≡◌, ◌⊎◌, ◌≤◌, List, ℕ, map, string_bytes};
-ghost use Rattle.pyver_commands.specs.AnswerViews.{outcome_of};
-ghost use Rattle.pyver_tool.specs.Checks.{EndsCheck};
+ghost use Rattle.std.specs.Prelude.{◌≡◌, ◌⊎◌, List, Ok, ℕ, map, string_bytes};
 ghost use Rattle.cli_io.specs.Streams.{WroteBeginning};
-ghost use Rattle.pyver_tool.specs.Runs.{Ends, WritesAnswer};
-ghost use Rattle.pyver_commands.specs.LastMessages.{IsWriteFailure, memory_message};
-ghost use Rattle.pyver_commands.specs.SourceViews.{Reports};
-ghost use Rattle.pyver_tool.specs.Tasks.{Check, IsCheck, task_of};
-ghost use Rattle.pyver_tool.specs.declared.check.CheckOptions.{CheckOptions};
+ghost use Rattle.pyver_commands.specs.Sources.RunFailures.{IsWriteFailure, Reports, memory_message};
+ghost use Rattle.pyver_tool.specs.Runs.{TaskEnds};
+ghost use Rattle.pyver_tool.specs.Tasks.{NeedsInput, task_of};
+ghost use Rattle.pyver_tool.specs.WorkViews.{AnswerEnds};
 
 use crate::check::check_files;
 use crate::command::{Command, Work};
@@ -36,8 +33,7 @@ fn failure_status(failure: WriteFailure) -> u8
 
 // Writes that a write failed, unless nobody reads, and returns the status.
 fn report_write_failure<E: Write>(failure: WriteFailure, err: &mut E) -> u8
-    ensures status { (result ≡ 4) ⊎ (result ≡ 141) }
-    ensures written { (message : List ℕ) × IsWriteFailure result message × WroteBeginning (E.contents err.old) (E.contents err.new) message }
+    ensures { (message : List ℕ) × IsWriteFailure result message × WroteBeginning (E.contents err.old) (E.contents err.new) message }
 {
     match failure {
         WriteFailure::BrokenPipe => NOBODY_READS,
@@ -46,19 +42,6 @@ fn report_write_failure<E: Write>(failure: WriteFailure, err: &mut E) -> u8
             FAILED
         }
     }
-}
-
-// Writes an answer and returns the status.
-fn write_answer<W: Write, E: Write>(answer: &Answer, out: &mut W, err: &mut E) -> u8
-    ensures { WritesAnswer W.contents E.contents (outcome_of answer.now) out.old out.new err.old err.new result }
-{
-    if let Err(failure) = write_whole(out, answer.output.as_slice()) {
-        return report_write_failure(failure, err);
-    }
-    if let Err(failure) = write_whole(err, answer.errors.as_slice()) {
-        return failure_status(failure);
-    }
-    answer.status
 }
 
 // Writes why a run stopped, where somebody reads that, and returns the status.
@@ -80,15 +63,42 @@ fn report_run_failure<E: Write>(failure: RunFailure, err: &mut E) -> u8
     }
 }
 
+// Writes an answer and returns the status.
+fn write_answer<W: Write, E: Write>(answer: &Answer, out: &mut W, err: &mut E) -> u8
+    ensures { AnswerEnds (Ok answer.now) W.contents E.contents out.old out.new err.old err.new result }
+{
+    if let Err(failure) = write_whole(out, answer.output.as_slice()) {
+        return report_write_failure(failure, err);
+    }
+    if let Err(failure) = write_whole(err, answer.errors.as_slice()) {
+        return failure_status(failure);
+    }
+    answer.status
+}
+
+// Writes an answer, or why there is none, and returns the status.
+fn write_result<W: Write, E: Write>(
+    answer: Result<Answer, RunFailure>,
+    out: &mut W,
+    err: &mut E,
+) -> u8
+    ensures { AnswerEnds answer W.contents E.contents out.old out.new err.old err.new result }
+{
+    match answer {
+        Ok(answer) => write_answer(&answer, out, err),
+        Err(failure) => report_run_failure(failure, err),
+    }
+}
+
 /// Runs the command of the words and returns the status of the process: 0, 1 or 2 as its outcome, 3 out of memory, 4 a read or a
 /// write failed, 141 nobody reads the output. Answers go to `out` and faults to `err`. Only `sort` and `check`, and `filter` and `newest`
 /// with a valid list, read `input` and open files, and `bump` without a version reads `input`.
 ///
-/// With 0, 1 or 2 both outputs are those of the outcome, and a command that reads has read all, or all before a file that is
-/// not opened, where `check` goes on. If such a command ends with 3, 4 or 141, `out` got a prefix of the outcome of the first lines read, and `err` a
-/// prefix of its errors and of the last message, which names the source if a read failed; `sort`, `newest` and `bump` wrote a prefix of the
-/// outcome of all input, or nothing; `check` a prefix of its report, or only of a message. A command that reads nothing wrote with 3 a prefix
-/// of the message; with 4 or 141 a prefix of its output and, with 4, of a message, or all output and a prefix of its errors.
+/// A run ends in one of two ways. It finishes, with 0, 1 or 2: all was read, or all before a file that is not opened, where `check` goes on,
+/// and the whole outcome was written. Or it stops, with 3, 4 or 141, and of a message `err` got what it took. If reading stopped or
+/// an allocation failed before there was an outcome, only that message was written, which names the source if a read failed. If a write failed, a prefix of
+/// the output was written and then the message, or all output and a prefix of the errors. `filter`, which prints lines as they come, wrote a
+/// prefix of the output of the first lines read, and a prefix of their errors and then of the message.
 pub fn run<F: Files, R: Read, W: Write, E: Write>(
     alloc: Global,
     words: &[String],
@@ -97,8 +107,9 @@ pub fn run<F: Files, R: Read, W: Write, E: Write>(
     out: &mut W,
     err: &mut E,
 ) -> u8
-    ensures command { ¬ IsCheck (task_of (map string_bytes words.now)) → Ends F.known R.remaining W.contents E.contents (map string_bytes words.now) files.old files.new input.old input.new out.old out.new err.old err.new result }
-    ensures check { (options : CheckOptions) (names : List (List ℕ)) → task_of (map string_bytes words.now) ≡ Check options names → EndsCheck F.known F.path R.remaining W.contents E.contents options names files.old files.new input.old input.new out.old out.new err.old err.new result }
+    ensures ends { TaskEnds (F.known files.old) (F.path files.old) R.remaining (task_of (map string_bytes words.now)) input.old input.new W.contents E.contents out.old out.new err.old err.new result }
+    ensures unread { ¬ NeedsInput (task_of (map string_bytes words.now)) → (input.new ≡ input.old) × (files.new ≡ files.old) }
+    ensures kept { F.known files.new ≡ F.known files.old }
 {
     let Ok(read) = Words::read(alloc, words) else {
         return refuse(err);
@@ -112,15 +123,11 @@ pub fn run<F: Files, R: Read, W: Write, E: Write>(
             }
         }
         Ok(Work::Whole(question, names)) => {
-            match answer_input(alloc, question, names, files, input, out, err) {
-                Ok(status) => status,
-                Err(failure) => report_run_failure(failure, err),
-            }
+            write_result(answer_input(alloc, question, names, files, input), out, err)
         }
-        Ok(Work::Check(options, names)) => match check_files(alloc, options, names, files, input) {
-            Ok(answer) => write_answer(&answer, out, err),
-            Err(failure) => report_run_failure(failure, err),
-        },
+        Ok(Work::Check(options, names)) => {
+            write_result(check_files(alloc, options, names, files, input), out, err)
+        }
         Err(_) => refuse(err),
     }
 }

@@ -83,7 +83,7 @@ impl RequirementFiles {
     ghost use Rattle.pyver_tool.specs.FileKinds.{kind_by_name};
     ghost use Rattle.pyver_tool.specs.FileSteps.{GainsFile, GainsUnopened, HasReads, ReadsStep, StepsOrRefused, names_of_files};
     ghost use Rattle.pyver_tool.specs.RequirementFiles.{ReadsNames, StopsInNames, file_with, has_path, none_read};
-    ghost use Rattle.pyver_commands.specs.SourceTexts.{StopsInText};
+    ghost use Rattle.pyver_commands.specs.Sources.SourceTexts.{StopsInText};
 
     // Nothing was read yet.
     fn new(alloc: Global, names: Vec<NamedFile>) -> RequirementFiles

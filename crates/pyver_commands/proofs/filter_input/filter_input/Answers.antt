@@ -3,7 +3,7 @@ use Rattle.std.proofs.KnownBytes.{Consumes-kept, Consumes-nil}
 use Rattle.std.proofs.lemmas.Result.{err_from_is_err_and}
 use Rattle.std.specs.Io.KnownBytes.{Consumes}
 use Rattle.pyver_commands.proofs.Filtering.{counted, finishes, finishes_restarted, goes_counted, goes_more, goes_none, restarted, stops_finishing, stops_reading, stops_restarted, stops_writing}
-use Rattle.pyver_commands.specs.SourceViews.{origin_of}
+use Rattle.pyver_commands.specs.Sources.SourceViews.{origin_of}
 use Rattle.pyver_commands.proofs.filter_input.filter_input.Goals as goal
 
 pub loop-state-init : goal.loop-state-init

@@ -1,6 +1,6 @@
 use Rattle.std.proofs.Common.{◌*◌, ◌-◌, ◌≤◌}
 use Rattle.pyver_commands.specs.FilterSteps.{Goes}
-use Rattle.pyver_commands.specs.SourceViews.{origin_of}
+use Rattle.pyver_commands.specs.Sources.SourceViews.{origin_of}
 use Rattle.pyver_commands.proofs.filter_input.filter_input.Given as goal
 
 abbrev pub invariant-loop-state : goal.invariant-loop-state

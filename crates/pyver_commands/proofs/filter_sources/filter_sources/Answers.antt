@@ -21,8 +21,6 @@ returns-in_err-write_both-clause-stopped g c =
 
 pub returns-clause-finished : goal.returns-clause-finished
 returns-clause-finished g c =
-    let k = c.in_ok-unopened.ensures.finished in (
-      c.in_ok-status.ensures.low,
-      filter_finishes _ _ _ _ c.args.rule.now _ _ c.filter_all_sources.new.state c.args.input.now c.filter_all_sources.new.input c.args.out.now c.filter_all_sources.new.out c.args.err.now c.filter_all_sources.new.err k c.write_both.new.out c.write_both.new.err
-          c.finish.new.self c.in_ok-status.status c.in_ok-status.ensures (rw c.as_slice.ensures.value at c.in_ok-write_both.ensures.whole.0) (rw c.as_slice-2.ensures.value at c.in_ok-write_both.ensures.whole.1),
-    )
+    let k = c.in_ok-unopened.ensures.finished in
+    filter_finishes _ _ _ _ c.args.rule.now _ _ c.filter_all_sources.new.state c.args.input.now c.filter_all_sources.new.input c.args.out.now c.filter_all_sources.new.out c.args.err.now c.filter_all_sources.new.err k c.write_both.new.out c.write_both.new.err
+    c.finish.new.self c.in_ok-status.status c.in_ok-status.ensures (rw c.as_slice.ensures.value at c.in_ok-write_both.ensures.whole.0) (rw c.as_slice-2.ensures.value at c.in_ok-write_both.ensures.whole.1)

@@ -1,7 +1,7 @@
 use Rattle.std.proofs.Common.{◌∙◌, sym}
 use Rattle.std.proofs.lemmas.Result.{err_from_is_err_and}
 use Rattle.pyver_commands.proofs.SourceFilters.{file_stops, input_stops}
-use Rattle.pyver_commands.specs.SourceViews.{origin_of}
+use Rattle.pyver_commands.specs.Sources.SourceViews.{origin_of}
 use Rattle.pyver_commands.proofs.filter_sources.open_and_filter.Goals as goal
 
 pub returns-in_err-filter_input-clause-stopped : goal.returns-in_err-filter_input-clause-stopped

@@ -3,7 +3,7 @@ use Rattle.std.specs.Option.{option_map}
 use Rattle.pyver_commands.proofs.Choosing.{below_more, found_more, is_newer_kept, out_more}
 use Rattle.pyver_commands.specs.NewestOutcomes.{NewestLine, allowed_lines}
 use Rattle.pyver_commands.specs.NewestViews.{kept_line}
-use Rattle.pyver_commands.specs.VersionLines.{VersionLine}
+use Rattle.pyver_commands.specs.Sources.VersionLines.{VersionLine}
 use Rattle.pyver_commands.proofs.newest_lines.keep_newer.Goals.{else-is_newer-via-then-is_newer+in_ok-allows+else-branch, else-is_newer-via-else-is_newer}
 use Rattle.pyver_commands.proofs.newest_lines.keep_newer.Goals as goal
 

@@ -1,7 +1,7 @@
 use Rattle.std.proofs.Common.{◌≡◌, ◌++◌, drop, map}
 use Rattle.pyver_commands.proofs.Sorting.{kept_after}
 use Rattle.pyver_commands.specs.Sorts.{without_repeats}
-use Rattle.pyver_commands.specs.VersionLineViews.{version_line_of}
+use Rattle.pyver_commands.specs.Sources.VersionLineViews.{version_line_of}
 use Rattle.pyver_commands.proofs.sort.kept_texts.Given as goal
 
 abbrev pub invariant-loop-line : goal.invariant-loop-line

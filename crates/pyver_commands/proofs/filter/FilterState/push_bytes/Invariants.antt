@@ -1,6 +1,6 @@
 use Rattle.std.proofs.Common.{◌+◌, ◌≤◌, ◌++◌, ℕ, List, take}
 use Rattle.pyver_commands.specs.FilterSteps.{Cuts, Steps}
-use Rattle.pyver_commands.specs.SourceViews.{origin_of}
+use Rattle.pyver_commands.specs.Sources.SourceViews.{origin_of}
 use Rattle.pyver_commands.proofs.filter.FilterState.push_bytes.Given as goal
 
 abbrev pub invariant-loop-byte : goal.invariant-loop-byte

@@ -1,8 +1,8 @@
 use Rattle.std.proofs.Common.{◌∙◌, refl, sym}
 use Rattle.pyver_commands.proofs.Filtering.{steps_blank, steps_line}
 use Rattle.pyver_commands.specs.AnswerViews.{reading_of}
-use Rattle.pyver_commands.specs.ReadLines.{Entry, Header}
-use Rattle.pyver_commands.specs.SourceViews.{origin_of}
+use Rattle.pyver_commands.specs.Sources.ReadLines.{Entry, Header}
+use Rattle.pyver_commands.specs.Sources.SourceViews.{origin_of}
 use Rattle.pyver_commands.proofs.filter.FilterState.push_line.Goals as goal
 
 pub returns-then-is_blank : goal.returns-then-is_blank

@@ -1,6 +1,6 @@
 use Rattle.std.proofs.Common.{refl}
 use Rattle.pyver_commands.proofs.Filtering.{steps_kept}
-use Rattle.pyver_commands.specs.SourceViews.{origin_line}
+use Rattle.pyver_commands.specs.Sources.SourceViews.{origin_line}
 use Rattle.pyver_commands.proofs.filter.FilterState.push_version.Goals as goal
 
 pub returns-in-Newest : goal.returns-in-Newest

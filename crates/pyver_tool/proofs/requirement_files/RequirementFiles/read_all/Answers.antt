@@ -6,7 +6,7 @@ use Rattle.pyver_commands.proofs.SourceFilters.{names_split}
 use Rattle.pyver_commands.proofs.SourceReads.{stops_before}
 use Rattle.pyver_tool.specs.FileSteps.{ReadsStep, names_of_files, read_of}
 use Rattle.pyver_tool.specs.RequirementFiles.{ReadsFilesInTurn, none_read}
-use Rattle.pyver_commands.specs.SourceTexts.{StopsInText}
+use Rattle.pyver_commands.specs.Sources.SourceTexts.{StopsInText}
 use Rattle.pyver_findings.specs.Views.{named_file_of}
 use Rattle.pyver_tool.proofs.requirement_files.RequirementFiles.read_all.Goals as goal
 

@@ -1,7 +1,0 @@
-use Rattle.std.proofs.Common.{◌∙◌, sym}
-use Rattle.pyver_commands.proofs.Told.{told_list}
-use Rattle.pyver_commands.proofs.allowed.parse_specifiers.Goals as goal
-
-pub returns-in_ok-to_string-in-Err : goal.returns-in_ok-to_string-in-Err
-returns-in_ok-to_string-in-Err c =
-    told_list c.args.text.now _ _ _ _ (sym c.is_out_of_memory.ensures ∙ c.if-is_out_of_memory.false) c.in-Err.ensures.lifted c.in-Err.ensures.refused c.in-Err.ensures.message c.in_ok-to_string-in-Err.ensures.ok
