@@ -4,7 +4,7 @@ use Rattle.std.proofs.lemmas.List.Elements.{All-weaker}
 use Rattle.std.specs.List.{All}
 use Rattle.pep440_compiled.proofs.Exact.{parsed}
 use Rattle.pep440_compiled.specs.Lists.{IsParsedMember}
-use Rattle.pep440_compiled.specs.Version.{DenotesVersion, HasVersionFormat, IsParsed}
+use Rattle.pep440_compiled.specs.Version.{DenotesVersion, IsParsed}
 use Rattle.pep440_compiled.specs.declared.error.CompileError.{CompileError}
 use Rattle.pep440_compiled.specs.declared.error.CompileError.TheVariants.{NotParsed, OutOfMemory}
 use Rattle.pep440_rs.proofs.Agreement.Operands.{list_has_texts}
@@ -14,6 +14,7 @@ use Rattle.pep440_rs.specs.Specifiers.{Spec}
 use Rattle.pep440_version.specs.Grammar.{Derives}
 use Rattle.pep440_version.specs.Record.{Record}
 use Rattle.pep440_calls.proofs.Ascii.{derived_utf8}
+use Rattle.pep440_calls.proofs.Once.{no_format}
 use Rattle.pep440_calls.specs.CallResults.{IsCompiled}
 use Rattle.pep440_calls.specs.Meaning.{MeansBytes, MeansListBytes}
 use Rattle.pep440_calls.specs.Statuses.{Faults, fault_of_compile}
@@ -39,5 +40,5 @@ only_memory version list range f NotParsed is never = absurd (never refl)
 only_memory version list range f OutOfMemory is never = subst (Faults version list range) (sym is) tt
 
 -- the compiled form of a string that needs no version
-pub string_compiled : (bytes form : List ℕ) → (¬ HasVersionFormat bytes) → (r : Record) × Derives bytes r × DenotesVersion form r → IsCompiled bytes form
-string_compiled bytes form plain (r, d, denotes) = (r, inl (plain, (derived_utf8 bytes r d, d)), denotes)
+pub string_compiled : (bytes form : List ℕ) → (r : Record) × Derives bytes r × DenotesVersion form r → IsCompiled bytes form
+string_compiled bytes form (r, d, denotes) = (r, inl (no_format bytes r d, (derived_utf8 bytes r d, d)), denotes)

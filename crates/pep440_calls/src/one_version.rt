@@ -1,5 +1,5 @@
 //! What is made of one version: its normal form, compiled form, parts, sort key and word.
-ghost use Rattle.std.specs.Prelude.{[], string_bytes, true, ◌≡◌};
+ghost use Rattle.std.specs.Prelude.{string_bytes, ◌≡◌};
 ghost use Rattle.pep440_compiled.specs.Version.{HasVersionFormat};
 ghost use Rattle.pep440_calls.specs.CallResults.{IsCompiled, IsKey, IsNormal, PartsAnswer, TellsParts, TellsWord, WordAnswer, kind_number};
 ghost use Rattle.pep440_calls.specs.Meaning.{RefusesBytes};
@@ -10,7 +10,7 @@ use crate::buffer::{NOT_PACKED, OK, flag, put, put_and_count, put_bytes, put_sli
 use crate::fault::Fault;
 use crate::read::read;
 use arrayvec::ArrayVec;
-use pep440_compiled::{CompiledError, compile_version, has_version_format};
+use pep440_compiled::{CompiledError, compile_normal, compile_version, has_version_format};
 use pep440_keys::sort_key;
 use pep440_rs::{PrereleaseKind, Version};
 use pep440_version::laws::word;
@@ -47,23 +47,16 @@ fn normalize(alloc: Global, bytes: &[u8]) -> Result<String, Fault>
 }
 
 /// Writes the compiled form of the version.
+#[tactic(auto, using(crate::proofs::Compiling::string_compiled))]
 pub fn write_compiled(alloc: Global, text: &[u8], out: &mut [u8], written: &mut usize) -> u8
     ensures { PutsBytes (RefusesBytes text.now) ⊥ ⊥ (IsCompiled text.now) out.old out.new written.old written.new result }
 {
     let mut form = ArrayVec::new();
+    // no string in a normal spelling has the format of a compiled version
     if compile_normal(&mut form, text) {
         return put_and_count(form.as_slice(), out, written);
     }
     put_bytes(compile(alloc, text), out, written)
-}
-
-// Writes the compiled form of a string in a normal spelling; `false` of other bytes.
-#[inline(always)]
-fn compile_normal(form: &mut ArrayVec<u8, 64>, bytes: &[u8]) -> bool
-    requires { form.old.items ≡ [] }
-    ensures { result ≡ true → IsCompiled bytes.now form.new.items }
-{
-    !has_version_format(bytes) && pep440_compiled::compile_normal(form, bytes)
 }
 
 fn compile(alloc: Global, text: &[u8]) -> Result<Vec<u8>, Fault>

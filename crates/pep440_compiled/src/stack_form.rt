@@ -1,11 +1,14 @@
 //! The compiled form of a string in a normal spelling, written from its parts before a version is made of them.
-ghost use Rattle.std.specs.Prelude.{◌≡◌, ◌++◌, List, [], IfOk, true};
+ghost use Rattle.std.specs.Prelude.{◌≡◌, ◌++◌, ◌-◌, ◌≤◌, List, [], length, IfOk, OnOk, true};
+ghost use Rattle.std.specs.Char.{is_ascii_digit};
+ghost use Rattle.std.specs.List.{flat_map, list_all, prefix_len};
 ghost use Rattle.pep440_compiled.specs.Version.{DenotesVersion, compiled_bytes};
-ghost use Rattle.pep440_keys.specs.SortKeys.{local_bytes};
-ghost use Rattle.pep440_version.specs.Grammar.{Derives, IsLocal};
-ghost use Rattle.pep440_version.specs.Record.{LocalSegmentValue, Record, from_parts};
+ghost use Rattle.pep440_keys.specs.SortKeys.{local_bytes, segment_bytes};
+ghost use Rattle.pep440_version.specs.Grammar.{AreSegments, Derives, IsLocal, IsSegment};
+ghost use Rattle.pep440_version.specs.Record.{LocalSegmentValue, Number, Record, from_parts};
+ghost use Rattle.pep440_version.specs.RoundTrip.{is_lower};
 
-use crate::parsed::{is_digits, is_lower};
+use crate::parsed::is_digits;
 use crate::version::push_zeros;
 use crate::views::VERSION;
 use arrayvec::ArrayVec;
@@ -13,37 +16,108 @@ use pep440_keys::{KeySink, push_parts_key};
 use pep440_version::{NormalParts, parse_leading_parts};
 use std::alloc::AllocError;
 
-// Appends the bytes of a local part; `false` of one that is more than one string of lower-case letters and digits.
+// How many lower-case letters and digits lead.
+#[inline(always)]
+fn count_lower(text: &[u8]) -> usize
+    ensures count { result ≡ prefix_len is_lower text.now }
+    ensures inside { result ≤ length text.now }
+{
+    text.iter()
+        .take_while(|byte| byte.is_ascii_digit() || byte.is_ascii_lowercase())
+        .count()
+}
+
+// The leading lower-case letters and digits, and the rest.
+#[inline(always)]
+fn split_lower(text: &[u8]) -> (&[u8], &[u8])
+    ensures lower { list_all is_lower result.0.now ≡ true }
+    ensures joined { text.now ≡ result.0.now ++ result.1.now }
+{
+    text.split_at(count_lower(text))
+}
+
+// Appends the bytes of a number of one digit.
+#[inline(always)]
+fn push_digit(form: &mut ArrayVec<u8, 64>, digit: u8) -> Result<(), AllocError>
+    requires { is_ascii_digit digit ≡ true }
+    ensures { OnOk result (form.new.items ≡ form.old.items ++ segment_bytes (Number (digit - 48))) }
+{
+    if digit == b'0' {
+        form.append(&[2])
+    } else {
+        form.append(&[3, digit - b'0'])
+    }
+}
+
+// Appends the bytes of a segment of lower-case letters and digits; `false` of none, and of a number of more than one digit.
+#[inline(always)]
+fn push_segment(form: &mut ArrayVec<u8, 64>, text: &[u8]) -> Result<bool, AllocError>
+    requires { list_all is_lower text.now ≡ true }
+    ensures { IfOk result (λ done. done ≡ true → (s : LocalSegmentValue) × IsSegment text.now s × (form.new.items ≡ form.old.items ++ segment_bytes s)) }
+{
+    if !is_digits(text) {
+        form.append(&[1])?;
+        form.append(text)?;
+        form.append(&[0])?;
+        return Ok(true);
+    }
+    let [digit] = text else {
+        return Ok(false);
+    };
+    push_digit(form, *digit)?;
+    Ok(true)
+}
+
+// Appends the bytes of segments with dots between them; `false` if one of them is none of the above.
+#[inline(always)]
+fn push_segments(form: &mut ArrayVec<u8, 64>, text: &[u8]) -> Result<bool, AllocError>
+    ensures { IfOk result (λ done. done ≡ true → (segments : List LocalSegmentValue) × AreSegments text.now segments × (form.new.items ≡ form.old.items ++ flat_map segment_bytes segments)) }
+{
+    let mut rest = text;
+    for _ in 0..text.len() {
+        let (segment, after) = split_lower(rest);
+        if !push_segment(form, segment)? {
+            return Ok(false);
+        }
+        match after {
+            [] => return Ok(true),
+            [b'.', later @ ..] => rest = later,
+            _ => return Ok(false),
+        }
+    }
+    Ok(false)
+}
+
+// Appends the bytes of a local part; `false` of one with other segments.
 #[inline(always)]
 fn push_local(form: &mut ArrayVec<u8, 64>, text: &[u8]) -> Result<bool, AllocError>
     ensures { IfOk result (λ done. done ≡ true → (local : List LocalSegmentValue) × IsLocal text.now local × (form.new.items ≡ form.old.items ++ local_bytes local)) }
 {
     match text {
-        [] => form.append(&[0])?,
-        [b'+', segment @ ..] => {
-            if segment.is_empty() || !is_lower(segment) || is_digits(segment) {
+        [] => (),
+        [b'+', segments @ ..] => {
+            if !push_segments(form, segments)? {
                 return Ok(false);
             }
-            form.append(&[1])?;
-            form.append(segment)?;
-            form.append(&[0, 0])?;
         }
         _ => return Ok(false),
     }
+    form.append(&[0])?;
     Ok(true)
 }
 
-// Appends the compiled form of the version of these parts, which ends with this local part; `false` of one as above.
+// Appends the compiled form of the version of these parts, which ends with this local part; `false` of one as above. The parts
+// are taken by value: what a reference is taken of is cleared before the string is parsed.
 #[inline(always)]
 fn push_form(
     form: &mut ArrayVec<u8, 64>,
-    parts: &NormalParts,
+    parts: NormalParts,
     local: &[u8],
 ) -> Result<bool, AllocError>
-    ensures { IfOk result (λ done. done ≡ true → (segments : List LocalSegmentValue) × IsLocal local.now segments × (form.new.items ≡ form.old.items ++ compiled_bytes (from_parts parts.now.epoch parts.now.release parts.now.pre parts.now.post parts.now.dev segments))) }
+    ensures { IfOk result (λ done. done ≡ true → (segments : List LocalSegmentValue) × IsLocal local.now segments × (form.new.items ≡ form.old.items ++ compiled_bytes (from_parts parts.epoch parts.release parts.pre parts.post parts.dev segments))) }
 {
     form.append(&[VERSION])?;
-    push_parts_key(form, parts)?;
+    push_parts_key(form, &parts)?;
     if !push_local(form, local)? {
         return Ok(false);
     }
@@ -64,7 +138,7 @@ pub fn compile_normal(form: &mut ArrayVec<u8, 64>, text: &[u8]) -> bool
     let Some((parts, rest)) = parse_leading_parts(text) else {
         return false;
     };
-    match push_form(form, &parts, rest) {
+    match push_form(form, parts, rest) {
         Ok(done) => done,
         Err(_) => false,
     }
