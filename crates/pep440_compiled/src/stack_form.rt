@@ -106,8 +106,8 @@ fn push_local(form: &mut ArrayVec<u8, 64>, text: &[u8]) -> Result<bool, AllocErr
     Ok(true)
 }
 
-// Appends the compiled form of the version of these parts, which ends with this local part; `false` of one as above. The parts
-// are taken by value: what a reference is taken of is cleared before the string is parsed.
+// Appends the compiled form of the version of these parts, which ends with this local part; `false` of one as above. No
+// reference is taken of the parts but the release, so that no other one has a place in memory.
 #[inline(always)]
 fn push_form(
     form: &mut ArrayVec<u8, 64>,
@@ -116,12 +116,19 @@ fn push_form(
 ) -> Result<bool, AllocError>
     ensures { IfOk result (λ done. done ≡ true → (segments : List LocalSegmentValue) × IsLocal local.now segments × (form.new.items ≡ form.old.items ++ compiled_bytes (from_parts parts.epoch parts.release parts.pre parts.post parts.dev segments))) }
 {
+    let NormalParts {
+        epoch,
+        release,
+        pre,
+        post,
+        dev,
+    } = parts;
     form.append(&[VERSION])?;
-    push_parts_key(form, &parts)?;
+    push_parts_key(form, epoch, release.as_slice(), pre, post, dev)?;
     if !push_local(form, local)? {
         return Ok(false);
     }
-    push_zeros(form, parts.release.as_slice())?;
+    push_zeros(form, release.as_slice())?;
     Ok(true)
 }
 

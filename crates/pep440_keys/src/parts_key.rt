@@ -8,7 +8,7 @@ use crate::key_bytes::{push_numbers, push_suffix};
 use crate::number_bytes::push_number;
 use crate::sink::KeySink;
 use pep440_version::key::RankedNumber;
-use pep440_version::{NormalParts, Prerelease, PrereleaseKind};
+use pep440_version::{Prerelease, PrereleaseKind};
 use std::alloc::AllocError;
 
 #[inline(always)]
@@ -83,10 +83,17 @@ fn push_suffix_of<K: KeySink>(
 /// Appends the sort key of the version of these parts, up to its local part, whose bytes follow; an error if there is too little
 /// room.
 #[inline(always)]
-pub fn push_parts_key<K: KeySink>(key: &mut K, parts: &NormalParts) -> Result<(), AllocError>
-    ensures { (local : List LocalSegmentValue) → OnOk result (K.written key.new ++ local_bytes local ≡ K.written key.old ++ key_bytes (from_parts parts.now.epoch parts.now.release parts.now.pre parts.now.post parts.now.dev local)) }
+pub fn push_parts_key<K: KeySink>(
+    key: &mut K,
+    epoch: u64,
+    release: &[u64],
+    pre: Option<Prerelease>,
+    post: Option<u64>,
+    dev: Option<u64>,
+) -> Result<(), AllocError>
+    ensures { (local : List LocalSegmentValue) → OnOk result (K.written key.new ++ local_bytes local ≡ K.written key.old ++ key_bytes (from_parts epoch release.now pre post dev local)) }
 {
-    push_number(key, 0, parts.epoch)?;
-    push_numbers(key, parts.release.as_slice())?;
-    push_suffix_of(key, parts.pre, parts.post, parts.dev)
+    push_number(key, 0, epoch)?;
+    push_numbers(key, release)?;
+    push_suffix_of(key, pre, post, dev)
 }
