@@ -32,11 +32,11 @@ fn is_numeral(text: &str) -> bool
     is_digits(text.as_bytes()) && (text.is_empty() || text.parse::<u64>().is_ok())
 }
 
-// A string of a local part as parsing gives it.
+// A string of a local part as parsing gives it; the empty string counts as a numeral.
 pub(crate) fn is_normal_string(text: &str) -> bool
     ensures { (result ≡ true) ↔ SegmentRereads (Text text.now) }
 {
-    !text.is_empty() && is_lower(text.as_bytes()) && !is_numeral(text)
+    is_lower(text.as_bytes()) && !is_numeral(text)
 }
 
 fn is_normal(part: &LocalSegment) -> bool
