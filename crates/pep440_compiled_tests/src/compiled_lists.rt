@@ -107,6 +107,18 @@ pub fn contains_bytes(alloc: Global, list: &str, version: &str) -> Result<String
     print_contained(alloc, list.as_slice(), version.as_slice())
 }
 
+/// Whether the list contains the version, both as bytes, if that is soon found.
+pub fn contains_soon(alloc: Global, list: &str, version: &str) -> Result<String, CaseError> {
+    let list = bytes_argument(alloc, list)?;
+    let version = bytes_argument(alloc, version)?;
+    let text = match contains_final(list.as_slice(), version.as_slice()) {
+        Some(true) => "yes",
+        Some(false) => "no",
+        None => "not soon",
+    };
+    Ok(String::from_str(alloc, text)?)
+}
+
 fn compile_error(error: CompileError) -> CaseError {
     match error {
         CompileError::NotParsed => CaseError::Unreadable,
