@@ -84,10 +84,12 @@ pub fn requests(alloc: Global, text: &str) -> Result<String, CaseError> {
 
 // Whether the list contains the version, of which it also reports whether it is a pre-release.
 fn print_contained(alloc: Global, list: &[u8], version: &[u8]) -> Result<String, CaseError> {
-    let found = match contains_final(list, version) {
-        Some(is_contained) => Ok((is_contained, false)),
-        None => contains(list, version),
-    };
+    let found = contains(list, version);
+    if let Some(is_contained) = contains_final(list, version) {
+        if found != Ok((is_contained, false)) {
+            return Err(CaseError::Disagreement);
+        }
+    }
     let text = match found {
         Ok((_, is_prerelease)) if any_prerelease(version) != Ok(is_prerelease) => {
             return Err(CaseError::Disagreement);
