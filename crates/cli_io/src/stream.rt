@@ -19,6 +19,11 @@ pub enum ReadFailure {
 }
 
 impl From<AllocError> for ReadFailure {
+    ghost use Rattle.std.specs.Prelude.{◌≡◌};
+    ghost use Rattle.cli_io.specs.declared.stream.ReadFailure.TheVariants.{OutOfMemory};
+
+    ghost from_gives = { λ _ failure. failure ≡ OutOfMemory };
+
     fn from(_: AllocError) -> ReadFailure {
         ReadFailure::OutOfMemory
     }
@@ -61,6 +66,13 @@ pub enum WriteFailure {
 }
 
 impl From<Error> for WriteFailure {
+    ghost use Rattle.std.specs.Prelude.{◌≡◌, ◌↔◌};
+    ghost use Rattle.std.specs.IoError.{error_kind};
+    ghost use Rattle.std.specs.declared.io.ErrorKind.TheVariants as kind;
+    ghost use Rattle.cli_io.specs.declared.stream.WriteFailure.TheVariants.{BrokenPipe};
+
+    ghost from_gives = { λ error failure. (failure ≡ BrokenPipe) ↔ (error_kind error ≡ kind.BrokenPipe) };
+
     fn from(error: Error) -> WriteFailure {
         match error.kind() {
             ErrorKind::BrokenPipe => WriteFailure::BrokenPipe,
