@@ -3,7 +3,7 @@ ghost use Rattle.std.specs.Prelude.{◌≡◌, ◌++◌, IfOk, map};
 ghost use Rattle.std.specs.List.{All, AllZip, flat_map};
 ghost use Rattle.pyver_findings.specs.Reports.{empty_report, left_out_in};
 ghost use Rattle.pyver_findings.specs.Views.{finding_of, line_meaning_of, report_of};
-ghost use Rattle.pyver_projects.specs.Comparing.{IsDocumentsReport, beside_all, found_or_none, invalid_package, invalid_string, left_out_string, own_report, with_own_reports};
+ghost use Rattle.pyver_projects.specs.Comparing.{IsDocumentsReport, beside_all, invalid_package, invalid_string, left_out_string, own_report, with_own_reports};
 ghost use Rattle.pyver_projects.specs.Meanings.{IsDocumentReading, IsLock, IsProject};
 ghost use Rattle.pyver_projects.specs.Soundness.{IsSoundDocument, IsSoundString};
 ghost use Rattle.pyver_projects.specs.Together.{project_conflicts};
@@ -11,7 +11,7 @@ ghost use Rattle.pyver_projects.specs.ProjectViews.{document_of, document_readin
 
 use crate::document::Document;
 use crate::document_reading::{DocumentReading, read_document};
-use crate::lock_comparison::{push_all_unmet, push_beside_all};
+use crate::lock_comparison::{push_beside_all, push_unmet_requirements};
 use crate::locked_reading::LockedReading;
 use crate::string_reading::StringReading;
 use crate::together::project_conflicts;
@@ -112,7 +112,7 @@ fn report_packages(
     report.lines = packages.len();
     report.files = 1;
     let mut unmet = Vec::new(alloc);
-    push_all_unmet(alloc, &mut unmet, packages.as_slice(), requirements)?;
+    push_unmet_requirements(alloc, &mut unmet, packages.as_slice(), requirements)?;
     push_packages(&mut report.findings, packages)?;
     report.findings.append(&mut unmet)?;
     push_all_left_out(&mut report.left_out, requirements)?;

@@ -112,7 +112,7 @@ fn push_unmet(
     }
 }
 
-fn push_each_unmet(
+fn push_unmet_in_index(
     alloc: Global,
     findings: &mut Vec<Finding>,
     packages: &PackageIndex<'_>,
@@ -128,7 +128,7 @@ fn push_each_unmet(
 }
 
 // Adds what requirements of packages exclude in their own lock.
-pub(crate) fn push_all_unmet(
+pub(crate) fn push_unmet_requirements(
     alloc: Global,
     findings: &mut Vec<Finding>,
     packages: &[LockedReading],
@@ -137,7 +137,7 @@ pub(crate) fn push_all_unmet(
     ensures { IfOk result (λ _. map finding_of findings.new.items ≡ map finding_of findings.old.items ++ flat_map (unmet (map locked_reading_of packages.now)) (map line_meaning_of requirements.now)) }
 {
     let packages = PackageIndex::new(alloc, packages)?;
-    push_each_unmet(alloc, findings, &packages, requirements)
+    push_unmet_in_index(alloc, findings, &packages, requirements)
 }
 
 // Some package has the name of the requirement.
