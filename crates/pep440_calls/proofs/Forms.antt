@@ -1,5 +1,5 @@
 -- Bytes that are a string or a compiled form: what is read of each, and what is found in compiled bytes as they lie.
-use Rattle.std.proofs.Common.{◌≡◌, ◌∙◌, ℕ, List, Bool, false, ap, codes, inl, inr, refl, sym}
+use Rattle.std.proofs.Common.{◌≡◌, ◌∙◌, ℕ, List, Bool, ap, codes, inl, inr, refl}
 use Rattle.std.specs.Prelude.{Err, Ok, Result}
 use Rattle.std.specs.declared.cmp.Ordering.{Ordering}
 use Rattle.pep440_compiled.specs.Lists.{DenotesList, HasListFormat}
@@ -67,14 +67,6 @@ as_compiled_list bytes l format (inl (plain, means)) = absurd (plain format)
 as_compiled_list bytes l format (inr d) = d
 
 -- ---- what calls find
-
--- matching of a compiled list and a compiled version that is no pre-release
-pub final_match : (list version : List ℕ) (found : Bool) → HasListFormat list × HasVersionFormat version → ((l : List Spec) (r : Record) → DenotesList list l → DenotesVersion version r → found ≡ list_matches l r)
-    → ((r : Record) → DenotesVersion version r → any_prerelease r ≡ false) → Contains list version found × IsPrerelease version false
-final_match list version found formats matches final = (
-  (inl formats, λ l r means also. matches l r (as_compiled_list list l formats.0 means) (as_compiled version r formats.1 also)),
-  λ r also. sym (final r (as_compiled version r formats.1 also)),
-)
 
 -- the order of versions that were read
 pub order_read : (left right : List ℕ) (r q : Record) (o : Ordering) → MeansBytes left r → MeansBytes right q → o ≡ record_cmp r q → IsOrder left right (order_number o)

@@ -9,7 +9,7 @@ ghost use Rattle.pep440_calls.specs.Statuses.{Gives};
 use crate::buffer::{OK, flag};
 use crate::fault::Fault;
 use crate::read::{read, read_list};
-use pep440_compiled::{ContainsError, contains_final, has_list_format, has_version_format};
+use pep440_compiled::{ContainsError, has_list_format, has_version_format};
 use std::alloc::Global;
 
 // Writes whether a list contains a version, and whether this is a pre-release or a developmental release.
@@ -65,16 +65,6 @@ fn write_parsed_match(
     put_match(contains(alloc, list, text), contained, prerelease)
 }
 
-// The same of compiled forms, so that what `contains_final` finds pays nothing for the others.
-#[inline(never)]
-fn write_compiled_match(list: &[u8], text: &[u8], contained: &mut u8, prerelease: &mut u8) -> u8
-    requires list { HasListFormat list.now }
-    requires version { HasVersionFormat text.now }
-    ensures { ContainsAnswer list.now text.now contained.old contained.new prerelease.old prerelease.new result }
-{
-    put_match(contains_compiled(list, text), contained, prerelease)
-}
-
 /// Whether the list contains the version, 1 or 0 (PEP 440, "Version specifiers"); and whether the version is a pre-release or
 /// a developmental release, 1 or 0 (PEP 440, "Handling of pre-releases"). The list is read first, unless both
 /// are compiled: then nothing is allocated.
@@ -90,10 +80,7 @@ pub fn write_match(
     if !has_list_format(list) || !has_version_format(text) {
         return write_parsed_match(alloc, list, text, contained, prerelease);
     }
-    match contains_final(list, text) {
-        Some(found) => put_match(Ok((found, false)), contained, prerelease),
-        None => write_compiled_match(list, text, contained, prerelease),
-    }
+    put_match(contains_compiled(list, text), contained, prerelease)
 }
 
 /// Whether the list allows the version, 1 or 0 (PEP 440, "Handling of pre-releases"): it contains the version, and this is no
@@ -117,9 +104,6 @@ fn allows_compiled(list: &[u8], version: &[u8]) -> Result<bool, Fault>
     requires version { HasVersionFormat version.now }
     ensures { Gives (RefusesSecond list.now version.now) (RefusesListBytes list.now) ⊥ (Allows list.now version.now) result }
 {
-    if let Some(found) = contains_final(list, version) {
-        return Ok(found);
-    }
     let (contained, is_early) = contains_compiled(list, version)?;
     if !is_early {
         return Ok(contained);

@@ -9,7 +9,7 @@ use Rattle.std.specs.List.{AllByRecursion, flat_map, list_all}
 use Rattle.std.specs.Str.{IsUtf8}
 use Rattle.pep440_compiled.proofs.Zeros.{trim_pad}
 use Rattle.pep440_compiled.specs.KeyParts.{ending_zeros, suffix_bytes}
-use Rattle.pep440_compiled.specs.Version.{IsParsed, zero_bytes}
+use Rattle.pep440_compiled.specs.Version.{IsParsed, compiled_bytes, zero_bytes}
 use Rattle.pep440_keys.specs.SortKeys.{key_bytes, local_bytes, number_bytes, rank_bytes}
 use Rattle.pep440_version.proofs.Reading.Prefixes.{both_first, both_second}
 use Rattle.pep440_version.specs.Key.{dev_rank, key, post_rank, stage_rank}
@@ -40,10 +40,17 @@ zeros_written release kept end e s =
     ∙ ap (λ n. replicate n 1) (sym (length-drop (length (trim release)) release))
     ∙ sym (ones (drop (length (trim release)) release))
 
+pub zeros_long : (release kept : List ℕ) → kept ≡ trim release → length (zero_bytes release) ≡ length release - length kept
+zeros_long release kept e = length-map (drop (length (trim release)) release) (λ _. 1) ∙ length-drop (length (trim release)) release ∙ ap (λ l. length release - length l) (sym e)
+
 pub one_written : (old seen new : List ℕ) (counter kept : ℕ) → kept ≤ counter → seen ≡ old ++ replicate (counter - kept) 1 → new ≡ seen ++ 1 ∷ [] → new ≡ old ++ replicate (counter + 1 - kept) 1
 one_written old seen new counter kept le s e =
     let next : counter + 1 - kept ≡ counter - kept + 1 = omega (arith, le) in
     e ∙ ap (λ l. l ++ 1 ∷ []) s ∙ append_assoc old (replicate (counter - kept) 1) (1 ∷ []) ∙ ap (λ l. old ++ l) (replicate_more (counter - kept) 1 ∙ ap (λ n. replicate n 1) (sym next))
+
+-- capacity for a form is capacity for the format byte, the key and these zeros
+pub capacity_for_form : (old : List ℕ) (r : Record) → length old + length (compiled_bytes r) ≤ 64 → length old + (1 + (length (key_bytes r) + length (zero_bytes r.release))) ≤ 64
+capacity_for_form old r capacity = omega (arith, capacity, length-append (key_bytes r) (zero_bytes r.release))
 
 -- ---- stage, post and dev
 

@@ -16,4 +16,5 @@ pub mod Rewritten
 pub mod Shared
 pub mod Suffixes
 pub mod WrittenForm
+pub mod WrittenLocal
 pub mod Zeros

@@ -50,8 +50,3 @@ segment_more text rest old form new first later s before joined is next = record
 pub last_segment : (text rest old form new first : List ℕ) (s : LocalSegmentValue) → AreWritten text rest old form → rest ≡ first → IsSegment first s → new ≡ form ++ segment_bytes s → (segments : List LocalSegmentValue) × AreSegments text segments × (new ≡ old ++ flat_map segment_bytes segments)
 last_segment text rest old form new first s before joined is next =
     (before.seen ++ s ∷ [], before.whole (s ∷ []) (subst (λ t. IsSegment t s) (sym joined) is), one_written old form new before.seen s before.written next)
-
--- the format byte, the key up to the local part, the local part and the zeros
-pub form_written : (old format public local_end form local key zeros : List ℕ) → format ≡ old ++ 4 ∷ [] → public ++ local ≡ format ++ key → local_end ≡ public ++ local → form ≡ local_end ++ zeros → form ≡ old ++ 4 ∷ (key ++ zeros)
-form_written old format public local_end form local key zeros first second third last =
-    last ∙ ap (λ l. l ++ zeros) (third ∙ second ∙ ap (λ l. l ++ key) first) ∙ append_assoc (old ++ 4 ∷ []) key zeros ∙ append_assoc old (4 ∷ []) (key ++ zeros)

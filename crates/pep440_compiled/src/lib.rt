@@ -31,8 +31,7 @@ mod views;
 pub use byte_order::cmp_bytes;
 pub use error::{CompileError, CompiledError, ContainsError, NotCompiled};
 pub use list::{
-    compile_list, contains, contains_final, has_list_format, normalize_list, read_list,
-    requests_prereleases,
+    compile_list, contains, has_list_format, normalize_list, read_list, requests_prereleases,
 };
 pub use stack_form::compile_normal;
 pub use version::{

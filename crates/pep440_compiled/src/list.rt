@@ -1,5 +1,5 @@
 //! Compiled lists of specifiers: made, read, asked.
-ghost use Rattle.std.specs.Prelude.{◌≡◌, ◌↔◌, ◌+◌, ◌++◌, ◌∷◌, ◌<◌, ◌≤◌, ℕ, not, if◌then◌else◌, List, false, true, length, Ok, Some, IfErr, IfOk, IfSome, MatchOption, OnOk, string_bytes};
+ghost use Rattle.std.specs.Prelude.{◌≡◌, ◌↔◌, ◌+◌, ◌++◌, ◌<◌, ◌≤◌, ℕ, not, if◌then◌else◌, List, false, true, length, Ok, Some, IfErr, IfOk, IfSome, MatchOption, OnOk, string_bytes};
 ghost use Rattle.std.specs.List.{All, flat_map};
 ghost use Rattle.pep440_compiled.specs.KeyParts.{BeginsOtherwise};
 ghost use Rattle.pep440_compiled.specs.Lists.{DenotesList, HasListFormat, IsParsedMember, member_bytes};
@@ -8,9 +8,8 @@ ghost use Rattle.pep440_compiled.specs.KeyViews.{HasKey, HasParts, IsDecided};
 ghost use Rattle.pep440_compiled.specs.declared.error.CompileError.TheVariants.{NotParsed};
 ghost use Rattle.pep440_compiled.specs.declared.error.CompiledError.TheVariants as unread;
 ghost use Rattle.pep440_compiled.specs.declared.error.ContainsError.TheVariants.{NoList, NoVersion};
-ghost use Rattle.pep440_rs.specs.Arrangement.{IsArranged};
 ghost use Rattle.pep440_rs.specs.Lists.{list_print};
-ghost use Rattle.pep440_rs.specs.Matching.{any_prerelease, candidate, has_prefix, list_matches, matches};
+ghost use Rattle.pep440_rs.specs.Matching.{any_prerelease, has_prefix, list_matches, matches};
 ghost use Rattle.pep440_rs.specs.Operators.{operator_rank};
 ghost use Rattle.pep440_rs.specs.Prereleases.{requests_prerelease, requests_prereleases};
 ghost use Rattle.pep440_rs.specs.Specifiers.{Spec};
@@ -202,12 +201,10 @@ fn meet_member<'a>(first: u8, member: &'a [u8], version: &KeyView<'_>) -> Option
     compare_member(first, member, version)
 }
 
-/// Whether the list contains the version, as `contains` and in fewer instructions, if that is soon found; never of a pre-release
-/// or a developmental release.
-///
-/// Does not allocate.
+// Whether the list contains the version, as `contains_any` and in fewer instructions, if that is soon found; never of a
+// pre-release or a developmental release.
 #[inline(always)]
-pub fn contains_final(list: &[u8], version: &[u8]) -> Option<bool>
+fn contains_final(list: &[u8], version: &[u8]) -> Option<bool>
     ensures found { (l : List Spec) (r : Record) → DenotesList list.now l → DenotesVersion version.now r → IfSome result (λ b. b ≡ list_matches l r) }
     ensures prerelease { (r : Record) → DenotesVersion version.now r → IfSome result (λ _. any_prerelease r ≡ false) }
     ensures format { IfSome result (λ _. HasListFormat list.now × HasVersionFormat version.now) }
@@ -223,13 +220,9 @@ pub fn contains_final(list: &[u8], version: &[u8]) -> Option<bool>
     Some(true)
 }
 
-/// Whether the list that the one bytes denote contains the version that the others denote, as `VersionSpecifiers::contains`
-/// (PEP 440, "Version specifiers"); and whether the version is a pre-release or a developmental release. If one is of another
-/// format, the error names it; if `list` denotes no list or `version` no version, an error or any result.
-///
-/// Does not allocate.
+// As `contains`, by the parts of the version. A call of its own, so that what is soon found pays nothing for it.
 #[inline(never)]
-pub fn contains(list: &[u8], version: &[u8]) -> Result<(bool, bool), ContainsError>
+fn contains_any(list: &[u8], version: &[u8]) -> Result<(bool, bool), ContainsError>
     ensures found { (l : List Spec) (r : Record) → DenotesList list.now l → DenotesVersion version.now r → result ≡ Ok (list_matches l r, any_prerelease r) }
     ensures prerelease { (r : Record) → DenotesVersion version.now r → IfOk result (λ found. found.1 ≡ any_prerelease r) }
     ensures format { IfOk result (λ _. HasListFormat list.now × HasVersionFormat version.now) }
@@ -253,6 +246,26 @@ pub fn contains(list: &[u8], version: &[u8]) -> Result<(bool, bool), ContainsErr
         left = rest;
     }
     Ok((true, is_prerelease))
+}
+
+/// Whether the list that the one bytes denote contains the version that the others denote, as `VersionSpecifiers::contains`
+/// (PEP 440, "Version specifiers"); and whether the version is a pre-release or a developmental release. If one is of another
+/// format, the error names it; if `list` denotes no list or `version` no version, an error or any result.
+///
+/// Does not allocate.
+#[inline(always)]
+pub fn contains(list: &[u8], version: &[u8]) -> Result<(bool, bool), ContainsError>
+    ensures found { (l : List Spec) (r : Record) → DenotesList list.now l → DenotesVersion version.now r → result ≡ Ok (list_matches l r, any_prerelease r) }
+    ensures prerelease { (r : Record) → DenotesVersion version.now r → IfOk result (λ found. found.1 ≡ any_prerelease r) }
+    ensures format { IfOk result (λ _. HasListFormat list.now × HasVersionFormat version.now) }
+    ensures version { IfErr result (λ e. e ≡ NoVersion → (r : Record) → DenotesVersion version.now r → ⊥) }
+    ensures list { IfErr result (λ e. e ≡ NoList → (l : List Spec) → DenotesList list.now l → ⊥) }
+{
+    match contains_final(list, version) {
+        Some(found) => Ok((found, false)),
+        // taken apart, or what is soon found has a place in memory, too
+        None => Ok(contains_any(list, version)?),
+    }
 }
 
 fn requests_prerelease(member: MemberView<'_>) -> bool

@@ -1,12 +1,13 @@
 //! The compiled form of a string in a normal spelling, written from its parts before a version is made of them.
-ghost use Rattle.std.specs.Prelude.{◌≡◌, ◌++◌, ◌-◌, ◌≤◌, List, [], length, IfOk, OnOk, true};
+ghost use Rattle.std.specs.Prelude.{◌≡◌, ◌+◌, ◌++◌, ◌-◌, ◌<◌, ◌≤◌, List, [], length, Ok, IfOk, IsOk, OnOk, false, true};
 ghost use Rattle.std.specs.Char.{is_ascii_digit};
-ghost use Rattle.std.specs.List.{flat_map, list_all, prefix_len};
-ghost use Rattle.pep440_compiled.specs.Version.{DenotesVersion, compiled_bytes};
+ghost use Rattle.std.specs.List.{All, flat_map, list_all, prefix_len};
+ghost use Rattle.pep440_compiled.specs.Version.{DenotesVersion, HasShortForm, IsShortSegment, compiled_bytes};
 ghost use Rattle.pep440_keys.specs.SortKeys.{local_bytes, segment_bytes};
-ghost use Rattle.pep440_version.specs.Grammar.{AreSegments, Derives, IsLocal, IsSegment};
+ghost use Rattle.pep440_version.specs.Grammar.{AreSegments, Derives, IsLocal, IsSegment, starts};
+ghost use Rattle.pep440_version.specs.Print.{dotted, local_text, print, segment_print};
 ghost use Rattle.pep440_version.specs.Record.{LocalSegmentValue, Number, Record, from_parts};
-ghost use Rattle.pep440_version.specs.RoundTrip.{is_lower};
+ghost use Rattle.pep440_version.specs.RoundTrip.{SegmentRereads, is_lower};
 
 use crate::parsed::is_digits;
 use crate::version::push_zeros;
@@ -32,6 +33,7 @@ fn count_lower(text: &[u8]) -> usize
 fn split_lower(text: &[u8]) -> (&[u8], &[u8])
     ensures lower { list_all is_lower result.0.now ≡ true }
     ensures joined { text.now ≡ result.0.now ++ result.1.now }
+    ensures ended { starts is_lower result.1.now ≡ false }
 {
     text.split_at(count_lower(text))
 }
@@ -40,7 +42,8 @@ fn split_lower(text: &[u8]) -> (&[u8], &[u8])
 #[inline(always)]
 fn push_digit(form: &mut ArrayVec<u8, 64>, digit: u8) -> Result<(), AllocError>
     requires { is_ascii_digit digit ≡ true }
-    ensures { OnOk result (form.new.items ≡ form.old.items ++ segment_bytes (Number (digit - 48))) }
+    ensures appended { OnOk result (form.new.items ≡ form.old.items ++ segment_bytes (Number (digit - 48))) }
+    ensures fits { length form.old.items + length (segment_bytes (Number (digit - 48))) ≤ 64 → IsOk result }
 {
     if digit == b'0' {
         form.append(&[2])
@@ -53,7 +56,8 @@ fn push_digit(form: &mut ArrayVec<u8, 64>, digit: u8) -> Result<(), AllocError>
 #[inline(always)]
 fn push_segment(form: &mut ArrayVec<u8, 64>, text: &[u8]) -> Result<bool, AllocError>
     requires { list_all is_lower text.now ≡ true }
-    ensures { IfOk result (λ done. done ≡ true → (s : LocalSegmentValue) × IsSegment text.now s × (form.new.items ≡ form.old.items ++ segment_bytes s)) }
+    ensures appended { IfOk result (λ done. done ≡ true → (s : LocalSegmentValue) × IsSegment text.now s × (form.new.items ≡ form.old.items ++ segment_bytes s)) }
+    ensures fits { (s : LocalSegmentValue) → SegmentRereads s → IsShortSegment s → text.now ≡ segment_print s → length form.old.items + length (segment_bytes s) ≤ 64 → (result ≡ Ok true) × (form.new.items ≡ form.old.items ++ segment_bytes s) }
 {
     if !is_digits(text) {
         form.append(&[1])?;
@@ -71,7 +75,8 @@ fn push_segment(form: &mut ArrayVec<u8, 64>, text: &[u8]) -> Result<bool, AllocE
 // Appends the bytes of segments with dots between them; `false` if one of them is none of the above.
 #[inline(always)]
 fn push_segments(form: &mut ArrayVec<u8, 64>, text: &[u8]) -> Result<bool, AllocError>
-    ensures { IfOk result (λ done. done ≡ true → (segments : List LocalSegmentValue) × AreSegments text.now segments × (form.new.items ≡ form.old.items ++ flat_map segment_bytes segments)) }
+    ensures appended { IfOk result (λ done. done ≡ true → (segments : List LocalSegmentValue) × AreSegments text.now segments × (form.new.items ≡ form.old.items ++ flat_map segment_bytes segments)) }
+    ensures fits { (segments : List LocalSegmentValue) → 0 < length segments → All SegmentRereads segments → All IsShortSegment segments → text.now ≡ dotted segment_print segments → length form.old.items + length (flat_map segment_bytes segments) ≤ 64 → (result ≡ Ok true) × (form.new.items ≡ form.old.items ++ flat_map segment_bytes segments) }
 {
     let mut rest = text;
     for _ in 0..text.len() {
@@ -91,7 +96,8 @@ fn push_segments(form: &mut ArrayVec<u8, 64>, text: &[u8]) -> Result<bool, Alloc
 // Appends the bytes of a local part; `false` of one with other segments.
 #[inline(always)]
 fn push_local(form: &mut ArrayVec<u8, 64>, text: &[u8]) -> Result<bool, AllocError>
-    ensures { IfOk result (λ done. done ≡ true → (local : List LocalSegmentValue) × IsLocal text.now local × (form.new.items ≡ form.old.items ++ local_bytes local)) }
+    ensures appended { IfOk result (λ done. done ≡ true → (local : List LocalSegmentValue) × IsLocal text.now local × (form.new.items ≡ form.old.items ++ local_bytes local)) }
+    ensures fits { (local : List LocalSegmentValue) → All SegmentRereads local → All IsShortSegment local → text.now ≡ local_text local → length form.old.items + length (local_bytes local) ≤ 64 → (result ≡ Ok true) × (form.new.items ≡ form.old.items ++ local_bytes local) }
 {
     match text {
         [] => (),
@@ -114,7 +120,8 @@ fn push_form(
     parts: NormalParts,
     local: &[u8],
 ) -> Result<bool, AllocError>
-    ensures { IfOk result (λ done. done ≡ true → (segments : List LocalSegmentValue) × IsLocal local.now segments × (form.new.items ≡ form.old.items ++ compiled_bytes (from_parts parts.epoch parts.release parts.pre parts.post parts.dev segments))) }
+    ensures appended { IfOk result (λ done. done ≡ true → (segments : List LocalSegmentValue) × IsLocal local.now segments × (form.new.items ≡ form.old.items ++ compiled_bytes (from_parts parts.epoch parts.release parts.pre parts.post parts.dev segments))) }
+    ensures fits { (segments : List LocalSegmentValue) → All SegmentRereads segments → All IsShortSegment segments → local.now ≡ local_text segments → length form.old.items + length (compiled_bytes (from_parts parts.epoch parts.release parts.pre parts.post parts.dev segments)) ≤ 64 → result ≡ Ok true }
 {
     let NormalParts {
         epoch,
@@ -133,14 +140,16 @@ fn push_form(
 }
 
 /// Writes the compiled form of the version that the string of these bytes parses to, if the string is in a normal spelling and the
-/// form has at most 64 bytes. `false` of any other string, which `compile_version` compiles once it is parsed; part of a form may
-/// then have been written.
+/// form has at most 64 bytes: of the normalized form of a version, if it has up to four release numbers, no number above 2147483647,
+/// and no local segment of more than one digit and nothing else. `false` of any other string, which `compile_version` compiles once
+/// it is parsed; part of a form may then have been written.
 ///
 /// Does not allocate.
 #[inline(always)]
 pub fn compile_normal(form: &mut ArrayVec<u8, 64>, text: &[u8]) -> bool
     requires { form.old.items ≡ [] }
-    ensures { result ≡ true → (r : Record) × Derives text.now r × DenotesVersion form.new.items r }
+    ensures form { result ≡ true → (r : Record) × Derives text.now r × DenotesVersion form.new.items r }
+    ensures short { (r : Record) → HasShortForm r → text.now ≡ print r → result ≡ true }
 {
     let Some((parts, rest)) = parse_leading_parts(text) else {
         return false;

@@ -1,5 +1,5 @@
 //! Compiled versions: made, read, compared.
-ghost use Rattle.std.specs.Prelude.{◌≡◌, ◌++◌, Ok, IfErr, IfOk, MatchResult, OnOk, string_bytes};
+ghost use Rattle.std.specs.Prelude.{◌≡◌, ◌+◌, ◌++◌, ℕ, Ok, IfErr, IfOk, IsOk, MatchResult, OnOk, length, string_bytes};
 ghost use Rattle.pep440_compiled.specs.Version.{DenotesVersion, HasVersionFormat, IsParsed, compiled_bytes, version_bytes, zero_bytes};
 ghost use Rattle.pep440_compiled.specs.declared.error.CompileError.TheVariants.{NotParsed};
 ghost use Rattle.pep440_compiled.specs.declared.error.CompiledError.TheVariants as unread;
@@ -25,7 +25,8 @@ use std::cmp::Ordering;
 // A byte 1 for each zero that ends the release.
 #[inline(always)]
 pub(crate) fn push_zeros<K: KeySink>(bytes: &mut K, release: &[u64]) -> Result<(), AllocError>
-    ensures { OnOk result (K.written bytes.new ≡ K.written bytes.old ++ zero_bytes release.now) }
+    ensures appended { OnOk result (K.written bytes.new ≡ K.written bytes.old ++ zero_bytes release.now) }
+    ensures fits { (more : ℕ) → K.has_capacity bytes.old (length (zero_bytes release.now) + more) → IsOk result × K.has_capacity bytes.new more }
 {
     let kept = trim_trailing_zeros(release).len();
     for _ in kept..release.len() {

@@ -3,8 +3,7 @@ use crate::bytes::{bytes_argument, print_bytes};
 use crate::compiled_versions::{ONE, case_error, print_rejection};
 use pep440_compiled::{
     CompileError, CompiledError, ContainsError, NotCompiled, any_prerelease, compile_list,
-    compile_version, contains, contains_final, has_list_format, normalize_list, read_list,
-    requests_prereleases,
+    compile_version, contains, has_list_format, normalize_list, read_list, requests_prereleases,
 };
 use pep440_rs::{SpecifiersErrorKind, VersionSpecifier, VersionSpecifiers};
 use pep440_version::Version;
@@ -84,13 +83,7 @@ pub fn requests(alloc: Global, text: &str) -> Result<String, CaseError> {
 
 // Whether the list contains the version, of which it also reports whether it is a pre-release.
 fn print_contained(alloc: Global, list: &[u8], version: &[u8]) -> Result<String, CaseError> {
-    let found = contains(list, version);
-    if let Some(is_contained) = contains_final(list, version) {
-        if found != Ok((is_contained, false)) {
-            return Err(CaseError::Disagreement);
-        }
-    }
-    let text = match found {
+    let text = match contains(list, version) {
         Ok((_, is_prerelease)) if any_prerelease(version) != Ok(is_prerelease) => {
             return Err(CaseError::Disagreement);
         }
@@ -107,18 +100,6 @@ pub fn contains_bytes(alloc: Global, list: &str, version: &str) -> Result<String
     let list = bytes_argument(alloc, list)?;
     let version = bytes_argument(alloc, version)?;
     print_contained(alloc, list.as_slice(), version.as_slice())
-}
-
-/// Whether the list contains the version, both as bytes, if that is soon found.
-pub fn contains_soon(alloc: Global, list: &str, version: &str) -> Result<String, CaseError> {
-    let list = bytes_argument(alloc, list)?;
-    let version = bytes_argument(alloc, version)?;
-    let text = match contains_final(list.as_slice(), version.as_slice()) {
-        Some(true) => "yes",
-        Some(false) => "no",
-        None => "not soon",
-    };
-    Ok(String::from_str(alloc, text)?)
 }
 
 fn compile_error(error: CompileError) -> CaseError {

@@ -16,8 +16,7 @@ mod written_numbers;
 mod written_strings;
 
 use compiled_lists::{
-    compile_list_of, compile_unchecked, contains_bytes, contains_soon, denotes_list, list_contains,
-    requests,
+    compile_list_of, compile_unchecked, contains_bytes, denotes_list, list_contains, requests,
 };
 use compiled_versions::{compile, compile_local, compile_text, denotes};
 use given::given_arguments;
@@ -64,7 +63,6 @@ fn of_two(alloc: Global, call: &str, one: &str, other: &str) -> Result<String, C
         "compile-unchecked" => compile_unchecked(alloc, one, other),
         "compiled-contains" => list_contains(alloc, one, other),
         "contains-bytes" => contains_bytes(alloc, one, other),
-        "contains-final" => contains_soon(alloc, one, other),
         _ => Err(CaseError::Unreadable),
     }
 }

@@ -1,5 +1,5 @@
 //! Numbers as bytes in their order: how many bytes a number needs, and then these bytes.
-ghost use Rattle.std.specs.Prelude.{◌≡◌, ◌≤◌, ◌++◌, length, OnOk};
+ghost use Rattle.std.specs.Prelude.{◌≡◌, ◌≤◌, ◌+◌, ◌++◌, ℕ, length, IsOk, OnOk};
 ghost use Rattle.pep440_keys.specs.SortKeys.{number_bytes, trim_leading_zeros};
 
 use crate::sink::KeySink;
@@ -22,7 +22,8 @@ fn skip_leading_zeros(bytes: &[u8]) -> &[u8]
 #[inline(never)]
 fn push_any_number<K: KeySink>(key: &mut K, base: u8, number: u64) -> Result<(), AllocError>
     requires { base ≤ 80 }
-    ensures { OnOk result (K.written key.new ≡ K.written key.old ++ number_bytes base number) }
+    ensures appended { OnOk result (K.written key.new ≡ K.written key.old ++ number_bytes base number) }
+    ensures fits { (more : ℕ) → K.has_capacity key.old (length (number_bytes base number) + more) → IsOk result × K.has_capacity key.new more }
 {
     let padded = number.to_be_bytes();
     let bytes = skip_leading_zeros(&padded);
@@ -34,7 +35,8 @@ fn push_any_number<K: KeySink>(key: &mut K, base: u8, number: u64) -> Result<(),
 #[inline(always)]
 pub(crate) fn push_number<K: KeySink>(key: &mut K, base: u8, number: u64) -> Result<(), AllocError>
     requires { base ≤ 80 }
-    ensures { OnOk result (K.written key.new ≡ K.written key.old ++ number_bytes base number) }
+    ensures appended { OnOk result (K.written key.new ≡ K.written key.old ++ number_bytes base number) }
+    ensures fits { (more : ℕ) → K.has_capacity key.old (length (number_bytes base number) + more) → IsOk result × K.has_capacity key.new more }
 {
     match number {
         0 => key.append(&[base]),

@@ -1,5 +1,5 @@
 //! The sort key of a version by its parts, before a version is made of them.
-ghost use Rattle.std.specs.Prelude.{◌≡◌, ◌++◌, ◌∷◌, List, None, OnOk};
+ghost use Rattle.std.specs.Prelude.{◌≡◌, ◌+◌, ◌++◌, ◌∷◌, ℕ, List, None, IsOk, OnOk, length};
 ghost use Rattle.pep440_keys.specs.SortKeys.{key_bytes, local_bytes, rank_bytes};
 ghost use Rattle.pep440_version.specs.Key.{Pre, dev_of, dev_rank, post_of, post_rank, stage_of, stage_rank};
 ghost use Rattle.pep440_version.specs.Record.{LocalSegmentValue, from_parts};
@@ -66,7 +66,8 @@ fn push_suffix_of<K: KeySink>(
     post: Option<u64>,
     dev: Option<u64>,
 ) -> Result<(), AllocError>
-    ensures { OnOk result (K.written key.new ≡ K.written key.old ++ 0 ∷ (rank_bytes (stage_rank (stage_of None pre dev post None)) ++ rank_bytes (post_rank (post_of None post)) ++ rank_bytes (dev_rank (dev_of None dev)))) }
+    ensures appended { OnOk result (K.written key.new ≡ K.written key.old ++ 0 ∷ (rank_bytes (stage_rank (stage_of None pre dev post None)) ++ rank_bytes (post_rank (post_of None post)) ++ rank_bytes (dev_rank (dev_of None dev)))) }
+    ensures fits { (more : ℕ) → K.has_capacity key.old (length (0 ∷ (rank_bytes (stage_rank (stage_of None pre dev post None)) ++ rank_bytes (post_rank (post_of None post)) ++ rank_bytes (dev_rank (dev_of None dev)))) + more) → IsOk result × K.has_capacity key.new more }
 {
     if let (None, None, None) = (pre, post, dev) {
         return key.append(&[0, 80, 0, 16]);
@@ -80,8 +81,8 @@ fn push_suffix_of<K: KeySink>(
     )
 }
 
-/// Appends the sort key of the version of these parts, up to its local part, whose bytes follow; an error if there is too little
-/// room.
+/// Appends the sort key of the version of these parts, up to its local part, whose bytes follow; an error where `append` gives
+/// one. Allocates as `append` does.
 #[inline(always)]
 pub fn push_parts_key<K: KeySink>(
     key: &mut K,
@@ -91,7 +92,8 @@ pub fn push_parts_key<K: KeySink>(
     post: Option<u64>,
     dev: Option<u64>,
 ) -> Result<(), AllocError>
-    ensures { (local : List LocalSegmentValue) → OnOk result (K.written key.new ++ local_bytes local ≡ K.written key.old ++ key_bytes (from_parts epoch release.now pre post dev local)) }
+    ensures appended { (local : List LocalSegmentValue) → OnOk result (K.written key.new ++ local_bytes local ≡ K.written key.old ++ key_bytes (from_parts epoch release.now pre post dev local)) }
+    ensures fits { (local : List LocalSegmentValue) (more : ℕ) → K.has_capacity key.old (length (key_bytes (from_parts epoch release.now pre post dev local)) + more) → IsOk result × K.has_capacity key.new (length (local_bytes local) + more) }
 {
     push_number(key, 0, epoch)?;
     push_numbers(key, release)?;

@@ -12,6 +12,7 @@ pub mod Endings
 pub mod LocalAgrees
 pub mod AfterRelease
 pub mod PartsAgree
+pub mod PrintedParts
 pub mod Agreement
 pub mod WordAsPrefix
 pub mod SegmentsInTurn
@@ -20,4 +21,5 @@ pub mod PublicAnswers
 pub mod AfterFirstNumber
 pub mod NormalParts
 pub mod NormalVersions
+pub mod PrintedNumbers
 pub mod WithoutMemory

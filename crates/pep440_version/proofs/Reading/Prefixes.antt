@@ -1,5 +1,5 @@
 -- Fronts of texts.
-use Rattle.std.proofs.Common.{◌≡◌, ◌<◌, ◌+◌, ◌-◌, ◌==◌, ◌&&◌, ℕ, suc, zero, Bool, true, false, List, [], ◌∷◌, ◌++◌, refl, arith, length, inl, inr, get_or}
+use Rattle.std.proofs.Common.{◌≡◌, ◌∙◌, ◌<◌, ◌+◌, ◌-◌, ◌==◌, ◌&&◌, ℕ, suc, zero, Bool, true, false, List, [], ◌∷◌, ◌++◌, refl, sym, ap, arith, length, inl, inr, get_or}
 use Rattle.std.proofs.lemmas.Bool.{cases_Bool}
 use Rattle.std.proofs.lemmas.Bool.Decides.{nat_tests}
 use Rattle.std.proofs.Math.Seq.{drop-append_seam, take-append_seam}
@@ -26,6 +26,10 @@ lead-run p a b h s = rw (run p a b h s) (take-append_seam a b)
 
 pub past-run : (p : ℕ → Bool) (a b : List ℕ) → list_all p a ≡ true → starts p b ≡ false → past p (a ++ b) ≡ b
 past-run p a b h s = rw (run p a b h s) (drop-append_seam a b)
+
+-- a text has one longest front
+pub same_front : (p : ℕ → Bool) (a b c d : List ℕ) → list_all p a ≡ true → starts p b ≡ false → list_all p c ≡ true → starts p d ≡ false → a ++ b ≡ c ++ d → (a ≡ c) × (b ≡ d)
+same_front p a b c d f s g t e = (sym (lead-run p a b f s) ∙ ap (lead p) e ∙ lead-run p c d g t, sym (past-run p a b f s) ∙ ap (past p) e ∙ past-run p c d g t)
 
 -- a text is its longest front and the rest
 pub lead-all : (p : ℕ → Bool) (t : List ℕ) → list_all p (lead p t) ≡ true

@@ -19,7 +19,7 @@ use Rattle.pep440_version.specs.RoundTrip.{is_lower, SegmentRereads, RoundTrips}
 use Rattle.pep440_version.proofs.Reading.Prefixes.{both_first, both_second}
 use Rattle.pep440_version.proofs.Reading.Digits.{digits_model}
 
-decimal_number : (n : ℕ) → Fits n → IsNumber (decimal n) n
+pub decimal_number : (n : ℕ) → Fits n → IsNumber (decimal n) n
 decimal_number n fits = (decimal_nonempty n fits, digits_decimal digits_model n fits, digits_value-decimal digits_model n fits, fits)
 
 -- each number of a list whose numbers fit, and 0 past its end

@@ -1,19 +1,12 @@
-use Rattle.std.proofs.Common.{Bool, ap, false, refl}
+use Rattle.std.proofs.Common.{Bool, ap, false}
 use Rattle.std.specs.Prelude.{Err, Ok, Result}
 use Rattle.pep440_calls.proofs.Allowed.{allows_early, allows_final, allows_none}
-use Rattle.pep440_calls.proofs.Forms.{as_compiled_list, final_match, no_compiled_list}
+use Rattle.pep440_calls.proofs.Forms.{as_compiled_list, no_compiled_list}
 use Rattle.pep440_calls.proofs.membership.allows_compiled.Goals as goal
 
 value : {E : Type 0} → Result Bool E → Bool
 value (Ok b) = b
 value (Err e) = false
-
-pub returns-in-Some : goal.returns-in-Some
-returns-in-Some c =
-    let found = rw c.in-Some.is at c.contains_final.ensures.found in
-    let final = rw c.in-Some.is at c.contains_final.ensures.prerelease in
-    let is = final_match c.args.list.now c.args.version.now c.in-Some.found (c.requires.list, c.requires.version) found final in
-    allows_final c.args.list.now c.args.version.now c.in-Some.found false is.0 is.1 refl
 
 pub returns-then-not-is_early : goal.returns-then-not-is_early
 returns-then-not-is_early c = allows_final c.args.list.now c.args.version.now c.in_ok-contained.contained c.in_ok-contained.is_early c.in_ok-contained.ensures.0 c.in_ok-contained.ensures.1 c.if-not-is_early.true
@@ -21,8 +14,8 @@ returns-then-not-is_early c = allows_final c.args.list.now c.args.version.now c.
 pub returns-then-not-contained : goal.returns-then-not-contained
 returns-then-not-contained c = allows_none c.args.list.now c.args.version.now c.in_ok-contained.contained c.in_ok-contained.is_early c.in_ok-contained.ensures.0 c.in_ok-contained.ensures.1 c.if-not-contained.true
 
-pub returns-in_default-requests_prereleases : goal.returns-in_default-requests_prereleases
-returns-in_default-requests_prereleases c = no_compiled_list c.args.list.now c.requires.list (λ l d. c.in_default-requests_prereleases.not-Ok _ (c.requests_prereleases.ensures.found l d))
+pub returns-in_default : goal.returns-in_default
+returns-in_default c = no_compiled_list c.args.list.now c.requires.list (λ l d. c.in_default.not-Ok _ (c.requests_prereleases.ensures.found l d))
 
 pub returns : goal.returns
 unfolding value

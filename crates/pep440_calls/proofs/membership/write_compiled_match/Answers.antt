@@ -1,4 +1,0 @@
-use Rattle.pep440_calls.proofs.membership.write_compiled_match.Goals as goal
-
-pub returns : goal.returns
-returns c = c.put_match.ensures c.args.list.now c.args.text.now c.contains_compiled.ensures
