@@ -80,6 +80,8 @@ uint64 first_of_key(const struct varlena *stored);
 char *release_text(const struct varlena *stored);
 /* The normal form of a version that is the first argument. */
 char *normal_argument(FunctionCallInfo fcinfo);
+/* The output function of the type pep440_specs, which no other type has but domains over it. */
+extern PGDLLEXPORT Datum specs_out(PG_FUNCTION_ARGS);
 /* What the library takes as the list: compiled bytes, or the normal form where an older release stored the value. */
 Bytes list_of(const struct varlena *stored);
 /* The value of a compiled version. */

@@ -116,6 +116,17 @@ static double intervals_selectivity(PlannerInfo *root, int relation, VariableSta
     return sum;
 }
 
+/* Whether its values are lists, as those of domains over the type: whoever creates an operator names its estimator, for operands of any types. */
+static bool is_list_type(Oid type)
+{
+    Oid function;
+    bool is_varlena;
+    FmgrInfo output;
+    getTypeOutputInfo(type, &function, &is_varlena);
+    fmgr_info(function, &output);
+    return output.fn_addr == specs_out;
+}
+
 /* Of a column of lists and a version that is known: the lists of the statistics are asked. Of a column of versions and a list that is known: the
    intervals of its cover. */
 static double known_selectivity(PlannerInfo *root, Oid operator, List *arguments, int relation, bool version_is_first)
@@ -127,7 +138,7 @@ static double known_selectivity(PlannerInfo *root, Oid operator, List *arguments
     double found = NOT_KNOWN;
     if (!get_restriction_variable(root, arguments, relation, &variable, &list, &is_left))
         return NOT_KNOWN;
-    bool is_known = IsA(list, Const) && is_left == version_is_first;
+    bool is_known = IsA(list, Const) && is_left == version_is_first && is_list_type(exprType(list));
     if (is_left != version_is_first)
         found = generic_restriction_selectivity(root, operator, InvalidOid, arguments, relation, DEFAULT_RANGE_INEQ_SEL);
     else if (is_known && ((Const *)list)->constisnull)

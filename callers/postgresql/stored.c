@@ -83,23 +83,39 @@ static char *put_number(char *out, uint64 number)
     return out;
 }
 
-/* The numbers with dots between them, and the zeros at the end. The library would parse the key again, in ten times the instructions. */
+/* Reads a number of so many bytes, of which the first is not 0; false if it is none. */
+static bool read_number(const uint8_t **at, const uint8_t *end, int bytes, uint64 *number)
+{
+    *number = 0;
+    if (bytes < 0 || bytes > (int)sizeof *number || bytes > end - *at || (bytes > 0 && **at == 0))
+        return false;
+    while (bytes-- > 0)
+        *number = *number << 8 | *(*at)++;
+    return true;
+}
+
+/* The numbers with dots between them, and the zeros at the end. The library would parse the key again, in ten times the instructions; it is left all bytes
+   that are not such numbers, the last of them above 0, and names the error. */
 char *release_text(const struct varlena *stored)
 {
     Bytes value = bytes_of(stored);
     if (!is_short(value) || end_of(value) != RELEASE_ALONE)
         return NULL;
     const uint8_t *at = value.bytes + 1, *end = value.bytes + value.length;
+    int length = value.bytes[0] & MOST_FIRST;
+    uint64 number = zeros_of(value);
     char *text = palloc(4 * value.length + 2 * MOST_ZEROS + 1), *out = text;
-    for (int length = value.bytes[0] & MOST_FIRST; length > 0; length = at < end ? *at++ : 0) {
-        uint64 number = 0;
-        while (--length > 0)
-            number = number << 8 | *at++;
+    for (bool has_number = length > 0 || at < end; has_number; length = has_number ? *at++ : 0) {
+        if (!read_number(&at, end, length - 1, &number))
+            return NULL;
         out = put_number(out, number);
         *out++ = '.';
+        has_number = at < end;
     }
     for (size_t zeros = zeros_of(value); zeros > 0; zeros--)
         *out++ = '0', *out++ = '.';
+    if (number == 0)
+        return NULL;
     out[-1] = 0;
     return text;
 }

@@ -12,6 +12,7 @@ import statistics
 import subprocess
 import sys
 
+import test_hostile
 import test_values
 from libpq import Refused
 from server import (FOLDER, HERE, INVALID_REGULAR_EXPRESSION, LISTS, NARROW, NO_INDEX, NO_TABLE, OUT_OF_MEMORY, PREFIX, PROGRAM, ROWS, SMALL, STRINGS, USER, Server, copied, fill,
@@ -406,7 +407,7 @@ def main():
         server.start()
         fill(server)
         only = [f"test_{word[7:]}" for word in sys.argv if word.startswith("--only=")]
-        tests = {**globals(), **vars(test_values)}
+        tests = {**globals(), **vars(test_values), **vars(test_hostile)}
         for name, test in [(name, test) for name, test in tests.items() if name.startswith("test_") and callable(test) and (not only or name in only)]:
             try:
                 print(f"postgresql: {name.removeprefix('test_')}: {test(server)}", flush=True)

@@ -242,13 +242,14 @@ static void match(sqlite3_context *context, int count, sqlite3_value **values)
 
 enum { LOW, HIGH, SPECS };
 
-/* The keys of an interval end where `ends` says; its low one comes first, then its high one. */
+/* The keys of an interval end where `ends` says; its low one comes first, then its high one. The list is kept for the hidden column. */
 typedef struct {
     sqlite3_vtab_cursor base;
     uint8_t *keys;
     size_t *ends;
     size_t count;
     size_t at;
+    sqlite3_value *specs;
 } Intervals;
 
 static int cover_connect(sqlite3 *db, void *unused, int words, const char *const *names, sqlite3_vtab **table, char **error)
@@ -271,22 +272,25 @@ static int cover_disconnect(sqlite3_vtab *table)
     return SQLITE_OK;
 }
 
-/* The list must be given: it is the one argument. */
+/* The list is the one argument. Without it there are no intervals, at a cost that no other plan has; but a join that has it and cannot give it yet is
+   planned in another order. */
 static int cover_best_index(sqlite3_vtab *table, sqlite3_index_info *info)
 {
+    int status = SQLITE_OK;
     (void)table;
     for (int each = 0; each < info->nConstraint; each++) {
         if (info->aConstraint[each].iColumn != SPECS || info->aConstraint[each].op != SQLITE_INDEX_CONSTRAINT_EQ)
             continue;
-        if (!info->aConstraint[each].usable)
-            return SQLITE_CONSTRAINT;
-        info->aConstraintUsage[each].argvIndex = 1;
-        info->aConstraintUsage[each].omit = 1;
-        info->estimatedCost = 10;
-        info->estimatedRows = 2;
-        return SQLITE_OK;
+        if (info->aConstraint[each].usable) {
+            info->aConstraintUsage[each].argvIndex = 1;
+            info->aConstraintUsage[each].omit = 1;
+            info->estimatedCost = 10;
+            info->estimatedRows = 2;
+            return SQLITE_OK;
+        }
+        status = SQLITE_CONSTRAINT;
     }
-    return SQLITE_CONSTRAINT;
+    return status;
 }
 
 static int cover_open(sqlite3_vtab *table, sqlite3_vtab_cursor **cursor)
@@ -304,8 +308,10 @@ static void forget(Intervals *found)
 {
     sqlite3_free(found->keys);
     sqlite3_free(found->ends);
+    sqlite3_value_free(found->specs);
     found->keys = NULL;
     found->ends = NULL;
+    found->specs = NULL;
     found->count = found->at = 0;
 }
 
@@ -342,10 +348,13 @@ static int cover_filter(sqlite3_vtab_cursor *cursor, int number, const char *nam
     size_t room, keys;
     uint8_t nothing[1];
     size_t none[1];
-    (void)number, (void)name, (void)count;
+    (void)number, (void)name;
     forget(found);
-    if (!is_text(values[0], &list))
+    if (count == 0 || !is_text(values[0], &list))
         return SQLITE_OK;
+    found->specs = sqlite3_value_dup(values[0]);
+    if (found->specs == NULL)
+        return SQLITE_NOMEM;
     uint8_t status = pep440_cover_keys(list.bytes, list.length, nothing, 0, none, 0, &room, &keys);
     if (status == PEP440_NO_ROOM) {
         found->keys = sqlite3_malloc64(room + 1);
@@ -376,8 +385,10 @@ static int cover_eof(sqlite3_vtab_cursor *cursor)
 static int cover_column(sqlite3_vtab_cursor *cursor, sqlite3_context *context, int column)
 {
     const Intervals *found = (const Intervals *)cursor;
-    if (column == SPECS)
+    if (column == SPECS) {
+        sqlite3_result_value(context, found->specs);
         return SQLITE_OK;
+    }
     size_t place = 2 * found->at + (column == HIGH);
     size_t start = place == 0 ? 0 : found->ends[place - 1];
     size_t length = found->ends[place] - start;

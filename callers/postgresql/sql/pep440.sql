@@ -3,9 +3,9 @@ CREATE EXTENSION pep440;
 \pset tuples_only on
 -- all families are whole
 SELECT opcname, amname FROM pg_opclass c JOIN pg_am a ON c.opcmethod = a.oid WHERE opcname ~ '^pep440' AND amvalidate(c.oid) ORDER BY 1, 2;
--- each function is immutable, strict and parallel safe, but for the two that estimate; and each has a finished type
+-- each function is immutable, strict and parallel safe, but for the four that the planner calls, which are strict
 SELECT proname, provolatile, proisstrict, proparallel FROM pg_proc p JOIN pg_depend d ON d.objid = p.oid JOIN pg_extension e ON d.refobjid = e.oid
-    WHERE extname = 'pep440' AND prokind = 'f' AND prorettype <> 'internal'::regtype AND (provolatile <> 'i' OR NOT proisstrict OR proparallel <> 's') ORDER BY 1;
+    WHERE extname = 'pep440' AND prokind = 'f' AND (provolatile <> 'i' OR NOT proisstrict OR proparallel <> 's') ORDER BY 1;
 -- normal forms
 SELECT ' V1!1.0-Alpha.2-3.DEV+Ubuntu-01 '::pep440;
 SELECT '1.0'::pep440, '1.0.0'::pep440, 'v1-1'::pep440, '1.0c1'::pep440, '1.0+CU_118'::pep440, '00.01'::pep440;
