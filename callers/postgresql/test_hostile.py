@@ -7,6 +7,7 @@ from libpq import Connection, Refused
 from server import HERE, STRINGS
 from test_values import database
 
+CORRUPTED = "XX001"
 SCRIPTS = "".join(re.sub(r"^(--|\\).*$", "", file.read_text(encoding="utf-8"), flags=re.M) for file in sorted(HERE.glob("pep440--*.sql")))
 # Statements that have no expression, and find what they name by its types.
 FUNCTION = r"CREATE FUNCTION \w+\((?:(?!DEFAULT)[\w, ])*\) RETURNS [\w\[\] ]+ AS 'MODULE_PATHNAME', '\w+' LANGUAGE C [\w ]+"
@@ -33,7 +34,7 @@ def test_scripts(unused):
 
 def function_traps(schema, types, wanted, variadic):
     """Of each name that a script calls, functions of many signatures; of those that take any arguments, as format, longer ones."""
-    for name in sorted({name for pair in re.findall(r"(\w+)\s*\(|= ([a-z]\w+)", SCRIPTS) for name in pair if name}):
+    for name in sorted({name for pair in re.findall(r"(\w+)\s*\(|(?:=|SUPPORT) ([a-z]\w+)", SCRIPTS) for name in pair if name}):
         for count in range(1, 5 if name in variadic else 3):
             for signature in itertools.product(types if count < 3 else CATALOG_TYPES, repeat=count):
                 if wanted & set(signature):
@@ -74,7 +75,8 @@ def test_traps(server):
     created = {(name, tuple(types.split(", "))) for name, types in db.rows(CREATED)}
     variadic = {name for (name,) in db.rows("SELECT proname FROM pg_proc WHERE provariadic = '\"any\"'::regtype")}
     kinds = db.rows("SELECT typname, typrelid <> 0 FROM pg_type WHERE typnamespace = 'pg_catalog'::regnamespace")
-    db.rows("CREATE ROLE hostile LOGIN; CREATE DATABASE planted OWNER hostile")
+    db.rows("CREATE ROLE hostile LOGIN")
+    db.rows("CREATE DATABASE planted OWNER hostile")
     db.close()
     owner, superuser = Connection(server.where("planted").replace("user=tester", "user=hostile")), server.connect("planted")
     owner.rows("CREATE SCHEMA own")
@@ -82,6 +84,8 @@ def test_traps(server):
     count = 0
     for schema in ("own", "public"):
         count += plant(owner, schema, itertools.chain(function_traps(schema, TYPES, set(TYPES), variadic), operator_traps(schema, TYPES, set(TYPES)), type_traps(schema, kinds)), created)
+    owner.rows("SELECT own.pep440_key(''::text)")
+    assert "sprung: pep440_key, as hostile" in owner.notices.pop()
     for installer, schema in itertools.product((owner, superuser), ("own", "public")):
         for command in (f"CREATE EXTENSION pep440 SCHEMA {schema}", "DROP EXTENSION pep440", f"CREATE EXTENSION pep440 SCHEMA {schema} VERSION '0.2'"):
             installer.rows(command)
@@ -89,12 +93,13 @@ def test_traps(server):
         types, wanted = TYPES + OWN_TYPES, set(OWN_TYPES)
         count += plant(owner, schema, itertools.chain(function_traps(schema, types, wanted, variadic), operator_traps(schema, types, wanted)), created)
         installer.rows("ALTER EXTENSION pep440 UPDATE")
+        sprung = [notice for notice in installer.notices if "sprung" in notice]
+        assert not sprung, (installer is superuser, schema, sprung[0])
         foreign = superuser.rows(FOREIGN)
         assert not foreign, foreign
         superuser.rows("RESET ALL")
-        sprung = [notice for notice in installer.notices if "sprung" in notice]
-        assert not sprung, (installer is superuser, schema, sprung[0])
         installer.rows("DROP EXTENSION pep440 CASCADE")
+        owner.rows(f"DROP TABLE {schema}.held")
     owner.close()
     superuser.close()
     return f"{count} traps, none sprung by its owner's or a superuser's install or update"

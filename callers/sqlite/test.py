@@ -148,7 +148,7 @@ def test_errors():
 
 JOINS = [
     "{0} AS k", "l JOIN {0} AS k ON k.{1} = l.s", "l JOIN {0} AS k ON k.{1} = l.s JOIN o ON o.s = k.{1}", "l LEFT JOIN {0} AS k ON k.{1} = l.s", "{0}(NULL) AS k",
-    "o JOIN l JOIN {0} AS k ON k.{1} = l.s AND k.{1} = o.s", "o LEFT JOIN (l JOIN {0} AS k ON k.{1} = l.s) ON o.s = k.{1}", "{0}('{2}') AS k JOIN o ON o.s = k.{1}",
+    "o JOIN l JOIN {0} AS k ON k.{1} = l.s AND k.{1} = o.s", "o LEFT JOIN l ON l.s <> o.s LEFT JOIN {0} AS k ON k.{1} = l.s", "{0}('{2}') AS k JOIN o ON o.s = k.{1}",
     "l, {0}(l.s) AS k WHERE k.{1} = '{2}'", "l CROSS JOIN o JOIN {0}(o.s) AS k ON k.{1} = l.s", "o JOIN {0} AS k ON k.{1} = o.s AND k.{1} = '{2}'",
 ]
 RIGHT_JOINS = ["l RIGHT JOIN {0} AS k ON k.{1} = l.s", "l JOIN {0} AS k ON k.{1} = l.s RIGHT JOIN o ON o.s = k.{1}", "{0} AS k RIGHT JOIN o ON k.{1} = o.s", "{0}('{2}') AS k FULL JOIN o ON k.{1} = o.s"]
