@@ -111,23 +111,34 @@ static uint8_t *copy_list(const Specifiers *self, pep440_string *list)
     return copy;
 }
 
-/* _kept(items, prereleases, skip_invalid) */
-static PyObject *keep_contained(PyObject *self, PyObject *const *args, Py_ssize_t count)
+/* Those of the batch that are contained. */
+static PyObject *kept_of(const Batch *batch, const Specifiers *self, int prereleases, int skip)
 {
-    Batch batch;
     pep440_string list;
-    uint8_t *marks = NULL, *copy = NULL, status = PEP440_OUT_OF_MEMORY;
-    int prereleases, skip;
+    uint8_t *marks = NULL, *copy = copy_list(self, &list), status = PEP440_OUT_OF_MEMORY;
     PyObject *kept;
-    if (!has_count("_kept", count, 3) || compile_list_of((Specifiers *)self) < 0 || (prereleases = PyObject_IsTrue(args[1])) < 0 ||
-        (skip = PyObject_IsTrue(args[2])) < 0 || gather(args[0], &batch) < 0)
-        return NULL;
-    copy = copy_list((Specifiers *)self, &list);
-    if (copy && (marks = PyMem_Calloc(batch.count + 1, 1)))
-        status = mark(&batch, &list, prereleases, marks);
-    kept = status == PEP440_OK ? marked(&batch, marks, skip) : raise_by(status, NULL, NULL);
+    if (copy && (marks = PyMem_Calloc(batch->count + 1, 1)))
+        status = mark(batch, &list, prereleases, marks);
+    kept = status == PEP440_OK ? marked(batch, marks, skip) : raise_by(status, NULL, NULL);
     PyMem_Free(marks);
     PyMem_Free(copy);
+    return kept;
+}
+
+/* _kept(items, prereleases, skip_invalid), or None where Python is to compare; the caller's code first, since this may have the specifiers read again */
+static PyObject *keep_contained(PyObject *given, PyObject *const *args, Py_ssize_t count)
+{
+    Specifiers *self = (Specifiers *)given;
+    Batch batch;
+    int prereleases, skip, by_python;
+    PyObject *kept = NULL;
+    if (!has_count("_kept", count, 3) || (prereleases = PyObject_IsTrue(args[1])) < 0 || (skip = PyObject_IsTrue(args[2])) < 0 || gather(args[0], &batch) < 0)
+        return NULL;
+    by_python = is_changed(self);
+    if (by_python > 0)
+        kept = Py_NewRef(Py_None);
+    else if (by_python == 0 && compile_list_of(self) == 0)
+        kept = kept_of(&batch, self, prereleases, skip);
     drop(&batch);
     return kept;
 }

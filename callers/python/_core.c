@@ -3,7 +3,6 @@
 
    Nothing here is proved, so it only carries: strings to the library, its results back, a status into an exception. Where a list is split, when a
    pre-release is allowed, and what a requirement consists of stands here too, as `packaging` has it. */
-#define PY_SSIZE_T_CLEAN
 #define Py_LIMITED_API 0x030A0000
 #include <Python.h>
 #include <stddef.h>
@@ -17,6 +16,16 @@
 #include "pep440.h"
 
 #include "_vectorcall.h"
+
+/* Headers of 3.12 and 3.13 return these without a reference of their own, and an older Python that runs what was compiled so ends by that. */
+#undef Py_RETURN_NONE
+#undef Py_RETURN_TRUE
+#undef Py_RETURN_FALSE
+#undef Py_RETURN_NOTIMPLEMENTED
+#define Py_RETURN_NONE return Py_NewRef(Py_None)
+#define Py_RETURN_TRUE return Py_NewRef(Py_True)
+#define Py_RETURN_FALSE return Py_NewRef(Py_False)
+#define Py_RETURN_NOTIMPLEMENTED return Py_NewRef(Py_NotImplemented)
 
 /* What they share comes first; each is included here alone. */
 #include "_strings.h"
@@ -62,7 +71,7 @@ static PyObject *use(PyObject *module, PyObject *const *args, Py_ssize_t count)
 static PyMethodDef specifier_calls[] = {
     {"contains", CALL(specifier_contains), METH_FASTCALL | METH_KEYWORDS,
      CONTAINS_HEAD("") "Whether the version is contained; a pre-release only where `prereleases`, or else the attribute of that name, allows it."},
-    {"_kept", CALL(keep_contained), METH_FASTCALL, "_kept(items, prereleases, skip_invalid): those that are contained"},
+    {"_kept", CALL(keep_contained), METH_FASTCALL, "_kept(items, prereleases, skip_invalid): those that are contained, or None where Python is to compare"},
     {NULL, NULL, 0, NULL}};
 
 static PyMethodDef set_calls[] = {
@@ -70,13 +79,12 @@ static PyMethodDef set_calls[] = {
      CONTAINS_HEAD(", installed=None")
      "Whether each member contains the version; a pre-release only where `prereleases`, or else the attribute of that name, allows it.\n\n"
      "Where `installed` is true, an allowed pre-release is asked for by its base version."},
-    {"_kept", CALL(keep_contained), METH_FASTCALL, "_kept(items, prereleases, skip_invalid): those that are contained"},
+    {"_kept", CALL(keep_contained), METH_FASTCALL, "_kept(items, prereleases, skip_invalid): those that are contained, or None where Python is to compare"},
     {NULL, NULL, 0, NULL}};
 
 #define PRERELEASES \
     {"prereleases", (getter)get_prereleases, (setter)set_prereleases, "Whether pre-releases are allowed. May be set.", NULL}, \
     {"_prereleases", (getter)get_said, (setter)set_prereleases, "What was said of pre-releases, or None.", NULL}, \
-    {"_is_by_python", (getter)get_is_by_python, NULL, "Whether Python is to compare.", NULL}, \
     {"_compiled", (getter)get_compiled, NULL, "The compiled list, of all but what Python is to compare.", NULL}, \
     {"__dict__", PyObject_GenericGetDict, PyObject_GenericSetDict, NULL, NULL}
 

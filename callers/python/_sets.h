@@ -175,7 +175,7 @@ static PyObject *joined_members(Specifiers *one, Specifiers *two)
 /* The members of both sets, or of a set and a string, as a plain set: with what one of them says of pre-releases, which the other may not gainsay. */
 static PyObject *set_and(PyObject *left, PyObject *right)
 {
-    PyObject *other, *said, *members = NULL;
+    PyObject *other, *said, *theirs, *members = NULL;
     Specifiers *one = (Specifiers *)left, *two, *made = NULL;
     int differ;
     if (Py_TYPE(left) != Py_TYPE(right) && /* of two of one type both are sets, since it has this call */
@@ -187,8 +187,9 @@ static PyObject *set_and(PyObject *left, PyObject *right)
         Py_XDECREF(other);
         return NULL;
     }
-    said = one->said == Py_None ? two->said : one->said;
-    differ = two->said == Py_None ? 0 : PyObject_RichCompareBool(said, two->said, Py_NE);
+    theirs = Py_NewRef(two->said);
+    said = Py_NewRef(one->said == Py_None ? theirs : one->said);
+    differ = theirs == Py_None ? 0 : PyObject_RichCompareBool(said, theirs, Py_NE);
     if (differ > 0)
         PyErr_SetString(PyExc_ValueError, "Cannot combine SpecifierSets with True and False prerelease overrides.");
     else if (differ == 0)
@@ -196,6 +197,8 @@ static PyObject *set_and(PyObject *left, PyObject *right)
     if (members && (made = new_specifiers(set_class)))
         take(made, NULL, Py_NewRef(members), said);
     Py_XDECREF(members);
+    Py_DECREF(theirs);
+    Py_DECREF(said);
     Py_DECREF(other);
     return (PyObject *)made;
 }
@@ -207,12 +210,19 @@ static int assign_members(Specifiers *self, PyObject *value, void *unused)
     return assign(self, value, read_set);
 }
 
-/* The members as a frozenset, borrowed: of equal ones the first. */
+/* The members as a frozenset, borrowed: of equal ones the first. A member's own hash may have the set read again. */
 static PyObject *members_of(Specifiers *self)
 {
-    if (!is_read(self) || !PyTuple_Check(self->members))
-        return self->said ? self->members : NULL;
-    return kept_in(&self->members, PyFrozenSet_New(self->members));
+    while (is_read(self) && PyTuple_Check(self->members)) {
+        PyObject *members = Py_NewRef(self->members), *made = PyFrozenSet_New(members);
+        if (made && self->members == members)
+            kept_in(&self->members, Py_NewRef(made));
+        Py_DECREF(members);
+        if (!made)
+            return NULL;
+        Py_DECREF(made);
+    }
+    return self->said ? self->members : NULL;
 }
 
 static PyObject *get_members(Specifiers *self, void *unused) { return Py_XNewRef(members_of(self)); }

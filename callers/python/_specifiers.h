@@ -39,17 +39,17 @@ static int is_read(const Specifiers *self)
     return self->said != NULL;
 }
 
-/* Drops what was read, and what was made of it; `said` first, so that whom this wakes finds nothing read. */
+/* Drops what was read, and what was made of it; whom this wakes finds nothing read, and may read another string. */
 static inline void drop_read(Specifiers *self)
 {
-    Py_CLEAR(self->said);
+    PyObject *old[] = {self->said, self->text, self->members, self->canonical};
     if (self->compiled && self->compiled != self->few)
         free(self->compiled);
     self->compiled = NULL;
     self->length = 0;
-    Py_CLEAR(self->text);
-    Py_CLEAR(self->members);
-    Py_CLEAR(self->canonical);
+    self->said = self->text = self->members = self->canonical = NULL;
+    for (int each = 0; each < 4; each++)
+        Py_XDECREF(old[each]);
 }
 
 /* Holds a copy of what was compiled, and drops this. 0, or -1 with an error. */
@@ -66,7 +66,7 @@ static int hold(Specifiers *self, Compiled *compiled)
 /* Takes these references in place of those that it had. */
 static inline void take(Specifiers *self, PyObject *text, PyObject *members, PyObject *said)
 {
-    if (self->said)
+    while (self->said)
         drop_read(self);
     self->text = text, self->members = members, self->said = Py_NewRef(said);
     self->asked_at = -1, self->allows = -1, self->changed = -1;
@@ -424,32 +424,39 @@ static int names_prerelease(Specifiers *self)
 /* Whether some member allows pre-releases, asked again once `prereleases` of any specifier was set. */
 static int some_allows(Specifiers *self)
 {
-    PyObject *each, *all = NULL;
+    PyObject *each, *members, *all;
     int found = 0;
-    if (self->allows >= 0 && self->asked_at == times_set)
+    long asked_at = times_set;
+    if (self->allows >= 0 && self->asked_at == asked_at)
         return self->allows;
-    all = PyObject_GetIter(self->members);
-    if (!all)
-        return -1;
-    while (found == 0 && (each = PyIter_Next(all))) {
+    members = Py_NewRef(self->members);
+    all = PyObject_GetIter(members);
+    while (all && found == 0 && (each = PyIter_Next(all))) {
         PyObject *allows = PyObject_GetAttrString(each, "prereleases");
         found = allows ? PyObject_IsTrue(allows) : -1;
         Py_XDECREF(allows);
         Py_DECREF(each);
     }
-    Py_DECREF(all);
-    if (found < 0 || PyErr_Occurred())
-        return -1;
-    self->asked_at = times_set;
-    return self->allows = (signed char)found;
+    if (PyErr_Occurred())
+        found = -1;
+    else if (self->members == members)
+        self->asked_at = asked_at, self->allows = (signed char)found;
+    Py_XDECREF(all);
+    Py_DECREF(members);
+    return found;
 }
 
 /* Whether pre-releases are allowed where nobody says so at the call. */
 static int allows_prereleases(Specifiers *self)
 {
-    if (self->said != Py_None)
-        return PyObject_IsTrue(self->said);
-    return is_specifier(self) ? names_prerelease(self) : some_allows(self);
+    PyObject *said;
+    int allows;
+    if (self->said == Py_None)
+        return is_specifier(self) ? names_prerelease(self) : some_allows(self);
+    said = Py_NewRef(self->said);
+    allows = PyObject_IsTrue(said);
+    Py_DECREF(said);
+    return allows;
 }
 
 static PyObject *get_prereleases(Specifiers *self, void *unused)
@@ -492,7 +499,7 @@ static int is_changed(Specifiers *self)
 {
     PyObject *flag, *each, *all;
     int changed;
-    if (self->changed >= 0)
+    if (self->changed >= 0 || !is_read(self))
         return self->changed;
     flag = PyObject_GetAttrString((PyObject *)Py_TYPE((PyObject *)self), "_is_changed");
     changed = flag ? PyObject_IsTrue(flag) : -1;
@@ -512,17 +519,11 @@ static int is_changed(Specifiers *self)
     return self->changed = (signed char)changed;
 }
 
-static PyObject *get_is_by_python(Specifiers *self, void *unused)
-{
-    int changed = is_read(self) ? is_changed(self) : -1;
-    return changed < 0 ? NULL : PyBool_FromLong(changed);
-}
-
-/* Whether the version of a string, or of what has one, is contained: it is compiled first, since of two compiled forms the library answers in place. */
+/* Whether the version of a string is contained: it is compiled first, since of two compiled forms the library answers in place. */
 static uint8_t contains_text(const Specifiers *self, PyObject *item, uint8_t *contained, uint8_t *early)
 {
     pep440_string string;
-    PyObject *text = text_of(item, &string);
+    PyObject *text = stripped(item, &string);
     Compiled compiled;
     uint8_t status = PEP440_OUT_OF_MEMORY;
     if (text)
@@ -535,7 +536,7 @@ static uint8_t contains_text(const Specifiers *self, PyObject *item, uint8_t *co
     return status;
 }
 
-/* 1, 0, or -1 with an error. */
+/* Whether the version of a str, or this version, is contained: 1, 0, or -1 with an error. */
 static int contains(Specifiers *self, PyObject *item, PyObject *prereleases)
 {
     Held *version = (Held *)item;
@@ -577,21 +578,23 @@ static int arguments_of(const char *call, PyObject *const *args, Py_ssize_t coun
 static PyObject *contains_of(Specifiers *self, PyObject *const *args, Py_ssize_t count, PyObject *named, Py_ssize_t most)
 {
     static const char *const NAMES[] = {"item", "prereleases", "installed"};
-    PyObject *given[] = {NULL, Py_None, Py_None};
-    int by_python;
-    if (!self->compiled && compile_list_of(self) < 0)
-        return NULL;
+    PyObject *given[] = {NULL, Py_None, Py_None}, *item, *answer = NULL;
+    int by_python, contained;
     if (count == 1 && !named)
         given[0] = args[0];
     else if (arguments_of("contains", args, count, named, NAMES, given, most) < 0)
         return NULL;
-    by_python = self->changed ? is_changed(self) : 0;
-    if (by_python == 0 && given[2] != Py_None)
-        by_python = PyObject_IsTrue(given[2]);
-    if (by_python)
-        return by_python < 0 ? NULL : PyObject_CallMethod((PyObject *)self, "_contains", "OOO", given[0], given[1], given[2]);
-    by_python = contains(self, given[0], given[1]);
-    return by_python < 0 ? NULL : PyBool_FromLong(by_python);
+    /* the caller's code first, since this may have the specifiers read again */
+    item = item_of(given[0]);
+    by_python = !item ? -1 : given[2] == Py_None ? 0 : PyObject_IsTrue(given[2]);
+    if (by_python == 0 && self->changed)
+        by_python = is_changed(self);
+    if (by_python > 0)
+        answer = PyObject_CallMethod((PyObject *)self, "_contains", "OOO", item, given[1], given[2]);
+    else if (by_python == 0 && (self->compiled || compile_list_of(self) == 0) && (contained = contains(self, item, given[1])) >= 0)
+        answer = PyBool_FromLong(contained);
+    Py_XDECREF(item);
+    return answer;
 }
 
 static PyObject *specifier_contains(PyObject *self, PyObject *const *args, Py_ssize_t count, PyObject *named)

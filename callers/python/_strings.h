@@ -138,18 +138,24 @@ static inline PyObject *stripped(PyObject *given, pep440_string *view)
 /* What gives the string of another library's version, or raises TypeError: set by the module of versions. */
 static PyObject *reader_of_others;
 
+/* What is given for a version as a str or a version of these: after this, reading it runs no code of the caller. */
+static inline PyObject *item_of(PyObject *given)
+{
+    if (PyUnicode_CheckExact(given) || PyUnicode_Check(given) || PyObject_TypeCheck(given, HeldType))
+        return Py_NewRef(given);
+    return PyObject_CallFunctionObjArgs(reader_of_others, given, NULL);
+}
+
 /* The string that is read of what is given for a version, and its bytes. */
 static inline PyObject *text_of(PyObject *given, pep440_string *view)
 {
-    PyObject *text, *made;
-    if (PyUnicode_CheckExact(given) || PyUnicode_Check(given))
-        return stripped(given, view);
-    if (PyObject_TypeCheck(given, HeldType))
-        return is_initialised((Held *)given) && view_str(((Held *)given)->text, view) == 0 ? Py_NewRef(((Held *)given)->text) : NULL;
-    text = PyObject_CallFunctionObjArgs(reader_of_others, given, NULL);
-    made = text ? stripped(text, view) : NULL;
-    Py_XDECREF(text);
-    return made;
+    PyObject *item = item_of(given), *text = NULL;
+    if (item && PyUnicode_Check(item))
+        text = stripped(item, view);
+    else if (item && is_initialised((Held *)item) && view_str(((Held *)item)->text, view) == 0)
+        text = Py_NewRef(((Held *)item)->text);
+    Py_XDECREF(item);
+    return text;
 }
 
 /* The same of a str or of a version's text. */

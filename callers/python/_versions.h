@@ -27,7 +27,7 @@ static int raise_no_str(PyObject *given)
 /* Reads the string. What is not new may have read one before, which stays where this one is no version. */
 static inline int read_version(Held *self, PyObject *given, int is_new)
 {
-    PyObject *text, *old = is_new ? NULL : self->text;
+    PyObject *text, *old;
     pep440_string string;
     uint8_t status;
     if (!PyUnicode_CheckExact(given) && !PyUnicode_Check(given))
@@ -41,13 +41,14 @@ static inline int read_version(Held *self, PyObject *given, int is_new)
         raise_by(status, given, NULL);
         return -1;
     }
+    old = is_new ? NULL : self->text;
+    self->text = text;
     self->is_by_word = status == PEP440_OK;
     self->has_own_key = 0;
     if (old) {
         drop_made(self);
         Py_DECREF(old);
     }
-    self->text = text;
     return 0;
 }
 
@@ -242,8 +243,12 @@ static Py_hash_t held_hash(Held *self)
 {
     uint64_t word;
     int is_by_word = self->has_own_key ? 0 : equal_word(self, &word);
-    if (is_by_word == 0)
-        return key_of(self) ? PyObject_Hash(self->key) : -1;
+    if (is_by_word == 0) {
+        PyObject *key = Py_XNewRef(key_of(self));
+        Py_hash_t hash = key ? PyObject_Hash(key) : -1;
+        Py_XDECREF(key);
+        return hash;
+    }
     word = (word ^ word >> 32) * 0x9E3779B97F4A7C15u;
     word ^= word >> 32;
     return is_by_word < 0 ? -1 : word == (uint64_t)-1 ? -2 : (Py_hash_t)word;
@@ -274,6 +279,7 @@ static PyObject *prints_of(PyObject *normal)
     Py_ssize_t size = 0;
     const char *bytes = PyUnicode_AsUTF8AndSize(normal, &size), *plus;
     Py_ssize_t public_length, base = 0;
+    PyObject *public, *local;
     if (!bytes)
         return NULL;
     plus = memchr(bytes, '+', (size_t)size);
@@ -284,8 +290,10 @@ static PyObject *prints_of(PyObject *normal)
         return Py_NewRef(Py_None);
     while (base && bytes[base - 1] == '.')
         base--;
-    return Py_BuildValue("Ns#s#", plus ? PyUnicode_FromStringAndSize(bytes, public_length) : Py_NewRef(normal), bytes, base, plus ? plus + 1 : NULL,
-                         plus ? size - public_length - 1 : 0);
+    public = plus ? PyUnicode_FromStringAndSize(bytes, public_length) : Py_NewRef(normal);
+    local = plus ? PyUnicode_FromStringAndSize(plus + 1, size - public_length - 1) : Py_NewRef(Py_None);
+    /* no format with a `#`: before 3.13 Python takes it only of headers that rename this call, as those of 3.13 do not */
+    return Py_BuildValue("NNN", public, PyUnicode_FromStringAndSize(bytes, base), local);
 }
 
 static PyObject *get_print(Held *self, void *place)
@@ -394,9 +402,9 @@ static int set_own_key(Held *self, PyObject *value, void *unused)
         PyErr_SetString(PyExc_AttributeError, "_key cannot be deleted");
     if (!value || !is_initialised(self))
         return -1;
-    kept_in(&self->key, Py_NewRef(value));
     self->has_own_key = 1;
     self->is_by_word = 0;
+    kept_in(&self->key, Py_NewRef(value));
     return 0;
 }
 

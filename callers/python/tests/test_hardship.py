@@ -16,7 +16,7 @@ import time
 import unittest
 import weakref
 
-from pep440_rattle import InvalidSpecifier, InvalidVersion, Specifier, SpecifierSet, Version, filter_texts, sort_keys, sort_texts
+from pep440_rattle import InvalidSpecifier, InvalidVersion, Specifier, SpecifierSet, Version, _core, filter_texts, sort_keys, sort_texts
 
 HERE = os.path.dirname(os.path.abspath(__file__))
 # A sanitizer keeps freed memory for a while, and no other library may come before it.
@@ -103,6 +103,27 @@ class Garbage(unittest.TestCase):
                     yield self.items.pop()
 
         self.assertEqual(sort_texts(Shrinking()), sort_texts(reversed(TEXTS)))
+
+
+@unittest.skipIf(sys.version_info >= (3, 12), "references of constants count no more")
+class References(unittest.TestCase):
+    def test_constants(self):
+        """A Python before 3.12 counts the references of True, False, None and NotImplemented, whichever headers the package was compiled with."""
+        low, high, local, one, several = Version("1"), Version("2"), Version("1+a"), Specifier(">=1"), SpecifierSet(">=1")
+        parts = (object, object, object, {})
+        calls = [
+            lambda: low < high, lambda: low > high, lambda: low == high, lambda: low != high, lambda: low >= local, lambda: low <= local, lambda: low.__lt__(1),
+            lambda: one.__eq__(1), lambda: one.__lt__(1), lambda: several.__eq__(1), lambda: several.__and__(1), lambda: several.contains("2"),
+            lambda: several.prereleases, lambda: low.is_prerelease, lambda: low.local, lambda: low.pre, lambda: _core.read_requirement("-", parts),
+            lambda: _core.read_marker("-", parts), lambda: SpecifierSet("").prereleases, lambda: SpecifierSet("===1")._kept(["1"], True, False),
+        ]
+        for it in (True, False, None, NotImplemented):
+            for call in calls:
+                call()
+                before = sys.getrefcount(it)
+                for _ in range(400):
+                    call()
+                self.assertLess(abs(sys.getrefcount(it) - before), 200, (it, calls.index(call)))
 
 
 class Copies(unittest.TestCase):

@@ -10,7 +10,7 @@ import unittest.mock
 import weakref
 
 import pep440_rattle
-from pep440_rattle import InvalidSpecifier, InvalidVersion, Specifier, SpecifierSet, Version
+from pep440_rattle import InvalidSpecifier, InvalidVersion, Specifier, SpecifierSet, Version, filter_texts
 from pep440_rattle.specifiers import BaseSpecifier
 from pep440_rattle.utils import canonicalize_version
 from pep440_rattle.version import _cmpkey, _parse_letter_version
@@ -63,12 +63,56 @@ class SlottedSet(SpecifierSet):
     __slots__ = ("note",)
 
 
+class Logic(SpecifierSet):
+    """Names in its slots what the set of `packaging` has as attributes, as PDM has one."""
+
+    __slots__ = ("_logic", "_prereleases", "_specs")
+
+
+class Half(Specifier):
+    __slots__ = ("_spec", "_prereleases")
+
+
+class Parts(Version):
+    __slots__ = ("_version", "_key")
+
+
 class ByYear(Version):
     """Is compared by its first number alone."""
 
     def __init__(self, text):
         super().__init__(text)
         self._key = self._key[:1] + ((self.major,),) + self._key[2:]
+
+
+class Calling:
+    """Calls back when it is asked what it is, as a value, and when it is gone."""
+
+    def __init__(self, call, value=True, when="asked"):
+        self.call, self.value, self.when = call, value, when
+
+    def __bool__(self):
+        self.call()
+        return self.value
+
+    def __ne__(self, other):
+        return bool(self)
+
+    def __del__(self):
+        if self.when == "gone":
+            self.call()
+
+
+class Hashing(Specifier):
+    """Calls back when its hash is asked for."""
+
+    def __hash__(self):
+        self.call()
+        return 1
+
+
+# As one of `packaging`: it is read by its `__str__`.
+Other = type("Version", (), {"__module__": "its.packaging.version", "__qualname__": "Version", "__str__": lambda it: it.call() or "2"})
 
 
 class AnyOf(BaseSpecifier):
@@ -114,6 +158,14 @@ class Versions(unittest.TestCase):
                 self.assertEqual((type(again), str(again), again.note, again.hidden()), (Slotted, text, "mine", "mine"))
         again = copy.deepcopy(copy.copy(Slotted("1.0", ["mine"])))
         self.assertEqual((again, again.note, again.hidden(), hasattr(again, "left_out")), (Version("1.0"), ["mine"], ["mine"], False))
+        for it, text in ((Logic(">=1.0,<2", prereleases=True), "<2,>=1.0"), (Half(">=1.0", prereleases=True), ">=1.0"), (Parts("1.0a1"), "1.0a1")):
+            for again in (it, copy.deepcopy(it), *(pickle.loads(pickle.dumps(it, protocol)) for protocol in range(pickle.HIGHEST_PROTOCOL + 1))):
+                names = type(it).__slots__[-2:]
+                self.assertEqual((type(again), again, str(again), hash(again)), (type(it), it, text, hash(it)))
+                self.assertEqual([getattr(again, name) for name in names], [getattr(it, name) for name in names])
+        several = Logic(">=1.0")
+        several._specs, several._prereleases, several._logic = frozenset([Specifier("<3")]), True, "mine"
+        self.assertEqual((str(several), several.contains("2a1"), several.contains("3"), copy.copy(several)._logic), ("<3", True, False, "mine"))
         several = SlottedSet(">=1.0", prereleases=True)
         several.note, several.other = "mine", "too"
         again = copy.copy(several)
@@ -183,6 +235,22 @@ class Versions(unittest.TestCase):
         self.assertEqual(_cmpkey(parts.epoch, parts.release, parts.pre, parts.post, parts.dev, parts.local), Version("1.0.0a1+u")._key)
         ascending = [Version(it)._key for it in "1.dev0 1a1 1 1+a 1+a.1 1+1 1.post1.dev1 1.post1 1!0".split()]
         self.assertEqual(sorted(reversed(ascending)), ascending)
+
+    def test_init_again_meanwhile(self):
+        text = "1.0.77"[:-1]
+        count = sys.getrefcount(text)
+        for _ in range(9):
+            version = Version(text)
+            version._key = Calling(lambda: version.__init__("3"), when="gone")
+            version.__init__("2")
+            self.assertEqual((str(version), version < Version("3.1"), version._own_key), ("3", True, None))
+            version._key = Calling(lambda: version.__init__("3"), when="gone")
+            version._key = (1,)
+            self.assertEqual((version._own_key, str(version)), (None, "3"))
+            version._key = type("Key", (tuple,), {"__hash__": lambda it: version.__init__("4") or 5})((1,))
+            self.assertEqual((hash(version), str(version)), (5, "4"))
+        del version
+        self.assertEqual(sys.getrefcount(text), count)
 
     def test_signatures(self):
         self.assertEqual(str(inspect.signature(Version)), "(version)")
@@ -265,6 +333,59 @@ class Specifiers(unittest.TestCase):
                     call(kind.__new__(kind))
             with self.assertRaises(AttributeError):
                 SpecifierSet([Specifier.__new__(Specifier)])
+
+    def test_init_again_meanwhile(self):
+        """A call that runs its caller's code answers by what this has read."""
+        for before in ("<2", "", "===1", ">=2"):
+            for after in (">=3", "<2", "", ">=1,!=1.5", "===2", "===1"):
+                several, other = SpecifierSet(before), Other()
+                several.contains("1")
+                other.call = again = lambda: several.__init__(after)
+                wanted = SpecifierSet(after).contains("2")
+
+                def items():
+                    again()
+                    yield from ("1", "2", "3")
+
+                calls = [
+                    (lambda: several.contains("2", installed=Calling(again)), wanted),
+                    (lambda: several.contains("2", installed=Calling(again, False)), wanted),
+                    (lambda: several.contains(other), wanted),
+                    (lambda: other in several, wanted),
+                    (lambda: several.contains(other, True, True), wanted),
+                    (lambda: filter_texts(several, items()), filter_texts(after, ["1", "2", "3"])),
+                    (lambda: filter_texts(several, ["3", other]), filter_texts(after, ["3"]) + [other] * wanted),
+                    (lambda: filter_texts(several, ["3", "2"], skip_invalid=Calling(again)), filter_texts(after, ["3", "2"])),
+                ]
+                for place, (call, answer) in enumerate(calls):
+                    several.__init__(before)
+                    several.contains("1")
+                    with self.subTest(before=before, after=after, place=place):
+                        self.assertEqual(call(), answer)
+
+    def test_init_again_by_what_it_holds(self):
+        several = SpecifierSet(">=1")
+        again = Calling(lambda: several.__init__(">=3"))
+        several.prereleases = again
+        self.assertEqual((several.contains("2a1"), str(several), several.prereleases), (True, ">=3", False))
+        several.__init__(">=1", prereleases=again)
+        both = several & SpecifierSet("<9", prereleases=again)
+        self.assertEqual((str(both), both.prereleases, str(several)), ("<9,>=1", again, ">=1"))
+        with self.assertRaises(ValueError):
+            several & SpecifierSet("<9", prereleases=True)
+        self.assertEqual(str(several), ">=3")
+        member = Specifier(">=1", prereleases=Calling(lambda: several.__init__(">=3a1"), False))
+        several.__init__([member, Specifier("<9")])
+        self.assertFalse(several.contains("2a1"))
+        self.assertEqual((str(several), several.contains("4a1"), several.prereleases), (">=3a1", True, True))
+        member = Hashing("<1")
+        member.call = lambda: several.__init__(">=3")
+        several.__init__([member])
+        self.assertEqual((len(several), str(several), several.contains("3")), (1, ">=3", True))
+        # what is let go may read it again, too: what was begun last counts
+        several.__init__(">=1", prereleases=Calling(lambda: several.__init__("<5"), when="gone"))
+        several.__init__(">=2")
+        self.assertEqual((str(several), several.contains("1"), several.contains("7")), (">=2", False, True))
 
     def test_attributes_and_cycles(self):
         one = Specifier(">=1.0")

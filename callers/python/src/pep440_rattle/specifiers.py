@@ -16,7 +16,7 @@ from collections import namedtuple
 
 from . import _core
 from ._core import InvalidSpecifier
-from .version import InvalidVersion, Version, _set_attributes, _split_state, _state_of, _text_of_other
+from .version import InvalidVersion, Version, _remove_held_slots, _set_attributes, _split_state, _state_of, _text_of_other
 
 __all__ = ["BaseSpecifier", "Bound", "InvalidSpecifier", "Specifier", "SpecifierSet"]
 
@@ -172,7 +172,7 @@ def _kept_at_once(
 ) -> list[UnparsedVersionVar] | None:
     """Those that are contained, or None where the items are to be read one by one: what makes them may wait, and one behind those that somebody asks
     for may be no version."""
-    if several._is_by_python or not isinstance(items, (list, tuple)):
+    if not isinstance(items, (list, tuple)):
         return None
     try:
         kept = several._kept(items, several.prereleases if prereleases is None else prereleases, False)
@@ -229,6 +229,7 @@ class Specifier(_core.HeldSpecifier, BaseSpecifier, metaclass=_Called):
 
     def __init_subclass__(cls, **named: object) -> None:
         super().__init_subclass__(**named)
+        _remove_held_slots(cls)
         asked = ["operator", "version", "prereleases", "__str__", "_get_operator", *map("_compare_{}".format, cls._operators.values())]
         is_by_name = cls.contains is not Specifier.contains
         cls._is_changed = is_by_name or any(getattr(cls, it) is not getattr(Specifier, it) for it in asked)
@@ -333,6 +334,7 @@ class SpecifierSet(_core.HeldSet, BaseSpecifier, metaclass=_Called):
 
     def __init_subclass__(cls, **named: object) -> None:
         super().__init_subclass__(**named)
+        _remove_held_slots(cls)
         cls._is_changed = cls.prereleases is not SpecifierSet.prereleases
         if cls.contains is not SpecifierSet.contains and cls.__contains__ is SpecifierSet.__contains__:
             cls.__contains__ = _contains_by_name  # type: ignore[assignment]
@@ -376,7 +378,7 @@ class SpecifierSet(_core.HeldSet, BaseSpecifier, metaclass=_Called):
         allowed = self.prereleases if prereleases is None else prereleases
         if not self._specs:
             items = tuple(iterable)
-            return iter(self._kept(items, allowed, False) or (items if allowed is None else ()))
+            return iter(SpecifierSet("")._kept(items, allowed, False) or (items if allowed is None else ()))
         kept = _kept_at_once(self, iterable, bool(allowed))
         if kept is not None:
             return iter(kept)

@@ -30,9 +30,9 @@ def filter_texts(
     ['1.0']
     """
     several = SpecifierSet(specifiers) if isinstance(specifiers, str) else specifiers
-    if not several._is_by_python:
-        return several._kept(texts, True, skip_invalid)
-    return [it for it in texts if _is_kept(several, it, skip_invalid)]
+    items = tuple(texts)
+    kept = several._kept(items, True, skip_invalid)
+    return [it for it in items if _is_kept(several, it, skip_invalid)] if kept is None else kept
 
 
 def _is_kept(several: Specifier | SpecifierSet, text: UnparsedVersion, skip_invalid: bool) -> bool:

@@ -9,6 +9,7 @@ True
 from __future__ import annotations
 
 import copyreg
+import types
 from collections import namedtuple
 
 from ._core import InvalidVersion, Version
@@ -130,16 +131,28 @@ def _compose(version: Version) -> str:
 # ---- copies and pickles, which have the form of those of `packaging`, so that either takes the other's
 
 
+# What an object of `packaging` has as attributes, and one of these otherwise.
+_HELD = ("_version", "_key", "_spec", "_specs", "_prereleases")
+
+
+def _remove_held_slots(cls: type) -> None:
+    """Of a subclass that names slots so, as those of `packaging` may: nothing would be in them."""
+    for name in _HELD:
+        if isinstance(vars(cls).get(name), types.MemberDescriptorType):
+            delattr(cls, name)
+
+
 def _state_of(it: object, own: dict[str, Any]) -> _State:
     """What a copy is made of: this, the attributes, and what is in slots of subclasses."""
-    attributes = {**own, **getattr(it, "__dict__", {})}
     slots = {name: getattr(it, name) for name in copyreg._slotnames(type(it)) if hasattr(it, name)}  # type: ignore[attr-defined]
+    attributes = {name: value for name, value in {**own, **getattr(it, "__dict__", {})}.items() if name not in slots}
     return (attributes, slots) if slots else attributes
 
 
 def _split_state(state: _State) -> tuple[dict[str, Any], dict[str, Any]]:
     attributes, slots = state if isinstance(state, tuple) else (state, {})
-    return dict(attributes or {}), slots
+    held = {name: value for name, value in slots.items() if name in _HELD}
+    return {**(attributes or {}), **held}, {name: value for name, value in slots.items() if name not in held}
 
 
 def _set_attributes(it: object, attributes: dict[str, Any], slots: dict[str, Any]) -> None:
@@ -154,6 +167,7 @@ def _set_attributes(it: object, attributes: dict[str, Any], slots: dict[str, Any
 
 def _init_subclass(cls: type[Version], **named: object) -> None:
     super(Version, cls).__init_subclass__(**named)
+    _remove_held_slots(cls)
     is_changed = any(getattr(cls, it) is not getattr(Version, it) for it in _PRINTED)
     # a subclass that has such a property prints it, unless it prints itself
     if is_changed and cls.__str__ is Version.__str__:
