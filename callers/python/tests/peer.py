@@ -1,7 +1,7 @@
 """The library `packaging` that the tests compare with, and what the two are asked.
 
 PEP440_PACKAGING in the environment names the folder that holds its folder `packaging`; else it is the one that is installed, or the newest copy that
-a pip on this machine has. Where none from 23 on is found, the tests that compare are skipped.
+a pip on this machine has. Where none is of a release that the swap replaces, the tests that compare are skipped.
 """
 import glob
 import importlib
@@ -12,6 +12,8 @@ import shutil
 import subprocess
 import sys
 import unittest
+
+from pep440_rattle.swap import _TESTED
 
 MOST = 2**64 - 1
 TOKENS = (
@@ -30,7 +32,7 @@ def number_of(version):
 
 
 def is_fit(version):
-    return (23,) <= number_of(version)
+    return version in _TESTED
 
 
 def folder_of_a_pip():
@@ -65,7 +67,7 @@ def load():
     folder = os.environ.get("PEP440_PACKAGING")
     found = imported(folder) if folder else imported() or imported(folder_of_a_pip())
     if not found:
-        raise unittest.SkipTest("no packaging from 23 on to compare with: name its folder in PEP440_PACKAGING")
+        raise unittest.SkipTest(f"no packaging of {', '.join(_TESTED)} to compare with: name its folder in PEP440_PACKAGING")
     return found
 
 

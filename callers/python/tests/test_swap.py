@@ -10,6 +10,7 @@ import unittest
 import zipfile
 
 import peer
+import pep440_rattle
 
 # What is asked of the other modules: each line is printed as it is, or as the exception's class and the first line of its message.
 ASKED = r"""
@@ -89,6 +90,9 @@ class Named(Specifier):
         super().__init__(text)
         self.name = name
 
+class Logic(SpecifierSet):
+    __slots__ = ("note", "_specs", "_prereleases")
+
 class Keyed(Version):
     def __init__(self, text):
         super().__init__(text)
@@ -97,9 +101,11 @@ class Keyed(Version):
 def objects():
     slotted = Slotted("1.0")
     slotted.note = slotted._Slotted__hidden = "mine"
+    logic = Logic(">=1.0,<2", prereleases=True)
+    logic.note = "mine"
     named, several = Named("mine", "=== X-y"), SpecifierSet("", prereleases=False)
     several._specs = frozenset([named])
-    yield from [Version("1!2.0rc1.post2.dev3+U-1"), Version("1.dev0"), Version("0.0"), slotted, Keyed("1.7+1")]
+    yield from [Version("1!2.0rc1.post2.dev3+U-1"), Version("1.dev0"), Version("0.0"), slotted, logic, Keyed("1.7+1")]
     yield from [Specifier("~= 1.0", prereleases=True), named, SpecifierSet(""), SpecifierSet(">=1.0,<2,===v1"), several]
     yield from [InvalidVersion("x"), InvalidSpecifier("y")]
 
@@ -113,7 +119,7 @@ if len(sys.argv) > 3:
         print(shown(it)[:-1] if isinstance(it, Exception) else shown(it))
 else:
     # copyreg has no slots before protocol 2
-    print(*(pickle.dumps([it for it in objects() if protocol > 1 or not isinstance(it, Slotted)], protocol).hex() for protocol in range(5)), sep="\n")
+    print(*(pickle.dumps([it for it in objects() if protocol > 1 or "__slots__" not in vars(type(it))], protocol).hex() for protocol in range(5)), sep="\n")
 """
 
 # Requirements that only `packaging` takes, by the row of the README's table.
@@ -181,8 +187,7 @@ def make_project(folder):
     shutil.rmtree(folder, ignore_errors=True)
     os.mkdir(folder)
     for name, text in FILES.items():
-        with open(os.path.join(folder, name), "w", encoding="utf-8") as it:
-            it.write(text)
+        write(os.path.join(folder, name), text)
     for release, requirement in WHEELS.items():
         name, _, version = release.partition("-")
         head = ["Metadata-Version: 2.1", f"Name: {name}", f"Version: {version}", *([f"Requires-Dist: {requirement}"] if requirement else []), ""]
@@ -195,6 +200,11 @@ def make_project(folder):
         subprocess.run(["git", *words.split()], cwd=folder, env=environment, check=True)
 
 
+def write(path, text):
+    with open(path, "w", encoding="utf-8") as it:
+        it.write(text)
+
+
 def folder_of(module):
     return os.path.dirname(os.path.dirname(module.__file__))
 
@@ -204,6 +214,13 @@ def run(words, folder=None):
     environment = dict(os.environ, PYTHONPATH=os.pathsep.join(filter(None, path)), PYTHONDONTWRITEBYTECODE="1")
     ran = subprocess.run([sys.executable, *words], capture_output=True, text=True, check=False, cwd=folder, env=environment)
     return ran.returncode, ran.stdout, ran.stderr
+
+
+def copy_of_pip():
+    """Whether the swap replaces the `packaging` of this pip, leaves it alone as an old one, or was not tested with it; None where there is no pip."""
+    status, told, _ = run(["-c", peer.TOLD_BY_PIP])
+    release = told.partition(" ")[0]
+    return None if status else "replaced" if peer.is_fit(release) else "old" if peer.number_of(release) < (22,) else "untested"
 
 
 class OtherModules(unittest.TestCase):
@@ -254,7 +271,7 @@ class Programs(unittest.TestCase):
     def test_programs(self):
         same, left_out = [], []
         for module, words in PROGRAMS:
-            if run(["-c", f"import {module}.__main__"])[0] and run(["-c", f"import {module}"])[0]:
+            if run(["-c", f"import {module}.__main__"])[0] and run(["-c", f"import {module}"])[0] or (module == "pip" and copy_of_pip() == "untested"):
                 left_out.append(module)
                 continue
             with self.subTest(words=words), tempfile.TemporaryDirectory() as work:
@@ -262,14 +279,13 @@ class Programs(unittest.TestCase):
                 self.assertEqual(self.results(["-m", "pep440_rattle.swap", "-m", *words], folder), self.results(["-m", *words], folder))
                 same.append(module)
         told = ", ".join(f"{count} of {module}" for module, count in collections.Counter(same).items())
-        print(f"\nprograms with the same outputs: {told}; not installed, so left out: {', '.join(dict.fromkeys(left_out)) or 'none'}")
+        print(f"\nprograms with the same outputs: {told}; not installed, or not tested with, so left out: {', '.join(dict.fromkeys(left_out)) or 'none'}")
 
     def test_requirements_that_pip_refuses(self):
         """What only `packaging` takes ends in pip's own message; a pip whose copy is not replaced finds no such version."""
-        status, told, _ = run(["-c", peer.TOLD_BY_PIP])
-        if status:
-            self.skipTest("no pip here")
-        said = "Invalid requirement: " if peer.is_fit(told) else "Could not find a version that satisfies the requirement "
+        said = {"replaced": "Invalid requirement: ", "old": "Could not find a version that satisfies the requirement "}.get(copy_of_pip())
+        if not said:
+            self.skipTest("no pip here whose copy is replaced or old")
         status, _, errors = run(["-m", "pep440_rattle.swap", "-m", "pip", "download", "--no-index", "nothing>=18446744073709551616"])
         self.assertEqual((status, "Traceback" in errors, f"ERROR: {said}" in errors), (1, False, True), errors)
 
@@ -292,14 +308,38 @@ class Swaps(unittest.TestCase):
         with tempfile.TemporaryDirectory() as folder:
             for package in ("", "mine", "mine/_vendor", "mine/_vendor/packaging", "packaging"):
                 os.makedirs(os.path.join(folder, package), exist_ok=True)
-                open(os.path.join(folder, package, "__init__.py"), "w").close()
+                write(os.path.join(folder, package, "__init__.py"), '__version__ = "25.0"\n')
             script = os.path.join(folder, "script.py")
-            with open(script, "w", encoding="utf-8") as it:
-                it.write("import sys, packaging.version, mine._vendor.packaging.specifiers as two\nfrom packaging import specifiers\n")
-                it.write("print(packaging.version.__name__, two.__name__, specifiers is two, sys.argv[1:], __name__)\n")
+            head = "import sys, packaging.version, mine._vendor.packaging.specifiers as two\nfrom packaging import specifiers\n"
+            write(script, head + "print(packaging.version.__name__, two.__name__, specifiers is two, sys.argv[1:], __name__)\n")
             wanted = "pep440_rattle.version pep440_rattle.specifiers True ['a', '-b'] __main__\n"
             self.assertEqual(run(["-m", "pep440_rattle.swap", script, "a", "-b"]), (0, wanted, ""))
-        self.assertEqual(run(["-m", "pep440_rattle.swap"])[0], 1)
+
+    def test_releases_that_were_not_tested(self):
+        imports = "import pep440_rattle.swap as it; it.swap(); import {0}packaging; print({0}packaging.__version__, flush=True); import {0}packaging.{1}"
+        with tempfile.TemporaryDirectory() as folder:
+            for owner, way_out in (("", f"install packaging=={pep440_rattle.behaves_like}, or run this without"), ("mine._vendor.", "a release of mine that has")):
+                package = os.path.join(folder, *owner.split("."), "packaging")
+                os.makedirs(package)
+                for name in ("version", "specifiers"):
+                    write(os.path.join(package, f"{name}.py"), "")
+                for release, is_refused in (("26.2", True), ("22.0", True), ("25.1.dev0", True), ("unknown", True), ("21.3", False), ("25.0", False)):
+                    write(os.path.join(package, "__init__.py"), f"__version__ = {release!r}\n")
+                    for name in ("version", "specifiers"):
+                        with self.subTest(release=release, owner=owner, name=name):
+                            status, said, errors = run(["-c", imports.format(owner, name)], folder)
+                            self.assertEqual((status, said), (is_refused, f"{release}\n"), errors)
+                            last = errors.splitlines()[-1] if errors else ""
+                            told = [f"ImportError: {owner}packaging is release {release}, ", f"packaging {pep440_rattle.behaves_like}", way_out]
+                            self.assertEqual([it in last for it in told], [is_refused] * 3, last)
+
+    def test_words(self):
+        usage = "usage: python -m pep440_rattle.swap [-m] PROGRAM WORD..\n"
+        for words, wanted in (([], (1, "", usage)), (["-m"], (1, "", usage)), (["-x"], (1, "", usage)), (["--version"], (1, "", usage))):
+            self.assertEqual(run(["-m", "pep440_rattle.swap", *words]), wanted)
+        for word in ("-h", "--help"):
+            status, said, errors = run(["-m", "pep440_rattle.swap", word])
+            self.assertEqual((status, "    python -m pep440_rattle.swap -m MODULE WORD.." in said, errors), (0, True, ""))
 
 
 if __name__ == "__main__":

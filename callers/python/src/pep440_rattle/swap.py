@@ -4,8 +4,9 @@
     python -m pep440_rattle.swap -m MODULE WORD..      a module
 
 Copies that a package carries along are replaced too: those of pip, of setuptools, and every other `packaging` below a folder `_vendor` or
-`extern`. The other modules of `packaging` stay what they are, and so do all of a release before 22, which has other classes besides. A file
-`sitecustomize.py` with the line `import pep440_rattle.swap; pep440_rattle.swap.swap()` does so for each program of an environment.
+`extern`. The other modules of `packaging` stay what they are, and so do all of a release before 22, which has other classes besides; of any other
+release that these modules were not tested in place of, an import raises ImportError. A file `sitecustomize.py` with the line
+`import pep440_rattle.swap; pep440_rattle.swap.swap()` does so for each program of an environment.
 """
 from __future__ import annotations
 
@@ -21,7 +22,7 @@ import sysconfig
 import types
 from collections.abc import Sequence
 
-from . import specifiers, version
+from . import behaves_like, specifiers, version
 
 __all__ = ["swap"]
 
@@ -30,12 +31,24 @@ _OURS = {"version": version, "specifiers": specifiers}
 _CLASSES = ("Version", "InvalidVersion", "_Version", "BaseSpecifier", "Specifier", "SpecifierSet", "InvalidSpecifier")
 # Modules that each copy has of its own, executed under its name, since they use others of the copy, as its `tags`.
 _COPIED = ("requirements", "markers", "utils", "_parser")
+# The releases of `packaging` that the tests are run beside.
+_TESTED = ("23.0", "24.1", "24.2", "25.0")
 _REPLACED = re.compile(rf"(?:.*\.(?:_vendor|extern)\.)?packaging\.({'|'.join([*_OURS, *_COPIED])})")
 
 
-def _is_old(package: str) -> bool:
-    """Whether it is a release of `packaging` that knows versions beyond PEP 440."""
-    return int(getattr(sys.modules[package], "__version__", "22").partition(".")[0]) < 22
+def _is_replaced(package: str) -> bool:
+    """Whether its release of `packaging` is replaced: one before 22 is not, which knows versions beyond PEP 440."""
+    release: str = getattr(sys.modules[package], "__version__", "unknown")
+    number, owner = release.partition(".")[0], package.partition(".")[0]
+    if release in _TESTED:
+        return True
+    if number.isdigit() and int(number) < 22:
+        return False
+    other = f"packaging=={behaves_like}" if owner == "packaging" else f"a release of {owner} that has one of these"
+    raise ImportError(
+        f"{package} is release {release}, and pep440_rattle, which behaves like packaging {behaves_like}, was tested in place of {', '.join(_TESTED)} alone: "
+        f"install {other}, or run this without pep440_rattle.swap"
+    )
 
 
 class _Finder(importlib.abc.MetaPathFinder, importlib.abc.Loader):
@@ -45,7 +58,7 @@ class _Finder(importlib.abc.MetaPathFinder, importlib.abc.Loader):
         self, name: str, path: Sequence[str] | None, target: types.ModuleType | None = None
     ) -> importlib.machinery.ModuleSpec | None:
         package, _, last = name.rpartition(".")
-        if not _REPLACED.fullmatch(name) or _is_old(package):
+        if not _REPLACED.fullmatch(name) or not _is_replaced(package):
             return None
         if last in _OURS:
             return importlib.machinery.ModuleSpec(name, self)
@@ -63,7 +76,7 @@ class _Finder(importlib.abc.MetaPathFinder, importlib.abc.Loader):
 
 
 def swap() -> None:
-    """From now on each import of these modules of `packaging` gives ours. It may be called again.
+    """From now on each import of these modules of `packaging` gives ours, or raises `ImportError` where its release was not tested. It may be called again.
 
     Raises `RuntimeError` where one of them was imported before: who did so has other classes by now.
     """
@@ -84,7 +97,10 @@ def _path_of(program: str) -> str:
 
 def _main() -> None:
     words = sys.argv[1:]
-    if not words or words == ["-m"]:
+    if words[:1] in (["-h"], ["--help"]):
+        print(__doc__, end="")
+        return
+    if not words or words == ["-m"] or (words[0] != "-m" and words[0].startswith("-")):
         sys.exit("usage: python -m pep440_rattle.swap [-m] PROGRAM WORD..")
     swap()
     if words[0] == "-m":
