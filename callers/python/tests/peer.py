@@ -13,8 +13,6 @@ import subprocess
 import sys
 import unittest
 
-from pep440_rattle.swap import _TESTED
-
 MOST = 2**64 - 1
 TOKENS = (
     "1 0 01 10 . - _ a b c rc alpha beta pre preview post rev r dev + ! v V A RC Dev x ubuntu 1.0 2.3.4 .*".split()
@@ -24,6 +22,8 @@ OPERATORS = ["==", "!=", "<=", ">=", "<", ">", "~=", "==="]
 SUFFIX = re.compile(r"(a|b|rc|\.post|\.dev|\+).*")
 
 
+# Those that the swap replaces.
+RELEASES = ("23.0", "24.1", "24.2", "25.0")
 TOLD_BY_PIP = "import pip._vendor as v, pip._vendor.packaging as p; print(p.__version__, v.__path__[0])"
 
 
@@ -32,7 +32,7 @@ def number_of(version):
 
 
 def is_fit(version):
-    return version in _TESTED
+    return version in RELEASES
 
 
 def folder_of_a_pip():
@@ -67,7 +67,7 @@ def load():
     folder = os.environ.get("PEP440_PACKAGING")
     found = imported(folder) if folder else imported() or imported(folder_of_a_pip())
     if not found:
-        raise unittest.SkipTest(f"no packaging of {', '.join(_TESTED)} to compare with: name its folder in PEP440_PACKAGING")
+        raise unittest.SkipTest(f"no packaging of {', '.join(RELEASES)} to compare with: name its folder in PEP440_PACKAGING")
     return found
 
 

@@ -10,7 +10,7 @@ import unittest
 import zipfile
 
 import peer
-import pep440_rattle
+import pep440_rattle.swap
 
 # What is asked of the other modules: each line is printed as it is, or as the exception's class and the first line of its message.
 ASKED = r"""
@@ -316,6 +316,7 @@ class Swaps(unittest.TestCase):
             self.assertEqual(run(["-m", "pep440_rattle.swap", script, "a", "-b"]), (0, wanted, ""))
 
     def test_releases_that_were_not_tested(self):
+        self.assertEqual(pep440_rattle.swap._TESTED, peer.RELEASES)
         imports = "import pep440_rattle.swap as it; it.swap(); import {0}packaging; print({0}packaging.__version__, flush=True); import {0}packaging.{1}"
         with tempfile.TemporaryDirectory() as folder:
             for owner, way_out in (("", f"install packaging=={pep440_rattle.behaves_like}, or run this without"), ("mine._vendor.", "a release of mine that has")):
