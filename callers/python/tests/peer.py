@@ -23,7 +23,7 @@ SUFFIX = re.compile(r"(a|b|rc|\.post|\.dev|\+).*")
 
 
 # Those that the swap replaces.
-RELEASES = ("23.0", "24.1", "24.2", "25.0")
+RELEASES = ("24.1", "24.2", "25.0")
 TOLD_BY_PIP = "import pip._vendor as v, pip._vendor.packaging as p; print(p.__version__, v.__path__[0])"
 
 
@@ -171,16 +171,10 @@ def names_a_prerelease(specifier):
     return bool(re.search(r"[0-9][-_.]?(a|b|c|rc|alpha|beta|pre|preview|dev)", specifier.version, re.I))
 
 
-def asks_a_prefix(specifier):
-    """It compares numbers of the release up to a place."""
-    return specifier.operator == "~=" or specifier.version.endswith(".*")
-
-
 # The first release that does as the one that is followed, the name of the difference, and whether it plays a part beside this specifier and, where
 # there is one, this candidate.
 CHANGES = [
     ((24, 2), "`<` and `>` name no pre-release", lambda it, _: it.operator in ("<", ">") and names_a_prerelease(it)),
-    ((24, 0), "a prefix is compared with its epoch as a number", lambda it, text: asks_a_prefix(it) and "!" in it.version + (text or "")),
 ]
 
 

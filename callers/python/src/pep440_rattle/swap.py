@@ -32,7 +32,7 @@ _CLASSES = ("Version", "InvalidVersion", "_Version", "BaseSpecifier", "Specifier
 # Modules that each copy has of its own, executed under its name, since they use others of the copy, as its `tags`.
 _COPIED = ("requirements", "markers", "utils", "_parser")
 # The releases of `packaging` that the tests are run beside.
-_TESTED = ("23.0", "24.1", "24.2", "25.0")
+_TESTED = ("24.1", "24.2", "25.0")
 _REPLACED = re.compile(rf"(?:.*\.(?:_vendor|extern)\.)?packaging\.({'|'.join([*_OURS, *_COPIED])})")
 
 
