@@ -42,14 +42,16 @@ static int is_read(const Specifiers *self)
 /* Drops what was read, and what was made of it; whom this wakes finds nothing read, and may read another string. */
 static inline void drop_read(Specifiers *self)
 {
-    PyObject *old[] = {self->said, self->text, self->members, self->canonical};
+    PyObject *said = self->said, *text = self->text, *members = self->members, *canonical = self->canonical;
     if (self->compiled && self->compiled != self->few)
         free(self->compiled);
     self->compiled = NULL;
     self->length = 0;
     self->said = self->text = self->members = self->canonical = NULL;
-    for (int each = 0; each < 4; each++)
-        Py_XDECREF(old[each]);
+    Py_XDECREF(said);
+    Py_XDECREF(text);
+    Py_XDECREF(members);
+    Py_XDECREF(canonical);
 }
 
 /* Holds a copy of what was compiled, and drops this. 0, or -1 with an error. */

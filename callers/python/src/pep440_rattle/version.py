@@ -9,7 +9,6 @@ True
 from __future__ import annotations
 
 import copyreg
-import types
 from collections import namedtuple
 
 from ._core import InvalidVersion, Version
@@ -131,6 +130,8 @@ def _compose(version: Version) -> str:
 # ---- copies and pickles, which have the form of those of `packaging`, so that either takes the other's
 
 
+# The type of slots, as that of `types`, whose import takes longer than all this.
+_SLOT = type(vars(type)["__basicsize__"])
 # What an object of `packaging` has as attributes, and one of these otherwise.
 _HELD = ("_version", "_key", "_spec", "_specs", "_prereleases")
 
@@ -138,7 +139,7 @@ _HELD = ("_version", "_key", "_spec", "_specs", "_prereleases")
 def _remove_held_slots(cls: type) -> None:
     """Of a subclass that names slots so, as those of `packaging` may: nothing would be in them."""
     for name in _HELD:
-        if isinstance(vars(cls).get(name), types.MemberDescriptorType):
+        if isinstance(vars(cls).get(name), _SLOT):
             delattr(cls, name)
 
 
