@@ -1,11 +1,19 @@
-//! Compares random pairs of versions by their compiled bytes, by their strings and by the ported crate; then gives random and changed byte
-//! strings to `pep440_normalize`: it rejects them, or they are what the printed version is compiled to.
+//! Compares random pairs of versions by their compiled bytes, by their strings and by the ported crate; batches of them, by their sort keys
+//! and as sorted; and edited ones with what the ported crate makes. Then gives random and changed byte strings to `pep440_normalize`: it
+//! rejects them, or they are what the printed version is compiled to.
 //!
 //! Usage: bytes [COUNT [SEED]]    (1,000,000 of each, seed 440)
 use against_pep440_rs::chance::Chance;
 use against_pep440_rs::departures::is_misordered;
 use against_pep440_rs::views::{ours, theirs};
 use std::cmp::Ordering;
+
+/// A `pep440_string`.
+#[repr(C)]
+struct Borrowed {
+    bytes: *const u8,
+    length: usize,
+}
 
 type Writer = unsafe extern "C" fn(*const u8, usize, *mut u8, usize, *mut usize) -> u8;
 type Comparer = unsafe extern "C" fn(*const u8, usize, *const u8, usize, *mut i8) -> u8;
@@ -14,6 +22,26 @@ unsafe extern "C" {
     fn pep440_compile(version: *const u8, length: usize, out: *mut u8, size: usize, written: *mut usize) -> u8;
     fn pep440_normalize(version: *const u8, length: usize, out: *mut u8, size: usize, written: *mut usize) -> u8;
     fn pep440_compare(left: *const u8, left_length: usize, right: *const u8, right_length: usize, order: *mut i8) -> u8;
+    fn pep440_sort(strings: *const Borrowed, count: usize, indices: *mut usize, size: usize, index: *mut usize) -> u8;
+    fn pep440_sort_keys(
+        strings: *const Borrowed,
+        count: usize,
+        out: *mut u8,
+        size: usize,
+        ends: *mut usize,
+        ends_size: usize,
+        written: *mut usize,
+        index: *mut usize,
+    ) -> u8;
+    fn pep440_edit(
+        version: *const u8,
+        length: usize,
+        changes: *const Borrowed,
+        count: usize,
+        out: *mut u8,
+        size: usize,
+        written: *mut usize,
+    ) -> u8;
 }
 
 const OK: u8 = 0;
@@ -80,6 +108,49 @@ fn compare_pairs(chance: &mut Chance, count: u64) -> (u64, u64) {
     (equal, misordered)
 }
 
+fn borrow_all(texts: &[String]) -> Vec<Borrowed> {
+    texts.iter().map(|text| Borrowed { bytes: text.as_ptr(), length: text.len() }).collect()
+}
+
+/// A batch of as many versions: the sort key of each is in its compiled bytes, and they are sorted by these keys.
+fn sort_batch(chance: &mut Chance, count: usize) {
+    let (texts, compiled): (Vec<String>, Vec<Vec<u8>>) = (0..count).map(|_| some_version(chance)).map(|it| (it.0, it.1)).unzip();
+    let (strings, mut out, mut written, mut index) = (borrow_all(&texts), vec![0; 1024 * count], 0, 0);
+    let (mut ends, mut indices) = (vec![0; count], vec![0; count]);
+    let (keys, size) = (out.as_mut_ptr(), out.len());
+    // SAFETY: as in `write`; the strings of the batch live on in `texts`.
+    let status =
+        unsafe { pep440_sort_keys(strings.as_ptr(), count, keys, size, ends.as_mut_ptr(), count, &mut written, &mut index) };
+    assert_eq!((status, ends.last()), (OK, Some(&written)), "{texts:?}");
+    let starts = std::iter::once(&0).chain(&ends);
+    let found: Vec<&[u8]> = starts.zip(&ends).map(|(start, end)| &out[*start..*end]).collect();
+    let wanted: Vec<&[u8]> = compiled.iter().map(|bytes| key(bytes)).collect();
+    assert_eq!(found, wanted, "{texts:?}");
+    // SAFETY: as above.
+    assert_eq!(unsafe { pep440_sort(strings.as_ptr(), count, indices.as_mut_ptr(), count, &mut index) }, OK, "{texts:?}");
+    let mut by_key: Vec<usize> = (0..count).collect();
+    by_key.sort_by_key(|index| wanted[*index]);
+    assert_eq!(indices, by_key, "{texts:?}");
+}
+
+/// A change, made by an edit and by the ported crate.
+fn edit_version(chance: &mut Chance) {
+    let ((text, _, version), number) = (some_version(chance), chance.number());
+    let (change, wanted) = match chance.below(6) {
+        0 => (format!("post={number}"), version.with_post(Some(number))),
+        1 => (format!("dev={number}"), version.with_dev(Some(number))),
+        2 => ("dev=".to_owned(), version.with_dev(None)),
+        3 => (format!("epoch={number}"), version.with_epoch(number)),
+        4 => ("without-local".to_owned(), version.without_local()),
+        _ => ("only-release".to_owned(), version.only_release()),
+    };
+    let (changes, mut out, mut written) = (borrow_all(std::slice::from_ref(&change)), vec![0; 1024], 0);
+    // SAFETY: as in `sort_batch`.
+    let status =
+        unsafe { pep440_edit(text.as_ptr(), text.len(), changes.as_ptr(), 1, out.as_mut_ptr(), out.len(), &mut written) };
+    assert_eq!((status, std::str::from_utf8(&out[..written])), (OK, Ok(wanted.to_string().as_str())), "{text:?} {change}");
+}
+
 /// Compiled bytes with some bytes replaced, put in, left out, or cut; now and then bytes by chance.
 fn some_bytes(chance: &mut Chance) -> Vec<u8> {
     if chance.one_in(4) {
@@ -126,10 +197,12 @@ fn main() {
     let count: u64 = words.next().map_or(1_000_000, |word| word.parse().expect("a count"));
     let mut chance = Chance::new(words.next().map_or(440, |word| word.parse().expect("a seed")));
     let (equal, misordered) = compare_pairs(&mut chance, count);
+    (0..count / 100).for_each(|_| sort_batch(&mut chance, 100));
+    (0..count).for_each(|_| edit_version(&mut chance));
     let printed = read_bytes(&mut chance, count);
     println!(
         "{count} pairs have one order by bytes, by strings and by the ported crate ({equal} equal; {misordered} that it orders wrongly); \
-         of {count} byte strings {printed} are what they print as, the others are rejected"
+         as many are sorted by their keys, and edited as it edits them; of {count} byte strings {printed} are what they print as, the others are rejected"
     );
     assert!(printed > count / 100 && printed < count, "each result is met");
 }
