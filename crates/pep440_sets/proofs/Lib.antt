@@ -1,0 +1,5 @@
+pub mod AfterParts
+pub mod Intervals
+pub mod Exclusive
+pub mod Prefixes
+pub mod Matches

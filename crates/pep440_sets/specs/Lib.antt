@@ -1,0 +1,3 @@
+pub mod Literal
+pub mod NextVersions
+pub mod Sets

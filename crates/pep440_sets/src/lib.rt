@@ -1,0 +1,4 @@
+//! Sets of versions.
+#![tactic(auto)]
+
+pub mod laws;
