@@ -3,3 +3,5 @@ pub mod Intervals
 pub mod Exclusive
 pub mod Prefixes
 pub mod Matches
+pub mod Parsed
+pub mod SetBoundaries

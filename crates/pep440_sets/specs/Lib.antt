@@ -1,3 +1,5 @@
 pub mod Literal
 pub mod NextVersions
 pub mod Sets
+pub mod Boundaries
+pub mod Witnesses
