@@ -5,3 +5,5 @@ pub mod Prefixes
 pub mod Matches
 pub mod Parsed
 pub mod SetBoundaries
+pub mod LowStrings
+pub mod VersionsBetween

@@ -115,7 +115,7 @@ above_other v e l = go (record_cmp v least) refl e l
     go ord.Equal h e l = absurd (true≢false e)
     go ord.Greater h e l = ap is_lt (record_total.antisymm least v ∙ ap ordering_reverse h)
 
-parsed_unmarked : (v : Record) → IsParsed v → v ≡ unmarked v
+pub parsed_unmarked : (v : Record) → IsParsed v → v ≡ unmarked v
 parsed_unmarked v h i = record v { min = h.round_trips.no_min i; max = h.round_trips.no_max i }
 
 place_below : (v : Record) → IsPlace v → is_eq (record_cmp v least) ≡ false → IsBelowVersion v
