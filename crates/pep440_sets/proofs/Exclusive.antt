@@ -18,7 +18,7 @@ use Rattle.pep440_version.specs.declared.prerelease.PrereleaseKind.{PrereleaseKi
 use Rattle.pep440_version.specs.declared.prerelease.PrereleaseKind.TheVariants.{Alpha, Beta, Rc}
 use Rattle.pep440_sets.proofs.AfterParts.{HasSuffixesThatFit, past_posts}
 use Rattle.pep440_sets.proofs.Intervals.{after_holds, no_local_below, posts_base}
-use Rattle.pep440_sets.specs.Literal.{has_post, is_before, is_postrelease_of, is_prerelease_of, matches_literally, same_pre}
+use Rattle.pep440_rs.specs.LiteralMatching.{has_post, is_before, is_postrelease_of, is_prerelease_of, matches_literally, same_pre}
 use Rattle.pep440_sets.specs.NextVersions.{after_posts, first_dev}
 use Rattle.pep440_sets.specs.Sets.{above_start, below_end}
 

@@ -28,7 +28,7 @@ use Rattle.pep440_sets.proofs.AfterParts.{HasSuffixesThatFit}
 use Rattle.pep440_sets.proofs.Exclusive.{greater_holds, less_holds}
 use Rattle.pep440_sets.proofs.Intervals.{after_holds, alone_is_range, below_holds, between_holds, between_is_range, from_holds}
 use Rattle.pep440_sets.proofs.Prefixes.{below_dev, is_below_end, star_holds as prefix_holds, tilde_holds}
-use Rattle.pep440_sets.specs.Literal.{matches_literally}
+use Rattle.pep440_rs.specs.LiteralMatching.{matches_literally}
 use Rattle.pep440_sets.specs.NextVersions.{after_prefix, after_public, first_dev}
 use Rattle.pep440_sets.specs.Sets.{HoldsMatches, above_start, below_end, between, equal_to, set_of, star}
 

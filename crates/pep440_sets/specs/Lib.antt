@@ -1,4 +1,3 @@
-pub mod Literal
 pub mod NextVersions
 pub mod Sets
 pub mod Boundaries

@@ -16,7 +16,7 @@ use Rattle.pep440_rs.specs.declared.specifier.operator.Operator.{Operator}
 use Rattle.pep440_rs.specs.declared.specifier.operator.Operator.TheVariants.{Equal, EqualStar, ExactEqual, NotEqual, NotEqualStar, TildeEqual, LessThan, LessThanEqual, GreaterThan, GreaterThanEqual}
 use Rattle.pep440_version.specs.Key.{record_cmp}
 use Rattle.pep440_version.specs.Record.{Record, from_parts}
-use Rattle.pep440_sets.specs.Literal.{list_matches_literally, matches_literally}
+use Rattle.pep440_rs.specs.LiteralMatching.{list_matches_literally, matches_literally}
 use Rattle.pep440_sets.specs.NextVersions.{after_posts, after_prefix, after_public, first_dev, least}
 
 -- ---- intervals

@@ -48,3 +48,7 @@ matches_literally op s v = matches op s v
 -- every member matches v
 abbrev pub list_matches_literally : List Spec → Record → Bool
 list_matches_literally members v = list_all (λ m. matches_literally m.operator m.version v) members
+
+-- the list matches the version, and it is no pre-release unless these are taken
+abbrev pub list_allows_literally : Bool → List Spec → Record → Bool
+list_allows_literally takes list v = (takes || not (any_prerelease v)) && list_matches_literally list v
