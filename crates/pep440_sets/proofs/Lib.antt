@@ -6,4 +6,6 @@ pub mod Matches
 pub mod Parsed
 pub mod SetBoundaries
 pub mod LowStrings
+pub mod Raised
 pub mod VersionsBetween
+pub mod Lists

@@ -7,7 +7,7 @@ use Rattle.std.specs.List.{AllByRecursion}
 use Rattle.std.specs.Ordering.{nat_cmp, ordering_then, is_eq, is_ge, is_gt, is_le, is_lt}
 use Rattle.std.specs.declared.cmp.Ordering.{Ordering}
 use Rattle.std.specs.declared.cmp.Ordering.TheVariants as ord
-use Rattle.pep440_ranges.proofs.Laws.{gaps_hold_the_rest}
+use Rattle.pep440_ranges.proofs.Laws.{gaps_are_range, gaps_hold_the_rest}
 use Rattle.pep440_ranges.specs.Complement.{gaps}
 use Rattle.pep440_ranges.specs.RangeSegments.{IsRange, contains}
 use Rattle.pep440_rs.proofs.Agreement.Single.{alone_holds}
@@ -26,7 +26,7 @@ use Rattle.pep440_version.specs.KeyLaws.{record_total}
 use Rattle.pep440_version.specs.Record.{Fits, IsRecord, LocalSegmentValue, Record, epoch_and_release, from_parts}
 use Rattle.pep440_sets.proofs.AfterParts.{HasSuffixesThatFit}
 use Rattle.pep440_sets.proofs.Exclusive.{greater_holds, less_holds}
-use Rattle.pep440_sets.proofs.Intervals.{after_holds, alone_is_range, below_holds, between_holds, between_is_range, from_holds}
+use Rattle.pep440_sets.proofs.Intervals.{after_holds, alone_is_range, below_holds, below_is_range, between_holds, between_is_range, from_holds, from_is_range}
 use Rattle.pep440_sets.proofs.Prefixes.{below_dev, is_below_end, star_holds as prefix_holds, tilde_holds}
 use Rattle.pep440_rs.specs.LiteralMatching.{matches_literally}
 use Rattle.pep440_sets.specs.NextVersions.{after_prefix, after_public, first_dev}
@@ -131,3 +131,17 @@ holds_matches s (operand, (text, derives)) n v (vtext, vderives) =
     let v_is = is_unmarked vtext v vderives in
     subst (λ w. contains record_cmp (set_of s.operator s.version) w ≡ matches_literally s.operator s.version w) (sym v_is)
     (each s.operator s.version v operand (is_unmarked text s.version derives) n (has_fits v (derived_record vtext v vderives)))
+
+-- ---- each set is a range
+
+pub set_is_range : (o : Operator) (s : Record) → IsRange record_cmp (set_of o s)
+set_is_range Equal s = equal_is_range s
+set_is_range NotEqual s = gaps_are_range record_total (equal_to s) (equal_is_range s)
+set_is_range EqualStar s = star_is_range s
+set_is_range NotEqualStar s = gaps_are_range record_total (star s) (star_is_range s)
+set_is_range TildeEqual s = between_is_range s (after_prefix s.epoch (without_last s.release))
+set_is_range LessThan s = below_is_range (below_end s)
+set_is_range LessThanEqual s = below_is_range (after_public s)
+set_is_range GreaterThan s = from_is_range (above_start s)
+set_is_range GreaterThanEqual s = from_is_range s
+set_is_range ExactEqual s = (refl, tt)

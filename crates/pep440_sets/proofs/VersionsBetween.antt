@@ -19,7 +19,7 @@ use Rattle.pep440_rs.specs.Bounds.{Segments}
 use Rattle.pep440_version.proofs.RoundTrip.PrintIsRead.{none_all}
 use Rattle.pep440_version.specs.Key.{Final, NoDev, PostTop, Pre, base_cmp, dev_cmp, dev_of, dev_rank, key, local_cmp, post_cmp, post_of, post_rank, rank_cmp, record_cmp, release_cmp, stage_cmp, stage_of, stage_rank, suffix_cmp}
 use Rattle.pep440_version.specs.KeyLaws.{record_total, release_total}
-use Rattle.pep440_version.specs.Record.{Fits, LocalSegmentValue, Record, SegmentFits, Text, from_parts}
+use Rattle.pep440_version.specs.Record.{Fits, LocalSegmentValue, Record, SegmentFits, Text, epoch_and_release, from_parts}
 use Rattle.pep440_version.specs.RoundTrip.{SegmentRereads}
 use Rattle.pep440_version.specs.declared.prerelease.Prerelease.{Prerelease}
 use Rattle.pep440_version.specs.declared.prerelease.PrereleaseKind.{PrereleaseKind}
@@ -83,7 +83,7 @@ above_fits zero vs h = (one_fits, tt)
 above_fits (suc d) [] h = (zero_fits, above_fits d [] tt)
 above_fits (suc d) (n ∷ vs) h = (h.0, above_fits d vs h.1)
 
-above_some : (d : ℕ) (vs : List ℕ) → 0 < length (just_above d vs)
+pub above_some : (d : ℕ) (vs : List ℕ) → 0 < length (just_above d vs)
 above_some zero vs = omega arith
 above_some (suc d) [] = omega arith
 above_some (suc d) (n ∷ vs) = omega arith
@@ -219,7 +219,7 @@ from_top e r (Included w) f g h k = record { parsed = h.parsed; inside = both_tr
 from_top e r (Excluded w) f g (inl h) k =
     let is = parsed_unmarked w h.parsed in
     let below = ap (base_cmp (top e r)) is ∙ below_version e r w (ap (λ x. is_lt (record_cmp (top e r) x)) (sym is) ∙ k) in
-    subst (IsFound (Included (top e r)) (Excluded w)) (ap (λ m. cond (is_some m) (record w { max = None }) (next_dev e r (between_max r w.release))) (sym h.parsed.round_trips.no_max)) (record {
+    subst (IsFound (Included (top e r)) (Excluded w)) (ap (λ m. cond (is_some m) (epoch_and_release w.epoch w.release) (next_dev e r (between_max r w.release))) (sym h.parsed.round_trips.no_max)) (record {
       parsed = next_parsed e r (between_max r w.release) f g;
       inside = both_true _ _ (next_above e r (between_max r w.release) (le-max_left (length r) (length w.release)))
           (next_below e r w (between_max r w.release) (le-max_left (length r) (length w.release)) (le-max_right (length r) (length w.release)) below);

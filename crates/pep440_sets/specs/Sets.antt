@@ -1,7 +1,7 @@
 -- The set of a specifier, as the intervals of the order of versions that it matches by the literal rule. `===` has none, since it compares
 -- spellings.
-use Rattle.std.specs.Prelude.{◌≡◌, ◌≢◌, List, [], ◌∷◌, Option, Some, None, if◌then◌else◌, fold, is_some, map}
-use Rattle.std.specs.List.{All}
+use Rattle.std.specs.Prelude.{◌≡◌, Bool, List, [], ◌∷◌, Option, Some, None, false, fold, if◌then◌else◌, is_some, map, true}
+use Rattle.std.specs.List.{list_any}
 use Rattle.std.specs.Option.{option_map_or}
 use Rattle.std.specs.Ordering.{is_eq}
 use Rattle.std.specs.declared.ops.Bound.TheVariants.{Included, Unbounded}
@@ -60,8 +60,26 @@ set_of GreaterThan s = from_version (above_start s)
 set_of GreaterThanEqual s = from_version s
 set_of ExactEqual s = full
 
+-- ---- lists
+
+-- the operator is `===`
+abbrev pub is_exact : Operator → Bool
+is_exact ExactEqual = true
+is_exact _ = false
+
+-- the list has a member with `===`
+abbrev pub has_exact : List Spec → Bool
+has_exact members = list_any (λ m. is_exact m.operator) members
+
+-- the set of a list: the intersection of the sets of its members
+abbrev pub list_set : List Spec → Segments
+list_set members = fold (overlaps record_cmp) full (map (λ (m : Spec). set_of m.operator m.version) members)
+
 -- ---- what a set holds
 
 -- the set holds, of the versions that strings denote, exactly those that match
 abbrev pub HoldsMatches : Spec → Type 0
 HoldsMatches s = (v : Record) → IsDenoted v → contains record_cmp (set_of s.operator s.version) v ≡ matches_literally s.operator s.version v
+
+abbrev pub HoldsListMatches : List Spec → Segments → Type 0
+HoldsListMatches members set = (v : Record) → IsDenoted v → contains record_cmp set v ≡ list_matches_literally members v

@@ -4,7 +4,7 @@ use Rattle.std.specs.Prelude.{ℕ, zero, suc, List, [], ◌∷◌, ◌++◌, Opt
 use Rattle.std.specs.declared.ops.Bound.{Bound}
 use Rattle.std.specs.declared.ops.Bound.TheVariants.{Included, Excluded, Unbounded}
 use Rattle.pep440_rs.specs.Bounds.{Segments}
-use Rattle.pep440_version.specs.Record.{LocalSegmentValue, Number, Record, Text}
+use Rattle.pep440_version.specs.Record.{LocalSegmentValue, Number, Record, Text, epoch_and_release}
 use Rattle.pep440_sets.specs.NextVersions.{first_dev, least}
 
 -- ---- above post-releases
@@ -18,7 +18,7 @@ just_above (suc depth) (n ∷ release) = n ∷ just_above depth release
 -- a version above the post-releases of the release of v, and up to this end
 abbrev pub above_posts : Record → Bound Record → Record
 above_posts v (Included w) = w
-above_posts v (Excluded w) = if is_some w.max then record w { max = None } else first_dev v.epoch (just_above (max (length v.release) (length w.release)) v.release)
+above_posts v (Excluded w) = if is_some w.max then epoch_and_release w.epoch w.release else first_dev v.epoch (just_above (max (length v.release) (length w.release)) v.release)
 above_posts v Unbounded = first_dev v.epoch (just_above (length v.release) v.release)
 
 -- ---- above local versions
