@@ -9,3 +9,4 @@ pub mod LowStrings
 pub mod Raised
 pub mod VersionsBetween
 pub mod Lists
+pub mod CommonVersions

@@ -1,5 +1,5 @@
 -- The set of a list holds what its members match, and is a set; it is empty exactly if no version is in it.
-use Rattle.std.proofs.Common.{◌≡◌, ◌≢◌, ◌&&◌, ◌||◌, Bool, true, false, not, List, [], ◌∷◌, IsTrue, fold, map, refl, sym, ap, ◌∙◌, subst}
+use Rattle.std.proofs.Common.{◌≡◌, ◌≢◌, ◌&&◌, ◌||◌, Bool, true, false, not, List, [], ◌∷◌, IfSome, IsTrue, None, fold, map, refl, sym, ap, ◌∙◌, subst}
 use Rattle.std.proofs.lemmas.Bool.{true≢false}
 use Rattle.std.proofs.lemmas.List.Elements.{All-from_recursion, All-head, All-tail}
 use Rattle.std.specs.List.{All, AllByRecursion, list_all, list_any}
@@ -25,7 +25,7 @@ use Rattle.pep440_sets.proofs.VersionsBetween.{found_in}
 use Rattle.pep440_sets.specs.Boundaries.{IsParsed, IsVersionSet}
 use Rattle.pep440_sets.specs.Emptiness.{HasNoVersion, IsVersionIn}
 use Rattle.pep440_sets.specs.Sets.{HoldsListMatches, has_exact, is_exact, list_set, set_of}
-use Rattle.pep440_sets.specs.Witnesses.{version_between}
+use Rattle.pep440_sets.specs.Witnesses.{version_between, version_in}
 
 abbrev set_of_member : Spec → Segments
 set_of_member m = set_of m.operator m.version
@@ -94,6 +94,18 @@ none_is_empty [] h none = refl
 none_is_empty (s ∷ rest) h none =
     let found = found_in s rest h in
     absurd (true≢false (sym found.1 ∙ none (version_between s.0 s.1) (parsed_denoted (version_between s.0 s.1) found.0)))
+
+-- a version of the set, if it has intervals
+pub first_is_in : (set : Segments) → IsVersionSet set → IfSome (version_in set) (IsVersionIn set)
+first_is_in [] h = tt
+first_is_in (s ∷ rest) h = found_is_in (s ∷ rest) h s rest refl
+
+pub without_first : (set : Segments) → version_in set ≡ None → HasNoVersion set
+without_first [] e = λ v d. refl
+without_first (s ∷ rest) e = absurd (cc)
+
+pub first_is_none : (set : Segments) → set ≡ [] → version_in set ≡ None
+first_is_none set e = ap version_in e
 
 -- ---- each member's set is a range
 

@@ -31,10 +31,17 @@ bound_text (Included v) = boundary_text v
 bound_text (Excluded v) = boundary_text v
 bound_text Unbounded = codes "*"
 
+-- how an interval begins
+abbrev pub start_text : Bound Record → List ℕ
+start_text start = (if is_closed_start start then codes "[" else codes "(") ++ bound_text start
+
+-- how an interval ends
+abbrev pub end_text : Bound Record → List ℕ
+end_text end = bound_text end ++ (if is_closed_end end then codes "]" else codes ")")
+
 -- an interval as a line, as `[1.0, 2.0.dev0)` and a newline
 abbrev pub interval_line : Segment Record → List ℕ
-interval_line s =
-    (if is_closed_start s.0 then codes "[" else codes "(") ++ (bound_text s.0 ++ (codes ", " ++ (bound_text s.1 ++ ((if is_closed_end s.1 then codes "]" else codes ")") ++ codes "\n"))))
+interval_line s = start_text s.0 ++ (codes ", " ++ (end_text s.1 ++ codes "\n"))
 
 -- the lines of the intervals
 abbrev pub set_lines : Segments → List ℕ

@@ -42,11 +42,29 @@ fn named_version(
     Ok(None)
 }
 
+// The version of the first `===`, if the list matches it; without one a version of the set.
+fn find_common(
+    alloc: Global,
+    members: &[VersionSpecifier],
+) -> Result<Option<Version>, AllocError>
+    ensures { IfOk result (λ found. found ≡ common_version members.now) }
+{
+    for member in members {
+        if is_exact(member) {
+            return named_version(alloc, members, member.version());
+        }
+    }
+    let set = list_set(alloc, members)?;
+    let found = first_version(alloc, &set)?;
+    Ok(found)
+}
+
 /// A version that each specifier matches by the literal rule, or `None` if there is none that a string denotes (PEP 440, "Version
 /// specifiers"): with `===` among them the version that it names, and otherwise one of their set, as `VersionSet::find_version` has it.
 /// n specifiers take n log n steps.
 ///
 /// Allocates.
+#[tactic(auto, using(crate::proofs::CommonVersions::common_matches, crate::proofs::CommonVersions::common_is_denoted, crate::proofs::CommonVersions::none_in_common))]
 pub fn find_version(
     alloc: Global,
     specifiers: &[VersionSpecifier],
@@ -56,12 +74,6 @@ pub fn find_version(
     ensures denoted { All IsCoverable specifiers.now → IfOk result (λ found. IfSome found IsDenoted) }
     ensures none { All IsCoverable specifiers.now → IfOk result (λ found. found ≡ None → IsUnsatisfiable specifiers.now) }
 {
-    for specifier in specifiers {
-        if is_exact(specifier) {
-            return named_version(alloc, specifiers, specifier.version());
-        }
-    }
-    let set = list_set(alloc, specifiers)?;
-    let found = first_version(alloc, &set)?;
+    let found = find_common(alloc, specifiers)?;
     Ok(found)
 }

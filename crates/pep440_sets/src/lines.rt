@@ -2,7 +2,7 @@
 ghost use Rattle.std.specs.Prelude.{◌≡◌, Some, codes, if◌then◌else◌};
 ghost use Rattle.std.specs.Fmt.{WritesStyledOnOk};
 ghost use Rattle.std.specs.List.{flat_map};
-ghost use Rattle.pep440_sets.specs.SetLines.{bound_text, boundary_text, interval_line, is_closed_end, is_closed_start, set_lines};
+ghost use Rattle.pep440_sets.specs.SetLines.{bound_text, boundary_text, end_text, interval_line, is_closed_end, is_closed_start, set_lines, start_text};
 
 use crate::set::VersionSet;
 use pep440_rs::Ranges;
@@ -75,6 +75,24 @@ fn close_bracket(end: &Bound<Version>) -> &'static str
     if is_closed_end(end) { "]" } else { ")" }
 }
 
+#[tactic(auto, using(pep440_version::proofs::RoundTrip::Writing::two_writes))]
+fn write_start<W: fmt::Write>(f: &mut fmt::Formatter<W>, start: &Bound<Version>) -> fmt::Result
+    ensures { WritesStyledOnOk W.write_str_gives f.old result (start_text start.now) f.new }
+{
+    let bracket = open_bracket(start);
+    f.write_str(bracket)?;
+    write_bound(f, start)
+}
+
+#[tactic(auto, using(pep440_version::proofs::RoundTrip::Writing::two_writes))]
+fn write_end<W: fmt::Write>(f: &mut fmt::Formatter<W>, end: &Bound<Version>) -> fmt::Result
+    ensures { WritesStyledOnOk W.write_str_gives f.old result (end_text end.now) f.new }
+{
+    let bracket = close_bracket(end);
+    write_bound(f, end)?;
+    f.write_str(bracket)
+}
+
 fn write_interval<W: fmt::Write>(
     f: &mut fmt::Formatter<W>,
     start: &Bound<Version>,
@@ -82,11 +100,9 @@ fn write_interval<W: fmt::Write>(
 ) -> fmt::Result
     ensures { WritesStyledOnOk W.write_str_gives f.old result (interval_line (start.now, end.now)) f.new }
 {
-    f.write_str(open_bracket(start))?;
-    write_bound(f, start)?;
+    write_start(f, start)?;
     f.write_str(", ")?;
-    write_bound(f, end)?;
-    f.write_str(close_bracket(end))?;
+    write_end(f, end)?;
     f.write_str("\n")
 }
 

@@ -44,6 +44,12 @@ pub(crate) fn is_exact(specifier: &VersionSpecifier) -> bool
     matches!(specifier.operator(), Operator::ExactEqual)
 }
 
+fn has_exact(specifiers: &[VersionSpecifier]) -> bool
+    ensures { result ≡ has_exact specifiers.now }
+{
+    specifiers.iter().any(is_exact)
+}
+
 impl VersionSet {
     #[tactic(auto, using(crate::proofs::Lists::list_is_set, crate::proofs::Lists::list_holds))]
     /// The versions that match each of these specifiers by the literal rule, as `VersionSpecifier::matches_literally` has it (PEP 440, "Version
@@ -59,7 +65,7 @@ impl VersionSet {
         ensures matches { IfOk result (HoldsListMatches specifiers.now) }
         ensures exact { IsErrOf result SetError.ArbitraryEquality ↔ (has_exact specifiers.now ≡ true) }
     {
-        if specifiers.iter().any(is_exact) {
+        if has_exact(specifiers) {
             return Err(SetError::ArbitraryEquality);
         }
         let intervals = list_set(alloc, specifiers)?;
@@ -172,6 +178,7 @@ impl VersionSet {
         ensures inside { IfOk result (λ found. IfSome found (IsVersionIn self.now)) }
         ensures none { IfOk result (λ found. (found ≡ None) ↔ HasNoVersion self.now) }
     {
-        first_version(alloc, &self.intervals)
+        let found = first_version(alloc, &self.intervals)?;
+        Ok(found)
     }
 }
