@@ -1,13 +1,12 @@
 -- What is not below the version after others is above these: by the suffixes, under one epoch and release.
-use Rattle.std.proofs.Common.{◌≡◌, ◌==◌, ◌+◌, ◌<◌, ◌^◌, ℕ, Bool, true, false, cond, not, List, [], ◌∷◌, Option, Some, None, IfSome, is_some, refl, sym, ap, ◌∙◌, subst, arith}
-use mathlib.Core.Bool.{true≢false}
+use Rattle.std.proofs.Common.{◌≡◌, ◌==◌, ◌+◌, ◌<◌, ◌^◌, ℕ, Bool, true, false, cond, not, List, [], Option, Some, None, IfSome, refl, sym, ap, ◌∙◌, subst, arith}
 use Rattle.std.proofs.lemmas.Bool.Decides.{nat_tests}
 use Rattle.std.specs.Option.{option_map_or}
 use Rattle.std.specs.Ordering.{nat_cmp, ordering_then, is_gt, is_lt}
 use Rattle.std.specs.declared.cmp.Ordering.{Ordering}
 use Rattle.std.specs.declared.cmp.Ordering.TheVariants as ord
 use Rattle.pep440_rs.proofs.Agreement.Prefix.{next_is}
-use Rattle.pep440_rs.proofs.Agreement.Suffixes.{above_dev, above_post, post_stage, dev_stage}
+use Rattle.pep440_rs.proofs.Agreement.Suffixes.{above_dev, above_post}
 use Rattle.pep440_rs.proofs.Agreement.VersionOrder.{plain}
 use Rattle.pep440_rs.specs.Bounds.{next_number}
 use Rattle.pep440_version.specs.Key.{Stage, Pre, Final, Dev, NoPost, PostAt, PostTop, NoDev, DevAt, dev_cmp, dev_of, kind_rank, post_cmp, post_of, stage_cmp, stage_of, suffix_cmp}
@@ -15,7 +14,7 @@ use Rattle.pep440_version.specs.Record.{Fits, Record, from_parts}
 use Rattle.pep440_version.specs.declared.prerelease.Prerelease.{Prerelease}
 use Rattle.pep440_version.specs.declared.prerelease.PrereleaseKind.{PrereleaseKind}
 use Rattle.pep440_version.specs.declared.prerelease.PrereleaseKind.TheVariants.{Alpha, Beta, Rc}
-use Rattle.pep440_sets.specs.NextVersions.{after_devs, after_kind, after_parts, after_post, after_posts, pre_dev}
+use Rattle.pep440_sets.specs.NextVersions.{after_devs, after_kind, after_parts, after_posts, pre_dev}
 
 -- ---- numbers
 

@@ -1,9 +1,9 @@
 -- The version that is found for a list matches it, and where none is found the list matches none.
-use Rattle.std.proofs.Common.{◌≡◌, ◌≢◌, ◌&&◌, ◌||◌, Bool, true, false, cond, IsTrue, List, [], ◌∷◌, Option, Some, None, IfSome, bytes_eq, refl, sym, ap, ◌∙◌, subst}
+use Rattle.std.proofs.Common.{◌≡◌, ◌&&◌, ◌||◌, Bool, true, false, cond, IsTrue, List, [], ◌∷◌, Option, Some, None, IfSome, refl, sym, ap, ◌∙◌, subst}
 use Rattle.std.proofs.lemmas.Bool.{true≢false}
 use Rattle.std.proofs.lemmas.List.Elements.{All-head, All-tail}
 use Rattle.std.specs.Cmp.Lexicographic.{same_text}
-use Rattle.std.specs.List.{All, find, list_all}
+use Rattle.std.specs.List.{All, find}
 use Rattle.std.specs.Option.{option_map_or}
 use Rattle.pep440_ranges.specs.RangeSegments.{contains}
 use Rattle.pep440_rs.specs.Bounds.{Segments}
@@ -18,9 +18,9 @@ use Rattle.pep440_version.specs.Grammar.{Derives}
 use Rattle.pep440_version.specs.Key.{record_cmp}
 use Rattle.pep440_version.specs.Print.{print}
 use Rattle.pep440_version.specs.Record.{Record}
-use Rattle.pep440_sets.proofs.Lists.{found_is_in, list_holds, list_is_set, none_is_empty}
+use Rattle.pep440_sets.proofs.Lists.{found_is_in, list_holds, list_is_set}
 use Rattle.pep440_sets.specs.Common.{common_version, named_version}
-use Rattle.pep440_sets.specs.Emptiness.{HasNoVersion, IsUnsatisfiable, IsVersionIn}
+use Rattle.pep440_sets.specs.Emptiness.{IsUnsatisfiable, IsVersionIn}
 use Rattle.pep440_sets.specs.Sets.{has_exact, is_exact, list_set}
 use Rattle.pep440_sets.specs.Witnesses.{version_between, version_in}
 

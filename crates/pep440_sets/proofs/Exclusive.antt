@@ -1,6 +1,5 @@
 -- `<` and `>`: what lies below the end and from the start on is what matches.
-use Rattle.std.proofs.Common.{◌≡◌, ◌==◌, ◌+◌, ℕ, Bool, true, false, not, ◌&&◌, ◌||◌, List, [], ◌∷◌, Option, Some, None, is_some, refl, sym, ap, ◌∙◌, arith}
-use mathlib.Core.Bool.{true≢false}
+use Rattle.std.proofs.Common.{◌≡◌, ◌==◌, ◌+◌, ℕ, Bool, true, false, not, ◌&&◌, ◌||◌, List, [], Option, Some, None, is_some, refl, sym, ap, ◌∙◌, arith}
 use Rattle.std.proofs.lemmas.Bool.Decides.{nat_tests}
 use Rattle.std.specs.Ordering.{nat_cmp, ordering_then, is_eq, is_gt, is_lt}
 use Rattle.std.specs.Prelude.{is_none}
@@ -11,14 +10,14 @@ use Rattle.pep440_rs.proofs.Agreement.VersionOrder.{by_parts, plain, same_base}
 use Rattle.pep440_rs.proofs.Covering.PublicParts.{below_bare, unmarked}
 use Rattle.pep440_rs.specs.Matching.{any_prerelease, same_release}
 use Rattle.pep440_rs.specs.declared.specifier.operator.Operator.TheVariants.{LessThan, GreaterThan}
-use Rattle.pep440_version.specs.Key.{Dev, DevAt, Final, NoDev, NoPost, PostAt, Pre, Stage, base_cmp, dev_cmp, dev_of, kind_rank, local_cmp, post_cmp, post_of, prerelease_cmp, record_cmp, release_cmp, stage_cmp, stage_of, suffix_cmp}
-use Rattle.pep440_version.specs.Record.{LocalSegmentValue, Record, from_parts}
+use Rattle.pep440_version.specs.Key.{Dev, DevAt, Final, NoDev, NoPost, PostAt, Pre, Stage, base_cmp, dev_cmp, dev_of, kind_rank, local_cmp, post_cmp, post_of, record_cmp, release_cmp, stage_cmp, stage_of, suffix_cmp}
+use Rattle.pep440_version.specs.Record.{Record, from_parts}
 use Rattle.pep440_version.specs.declared.prerelease.Prerelease.{Prerelease}
 use Rattle.pep440_version.specs.declared.prerelease.PrereleaseKind.{PrereleaseKind}
 use Rattle.pep440_version.specs.declared.prerelease.PrereleaseKind.TheVariants.{Alpha, Beta, Rc}
 use Rattle.pep440_sets.proofs.AfterParts.{HasSuffixesThatFit, past_posts}
 use Rattle.pep440_sets.proofs.Intervals.{after_holds, no_local_below, posts_base}
-use Rattle.pep440_rs.specs.LiteralMatching.{has_post, is_before, is_postrelease_of, is_prerelease_of, matches_literally, same_pre}
+use Rattle.pep440_rs.specs.LiteralMatching.{has_post, is_before, matches_literally, same_pre}
 use Rattle.pep440_sets.specs.NextVersions.{after_posts, first_dev}
 use Rattle.pep440_sets.specs.Sets.{above_start, below_end}
 

@@ -1,5 +1,5 @@
 -- What intervals between versions hold.
-use Rattle.std.proofs.Common.{◌≡◌, ◌==◌, ℕ, Bool, true, false, cond, not, ◌&&◌, List, [], ◌∷◌, Option, Some, None, refl, sym, ap, ◌∙◌, subst, arith}
+use Rattle.std.proofs.Common.{◌≡◌, ℕ, Bool, true, false, cond, not, ◌&&◌, List, [], ◌∷◌, Option, Some, None, refl, sym, ap, ◌∙◌, arith}
 use mathlib.Core.Bool.{true≢false}
 use Rattle.std.proofs.lemmas.Bool.Decides.{nat_tests}
 use Rattle.std.proofs.lemmas.Cmp.{tied_itself}
@@ -10,19 +10,18 @@ use Rattle.std.specs.declared.cmp.Ordering.TheVariants as ord
 use Rattle.std.specs.declared.ops.Bound.TheVariants.{Included, Unbounded}
 use Rattle.pep440_ranges.proofs.Laws.{gaps_are_range, gaps_hold_the_rest, overlaps_are_range, overlaps_hold_both}
 use Rattle.pep440_ranges.specs.Complement.{gaps}
-use Rattle.pep440_ranges.specs.Intersection.{overlaps}
 use Rattle.pep440_ranges.specs.RangeSegments.{IsRange, contains}
 use Rattle.pep440_rs.proofs.Agreement.Suffixes.{from_dev}
 use Rattle.pep440_rs.proofs.Agreement.VersionOrder.{by_parts, only_start, plain, turn_le}
 use Rattle.pep440_rs.proofs.Covering.PublicParts.{unmarked}
-use Rattle.pep440_rs.specs.Bounds.{Segments, alone, full}
+use Rattle.pep440_rs.specs.Bounds.{alone, full}
 use Rattle.pep440_version.specs.Key.{base_cmp, local_cmp, record_cmp, release_cmp, suffix_cmp}
 use Rattle.pep440_version.specs.KeyLaws.{record_total}
 use Rattle.pep440_version.specs.Record.{LocalSegmentValue, Record, from_parts}
 use Rattle.pep440_version.specs.declared.prerelease.Prerelease.{Prerelease}
 use Rattle.pep440_version.specs.declared.prerelease.PrereleaseKind.{PrereleaseKind}
 use Rattle.pep440_version.specs.declared.prerelease.PrereleaseKind.TheVariants.{Alpha, Beta, Rc}
-use Rattle.pep440_sets.proofs.AfterParts.{HasSuffixesThatFit, IsAfter, after_suffixes, by_next}
+use Rattle.pep440_sets.proofs.AfterParts.{HasSuffixesThatFit, after_suffixes, by_next}
 use Rattle.pep440_sets.specs.NextVersions.{after_devs, after_kind, after_parts, after_posts, least, pre_dev}
 use Rattle.pep440_sets.specs.Sets.{between, from_version}
 

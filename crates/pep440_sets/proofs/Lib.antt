@@ -10,3 +10,4 @@ pub mod Raised
 pub mod VersionsBetween
 pub mod Lists
 pub mod CommonVersions
+pub mod LiteralRules

@@ -1,27 +1,26 @@
 -- The set of each operator holds what matches.
-use Rattle.std.proofs.Common.{◌≡◌, ◌≢◌, ◌==◌, ℕ, Bool, true, false, cond, not, ◌&&◌, IsTrue, List, [], ◌∷◌, Option, Some, None, length, refl, sym, ap, ◌∙◌, subst, arith}
+use Rattle.std.proofs.Common.{◌≡◌, ◌≢◌, ◌==◌, ℕ, Bool, true, false, cond, not, ◌&&◌, List, [], ◌∷◌, Some, length, refl, sym, ap, ◌∙◌, subst}
 use mathlib.Core.Bool.{true≢false}
 use Rattle.std.proofs.Math.Dec.{eqb-suc-zero}
 use Rattle.std.proofs.lemmas.List.Elements.{recursion_from_All}
 use Rattle.std.specs.List.{AllByRecursion}
-use Rattle.std.specs.Ordering.{nat_cmp, ordering_then, is_eq, is_ge, is_gt, is_le, is_lt}
+use Rattle.std.specs.Ordering.{is_eq, is_ge, is_gt, is_le, is_lt}
 use Rattle.std.specs.declared.cmp.Ordering.{Ordering}
 use Rattle.std.specs.declared.cmp.Ordering.TheVariants as ord
 use Rattle.pep440_ranges.proofs.Laws.{gaps_are_range, gaps_hold_the_rest}
-use Rattle.pep440_ranges.specs.Complement.{gaps}
 use Rattle.pep440_ranges.specs.RangeSegments.{IsRange, contains}
 use Rattle.pep440_rs.proofs.Agreement.Single.{alone_holds}
 use Rattle.pep440_rs.proofs.Agreement.VersionOrder.{ge_not_lt, is_plain, plain}
 use Rattle.pep440_rs.proofs.Covering.PublicParts.{below_bare, is_unmarked, unmarked}
-use Rattle.pep440_rs.specs.Agreement.{HasNoLocalOrSentinel, HasOperand}
+use Rattle.pep440_rs.specs.Agreement.{HasOperand}
 use Rattle.pep440_rs.specs.Bounds.{alone}
-use Rattle.pep440_rs.specs.Cover.{IsCoverable, IsDenoted}
+use Rattle.pep440_rs.specs.Cover.{IsCoverable}
 use Rattle.pep440_rs.specs.Matching.{has_local, matches, without_last}
 use Rattle.pep440_rs.specs.Specifiers.{Spec}
 use Rattle.pep440_rs.specs.declared.specifier.operator.Operator.{Operator}
 use Rattle.pep440_rs.specs.declared.specifier.operator.Operator.TheVariants.{Equal, EqualStar, ExactEqual, NotEqual, NotEqualStar, TildeEqual, LessThan, LessThanEqual, GreaterThan, GreaterThanEqual}
 use Rattle.pep440_version.proofs.RoundTrip.PrintIsRead.{derived_record}
-use Rattle.pep440_version.specs.Key.{record_cmp, release_cmp}
+use Rattle.pep440_version.specs.Key.{record_cmp}
 use Rattle.pep440_version.specs.KeyLaws.{record_total}
 use Rattle.pep440_version.specs.Record.{Fits, IsRecord, LocalSegmentValue, Record, epoch_and_release, from_parts}
 use Rattle.pep440_sets.proofs.AfterParts.{HasSuffixesThatFit}

@@ -1,21 +1,15 @@
 -- The version after others is one that strings parse to, or stands for the place above post-releases.
-use Rattle.std.proofs.Common.{◌≡◌, ◌==◌, ◌+◌, ◌<◌, ◌≤◌, ◌^◌, ℕ, Bool, true, false, cond, List, [], ◌∷◌, ◌++◌, Option, Some, None, IfSome, inl, inr, length, option_map, refl, sym, ap, ◌∙◌, subst, arith}
+use Rattle.std.proofs.Common.{◌≡◌, ◌==◌, ◌+◌, ◌<◌, ◌^◌, ℕ, Bool, true, false, cond, List, [], ◌∷◌, Option, Some, None, IfSome, inl, inr, length, option_map, refl, sym, subst, arith}
 use Rattle.std.proofs.lemmas.Bool.Decides.{nat_tests}
 use Rattle.std.proofs.lemmas.List.Elements.{All-from_recursion, All-head, All-tail, recursion_from_All}
-use Rattle.std.specs.List.{All, AllByRecursion}
+use Rattle.std.specs.List.{All}
 use Rattle.std.specs.Option.{option_map_or}
-use Rattle.std.specs.Ordering.{is_lt}
 use Rattle.std.specs.Prelude.{◌⊎◌}
-use Rattle.std.specs.declared.cmp.Ordering.{Ordering}
-use Rattle.std.specs.declared.cmp.Ordering.TheVariants as ord
-use Rattle.pep440_rs.proofs.Agreement.Prefix.{next_is, some_is}
-use Rattle.pep440_rs.proofs.Covering.PublicParts.{unmarked}
+use Rattle.pep440_rs.proofs.Agreement.Prefix.{some_is}
 use Rattle.pep440_rs.specs.Bounds.{next_number}
 use Rattle.pep440_version.proofs.RoundTrip.PrintIsRead.{none_all}
-use Rattle.pep440_version.specs.Key.{record_cmp}
-use Rattle.pep440_version.specs.KeyLaws.{record_total}
-use Rattle.pep440_version.specs.Record.{Fits, IsRecord, Record, SegmentFits, from_parts}
-use Rattle.pep440_version.specs.RoundTrip.{RoundTrips, SegmentRereads}
+use Rattle.pep440_version.specs.Record.{Fits, Record, SegmentFits, from_parts}
+use Rattle.pep440_version.specs.RoundTrip.{SegmentRereads}
 use Rattle.pep440_version.specs.declared.prerelease.Prerelease.{Prerelease}
 use Rattle.pep440_version.specs.declared.prerelease.PrereleaseKind.{PrereleaseKind}
 use Rattle.pep440_version.specs.declared.prerelease.PrereleaseKind.TheVariants.{Alpha, Beta, Rc}

@@ -13,7 +13,7 @@ use Rattle.pep440_rs.proofs.Agreement.VersionOrder.{by_parts, ge_not_lt, plain}
 use Rattle.pep440_rs.proofs.Covering.PublicParts.{below_bare, unmarked}
 use Rattle.pep440_rs.specs.Bounds.{next_number}
 use Rattle.pep440_rs.specs.Matching.{begins_with, has_prefix, without_last}
-use Rattle.pep440_version.specs.Key.{record_cmp, release_cmp, suffix_cmp}
+use Rattle.pep440_version.specs.Key.{record_cmp, release_cmp}
 use Rattle.pep440_version.specs.Record.{Fits, Record}
 use Rattle.pep440_sets.proofs.AfterParts.{none_is}
 use Rattle.pep440_sets.proofs.Intervals.{never_below_zero}

@@ -1,9 +1,8 @@
 -- The set of each specifier, and what complement and intersection make of sets, has the boundaries of sets.
-use Rattle.std.proofs.Common.{◌≡◌, ◌≢◌, ◌==◌, ◌<◌, ℕ, Bool, true, false, cond, not, IsTrue, List, [], ◌∷◌, ◌++◌, Option, Some, None, inl, inr, is_some, length, map, refl, sym, ap, ◌∙◌, subst, arith}
+use Rattle.std.proofs.Common.{◌≡◌, ◌==◌, ℕ, Bool, true, false, cond, not, List, [], ◌∷◌, ◌++◌, Option, Some, None, inl, inr, is_some, length, refl, sym, ap, ◌∙◌, subst, arith}
 use mathlib.Core.Bool.{true≢false}
-use Rattle.std.proofs.lemmas.List.Elements.{All-append, All-from_recursion, All-head, All-tail, recursion_from_All}
-use Rattle.std.specs.List.{All, AllByRecursion, filter, flat_map}
-use Rattle.std.specs.Option.{option_map_or}
+use Rattle.std.proofs.lemmas.List.Elements.{All-from_recursion, recursion_from_All}
+use Rattle.std.specs.List.{AllByRecursion}
 use Rattle.std.specs.Ordering.{is_eq, is_lt, ordering_reverse, ordering_then}
 use Rattle.std.specs.declared.cmp.Ordering.{Ordering}
 use Rattle.std.specs.declared.cmp.Ordering.TheVariants as ord
@@ -16,7 +15,7 @@ use Rattle.pep440_ranges.specs.Intersection.{is_valid_segment, overlap, overlaps
 use Rattle.pep440_ranges.specs.RangeSegments.{Segment}
 use Rattle.pep440_rs.proofs.Agreement.Prefix.{some_is}
 use Rattle.pep440_rs.proofs.Agreement.VersionOrder.{by_parts, is_plain, plain}
-use Rattle.pep440_rs.proofs.Covering.PublicParts.{is_unmarked, unmarked}
+use Rattle.pep440_rs.proofs.Covering.PublicParts.{unmarked}
 use Rattle.pep440_rs.specs.Agreement.{HasOperand}
 use Rattle.pep440_rs.specs.Bounds.{Segments, alone, full}
 use Rattle.pep440_rs.specs.Cover.{IsCoverable, IsDenoted}
@@ -27,10 +26,10 @@ use Rattle.pep440_rs.specs.declared.specifier.operator.Operator.TheVariants.{Equ
 use Rattle.pep440_version.proofs.RoundTrip.PrintIsRead.{derived_record, derived_rereads}
 use Rattle.pep440_version.specs.Key.{base_cmp, local_cmp, record_cmp, suffix_cmp}
 use Rattle.pep440_version.specs.KeyLaws.{record_total}
-use Rattle.pep440_version.specs.Record.{Fits, IsRecord, LocalSegmentValue, Record, from_parts}
-use Rattle.pep440_sets.proofs.Intervals.{alone_is_range, between_is_range, from_is_range, not_below_least}
+use Rattle.pep440_version.specs.Record.{Fits, IsRecord, LocalSegmentValue, Record}
+use Rattle.pep440_sets.proofs.Intervals.{alone_is_range, from_is_range, not_below_least}
 use Rattle.pep440_sets.proofs.Parsed.{HasParts, IsPlace, after_place, parts_parsed, posts_place, prefix_parsed}
-use Rattle.pep440_sets.specs.Boundaries.{IsAboveLeast, IsAboveLocal, IsAbovePosts, IsBelowVersion, IsEnd, IsInterval, IsParsed, IsStart, IsVersionSet}
+use Rattle.pep440_sets.specs.Boundaries.{IsBelowVersion, IsEnd, IsInterval, IsParsed, IsStart, IsVersionSet}
 use Rattle.pep440_sets.specs.NextVersions.{after_posts, after_prefix, after_public, first_dev, least}
 use Rattle.pep440_sets.specs.Sets.{above_start, below_end, between, equal_to, from_version, set_of, star}
 
@@ -188,7 +187,15 @@ less_set s p e = gaps_set (from_version (below_end s)) (from_set (below_end s) (
     dev_of_post : IsPlace (record s { dev = Some 0 })
     dev_of_post = inl (record {
       valid = record {
-        epoch = p.valid.epoch; some = p.valid.some; release = p.valid.release; pre = p.valid.pre; post = p.valid.post; dev = grind arith; local = p.valid.local; min = p.valid.min; max = p.valid.max;
+        epoch = p.valid.epoch;
+        some = p.valid.some;
+        release = p.valid.release;
+        pre = p.valid.pre;
+        post = p.valid.post;
+        dev = grind arith;
+        local = p.valid.local;
+        min = p.valid.min;
+        max = p.valid.max;
       };
       round_trips = record { no_min = p.round_trips.no_min; no_max = p.round_trips.no_max; local = p.round_trips.local };
     })

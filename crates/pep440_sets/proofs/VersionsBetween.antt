@@ -1,5 +1,5 @@
 -- Between the boundaries of an interval lies the version that is found there.
-use Rattle.std.proofs.Common.{◌≡◌, ◌∙◌, ◌+◌, ◌<◌, ◌≤◌, ◌&&◌, ◌||◌, ℕ, zero, suc, refl, sym, ap, subst, arith, Bool, true, false, cond, not, IsTrue, List, [], ◌∷◌, ◌++◌, Option, Some, None, inl, inr, is_some, length}
+use Rattle.std.proofs.Common.{◌≡◌, ◌∙◌, ◌<◌, ◌≤◌, ◌&&◌, ◌||◌, ℕ, zero, suc, refl, sym, ap, subst, arith, Bool, true, false, cond, not, List, [], ◌∷◌, ◌++◌, Option, Some, None, inl, inr, is_some, length}
 use Rattle.std.proofs.Math.Nat.{le-max_left, le-max_right}
 use Rattle.std.proofs.lemmas.Bool.{true≢false}
 use Rattle.std.proofs.lemmas.Cmp.{nat_cmp_total, tied_itself}
@@ -11,15 +11,14 @@ use Rattle.std.specs.declared.cmp.Ordering.{Ordering}
 use Rattle.std.specs.declared.cmp.Ordering.TheVariants.{Less, Equal, Greater}
 use Rattle.std.specs.declared.ops.Bound.{Bound}
 use Rattle.std.specs.declared.ops.Bound.TheVariants.{Included, Excluded, Unbounded}
-use Rattle.pep440_ranges.specs.BoundOrder.{is_from_start, is_up_to_end, is_valid}
+use Rattle.pep440_ranges.specs.BoundOrder.{is_up_to_end, is_valid}
 use Rattle.pep440_ranges.specs.RangeSegments.{Segment, contains, lies_in}
 use Rattle.pep440_rs.proofs.Agreement.VersionOrder.{by_parts, turn_le, turn_lt}
 use Rattle.pep440_rs.proofs.Covering.PublicParts.{unmarked}
 use Rattle.pep440_rs.specs.Bounds.{Segments}
-use Rattle.pep440_version.proofs.RoundTrip.PrintIsRead.{none_all}
 use Rattle.pep440_version.specs.Key.{Final, NoDev, PostTop, Pre, base_cmp, dev_cmp, dev_of, dev_rank, key, local_cmp, post_cmp, post_of, post_rank, rank_cmp, record_cmp, release_cmp, stage_cmp, stage_of, stage_rank, suffix_cmp}
 use Rattle.pep440_version.specs.KeyLaws.{record_total, release_total}
-use Rattle.pep440_version.specs.Record.{Fits, LocalSegmentValue, Record, SegmentFits, Text, epoch_and_release, from_parts}
+use Rattle.pep440_version.specs.Record.{Fits, Record, Text, epoch_and_release, from_parts}
 use Rattle.pep440_version.specs.RoundTrip.{SegmentRereads}
 use Rattle.pep440_version.specs.declared.prerelease.Prerelease.{Prerelease}
 use Rattle.pep440_version.specs.declared.prerelease.PrereleaseKind.{PrereleaseKind}

@@ -1,6 +1,6 @@
 -- Where sets of versions begin and end: at a version, above all post-releases of a release, or just above a version with a local part.
 -- Between two such boundaries there is always a version, so that a set without intervals is the only one without versions.
-use Rattle.std.specs.Prelude.{◌≡◌, ◌⊎◌, List, None, true}
+use Rattle.std.specs.Prelude.{◌≡◌, ◌⊎◌, None, true}
 use Rattle.std.specs.List.{All}
 use Rattle.std.specs.Ordering.{is_lt}
 use Rattle.std.specs.declared.ops.Bound.{Bound}

@@ -5,4 +5,5 @@ pub mod Witnesses
 pub mod Emptiness
 pub mod Common
 pub mod SetLines
+pub mod LiteralLaws
 pub mod ErrorTexts

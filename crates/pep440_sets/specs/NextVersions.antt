@@ -1,6 +1,6 @@
 -- The least version above others, or the place above them where there is none that is least: above all post-releases of a release, for
 -- which the sentinel max stands (PEP 440, "Summary of permitted suffixes and relative ordering").
-use Rattle.std.specs.Prelude.{ℕ, ◌==◌, ◌+◌, List, [], ◌∷◌, Option, Some, None, option_map, if◌then◌else◌}
+use Rattle.std.specs.Prelude.{ℕ, List, [], ◌∷◌, Option, Some, None, option_map}
 use Rattle.std.specs.Option.{option_map_or}
 use Rattle.pep440_rs.specs.Bounds.{next_number}
 use Rattle.pep440_version.specs.Record.{Record, from_parts, from_release}

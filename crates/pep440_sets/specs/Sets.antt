@@ -1,6 +1,6 @@
 -- The set of a specifier, as the intervals of the order of versions that it matches by the literal rule. `===` has none, since it compares
 -- spellings.
-use Rattle.std.specs.Prelude.{◌≡◌, Bool, List, [], ◌∷◌, Option, Some, None, false, fold, if◌then◌else◌, is_some, map, true}
+use Rattle.std.specs.Prelude.{◌≡◌, Bool, List, [], ◌∷◌, Option, Some, false, fold, if◌then◌else◌, is_some, map, true}
 use Rattle.std.specs.List.{list_any}
 use Rattle.std.specs.Option.{option_map_or}
 use Rattle.std.specs.Ordering.{is_eq}
@@ -9,13 +9,13 @@ use Rattle.pep440_ranges.specs.Complement.{gaps}
 use Rattle.pep440_ranges.specs.Intersection.{overlaps}
 use Rattle.pep440_ranges.specs.RangeSegments.{contains}
 use Rattle.pep440_rs.specs.Bounds.{Segments, alone, full}
-use Rattle.pep440_rs.specs.Cover.{IsCoverable, IsDenoted}
+use Rattle.pep440_rs.specs.Cover.{IsDenoted}
 use Rattle.pep440_rs.specs.Matching.{any_prerelease, has_local, without_last}
 use Rattle.pep440_rs.specs.Specifiers.{Spec}
 use Rattle.pep440_rs.specs.declared.specifier.operator.Operator.{Operator}
 use Rattle.pep440_rs.specs.declared.specifier.operator.Operator.TheVariants.{Equal, EqualStar, ExactEqual, NotEqual, NotEqualStar, TildeEqual, LessThan, LessThanEqual, GreaterThan, GreaterThanEqual}
 use Rattle.pep440_version.specs.Key.{record_cmp}
-use Rattle.pep440_version.specs.Record.{Record, from_parts}
+use Rattle.pep440_version.specs.Record.{Record}
 use Rattle.pep440_rs.specs.LiteralMatching.{list_matches_literally, matches_literally}
 use Rattle.pep440_sets.specs.NextVersions.{after_posts, after_prefix, after_public, first_dev, least}
 

@@ -34,7 +34,9 @@ impl fmt::Display for SetError {
     fn fmt<W: fmt::Write>(&self, f: &mut fmt::Formatter<W>) -> fmt::Result {
         match self {
             SetError::ArbitraryEquality => {
-                f.write_str("a list with === has no set, since === compares how versions are written")
+                f.write_str(
+                    "a list with === has no set, since === compares how versions are written",
+                )
             }
             SetError::OutOfMemory => f.write_str("out of memory"),
         }

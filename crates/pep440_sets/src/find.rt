@@ -43,10 +43,7 @@ fn named_version(
 }
 
 // The version of the first `===`, if the list matches it; without one a version of the set.
-fn find_common(
-    alloc: Global,
-    members: &[VersionSpecifier],
-) -> Result<Option<Version>, AllocError>
+fn find_common(alloc: Global, members: &[VersionSpecifier]) -> Result<Option<Version>, AllocError>
     ensures { IfOk result (λ found. found ≡ common_version members.now) }
 {
     for member in members {

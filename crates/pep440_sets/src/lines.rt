@@ -40,7 +40,11 @@ fn write_boundary<W: fmt::Write>(f: &mut fmt::Formatter<W>, version: &Version) -
     ensures { WritesStyledOnOk W.write_str_gives f.old result (boundary_text version.now) f.new }
 {
     fmt::Display::fmt(version, f)?;
-    let suffix = if Version::max(version).is_some() { ".post*" } else { "" };
+    let suffix = if Version::max(version).is_some() {
+        ".post*"
+    } else {
+        ""
+    };
     f.write_str(suffix)
 }
 

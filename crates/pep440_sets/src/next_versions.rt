@@ -36,11 +36,7 @@ pub fn least_version(alloc: Global) -> Result<Version, AllocError>
 }
 
 // The least version of a release.
-pub(crate) fn first_dev(
-    alloc: Global,
-    epoch: u64,
-    release: &[u64],
-) -> Result<Version, AllocError>
+pub(crate) fn first_dev(alloc: Global, epoch: u64, release: &[u64]) -> Result<Version, AllocError>
     requires { 0 < length release.now }
     ensures { IfOk result (λ v. v ≡ first_dev epoch release.now) }
 {
@@ -67,11 +63,7 @@ fn pre_dev(
     )
 }
 
-fn after_kind(
-    alloc: Global,
-    version: &Version,
-    kind: PrereleaseKind,
-) -> Result<Version, AllocError>
+fn after_kind(alloc: Global, version: &Version, kind: PrereleaseKind) -> Result<Version, AllocError>
     ensures { IfOk result (λ v. v ≡ after_kind version.now.epoch version.now.release kind) }
 {
     match kind {

@@ -95,11 +95,7 @@ fn copy_segments(alloc: Global, local: &[LocalSegment]) -> Result<Vec<LocalSegme
     Ok(copies)
 }
 
-fn with_low_segment(
-    alloc: Global,
-    version: &Version,
-    zeros: usize,
-) -> Result<Version, AllocError>
+fn with_low_segment(alloc: Global, version: &Version, zeros: usize) -> Result<Version, AllocError>
     ensures { IfOk result (λ v. v ≡ with_low_segment version.now zeros) }
 {
     let mut local = copy_segments(alloc, version.local())?;

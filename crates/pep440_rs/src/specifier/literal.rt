@@ -25,9 +25,7 @@ fn is_before(post: Option<u64>, version: &Version) -> bool
 {
     match post {
         None => version.any_prerelease(),
-        Some(number) => {
-            !version.is_pre() && version.is_dev() && version.post() == Some(number)
-        }
+        Some(number) => { !version.is_pre() && version.is_dev() && version.post() == Some(number) }
     }
 }
 
@@ -60,10 +58,12 @@ impl VersionSpecifier {
     {
         let specifier = self.version();
         match self.operator() {
-            Operator::LessThan => Ok(cmp_candidate(specifier, version).is_lt()
-                && !is_prerelease_of(specifier, version)),
-            Operator::GreaterThan => Ok(cmp_candidate(specifier, version).is_gt()
-                && !is_postrelease_of(specifier, version)),
+            Operator::LessThan => Ok(
+                cmp_candidate(specifier, version).is_lt() && !is_prerelease_of(specifier, version),
+            ),
+            Operator::GreaterThan => Ok(
+                cmp_candidate(specifier, version).is_gt() && !is_postrelease_of(specifier, version),
+            ),
             Operator::Equal
             | Operator::EqualStar
             | Operator::ExactEqual

@@ -1,4 +1,4 @@
-use Rattle.std.proofs.Common.{◌≡◌, ◌++◌, ◌∙◌, append_assoc, ap, refl, sym}
+use Rattle.std.proofs.Common.{◌++◌, ◌∙◌, append_assoc, ap, refl, sym}
 use Rattle.std.specs.List.{flat_map}
 use Rattle.std.proofs.Output.{has_written_styled_append}
 use Rattle.pep440_sets.specs.SetLines.{interval_line}
