@@ -7,3 +7,4 @@ pub mod Overlaps
 pub mod Merging
 pub mod Clones
 pub mod Laws
+pub mod Searching

@@ -15,6 +15,7 @@ mod bound_order;
 mod gaps;
 mod merge;
 mod ranges;
+mod search;
 mod segments;
 
 pub use crate::ranges::Ranges;

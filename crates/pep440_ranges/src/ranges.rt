@@ -8,9 +8,10 @@ ghost use Rattle.pep440_ranges.specs.Complement.{gaps};
 ghost use Rattle.pep440_ranges.specs.Intersection.{overlaps};
 ghost use Rattle.pep440_ranges.specs.Clones.{IsCloneSame, ClonesBoundValues};
 
-use crate::bound_order::{is_from_start, is_up_to_end, is_valid};
+use crate::bound_order::is_valid;
 use crate::gaps::find_gaps;
 use crate::merge::find_overlaps;
+use crate::search::lies_within;
 use crate::segments::{Segment, Segments, clone_segments};
 use std::alloc::{AllocError, Global};
 use std::marker::Model;
@@ -163,11 +164,11 @@ impl<V: Ord + Clone> Ranges<V> {
         })
     }
 
-    /// Whether the value lies in a segment. Never allocates.
+    /// Whether the value lies in a segment. n segments take log n steps. Never allocates.
     pub fn contains(&self, value: &V) -> bool
         ensures set { result ≡ contains V.cmp self.now value.now }
     {
-        self.segments.iter().any(|s| is_from_start(&s.0, value) && is_up_to_end(&s.1, value))
+        lies_within(&self.segments, value)
     }
 
     /// Whether there is no segment, so that no value is contained. Never allocates.

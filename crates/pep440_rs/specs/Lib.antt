@@ -22,6 +22,7 @@ pub mod RangeLines
 pub mod BoundErrors
 pub mod BoundsAgreement
 pub mod Matching
+pub mod LiteralMatching
 pub mod Prereleases
 pub mod Members
 pub mod Refused

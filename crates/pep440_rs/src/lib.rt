@@ -27,8 +27,8 @@
 //!
 //! 1. versions: `Version`, `VersionPattern`, their parts, changes and errors, all of `pep440_version` but its modules `key` and
 //!    `laws`;
-//! 2. `Operator` and `VersionSpecifier`: made of parts or parsed, and `contains`;
-//! 3. `VersionSpecifiers`, the list: parsed, and `contains`;
+//! 2. `Operator` and `VersionSpecifier`: made of parts or parsed, `contains` and `matches_literally`;
+//! 3. `VersionSpecifiers`, the list: parsed, `contains` and `matches_literally`;
 //! 4. why a string is no operator, specifier or list: `OperatorParseError`, `VersionSpecifierBuildError`,
 //!    `VersionSpecifierParseError`, `VersionSpecifiersParseError`, each with its kind;
 //! 5. ranges: `specifier_to_range` by the order of versions, `release_specifier_to_range` by releases, and
@@ -61,6 +61,7 @@ pub use pep440_version::{
 };
 pub use range::cover::specifier_to_cover;
 pub use range::error::RangeError;
+pub use range::intersection::intersect_all;
 pub use range::lines::RangeLines;
 pub use range::list::{release_specifiers_to_ranges, specifiers_to_cover, specifiers_to_ranges};
 pub use range::release_only::release_specifier_to_range;

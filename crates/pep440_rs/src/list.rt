@@ -24,6 +24,7 @@ ghost use Rattle.pep440_rs.specs.BoundsAgreement.{IsReleasePair, IsOrdered, Know
 ghost use Rattle.pep440_rs.specs.Members.{list_members};
 
 pub(crate) mod error;
+mod literal;
 mod prereleases;
 pub(crate) mod print;
 pub(crate) mod read;

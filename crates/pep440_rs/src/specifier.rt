@@ -22,6 +22,7 @@ ghost use Rattle.pep440_rs.specs.Members.{lower_member, upper_member, without_lo
 
 pub(crate) mod contains;
 pub(crate) mod error;
+mod literal;
 pub(crate) mod operator;
 pub(crate) mod read;
 pub(crate) mod scan;

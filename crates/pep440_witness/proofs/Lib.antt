@@ -8,5 +8,4 @@ pub mod Finding
 pub mod Denoted
 pub mod Fitting
 pub mod Outlining
-pub mod Searching
 pub mod Surrounding

@@ -56,9 +56,9 @@ told_step items i m v inside is e h = told_later m (drop (i + 1) items) v e (sub
 pub told_open : (items : List Spec) (i : ℕ) (m : Spec) (v : Record) → i < length items → m ≡ get_or items i m → IsTrue (is_told_before_exact (drop i items) v) → m.operator ≢ ExactEqual
 told_open items i m v inside is h = told_first m.operator m.version v (drop (i + 1) items) (subst (λ l. IsTrue (is_told_before_exact l v)) (decomposition items i m inside is) h)
 
--- the other members decide where this one contains v
-pub same_step : (items : List Spec) (i : ℕ) (m : Spec) (v : Record) → i < length items → m ≡ get_or items i m → matches m.operator m.version v ≡ true → list_matches (drop i items) v ≡ list_matches (drop (i + 1) items) v
-same_step items i m v inside is e = ap (λ l. list_matches l v) (decomposition items i m inside is) ∙ ap (λ b. b && list_matches (drop (i + 1) items) v) e
+-- the other members decide where this one passes
+pub all_step : (p : Spec → Bool) (items : List Spec) (i : ℕ) (m : Spec) → i < length items → m ≡ get_or items i m → p m ≡ true → list_all p (drop i items) ≡ list_all p (drop (i + 1) items)
+all_step p items i m inside is e = ap (list_all p) (decomposition items i m inside is) ∙ ap (λ b. b && list_all p (drop (i + 1) items)) e
 
 pub un_not : (b : Bool) → not b ≡ false → b ≡ true
 un_not true h = refl

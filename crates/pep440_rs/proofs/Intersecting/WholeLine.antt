@@ -40,7 +40,7 @@ each : (end : Bound Record) (ss : Segments) → IsRangeAfter record_cmp end ss �
 each end [] h = refl
 each end (s ∷ ss) h = one s ss h.1 (each s.1 ss h.2)
 
-kept : (range : Segments) → IsRange record_cmp range → IsKept range
+pub kept : (range : Segments) → IsRange record_cmp range → IsKept range
 kept [] h = refl
 kept (s ∷ ss) h = append-nil _ ∙ one s ss h.0 (each s.1 ss h.1)
 

@@ -36,9 +36,11 @@ fn intersect_pairs(
     Ok(pairs)
 }
 
-// The intersection of all the ranges in their order, as if taken one after the other. Each pass halves how many
-// there are.
-pub(crate) fn intersect_all(
+/// The intersection of all these ranges in their order, as if taken one after the other; of none all versions. n ranges of one segment or
+/// two take n log n steps, since each pass halves how many there are.
+///
+/// Allocates; returns `AllocError` if that fails.
+pub fn intersect_all(
     alloc: Global,
     ranges: Vec<Ranges<Version>>,
 ) -> Result<Ranges<Version>, AllocError>

@@ -42,7 +42,7 @@ pub(crate) fn has_prefix(specifier: &Version, prefix: &[u64], version: &Version)
     version.epoch() == specifier.epoch() && begins_with(version.release(), prefix)
 }
 
-fn same_release(specifier: &Version, version: &Version) -> bool
+pub(crate) fn same_release(specifier: &Version, version: &Version) -> bool
     ensures { result ≡ same_release specifier.now version.now }
 {
     version.epoch() == specifier.epoch()

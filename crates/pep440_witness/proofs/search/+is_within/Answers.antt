@@ -1,6 +1,6 @@
 use Rattle.std.proofs.Common.{◌∙◌, ◌/◌, length, sym}
 use Rattle.pep440_version.specs.KeyLaws.{record_total}
-use Rattle.pep440_witness.proofs.Searching.{first_half, last_half}
+use Rattle.pep440_ranges.proofs.Searching.{first_half, last_half}
 use Rattle.pep440_witness.proofs.search.+is_within.Goals as goal
 
 pub returns-then-not-is_from_start : goal.returns-then-not-is_from_start

@@ -1,6 +1,7 @@
 use Rattle.std.proofs.Common.{◌≡◌, ◌∙◌, true, arith}
 use Rattle.pep440_rs.specs.Matching.{matches}
-use Rattle.pep440_rs.proofs.Arranging.InOrder.{same_step, told_of, told_open, told_step, un_not}
+use Rattle.pep440_rs.specs.Specifiers.{Spec}
+use Rattle.pep440_rs.proofs.Arranging.InOrder.{all_step, told_of, told_open, told_step, un_not}
 use Rattle.pep440_rs.proofs.list.VersionSpecifiers.contains.Goals as goal
 
 pub loop-member-preserved : goal.loop-member-preserved
@@ -13,7 +14,7 @@ loop-member-preserved c =
     let is = c.member-item.is in
     let yes : matches member.operator member.version version ≡ true = grind (arith, un_not, c.if-not-branch.false, c.in_ok-contains.ensures.value) in
     record {
-      same = c.loop-member.invariant.same ∙ same_step items at member version inside is yes;
+      same = c.loop-member.invariant.same ∙ all_step (λ (m : Spec). matches m.operator m.version version) items at member inside is yes;
       told = λ told. told_step items at member version inside is yes (c.loop-member.invariant.told told);
     }
 

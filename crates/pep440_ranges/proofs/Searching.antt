@@ -148,3 +148,30 @@ module _ {V : Type 0} {cmp : V → V → Ordering} (o : IsTotalOrder cmp) where
     -- half of a half
     pub further : (v : V) (xs ys zs : List X) → IsHalf v xs ys → IsHalf v ys zs → IsHalf v xs zs
     further v xs ys zs one other = record { range = other.range; same = one.same ∙ other.same }
+
+  -- ---- one step of the search of segments themselves
+
+  abbrev Itself : Segment V → Segment V
+  Itself s = s
+
+  map_itself : (xs : List (Segment V)) → map Itself xs ≡ xs
+  map_itself [] = refl
+  map_itself (x ∷ xs) = ap (λ l. x ∷ l) (map_itself xs)
+
+  -- of a range these segments are a range, which decides of v
+  pub record IsPart (v : V) (xs ys : List (Segment V)) : Type 0 where
+    pub range : IsRange cmp ys
+    pub same : contains cmp xs v ≡ contains cmp ys v
+
+  as_part : (v : V) (xs ys : List (Segment V)) → IsHalf Itself v xs ys → IsPart v xs ys
+  as_part v xs ys h = record {
+    range = subst (IsRange cmp) (map_itself ys) h.range;
+    same = ap (λ l. contains cmp l v) (sym (map_itself xs)) ∙ h.same ∙ ap (λ l. contains cmp l v) (map_itself ys);
+  }
+
+  module _ (v : V) (xs front : List (Segment V)) (x : Segment V) (back : List (Segment V)) (i : ℕ) (is_front : front ≡ take i xs) (is_back : drop i xs ≡ x ∷ back) where
+    pub first_part : IsRange cmp xs → is_from_start cmp x.0 v ≡ false → IsPart v xs front
+    first_part r h = as_part v xs front (first_half Itself v xs front x back i is_front is_back (subst (IsRange cmp) (sym (map_itself xs)) r) h)
+
+    pub last_part : IsRange cmp xs → is_up_to_end cmp x.1 v ≡ false → IsPart v xs back
+    last_part r h = as_part v xs back (last_half Itself v xs front x back i is_front is_back (subst (IsRange cmp) (sym (map_itself xs)) r) h)

@@ -1,0 +1,13 @@
+pub mod AfterParts
+pub mod Intervals
+pub mod Exclusive
+pub mod Prefixes
+pub mod Matches
+pub mod Parsed
+pub mod SetBoundaries
+pub mod LowStrings
+pub mod Raised
+pub mod VersionsBetween
+pub mod Lists
+pub mod CommonVersions
+pub mod LiteralRules

@@ -1,0 +1,117 @@
+-- The set of a list holds what its members match, and is a set; it is empty exactly if no version is in it.
+use Rattle.std.proofs.Common.{◌≡◌, ◌≢◌, ◌&&◌, ◌||◌, Bool, true, false, List, [], ◌∷◌, IfSome, None, fold, map, refl, sym, ap, ◌∙◌, subst}
+use Rattle.std.proofs.lemmas.Bool.{true≢false}
+use Rattle.std.proofs.lemmas.List.Elements.{All-from_recursion, All-head, All-tail}
+use Rattle.std.specs.List.{All, AllByRecursion}
+use Rattle.pep440_ranges.proofs.Laws.{overlaps_hold_both}
+use Rattle.pep440_ranges.specs.Intersection.{overlaps}
+use Rattle.pep440_ranges.specs.RangeSegments.{contains}
+use Rattle.pep440_rs.proofs.Intersecting.WholeLine.{kept}
+use Rattle.pep440_rs.specs.Bounds.{Segments, full}
+use Rattle.pep440_rs.specs.Conversions.{IsKept}
+use Rattle.pep440_rs.specs.Cover.{IsCoverable, IsDenoted}
+use Rattle.pep440_rs.specs.LiteralMatching.{list_matches_literally, matches_literally}
+use Rattle.pep440_rs.specs.Specifiers.{Spec}
+use Rattle.pep440_rs.specs.declared.specifier.operator.Operator.{Operator}
+use Rattle.pep440_rs.specs.declared.specifier.operator.Operator.TheVariants.{Equal, EqualStar, ExactEqual, NotEqual, NotEqualStar, TildeEqual, LessThan, LessThanEqual, GreaterThan, GreaterThanEqual}
+use Rattle.pep440_version.proofs.RoundTrip.PrintIsRead.{reread}
+use Rattle.pep440_version.specs.Key.{record_cmp}
+use Rattle.pep440_version.specs.KeyLaws.{record_total}
+use Rattle.pep440_version.specs.Print.{print}
+use Rattle.pep440_version.specs.Record.{Record}
+use Rattle.pep440_sets.proofs.Matches.{holds_matches, set_is_range}
+use Rattle.pep440_sets.proofs.SetBoundaries.{full_set, overlaps_set, set_of_set}
+use Rattle.pep440_sets.proofs.VersionsBetween.{found_in}
+use Rattle.pep440_sets.specs.Boundaries.{IsParsed, IsVersionSet}
+use Rattle.pep440_sets.specs.Emptiness.{HasNoVersion, IsVersionIn}
+use Rattle.pep440_sets.specs.Sets.{HoldsListMatches, has_exact, is_exact, list_set, set_of}
+use Rattle.pep440_sets.specs.Witnesses.{version_between, version_in}
+
+abbrev set_of_member : Spec → Segments
+set_of_member m = set_of m.operator m.version
+
+-- ---- lists
+
+fold_set : (now : Segments) (members : List Spec) → IsVersionSet now → All IsCoverable members → IsVersionSet (fold (overlaps record_cmp) now (map set_of_member members))
+fold_set now [] h all = h
+fold_set now (m ∷ members) h all =
+    fold_set (overlaps record_cmp now (set_of_member m)) members (overlaps_set now (set_of_member m) h (set_of_set m (All-head IsCoverable m members all))) (All-tail IsCoverable m members all)
+
+pub list_is_set : (members : List Spec) → All IsCoverable members → IsVersionSet (list_set members)
+list_is_set members all = fold_set full members full_set all
+
+not_exact : (o : Operator) → is_exact o ≡ false → o ≢ ExactEqual
+not_exact Equal h = λ e. cc e
+not_exact EqualStar h = λ e. cc e
+not_exact ExactEqual h = absurd (true≢false h)
+not_exact NotEqual h = λ e. cc e
+not_exact NotEqualStar h = λ e. cc e
+not_exact TildeEqual h = λ e. cc e
+not_exact LessThan h = λ e. cc e
+not_exact LessThanEqual h = λ e. cc e
+not_exact GreaterThan h = λ e. cc e
+not_exact GreaterThanEqual h = λ e. cc e
+
+neither : (a b : Bool) → a || b ≡ false → (a ≡ false) × (b ≡ false)
+neither true b h = absurd (true≢false h)
+neither false b h = (refl, h)
+
+and_assoc : (a b c : Bool) → (a && b) && c ≡ a && (b && c)
+and_assoc true b c = refl
+and_assoc false b c = refl
+
+fold_holds : (now : Segments) (members : List Spec) (v : Record) → All IsCoverable members → has_exact members ≡ false → IsDenoted v →
+    contains record_cmp (fold (overlaps record_cmp) now (map set_of_member members)) v ≡ contains record_cmp now v && list_matches_literally members v
+fold_holds now [] v all none d = and_true (contains record_cmp now v)
+  where
+    and_true : (b : Bool) → b ≡ b && true
+    and_true true = refl
+    and_true false = refl
+fold_holds now (m ∷ members) v all none d =
+    let both = neither (is_exact m.operator) (has_exact members) none in
+    fold_holds (overlaps record_cmp now (set_of_member m)) members v (All-tail IsCoverable m members all) both.1 d
+    ∙ ap (λ b. b && list_matches_literally members v) (overlaps_hold_both record_total now (set_of_member m) v ∙ ap (λ b. contains record_cmp now v && b) (holds_matches m (All-head IsCoverable m members all) (not_exact m.operator both.0) v d))
+    ∙ and_assoc (contains record_cmp now v) (matches_literally m.operator m.version v) (list_matches_literally members v)
+
+pub list_holds : (members : List Spec) → All IsCoverable members → has_exact members ≡ false → HoldsListMatches members (list_set members)
+list_holds members all none v d = fold_holds full members v all none d
+
+-- ---- emptiness
+
+pub parsed_denoted : (v : Record) → IsParsed v → IsDenoted v
+parsed_denoted v p = (print v, reread v p.valid p.round_trips)
+
+pub found_is_in : (set : Segments) → IsVersionSet set → (s : _) (rest : Segments) → set ≡ s ∷ rest → IsVersionIn set (version_between s.0 s.1)
+found_is_in set h s rest e =
+    let found = found_in s rest (subst IsVersionSet e h) in
+    (parsed_denoted _ found.0, ap (λ l. contains record_cmp l (version_between s.0 s.1)) e ∙ found.1)
+
+pub empty_has_none : (set : Segments) → set ≡ [] → HasNoVersion set
+empty_has_none set e v d = ap (λ l. contains record_cmp l v) e
+
+pub none_is_empty : (set : Segments) → IsVersionSet set → HasNoVersion set → set ≡ []
+none_is_empty [] h none = refl
+none_is_empty (s ∷ rest) h none =
+    let found = found_in s rest h in
+    absurd (true≢false (sym found.1 ∙ none (version_between s.0 s.1) (parsed_denoted (version_between s.0 s.1) found.0)))
+
+-- a version of the set, if it has intervals
+pub first_is_in : (set : Segments) → IsVersionSet set → IfSome (version_in set) (IsVersionIn set)
+first_is_in [] h = tt
+first_is_in (s ∷ rest) h = found_is_in (s ∷ rest) h s rest refl
+
+pub without_first : (set : Segments) → version_in set ≡ None → HasNoVersion set
+without_first [] e = λ v d. refl
+without_first (s ∷ rest) e = absurd (cc)
+
+pub first_is_none : (set : Segments) → set ≡ [] → version_in set ≡ None
+first_is_none set e = ap version_in e
+
+-- ---- each member's set is a range
+
+pub ranges_kept : (members : List Spec) → All IsKept (map set_of_member members)
+ranges_kept members = All-from_recursion IsKept (map set_of_member members) (each members)
+  where
+    each : (members : List Spec) → AllByRecursion IsKept (map set_of_member members)
+    each [] = tt
+    each (m ∷ members) = (kept (set_of_member m) (set_is_range m.operator m.version), each members)

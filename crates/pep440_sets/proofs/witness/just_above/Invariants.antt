@@ -1,0 +1,6 @@
+use Rattle.std.proofs.Common.{◌≡◌, ◌++◌, ◌-◌, drop}
+use Rattle.pep440_sets.specs.Witnesses.{just_above}
+use Rattle.pep440_sets.proofs.witness.just_above.Given as goal
+
+abbrev pub invariant-loop-place : goal.invariant-loop-place
+invariant-loop-place l = l.numbers.items ++ just_above (l.depth - l.place) (drop l.place l.release) ≡ just_above l.depth l.release
