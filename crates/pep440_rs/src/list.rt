@@ -5,6 +5,7 @@ ghost use Rattle.std.specs.Slice.Iter.{iter_rest};
 ghost use Rattle.std.specs.Vec.Iter.{into_iter_items};
 ghost use Rattle.pep440_rs.specs.Agreement.{HasOperand};
 ghost use Rattle.pep440_rs.specs.Arrangement.{Arranges, IsArranged, version_cmp};
+ghost use Rattle.pep440_rs.specs.Cover.{IsCoverable};
 ghost use Rattle.pep440_rs.specs.ListAnswers.{ListAnswers, ListReads, line_for, line_of, list_kind_of};
 ghost use Rattle.pep440_rs.specs.ListErrors.{IsListLifted, list_refusal_of};
 ghost use Rattle.pep440_rs.specs.ListErrorTexts.{list_refusal_text, list_text_of};
@@ -188,6 +189,8 @@ impl VersionSpecifiers {
         // The version of each member is one that a string can have beside the operator, as the agreement of ranges
         // requires.
         ensures operand { IfOk result (λ list. All HasOperand list) }
+        // It is one that a string denotes, too, as covers and sets require.
+        ensures coverable { IfOk result (λ list. All IsCoverable list) }
         // What the string denotes is returned, unless an allocation fails.
         ensures only { (list : List Spec) → DerivesList text.now list → ListAnswers result (Ok list) }
         // The error is that of the first invalid piece.

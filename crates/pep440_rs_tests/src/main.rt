@@ -17,6 +17,7 @@ mod printing;
 mod ranges;
 mod recorder;
 mod requirements;
+mod sets;
 mod specifier_calls;
 mod version_calls;
 mod version_parsers;

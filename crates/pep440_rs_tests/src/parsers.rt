@@ -1,4 +1,8 @@
 //! Specifiers and lists.
+ghost use Rattle.std.specs.Prelude.{IfOk};
+ghost use Rattle.std.specs.List.{All};
+ghost use Rattle.pep440_rs.specs.Cover.{IsCoverable};
+
 use pep440_rs::{
     BuildErrorKind, ParseErrorKind, SpecifiersErrorKind, VersionSpecifier,
     VersionSpecifierParseError, VersionSpecifiers, VersionSpecifiersParseError,
@@ -15,7 +19,9 @@ pub fn specifier_argument(alloc: Global, text: &str) -> Result<VersionSpecifier,
 }
 
 /// The list.
-pub fn list_argument(alloc: Global, text: &str) -> Result<VersionSpecifiers, CaseError> {
+pub fn list_argument(alloc: Global, text: &str) -> Result<VersionSpecifiers, CaseError>
+    ensures { IfOk result (λ list. All IsCoverable list) }
+{
     VersionSpecifiers::from_str(alloc, text).map_err(|error| match error.kind() {
         SpecifiersErrorKind::OutOfMemory => CaseError::OutOfMemory,
         _ => CaseError::Unreadable,

@@ -1,4 +1,4 @@
-//! Calls of specifiers, lists, ranges, bounds and JSON strings, of the version that a list contains, of requirements and of the newest
+//! Calls of specifiers, lists, ranges, sets, bounds and JSON strings, of the version that a list contains, of requirements and of the newest
 //! candidate.
 use crate::bounds::{lower_bound, pairs, upper_bound};
 use crate::choices::{allowed_range, newest_candidate};
@@ -15,6 +15,10 @@ use crate::ranges::{
     beside, cover, cover_beside, intersection, range, release_range, unchecked_range,
 };
 use crate::requirements::{is_name, requirement, requirement_position, same_names, specifiers_for};
+use crate::sets::{
+    allows_literally, complement, literal_version, matches_literally, of_two_sets, set, set_contains,
+    version_of_set,
+};
 use crate::witness::version_in;
 use std::alloc::Global;
 use testing::CaseError;
@@ -31,6 +35,10 @@ fn of_one(alloc: Global, call: &str, text: &str) -> Result<String, CaseError> {
         "cover" => cover(alloc, text),
         "release-range" => release_range(alloc, text),
         "version-in" => version_in(alloc, text),
+        "set" => set(alloc, text),
+        "set-complement" => complement(alloc, text),
+        "set-version" => version_of_set(alloc, text),
+        "literal-version" => literal_version(alloc, text),
         "lower-bound" => lower_bound(alloc, text),
         "upper-bound" => upper_bound(alloc, text),
         "json-version" => json_version(alloc, text),
@@ -50,6 +58,9 @@ fn of_two(alloc: Global, call: &str, one: &str, other: &str) -> Result<String, C
     match call {
         "contains" => contains(alloc, one, other),
         "allows" => allows(alloc, one, other),
+        "matches-literally" => matches_literally(alloc, one, other),
+        "allows-literally" => allows_literally(alloc, one, other),
+        "set-contains" => set_contains(alloc, one, other),
         "compare-lists" => compare(alloc, one, other),
         "compare-releases" => compare_releases(alloc, one, other),
         "compare-without-local" => compare_without_local(alloc, one, other),
@@ -61,7 +72,7 @@ fn of_two(alloc: Global, call: &str, one: &str, other: &str) -> Result<String, C
         "same-names" => same_names(alloc, one, other),
         "specifiers-for" => specifiers_for(alloc, one, other),
         "newest" => newest_candidate(alloc, one, other),
-        _ => Err(CaseError::Unreadable),
+        _ => of_two_sets(alloc, call, one, other),
     }
 }
 

@@ -1,18 +1,21 @@
 -- The cover of a list holds every version that the list contains.
-use Rattle.std.proofs.Common.{◌≡◌, ℕ, Bool, true, false, ◌&&◌, IsTrue, List, [], ◌∷◌, Some, Ok, refl, sym, ap, ◌∙◌, subst, arith}
+use Rattle.std.proofs.Common.{◌≡◌, ℕ, Bool, true, false, ◌&&◌, IsTrue, List, [], ◌∷◌, Result, Some, Ok, Err, IfOk, refl, sym, ap, ◌∙◌, subst, arith}
 use Rattle.std.proofs.lemmas.List.Elements.{All-tail}
 use Rattle.std.specs.List.{All, list_all}
 use Rattle.std.specs.Str.{encode_utf8_all}
 use Rattle.pep440_rs.proofs.Agreement.ListRanges.{bound, holds_in_each, is_held}
+use Rattle.pep440_rs.proofs.Agreement.Operands.{list_has_texts}
 use Rattle.pep440_rs.proofs.Agreement.TextAgreement.{has_operand}
 use Rattle.pep440_rs.proofs.Covering.Single.{covers}
 use Rattle.pep440_rs.proofs.Reread.Again.{built_is}
 use Rattle.pep440_rs.specs.Bounds.{Segments, full, list_range, range_from}
 use Rattle.pep440_rs.specs.Build.{built, built_pattern}
 use Rattle.pep440_rs.specs.Cover.{Covers, IsCoverable, IsDenoted, ListCovers, cover_of}
+use Rattle.pep440_rs.specs.ListGrammar.{DerivesList}
 use Rattle.pep440_rs.specs.Matching.{list_matches, matches}
 use Rattle.pep440_rs.specs.SpecifierGrammar.{DerivesSpecifier, HasText}
 use Rattle.pep440_rs.specs.Specifiers.{Spec}
+use Rattle.pep440_rs.specs.declared.list.error.VersionSpecifiersParseError.{VersionSpecifiersParseError}
 use Rattle.pep440_rs.specs.declared.specifier.operator.Operator.{Operator}
 use Rattle.pep440_rs.specs.declared.specifier.operator.Operator.TheVariants.{Equal, EqualStar, ExactEqual, NotEqual, NotEqualStar, TildeEqual, LessThan, LessThanEqual, GreaterThan, GreaterThanEqual}
 use Rattle.pep440_ranges.specs.Intersection.{overlaps}
@@ -65,3 +68,7 @@ text_covers s cover is given = covers s cover is (is_coverable s given)
 
 pub list_text_covers : (members : List Spec) (cover : Segments) → list_range cover_of members ≡ Some cover → All HasText members → ListCovers members cover
 list_text_covers members cover is given = list_covers members cover is (λ k m lt. is_coverable _ (given k m lt))
+
+pub answered_coverable : (text : List ℕ) (result : Result (List Spec) VersionSpecifiersParseError) → IfOk result (λ list. DerivesList text list) → IfOk result (λ list. All IsCoverable list)
+answered_coverable text (Ok list) h = λ k m lt. is_coverable _ (list_has_texts text list h k m lt)
+answered_coverable text (Err e) h = tt
