@@ -22,7 +22,7 @@ escaped_byte b = if is_printable b then b ∷ [] else 92 ∷ (120 ∷ hex_digits
 abbrev pub escaped : List ℕ → List ℕ
 escaped text = flat_map escaped_byte text
 
--- the same, except that a newline stays
+-- the byte if it is printable or a newline, else `\x` and its two digits
 abbrev pub escaped_line_byte : ℕ → List ℕ
 escaped_line_byte b = if b == 10 then b ∷ [] else escaped_byte b
 

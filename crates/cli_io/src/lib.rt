@@ -1,4 +1,6 @@
 //! What both command line programs do with bytes: reading to the end, writing whole, splitting lines, escaping the text of others.
+//!
+//! In reading order: `stream`, reads and writes; `newlines`, which splits what was read; `escape`, for messages; and `status`.
 #![tactic(auto)]
 
 mod escape;

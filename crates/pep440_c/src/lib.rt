@@ -5,6 +5,9 @@
 //!
 //! A call may allocate from `malloc`, and frees what it allocated before it returns. If `malloc` fails it returns 3, and may be made
 //! again.
+//!
+//! In reading order, as in this file: strings in normal form and the messages of errors; comparing and matching; parts and sort keys; ranges;
+//! compiled forms; and the calls on many strings.
 #![tactic(auto)]
 
 ghost use Rattle.std.specs.Prelude.{map, not, ◌==◌, ◌≡◌};

@@ -9,7 +9,7 @@ abbrev pub PutsGiven : {X : Type 0} → (X → List ℕ) → Result X Fault → 
 PutsGiven view (Ok x) old new old_written written status = (written ≡ length (view x)) × PutsFront (view x) old new status
 PutsGiven view (Err fault) old new old_written written status = (new ≡ old) × (written ≡ old_written) × (status ≡ fault_status fault)
 
--- the same of strings one after the other, and where each of them ends
+-- the joined strings, where each of them ends, and how many bytes and strings they are; or the fault's status, and all stays
 abbrev pub PutsGivenJoined : Result JoinedStrings Fault → List ℕ → List ℕ → List ℕ → List ℕ → ℕ → ℕ → ℕ → ℕ → ℕ → Type 0
 PutsGivenJoined (Ok joined) old new old_ends ends old_written written old_count count status =
     (written ≡ length joined.bytes.items) × (count ≡ length joined.ends.items) × PutsBoth joined.bytes.items joined.ends.items old new old_ends ends status

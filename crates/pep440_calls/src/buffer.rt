@@ -30,7 +30,7 @@ pub(crate) fn put<T: Copy>(items: &[T], out: &mut [T]) -> u8
     OK
 }
 
-// The same of bytes, and reports how many they are.
+// Writes the bytes at the start of the buffer if it has room, and reports how many they are.
 pub(crate) fn put_and_count(bytes: &[u8], out: &mut [u8], written: &mut usize) -> u8
     ensures counted { written.new ≡ length bytes.now }
     ensures put { PutsFront bytes.now out.old out.new result }
@@ -50,7 +50,7 @@ pub(crate) fn put_text(given: Result<String, Fault>, out: &mut [u8], written: &m
     }
 }
 
-// The same of bytes that a call finds.
+// Writes the bytes that a call finds at the start of the buffer if it has room, and reports how many they are.
 pub(crate) fn put_slice(given: Result<&[u8], Fault>, out: &mut [u8], written: &mut usize) -> u8
     ensures { PutsGiven (λ bytes. bytes.now) given.entry out.old out.new written.old written.new result }
 {
@@ -60,7 +60,7 @@ pub(crate) fn put_slice(given: Result<&[u8], Fault>, out: &mut [u8], written: &m
     }
 }
 
-// The same of bytes that a call gives.
+// Writes the bytes that a call makes at the start of the buffer if it has room, and reports how many they are.
 pub(crate) fn put_bytes(given: Result<Vec<u8>, Fault>, out: &mut [u8], written: &mut usize) -> u8
     ensures { PutsGiven (λ bytes. bytes.items) given out.old out.new written.old written.new result }
 {
@@ -82,7 +82,8 @@ pub(crate) fn put_both(bytes: &[u8], places: &[usize], out: &mut [u8], ends: &mu
     OK
 }
 
-// The same of strings one after the other, and reports how many bytes and how many strings they are.
+// Writes joined strings and where each ends at the start of the two buffers if both have room, and reports how many bytes and
+// strings they are.
 pub(crate) fn put_joined(
     given: Result<JoinedStrings, Fault>,
     out: &mut [u8],

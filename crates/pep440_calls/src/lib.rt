@@ -15,6 +15,10 @@
 //! With 0 the result is at the start of the buffer, whose rest is unchanged. With 4 all is valid, but the result does not fit: the
 //! buffer is unchanged, and the sizes are reported. 3 may take the place of any other status. With any other nothing is
 //! written, except `at` by a batch that stops.
+//!
+//! In reading order: `fault` and `buffer`, how each call ends; `read`, with which each begins; `one_version`, `two_versions`, `one_list`,
+//! `membership`, `patterns` and `edits`; `joined_strings`, which `list_ranges` and `batch` write; `newest_string`; `messages`, why bytes
+//! are invalid; and `laws`.
 #![tactic(auto)]
 
 mod batch;

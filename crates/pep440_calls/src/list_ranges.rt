@@ -150,7 +150,7 @@ fn to_range_keys(alloc: Global, list: &[u8]) -> Result<JoinedStrings, Fault>
     Ok(join_range(alloc, &range)?)
 }
 
-// The same of its cover.
+// The keys of the segments of the list's cover.
 fn to_cover_keys(alloc: Global, list: &[u8]) -> Result<JoinedStrings, Fault>
     ensures { Gives ⊥ (RefusesListBytes list.now) (LacksRange cover_of list.now) (λ found. TellsIntervals cover_of list.now found.bytes.items found.ends.items) result }
 {

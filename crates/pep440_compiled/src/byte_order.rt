@@ -17,7 +17,7 @@ fn read_word(bytes: &[u8]) -> u64
     ])
 }
 
-// The same of the last eight.
+// The last eight bytes as a number.
 #[inline(always)]
 fn read_last_word(bytes: &[u8]) -> u64
     requires { 8 ≤ length bytes.now }
@@ -26,7 +26,7 @@ fn read_last_word(bytes: &[u8]) -> u64
     read_word(&bytes[bytes.len() - 8..])
 }
 
-// The same of the first four.
+// The first four bytes as a number, which is read in one piece.
 #[inline(always)]
 pub(crate) fn read_half_word(bytes: &[u8]) -> u32
     requires { 4 ≤ length bytes.now }

@@ -31,7 +31,8 @@ fn to_long_number(bytes: &[u8]) -> Option<u64>
     Some(u64::from_be_bytes(padded))
 }
 
-// The same, of the bytes that the number needs. Most numbers need one or none.
+// The number of these bytes, the most significant first; `None` if they are not just those that a number needs. Most numbers need
+// one or none.
 fn to_number(bytes: &[u8]) -> Option<u64>
     ensures found { (n : ℕ) → Fits n → bytes.now ≡ needed_bytes n → result ≡ Some n }
     ensures exact { IfSome result (λ n. bytes.now ≡ needed_bytes n) }

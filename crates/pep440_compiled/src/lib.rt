@@ -12,6 +12,9 @@
 //! `read_version` and `read_list` reject all bytes that denote nothing. The calls that read bytes as they lie do not test the whole of
 //! them: of bytes that denote nothing they return an error or any result, and never read outside them. Read bytes
 //! from outside once before they are asked.
+//!
+//! In reading order: `version` and `list`, the calls; `views` and `key_parts`, where the parts lie in the bytes; `byte_order` and
+//! `matching`, which read no more than those; `decode`, `checked_version` and `parsed`, which test each byte; `error`; and `laws`.
 #![tactic(auto)]
 
 mod byte_order;

@@ -165,7 +165,7 @@ fn compare_member<'a>(
     }
 }
 
-// The same of a star form, but for those of a release that zeros end.
+// What follows a member of a star form, if the version meets it; `None` if the member has more than a release, or zeros at its end.
 #[inline(always)]
 fn match_star<'a>(
     is_exclusion: bool,
@@ -186,7 +186,7 @@ fn match_star<'a>(
     Some(Some(rest))
 }
 
-// The same of most members.
+// What follows a member, whose first byte this is, if the version meets it; `None` if more than the order or a prefix decides.
 #[inline(always)]
 fn meet_member<'a>(first: u8, member: &'a [u8], version: &KeyView<'_>) -> Option<Option<&'a [u8]>>
     ensures found { (s : Spec) (v : Record) (rest : List ℕ) → first ≡ 16 + operator_rank s.operator → IsParsed s.version → HasKey version.now v → BeginsOtherwise 1 rest → member.now ≡ version_bytes s.version ++ rest → IfSome result (λ o. MatchOption o (matches s.operator s.version v ≡ false) (λ r. (matches s.operator s.version v ≡ true) × (r.now ≡ rest))) }

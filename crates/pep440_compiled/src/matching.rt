@@ -147,7 +147,8 @@ fn is_compatible(specifier: &PartsView<'_>, version: &[u8]) -> bool
     }
 }
 
-// The same of the star forms, `===` and `~=`, by copies: so what the caller has in registers stays there for the other operators.
+// Whether a specifier with a star, `===` or `~=` contains the version. Takes copies, so that what the caller has in registers stays
+// there for the other operators.
 fn matches_other(operator: Operator, specifier: PartsView<'_>, version: PartsView<'_>) -> bool
     requires { is_compared operator ≡ false }
     ensures { (s v : Record) → HasParts specifier.entry s → HasParts version.entry v → IsSpec (record { operator = operator; version = s }) → result ≡ matches operator s v }

@@ -117,7 +117,8 @@ pub fn sort_key(bytes: &[u8]) -> Result<&[u8], NotCompiled>
     }
 }
 
-/// The same of bytes that are tested whole: `NotCompiled` if they denote no version.
+/// The sort key of the version that the bytes denote, as it lies in them, after a test of all bytes: `NotCompiled` if they denote
+/// no version.
 ///
 /// Does not allocate.
 pub fn read_sort_key(bytes: &[u8]) -> Result<&[u8], NotCompiled>

@@ -51,7 +51,7 @@ pub fn compile(alloc: Global, text: &str) -> Result<String, CaseError> {
     print_compiled(alloc, &version_argument(alloc, text)?)
 }
 
-/// The same of version 1 with the string as its local part, as it is.
+/// The compiled form of version 1 with the string as its local part, as it is.
 pub fn compile_local(alloc: Global, text: &str) -> Result<String, CaseError> {
     let segment = LocalSegment::String(String::from_str(alloc, text)?);
     let local = vec![in alloc; segment]?;

@@ -82,7 +82,8 @@ fn print_pair(alloc: Global, call: &str, left: &[u8], right: &[u8]) -> Result<St
     }
 }
 
-// The same of two that denote something, of their compiled forms, and of one compiled form.
+// What the call writes of two byte strings; if both denote something, it must write the same of their compiled forms, and of one
+// compiled form beside the other string.
 fn print_forms(alloc: Global, call: &str, left: &[u8], right: &[u8]) -> Result<String, CaseError> {
     let text = print_pair(alloc, call, left, right)?;
     let first = compile_given(alloc, call != "write_order", left)?;

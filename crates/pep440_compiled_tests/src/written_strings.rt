@@ -81,7 +81,7 @@ fn is_short(
     Ok(status == 4 && has_sizes && is_empty)
 }
 
-// The same with a byte less, and with an end less.
+// Whether with room for a byte less, or for an end less, nothing is written but how much is needed.
 fn is_short_of_one(
     alloc: Global,
     call: &str,

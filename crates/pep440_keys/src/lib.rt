@@ -14,6 +14,9 @@
 //! Each segment of a range becomes a half-open interval: a key lies in it if it is at least the low key, if there is one, and below
 //! the high key, if there is one. No sort key is a prefix of another, so one zero byte after the key of an excluded start or an
 //! included end makes it the low or the high key. So a database can keep sort keys in an index and ask it for the versions of a range.
+//!
+//! In reading order: `key_bytes`, the key of a version; `number_bytes`, the numbers in it; `sink`, what it is appended to; `parts_key`, which
+//! makes no version; `interval` and `range_intervals`, which put keys around segments; and `laws`.
 #![tactic(auto)]
 
 mod interval;

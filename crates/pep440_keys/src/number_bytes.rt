@@ -18,7 +18,7 @@ fn skip_leading_zeros(bytes: &[u8]) -> &[u8]
     &[]
 }
 
-// The same as `push_number`, of any number.
+// Appends a number of any size; its length byte is added to this base.
 #[inline(never)]
 fn push_any_number<K: KeySink>(key: &mut K, base: u8, number: u64) -> Result<(), AllocError>
     requires { base ≤ 80 }

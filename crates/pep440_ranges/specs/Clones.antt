@@ -25,13 +25,13 @@ module _ {V : Type 0} (is_clone : V → V → Type 0) where
   abbrev pub ClonesBoundValues : List (Segment V) → Type 0
   ClonesBoundValues ss = (x : V) → IsBoundValue ss x → IsCloneSame x
 
-  -- the same of one bound
+  -- a clone of the value of the bound, if it has one, is that same value
   abbrev pub ClonesBound : Bound V → Type 0
   ClonesBound (Included x) = IsCloneSame x
   ClonesBound (Excluded x) = IsCloneSame x
   ClonesBound Unbounded = Unit {0}
 
-  -- the same of each bound in turn, as a loop over the segments meets it
+  -- a clone of the value of each bound is that same value, bound after bound, as a loop over the segments meets them
   abbrev pub ClonesEach : List (Segment V) → Type 0
   ClonesEach [] = Unit {0}
   ClonesEach (s ∷ ss) = ClonesBound s.0 × ClonesBound s.1 × ClonesEach ss

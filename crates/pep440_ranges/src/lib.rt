@@ -9,6 +9,9 @@
 //! number is above 1 and below 2, and that segment is kept all the same.
 //!
 //! A call fails only if an allocation fails.
+//!
+//! In reading order: `ranges`, the calls; `segments`, what a range holds; `bound_order`, what is asked of bounds; `gaps`, for the
+//! complement; and `merge`, for the intersection.
 #![tactic(auto)]
 
 mod bound_order;

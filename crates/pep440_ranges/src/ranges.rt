@@ -181,7 +181,7 @@ impl<V: Ord + Clone> Ranges<V> {
         self.segments.is_empty()
     }
 
-    /// The same segments.
+    /// A range with these segments.
     ///
     /// Allocates; returns `AllocError` if that fails.
     pub fn clone(&self, alloc: Global) -> Result<Self, AllocError>

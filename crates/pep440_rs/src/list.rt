@@ -116,7 +116,7 @@ impl VersionSpecifiers {
         VersionSpecifiers::arrange(specifiers)
     }
 
-    // The same, in whatever order they are.
+    // The list of these members, sorted by version; members with equal versions stay in the order given.
     fn arrange(specifiers: Vec<VersionSpecifier>) -> Result<VersionSpecifiers, AllocError>
         ensures { IfOk result (λ list. Arranges specifiers.items list) }
     {

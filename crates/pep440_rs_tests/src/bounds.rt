@@ -46,7 +46,7 @@ pub fn lower_bound(alloc: Global, text: &str) -> Result<String, CaseError> {
     member_text(alloc, VersionSpecifier::from_lower_bound(alloc, &bound))
 }
 
-/// The same as an upper one.
+/// The specifier of the bound as an upper one.
 pub fn upper_bound(alloc: Global, text: &str) -> Result<String, CaseError> {
     let bound = bound_argument(alloc, text)?;
     member_text(alloc, VersionSpecifier::from_upper_bound(alloc, &bound))

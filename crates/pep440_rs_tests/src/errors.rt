@@ -51,7 +51,7 @@ fn kind_text(alloc: Global, kind: &ErrorKind) -> Result<String, CaseError> {
     })
 }
 
-// The same of patterns.
+// The kind of a pattern's error with what it holds.
 fn pattern_kind_text(alloc: Global, kind: &PatternErrorKind) -> Result<String, CaseError> {
     match kind {
         PatternErrorKind::Version(error) => kind_text(alloc, error.kind()),
@@ -93,7 +93,7 @@ pub fn error_text(alloc: Global, error: &VersionParseError) -> Result<String, Ca
     )
 }
 
-/// The same of patterns.
+/// The error of a pattern, which equals its copy, as its kind does.
 pub fn pattern_error_text(
     alloc: Global,
     error: &VersionPatternParseError,

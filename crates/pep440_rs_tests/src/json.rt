@@ -37,7 +37,7 @@ pub fn json_version(alloc: Global, text: &str) -> Result<String, CaseError> {
     }
 }
 
-/// The same of a specifier.
+/// The JSON string of the specifier, which is parsed as the specifier again.
 pub fn json_specifier(alloc: Global, text: &str) -> Result<String, CaseError> {
     let specifier = specifier_argument(alloc, text)?;
     let value = specifier.to_json(alloc)?;
@@ -47,7 +47,7 @@ pub fn json_specifier(alloc: Global, text: &str) -> Result<String, CaseError> {
     }
 }
 
-/// The same of a list.
+/// The JSON string of the list, which is parsed as the list again.
 pub fn json_list(alloc: Global, text: &str) -> Result<String, CaseError> {
     let list = list_argument(alloc, text)?;
     let value = list.to_json(alloc)?;
@@ -66,7 +66,7 @@ pub fn version_of_json(alloc: Global, text: &str) -> Result<String, CaseError> {
     }
 }
 
-/// The same of a specifier.
+/// The specifier that the value denotes as it prints, or the message of the error.
 pub fn specifier_of_json(alloc: Global, text: &str) -> Result<String, CaseError> {
     match VersionSpecifier::from_json(alloc, &value(alloc, text)?) {
         Ok(specifier) => Ok(print_value(alloc, &specifier)?),
@@ -90,7 +90,7 @@ fn list_error(
     }
 }
 
-/// The same of a list.
+/// The list that the value denotes as it prints, or the message of the error and its kind.
 pub fn list_of_json(alloc: Global, text: &str) -> Result<String, CaseError> {
     match VersionSpecifiers::from_json(alloc, &value(alloc, text)?) {
         Ok(list) => Ok(print_value(alloc, &list)?),

@@ -127,7 +127,7 @@ pub fn unchecked_specifier(
     }
 }
 
-/// The same of arguments.
+/// The specifier of an operator and a version, both strings, that the call of the operator makes without a check.
 pub fn unchecked_argument(
     alloc: Global,
     operator: &str,

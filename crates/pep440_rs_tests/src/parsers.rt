@@ -37,7 +37,7 @@ pub fn build_kind_name(kind: &BuildErrorKind) -> &'static str {
     }
 }
 
-// The same of parsing, with the kind of an error within.
+// The name of the kind of a parse error, whatever error is within.
 fn kind_name(kind: &ParseErrorKind) -> Result<&'static str, CaseError> {
     match kind {
         ParseErrorKind::MissingOperator => Ok("MissingOperator"),
@@ -117,7 +117,7 @@ pub fn list_error_text(
     }
 }
 
-/// The same of lists.
+/// The list as it prints, or the error.
 pub fn list(alloc: Global, text: &str) -> Result<String, CaseError> {
     match VersionSpecifiers::from_str(alloc, text) {
         Ok(list) => {

@@ -33,7 +33,7 @@ fn print_pattern(alloc: Global, pattern: &VersionPattern) -> Result<String, Case
     Ok(text)
 }
 
-/// The same for a pattern.
+/// The normalized form of the pattern's version, with `.*` if a star follows, or the kind and the message of the error.
 pub fn parse_pattern(alloc: Global, text: &str) -> Result<String, CaseError> {
     match VersionPattern::from_str(alloc, text) {
         Ok(pattern) => print_pattern(alloc, &pattern),

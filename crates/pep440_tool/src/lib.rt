@@ -1,4 +1,7 @@
 //! The program `pep440` as a function of its words and its input, and over any reader and any writer.
+//!
+//! In reading order: `program`, which writes what `command` finds; `output` and `error`, what that is; `operands`; a file a command, from
+//! `show_version`, the shortest; `input_lines`, which `filter_lines` and `pick` read; and `laws`.
 #![tactic(auto)]
 
 mod command;

@@ -142,7 +142,7 @@ fn answer_input(
     print_run(alloc, &run)
 }
 
-// The same over a reader and writers that behave so.
+// What is written over a reader and writers of this behaviour.
 fn answer_streams(alloc: Global, words: &str, sides: [&str; 4]) -> Result<String, CaseError> {
     let words = split_words(alloc, words)?;
     let [input, after, output, errors] = sides;

@@ -46,6 +46,6 @@ abbrev pub Answers : {X E F : Type 0} → (E → Option F) → Result X E → Re
 Answers refusal (Ok x) read = read ≡ Ok x
 Answers refusal (Err e) read = IfSome (refusal e) (λ f. read ≡ Err f)
 
--- the same of an inner parser, whose value is seen by view
+-- an inner parser returns what the reading gives, unless out of memory; its value is seen by view
 abbrev pub AnswersBy : {X Y : Type 0} → (X → Y) → Result X ErrorKind → Read Y → Type 0
 AnswersBy view result read = Answers refusal_of (result_map_both view (λ e. e) result) read

@@ -31,7 +31,7 @@ spelling class = if class == 1 then codes ".dev" else (if class == 2 then codes 
 abbrev pub IsSuffix : List ℕ → ℕ → ℕ → Type 0
 IsSuffix text class n = ((text ≡ []) × (class ≡ 5) × (n ≡ 0)) ⊎ (IsClass class × ((digits : List ℕ) × IsNumber digits n × (text ≡ spelling class ++ digits)))
 
--- the same for a class and a number
+-- the class and the number of a suffix, or of none, which is class 5
 abbrev pub IsKnown : ℕ → ℕ → Type 0
 IsKnown class n = ((class ≡ 5) × (n ≡ 0)) ⊎ IsClass class
 

@@ -188,7 +188,7 @@ pub(crate) fn parse_pattern(
     }
 }
 
-// The same part by part, for any string.
+// The version of any string, and whether a star follows, part by part.
 fn parse_whole_pattern(
     alloc: Global,
     text: &str,
@@ -223,7 +223,7 @@ impl Version {
         }
     }
 
-    // The same, if the version is likely not packed.
+    // The version that the string parses to, if it is likely not packed.
     #[inline(always)]
     fn parse_unpacked(alloc: Global, text: &str) -> Result<Version, VersionParseError>
         ensures reads { Answers error_refusal result (read_version text.now) }
@@ -235,7 +235,7 @@ impl Version {
         }
     }
 
-    // The same part by part, for any string.
+    // The version of any string, part by part.
     #[inline(always)]
     fn parse_whole(alloc: Global, text: &str) -> Result<Version, VersionParseError>
         ensures reads { Answers error_refusal result (read_version text.now) }

@@ -25,7 +25,7 @@ pub(crate) fn write_number<W: fmt::Write>(f: &mut fmt::Formatter<W>, n: u64) -> 
     write_digit(f, n % 10)
 }
 
-// The same through a buffer, which any number fits in: from seven digits on that is faster than a write for each digit. Not
+// Writes a number through a buffer that any number fits in: from seven digits on that is faster than a write for each digit. Not
 // inlined, so that short numbers do not pay for the buffer.
 #[inline(never)]
 fn write_long_number<W: fmt::Write>(f: &mut fmt::Formatter<W>, n: u64) -> fmt::Result

@@ -52,7 +52,7 @@ impl Answer {
         Ok(())
     }
 
-    // The same of a word.
+    // A word is not what it has to be: a message, and the status 2.
     pub(crate) fn push_fault(&mut self, word: &str, reason: &str) -> Result<(), AllocError>
         ensures { IfOk result (λ _. outcome_of self.new ≡ followed_by (outcome_of self.old) (fault word.now reason.now)) }
     {

@@ -63,7 +63,7 @@ fn answer_valid(
     }
 }
 
-// The same of any lines: nothing is printed where invalid lines are an error and there are some.
+// What is to be written of these lines; only their messages where invalid lines are an error and there are some.
 fn answer_lines(
     alloc: Global,
     question: &LinesQuestion,

@@ -47,7 +47,7 @@ pub fn print_report(alloc: Global, texts: &str, form: Form) -> Result<String, Ca
     print_form(alloc, &report, form)
 }
 
-/// The same of one file with this name.
+/// The report of one file with this name, printed so.
 pub fn print_report_of(
     alloc: Global,
     name: &str,

@@ -1,4 +1,8 @@
 //! Requirements files, as pip reads them: their logical lines, what each line is, and environment markers.
+//!
+//! In reading order: `physical_line`, `comment` and `logical_line`, from bytes to lines; `line_kind`, what a line is, and what it asks of
+//! `option_name`, `option_value` and `line_fault`; `line_parts`, of a requirement; `marker_reading`, which reads each `marker_token` into
+//! `marker_terms`; and `laws`.
 #![tactic(auto)]
 
 mod comment;

@@ -64,7 +64,7 @@ module _ {R : Type 0} (kind : FileKind) (files : List ℕ → KnownFile) (paths 
   abbrev pub OpensStep : List ℕ → RequirementFiles → RequirementFiles → R → R → Type 0
   OpensStep name a b reader reader' = StepsTo (OpensNext kind files paths remaining name (read_of a) (read_of b) reader reader') a b
 
-  -- the same, or it was not opened
+  -- the source with this name was read unless it had been before, or it was not opened
   abbrev pub ReadsStep : NamedFile → RequirementFiles → RequirementFiles → R → R → Type 0
   ReadsStep named a b reader reader' = StepsTo (ReadsNext kind files paths remaining named (read_of a) (read_of b) reader reader') a b
 

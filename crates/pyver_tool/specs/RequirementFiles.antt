@@ -71,7 +71,7 @@ module _ {R : Type 0} (kind : FileKind) (files : List ℕ → KnownFile) (paths 
       × (((has_path a path ≡ true) × (b ≡ a) × (reader' ≡ reader))
       ⊎ ((has_path a path ≡ false) × ((text : List ℕ) × ReadsWhole files remaining name reader reader' text × (b ≡ with_file a (kind_by_name kind name) (file_with name text) path))))
 
-  -- the same; or the file was not opened
+  -- a source with the path of this name had been read, or the source was read; or the file was not opened
   abbrev pub ReadsNext : NamedFile → FilesRead → FilesRead → R → R → Type 0
   ReadsNext named a b reader reader' = OpensNext named.name a b reader reader'
       ⊎ ((why : OpenFailure) × IsRefused (files named.name) named.name why × (b ≡ with_unopened a named why) × (reader' ≡ reader))
@@ -96,7 +96,7 @@ module _ {R : Type 0} (kind : FileKind) (files : List ℕ → KnownFile) (paths 
     pub each : ReadsFilesInTurn done none_read read reader middle
     pub part : StopsInText files remaining named.name middle reader' why
 
-  -- the same of the files that words name
+  -- of the files that the words name, and those that their lines name, each was read in turn
   abbrev pub ReadsFiles : List (List ℕ) → R → R → FilesRead → Type 0
   ReadsFiles words reader reader' read = ReadsNames (map word_file words) reader reader' read
 

@@ -216,7 +216,7 @@ impl CheckResult {
         Ok(self.push(report, read.unopened)?)
     }
 
-    // The same for each word by itself.
+    // Reads the files that each word names, with those that their lines name, and finds what is wrong in them, word by word.
     fn check_each<F: Files, R: Read>(
         &mut self,
         alloc: Global,
@@ -238,7 +238,7 @@ impl CheckResult {
         Ok(())
     }
 
-    // The same for all words together, or for each by itself.
+    // Reads the files that the words name, and finds what is wrong in them, all together or word by word.
     fn check_words<F: Files, R: Read>(
         &mut self,
         alloc: Global,

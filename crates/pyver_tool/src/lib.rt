@@ -1,4 +1,7 @@
 //! The program `pyver` as a function of its words, over any reader and any writers: what it prints for people and for shell scripts.
+//!
+//! In reading order: `program`, which runs what `command` finds; `words`, `split_words`, `options` and `settings`, which make a command;
+//! `check`, the one command that is here, and the `requirement_files` that it reads; `help`, `misuse` and `nearest`; and `laws`.
 #![tactic(auto)]
 
 mod check;

@@ -167,7 +167,7 @@ impl RequirementFiles {
         }
     }
 
-    // The same; a name that is not UTF-8 is not opened.
+    // Reads the source with this name, unless it was read before, or returns why it is not opened; a name that is not UTF-8 is not.
     fn read_next<F: Files, R: Read>(
         &mut self,
         alloc: Global,

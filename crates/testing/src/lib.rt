@@ -1,5 +1,7 @@
 //! Test cases as lines of standard input: a call, its arguments and the wanted result, with tabs between them; and
 //! readers and writers for tests. Only tests use it; no contract pins what it prints.
+//!
+//! In reading order: `run`, which compares each case; `case_fields`, of a line; `arguments` and `values`; `streams`; and `sizes`.
 #![tactic(auto)]
 
 mod arguments;

@@ -25,7 +25,7 @@ fn plain_difference<C: Calls>(
     Ok(if found == *wanted { None } else { Some(found) })
 }
 
-// The same of each kind of case.
+// The result of a case of any kind, if it is not the wanted one.
 fn difference<C: Calls>(alloc: Global, calls: &C, line: &str) -> Result<Option<String>, CaseError> {
     if let Some(case) = line.strip_prefix("sizes\t") {
         return failing_size(alloc, calls, case);
@@ -37,7 +37,7 @@ fn difference<C: Calls>(alloc: Global, calls: &C, line: &str) -> Result<Option<S
     plain_difference(alloc, calls, line)
 }
 
-// The same, again if out of memory: at most one allocation of a run fails.
+// The result of a case, if it is not the wanted one, after a second try if out of memory: at most one allocation of a run fails.
 fn difference_again<C: Calls>(
     alloc: Global,
     calls: &C,

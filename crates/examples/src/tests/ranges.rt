@@ -39,7 +39,7 @@ fn complement_twice(alloc: Global, range: &Ranges<u64>) -> Result<Ranges<u64>, A
     range.complement(alloc)?.complement(alloc)
 }
 
-// The same at each type whose clone is always the same value.
+// What the range does not contain, at each type whose clone is always the same value.
 fn complement_any<V: Ord + Clone>(alloc: Global, range: &Ranges<V>) -> Result<Ranges<V>, AllocError>
     requires { (x : V) → IsCloneSame V.is_clone x }
     ensures { IfOk result (λ r. (v : V) → contains V.cmp r v ≡ not (contains V.cmp range.now v)) }

@@ -37,7 +37,7 @@ fn parse_pattern(alloc: Global, text: &str) -> Result<VersionPattern, VersionPat
     VersionPattern::from_str(alloc, text)
 }
 
-// The same of a version that is yet to be parsed.
+// The specifier of an operator and a version that is yet to be parsed, after which nothing may be left.
 fn parse_version(
     alloc: Global,
     operator: Operator,

@@ -145,7 +145,7 @@ pub(crate) fn parse_normal_version(text: &str) -> Option<Version>
     build_normal_version(text, numbers, count, rest)
 }
 
-// The same for a pattern, and whether a star follows.
+// The version that the pattern parses to, and whether a star follows; `None` if this pass cannot parse it.
 #[inline(always)]
 pub(crate) fn parse_normal_pattern(text: &str) -> Option<(Version, bool)>
     ensures { IfSome result (λ p. DerivesPattern text.now p.0 p.1) }

@@ -29,7 +29,7 @@ without_mark line = line
 abbrev pub numbered : ℕ × List ℕ → ℕ × List ℕ
 numbered line = (line.0, strip_carriage_return (if line.0 == 1 then without_mark line.1 else line.1))
 
--- the same as a line of its source
+-- a numbered line, as a line of its source
 abbrev pub line_in : Origin → ℕ × List ℕ → SourceLine
 line_in origin line = record { origin = origin; number = (numbered line).0; text = (numbered line).1 }
 
