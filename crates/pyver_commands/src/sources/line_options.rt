@@ -30,7 +30,7 @@ impl LineOptions {
         }
     }
 
-    // What a command reads that has none of these options.
+    // What a command without these options reads.
     pub(crate) fn bare() -> LineOptions
         ensures { result ≡ bare_line_options }
     {
