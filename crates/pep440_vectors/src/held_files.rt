@@ -12,10 +12,12 @@ pub enum HeldFile<'a> {
     Damaged(&'a [u8]),
     /// A file that is not opened.
     NotOpened(OpenFailure),
+    /// A file that is also the output, with these bytes.
+    Output(&'a [u8]),
 }
 
 /// Files of versions.
-pub const VERSIONS: [(&str, HeldFile<'static>); 10] = [
+pub const VERSIONS: [(&str, HeldFile<'static>); 11] = [
     ("a.txt", HeldFile::Text(b"1.0\n2.0rc1\n0.9\n")),
     ("b.txt", HeldFile::Text(b"\xEF\xBB\xBF1.5\r\n\r\n3.0")),
     ("c.csv", HeldFile::Text(b"name,version\na,1.9\n")),
@@ -29,6 +31,7 @@ pub const VERSIONS: [(&str, HeldFile<'static>); 10] = [
     ("secret", HeldFile::NotOpened(OpenFailure::PermissionDenied)),
     ("full", HeldFile::NotOpened(OpenFailure::OutOfMemory)),
     ("odd\u{7}", HeldFile::NotOpened(OpenFailure::Other)),
+    ("out.txt", HeldFile::Output(b"1.0\n")),
 ];
 
 /// Files of requirements and of a project.
@@ -82,6 +85,15 @@ impl<'a> HeldFiles<'a> {
 impl<'a> Files for HeldFiles<'a> {
     type File = Trickle<'a>;
 
+    fn is_output(&self, name: &str) -> bool {
+        for (held, file) in self.files {
+            if *held == name {
+                return matches!(file, HeldFile::Output(_));
+            }
+        }
+        false
+    }
+
     fn open(&mut self, _alloc: Global, name: &str) -> Result<Trickle<'a>, OpenFailure> {
         self.calls = self.calls.saturating_add(1);
         let path = canonical(name);
@@ -91,6 +103,7 @@ impl<'a> Files for HeldFiles<'a> {
                     HeldFile::Text(text) => Ok(Trickle::new(text, After::End)),
                     HeldFile::Damaged(text) => Ok(Trickle::new(text, After::Fails)),
                     HeldFile::NotOpened(failure) => Err(failure),
+                    HeldFile::Output(text) => Ok(Trickle::new(text, After::End)),
                 };
             }
         }

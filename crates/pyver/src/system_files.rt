@@ -1,8 +1,9 @@
 // The files of the system, which are opened by their names.
 use pyver_tool::{Files, OpenFailure};
 use std::alloc::{AllocError, Global};
-use std::fs::{self, OpenFile};
+use std::fs::{self, Metadata, OpenFile};
 use std::io::{Error, ErrorKind};
+use std::os::unix::fs::MetadataExt;
 use std::rt;
 
 // The files that a runtime reaches.
@@ -15,6 +16,15 @@ impl<'a, R: rt::Files> SystemFiles<'a, R> {
     pub(crate) fn new(runtime: &'a R) -> SystemFiles<'a, R> {
         SystemFiles { runtime }
     }
+}
+
+// The open files themselves, whatever their names, where /proc is mounted.
+const STANDARD_INPUT: &str = "/proc/self/fd/0";
+
+const STANDARD_OUTPUT: &str = "/proc/self/fd/1";
+
+fn is_same_file(a: &Metadata, b: &Metadata) -> bool {
+    a.dev() == b.dev() && a.ino() == b.ino()
 }
 
 fn failure(error: Error) -> OpenFailure {
@@ -30,6 +40,18 @@ fn failure(error: Error) -> OpenFailure {
 
 impl<R: rt::Files> Files for SystemFiles<'_, R> {
     type File = R::File;
+
+    // Not of a device or a pipe, which give nothing of what is written to them.
+    fn is_output(&self, name: &str) -> bool {
+        let path = if name == "-" { STANDARD_INPUT } else { name };
+        match (
+            self.runtime.metadata(path),
+            self.runtime.metadata(STANDARD_OUTPUT),
+        ) {
+            (Ok(source), Ok(output)) => source.is_file() && is_same_file(&source, &output),
+            _ => false,
+        }
+    }
 
     // The system opens a directory, too, and fails only where it is read.
     fn open(&mut self, _alloc: Global, name: &str) -> Result<R::File, OpenFailure> {

@@ -14,3 +14,4 @@ pub mod Bumping
 pub mod Digits
 pub mod Releases
 pub mod BumpInputs
+pub mod Outputs

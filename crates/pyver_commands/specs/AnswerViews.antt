@@ -1,9 +1,5 @@
 -- What the program's own types say, apart from where they lie in memory.
 use Rattle.std.specs.Prelude.{string_bytes}
-use Rattle.pyver_commands.specs.CommonRanges.{HasNone, HasRange}
-use Rattle.pyver_commands.specs.CommonRanges.{RangeReading as RangeReadingValue}
-use Rattle.pyver_commands.specs.declared.common_range.RangeReading.{RangeReading}
-use Rattle.pyver_commands.specs.declared.common_range.RangeReading.TheVariants as range
 use Rattle.pyver_commands.specs.Matches.{DenotesList, ListFails}
 use Rattle.pyver_commands.specs.Matches.{SpecifiersReading as SpecifiersReadingValue}
 use Rattle.pyver_commands.specs.declared.specifiers.SpecifiersReading.{SpecifiersReading}
@@ -25,7 +21,3 @@ reading_of (reading.Invalid reason) = Fails (string_bytes reason)
 abbrev pub specifiers_reading_of : SpecifiersReading → SpecifiersReadingValue
 specifiers_reading_of (specifiers.Specifiers list) = DenotesList list
 specifiers_reading_of (specifiers.Invalid message) = ListFails (string_bytes message)
-
-abbrev pub range_reading_of : RangeReading → RangeReadingValue
-range_reading_of (range.Ranges intersection cover list) = HasRange intersection cover list
-range_reading_of (range.Failed message) = HasNone message.items

@@ -1,7 +1,7 @@
 -- `bump PART..` without a version among the words: the version is the only one on standard input.
 use Rattle.std.specs.Prelude.{◌≡◌, ℕ, List, [], ◌∷◌, Option, codes}
 use Rattle.pyver_commands.specs.Bumps.{bump, result_outcome}
-use Rattle.pyver_commands.specs.Sources.LineOptions.{no_line_options}
+use Rattle.pyver_commands.specs.Sources.LineOptions.{bare_line_options}
 use Rattle.cli_io.specs.Runs.{Outcome}
 use Rattle.pyver_commands.specs.Outcomes.{message_outcome}
 use Rattle.pyver_commands.specs.Sources.{Input}
@@ -20,4 +20,4 @@ BumpsOnly to parts lines o = o ≡ only_outcome to parts lines.versions
 
 -- what is written of standard input: an invalid line is an error, and a blank one none
 abbrev pub BumpsInput : Option ℕ → List BumpPart → Input → Outcome → Type 0
-BumpsInput to parts input o = OfVersions no_line_options (BumpsOnly to parts) input o
+BumpsInput to parts input o = OfVersions bare_line_options (BumpsOnly to parts) input o

@@ -130,7 +130,7 @@ bump to parts v = require_greater v (bump_from false to parts v)
 -- ---- what is written
 
 abbrev pub bump_error_text : BumpError → List ℕ
-bump_error_text error.NoRelease = codes "nothing says of which release: put major, minor or patch before"
+bump_error_text error.NoRelease = codes "name the next release first, by major, minor or patch, as in: pyver bump minor alpha 1.0"
 bump_error_text error.NotGreater = codes "the result would not be greater"
 bump_error_text error.Greatest = codes "a number is the greatest that there is"
 bump_error_text error.NoNumber = codes "stable has no number that --to could set"

@@ -7,7 +7,6 @@ use Rattle.pyver_commands.specs.Sources.InputLines.{filled_lines}
 use Rattle.pyver_commands.specs.Sources.InvalidLines.{last_message, lines_status, message_limit}
 use Rattle.pyver_commands.specs.Matches.{DenotesList, ListFails, ReadsSpecifiers, SpecifiersReading, list_fault}
 use Rattle.cli_io.specs.Runs.{Outcome}
-use Rattle.pyver_commands.specs.Outcomes.{followed_by, no_outcome}
 use Rattle.pyver_commands.specs.PrereleaseRules.{takes_prereleases}
 use Rattle.pyver_commands.specs.Sources.ReadLines.{Entry, Header, IsRead, LineReading, ReadLine, faults}
 use Rattle.pyver_commands.specs.Readings.{Denotes, Fails}
@@ -65,10 +64,10 @@ abbrev pub rule_of : FilterOptions → List Spec → FilterRule
 rule_of options list = record { wanted = wanted_by options.inverted; takes = takes_prereleases options.prereleases list; lines = options.lines; list = list }
 
 -- the outcome of the lines by a valid list, or the error of an invalid one
-abbrev pub FiltersBy : FilterOptions → SpecifiersReading → Input → Outcome → Type 0
-FiltersBy options (DenotesList list) input o = Filters (rule_of options list) input o
-FiltersBy options (ListFails message) input o = o ≡ followed_by no_outcome (list_fault message)
+abbrev pub FiltersBy : List ℕ → FilterOptions → List ℕ → SpecifiersReading → Input → Outcome → Type 0
+FiltersBy usage options specifiers (DenotesList list) input o = Filters (rule_of options list) input o
+FiltersBy usage options specifiers (ListFails message) input o = o ≡ list_fault usage specifiers message
 
 -- the outcome of `filter`: SPECS is parsed, and then the lines
-abbrev pub FiltersLines : FilterOptions → List ℕ → Input → Outcome → Type 0
-FiltersLines options specifiers input o = (x : SpecifiersReading) × ReadsSpecifiers specifiers x × FiltersBy options x input o
+abbrev pub FiltersLines : List ℕ → FilterOptions → List ℕ → Input → Outcome → Type 0
+FiltersLines usage options specifiers input o = (x : SpecifiersReading) × ReadsSpecifiers specifiers x × FiltersBy usage options specifiers x input o

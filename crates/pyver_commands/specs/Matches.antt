@@ -1,5 +1,5 @@
 -- `match SPECS V..`: which of the versions the list allows.
-use Rattle.std.specs.Prelude.{◌≡◌, ℕ, List, [], ◌++◌, Bool, codes, if◌then◌else◌}
+use Rattle.std.specs.Prelude.{◌≡◌, ℕ, List, [], ◌++◌, Bool, codes, drop, if◌then◌else◌}
 use Rattle.std.specs.List.{AllZip}
 use Rattle.pep440_rs.specs.ListErrorTexts.{list_refusal_text}
 use Rattle.pep440_rs.specs.ListGrammar.{DerivesList, PieceRefusal, RefusesList}
@@ -7,7 +7,7 @@ use Rattle.pep440_rs.specs.Prereleases.{list_allows}
 use Rattle.pep440_rs.specs.Specifiers.{Spec}
 use Rattle.cli_io.specs.Escapes.{escaped, escaped_lines}
 use Rattle.cli_io.specs.Runs.{Outcome}
-use Rattle.pyver_commands.specs.Outcomes.{fault, in_turn, followed_by, no_outcome}
+use Rattle.pyver_commands.specs.Outcomes.{fault, in_turn, message_outcome}
 use Rattle.pyver_commands.specs.PrereleaseRules.{takes_prereleases}
 use Rattle.pyver_commands.specs.Readings.{Denotes, Fails, Reading, Reads}
 use Rattle.pyver_commands.specs.declared.allowed.MatchOptions.{MatchOptions}
@@ -22,13 +22,18 @@ abbrev pub ReadsSpecifiers : List ℕ → SpecifiersReading → Type 0
 ReadsSpecifiers text (DenotesList list) = DerivesList text list
 ReadsSpecifiers text (ListFails message) = (f : PieceRefusal) × RefusesList text f × (message ≡ list_refusal_text f text)
 
--- the message of an invalid list, which has line ends of its own
-abbrev pub list_message : List ℕ → List ℕ
-list_message message = codes "pyver: " ++ escaped_lines message
+-- the message of a word that is no list, which has line ends of its own: of the list's error all but its first words, which are
+-- `Failed to parse version: `
+abbrev pub list_message : List ℕ → List ℕ → List ℕ
+list_message word message = codes "pyver: '" ++ (escaped word ++ (codes "' is not a list of specifiers: " ++ escaped_lines (drop 25 message)))
 
--- the outcome of an invalid list
-abbrev pub list_fault : List ℕ → Outcome
-list_fault message = record { output = []; errors = list_message message; status = 2 }
+-- the message of where the list stands, by the usage line of a command with one list
+abbrev pub place_message : List ℕ → List ℕ
+place_message usage = codes "pyver: SPECS comes first: " ++ (usage ++ codes "\n")
+
+-- the outcome of an invalid list, in a command with this usage line
+abbrev pub list_fault : List ℕ → List ℕ → List ℕ → Outcome
+list_fault usage word message = message_outcome (list_message word message ++ place_message usage)
 
 -- `yes` or `no`, a tab, and the version as it was written
 abbrev pub verdict_line : Bool → List ℕ → List ℕ
@@ -52,10 +57,10 @@ abbrev pub MatchesWords : Bool → Bool → List Spec → List (List ℕ) → Ou
 MatchesWords quiet takes list words o = (os : List Outcome) × AllZip (MatchesWord quiet takes list) words os × (o ≡ in_turn os)
 
 -- the outcome of the words by a valid list, or the error of an invalid one
-abbrev pub MatchesBy : MatchOptions → SpecifiersReading → List (List ℕ) → Outcome → Type 0
-MatchesBy options (DenotesList list) words o = MatchesWords options.quiet (takes_prereleases options.prereleases list) list words o
-MatchesBy options (ListFails message) words o = o ≡ followed_by no_outcome (list_fault message)
+abbrev pub MatchesBy : List ℕ → MatchOptions → List ℕ → SpecifiersReading → List (List ℕ) → Outcome → Type 0
+MatchesBy usage options specifiers (DenotesList list) words o = MatchesWords options.quiet (takes_prereleases options.prereleases list) list words o
+MatchesBy usage options specifiers (ListFails message) words o = o ≡ list_fault usage specifiers message
 
 -- the outcome of `match`: SPECS is parsed, and then the words
-abbrev pub Matches : MatchOptions → List ℕ → List (List ℕ) → Outcome → Type 0
-Matches options specifiers words o = (x : SpecifiersReading) × ReadsSpecifiers specifiers x × MatchesBy options x words o
+abbrev pub Matches : List ℕ → MatchOptions → List ℕ → List (List ℕ) → Outcome → Type 0
+Matches usage options specifiers words o = (x : SpecifiersReading) × ReadsSpecifiers specifiers x × MatchesBy usage options specifiers x words o

@@ -7,9 +7,10 @@ use Rattle.cli_io.specs.Escapes.{escaped}
 abbrev pub fault_message : List ℕ → List ℕ → List ℕ
 fault_message word reason = codes "pyver: '" ++ (escaped word ++ (codes "': " ++ (escaped reason ++ codes "\n")))
 
--- the message of a line that is no version: the name of its source, `-` for standard input, and its number there
-abbrev pub line_fault_message : List ℕ → ℕ → List ℕ → List ℕ
-line_fault_message name number reason = codes "pyver: " ++ (escaped name ++ (codes ": line " ++ (decimal number ++ (codes ": " ++ (escaped reason ++ codes "\n")))))
+-- the message of a line that is no version: the name of its source, `-` for standard input, its number there, and its text
+abbrev pub line_fault_message : List ℕ → ℕ → List ℕ → List ℕ → List ℕ
+line_fault_message name number text reason =
+    codes "pyver: " ++ (escaped name ++ (codes ":" ++ (decimal number ++ (codes ": '" ++ (escaped text ++ (codes "' is not a version: " ++ (escaped reason ++ codes "\n")))))))
 
 -- the message of a file that is not opened or not read
 abbrev pub file_message : List ℕ → List ℕ → List ℕ
@@ -22,6 +23,10 @@ count_message start count = if count == 0 then [] else start ++ (decimal count +
 -- the message of how many more invalid lines there are
 abbrev pub more_faults_message : ℕ → List ℕ
 more_faults_message count = count_message (codes "pyver: more invalid lines: ") count
+
+-- the message of how to leave out invalid lines; nothing if there are none
+abbrev pub skip_message : ℕ → List ℕ
+skip_message count = if count == 0 then [] else codes "pyver: --invalid=skip leaves such lines out\n"
 
 -- the message of how many invalid lines were left out
 abbrev pub left_out_message : ℕ → List ℕ

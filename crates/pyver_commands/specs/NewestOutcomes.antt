@@ -7,7 +7,6 @@ use Rattle.pep440_rs.specs.Specifiers.{Spec}
 use Rattle.pep440_version.specs.Key.{record_cmp}
 use Rattle.pyver_commands.specs.Matches.{DenotesList, ListFails, ReadsSpecifiers, SpecifiersReading, list_fault}
 use Rattle.cli_io.specs.Runs.{Outcome}
-use Rattle.pyver_commands.specs.Outcomes.{followed_by, no_outcome}
 use Rattle.pyver_commands.specs.PrereleaseRules.{takes_prereleases}
 use Rattle.pyver_commands.specs.Sources.{Input}
 use Rattle.pyver_commands.specs.Sources.VersionLines.{InputParts, OfVersions, VersionLine}
@@ -58,10 +57,10 @@ abbrev pub newest_rule : NewestOptions → List Spec → NewestRule
 newest_rule options list = record { prereleases = options.prereleases; lines = options.lines; list = list }
 
 -- what is written of the lines by a valid list, or the error of an invalid one
-abbrev pub FindsNewestBy : NewestOptions → SpecifiersReading → Input → Outcome → Type 0
-FindsNewestBy options (DenotesList list) input o = OfVersions options.lines (FindsNewest (newest_rule options list)) input o
-FindsNewestBy options (ListFails message) input o = o ≡ followed_by no_outcome (list_fault message)
+abbrev pub FindsNewestBy : List ℕ → NewestOptions → List ℕ → SpecifiersReading → Input → Outcome → Type 0
+FindsNewestBy usage options specifiers (DenotesList list) input o = OfVersions options.lines (FindsNewest (newest_rule options list)) input o
+FindsNewestBy usage options specifiers (ListFails message) input o = o ≡ list_fault usage specifiers message
 
 -- what is written of the lines of the sources: SPECS is parsed, and then the lines
-abbrev pub FindsNewestLine : NewestOptions → List ℕ → Input → Outcome → Type 0
-FindsNewestLine options specifiers input o = (x : SpecifiersReading) × ReadsSpecifiers specifiers x × FindsNewestBy options x input o
+abbrev pub FindsNewestLine : List ℕ → NewestOptions → List ℕ → Input → Outcome → Type 0
+FindsNewestLine usage options specifiers input o = (x : SpecifiersReading) × ReadsSpecifiers specifiers x × FindsNewestBy usage options specifiers x input o

@@ -1,15 +1,12 @@
--- What holds of the outcomes of `range`: 'no version' is printed exactly where there is none, and an intersection holds what each range holds.
+-- What holds of the outcomes of `range`: 'no version' is printed exactly where there is none.
 use Rattle.std.specs.Prelude.{◌≡◌, ℕ, List, IsTrue, codes}
-use Rattle.std.specs.List.{All, list_all}
-use Rattle.pep440_ranges.specs.RangeSegments.{contains}
-use Rattle.pep440_rs.specs.Bounds.{Segments}
+use Rattle.std.specs.List.{All}
 use Rattle.pep440_rs.specs.Cover.{IsDenoted}
 use Rattle.pep440_rs.specs.ListGrammar.{DerivesList}
 use Rattle.pep440_rs.specs.Matching.{list_matches}
 use Rattle.pep440_rs.specs.Specifiers.{Spec}
-use Rattle.pep440_version.specs.Key.{record_cmp}
 use Rattle.pep440_version.specs.Record.{Record}
-use Rattle.pyver_commands.specs.CommonRanges.{FindsCommon, common}
+use Rattle.pyver_commands.specs.CommonRanges.{FindsCommon}
 use Rattle.cli_io.specs.Runs.{Outcome}
 use Rattle.pyver_commands.specs.declared.common_range.RangeOptions.{RangeOptions}
 
@@ -30,7 +27,3 @@ VersionIsCommon = (options : RangeOptions) (words : List (List ℕ)) (o : Outcom
 -- where `no version` is printed, the status is 1
 abbrev pub NoVersionHasItsStatus : Type 0
 NoVersionHasItsStatus = (options : RangeOptions) (words : List (List ℕ)) (o : Outcome) → FindsCommon options words o → o.output ≡ codes "no version\n" → o.status ≡ 1
-
--- a version lies in the intersection exactly if it lies in each range
-abbrev pub CommonIsInEach : Type 0
-CommonIsInEach = (ranges : List Segments) (v : Record) → contains record_cmp (common ranges) v ≡ list_all (λ r. contains record_cmp r v) ranges

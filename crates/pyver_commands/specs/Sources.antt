@@ -14,6 +14,7 @@ use Rattle.cli_io.specs.Newlines.{input_lines}
 use Rattle.cli_io.specs.Runs.{Outcome}
 use Rattle.pyver_commands.specs.Sources.InputLines.{Origin, Source}
 use Rattle.pyver_commands.specs.Messages.{file_message}
+use Rattle.pyver_commands.specs.Outcomes.{message_outcome}
 use Rattle.pyver_commands.specs.declared.sources.open_failure.OpenFailure.{OpenFailure}
 use Rattle.pyver_commands.specs.declared.sources.open_failure.OpenFailure.TheVariants as failure
 
@@ -70,6 +71,20 @@ MayRefuse (Fails why) reason = reason ≡ why
 abbrev pub IsKnownPath : Option (List ℕ) → List ℕ → Type 0
 IsKnownPath None path = ⊤
 IsKnownPath (Some known) path = path ≡ known
+
+-- what is known of whether a source is the output allows this
+abbrev pub IsKnownOutput : Option Bool → Bool → Type 0
+IsKnownOutput None is = ⊤
+IsKnownOutput (Some known) is = is ≡ known
+
+-- the first of the sources that is also the output, or None where none is, as far as that is known
+abbrev pub FindsOutput : (List ℕ → Option Bool) → List (List ℕ) → Option (List ℕ) → Type 0
+FindsOutput outputs [] found = found ≡ None
+FindsOutput outputs (name ∷ names) found = (IsKnownOutput (outputs name) true × (found ≡ Some name)) ⊎ (IsKnownOutput (outputs name) false × FindsOutput outputs names found)
+
+-- the outcome of a command that writes while it reads, where the source with this name is also the output
+abbrev pub output_outcome : List ℕ → Outcome
+output_outcome name = message_outcome (file_message name (codes "input file is also the output"))
 
 -- the reason in words
 abbrev pub failure_reason : OpenFailure → List ℕ

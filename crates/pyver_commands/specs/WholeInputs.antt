@@ -1,6 +1,6 @@
 -- Commands that read all sources before they write.
 use Rattle.pyver_commands.specs.BumpInputs.{BumpsOnly}
-use Rattle.pyver_commands.specs.Sources.LineOptions.{no_line_options}
+use Rattle.pyver_commands.specs.Sources.LineOptions.{bare_line_options}
 use Rattle.cli_io.specs.Runs.{Outcome}
 use Rattle.pyver_commands.specs.NewestOutcomes.{FindsNewest}
 use Rattle.pyver_commands.specs.Sorts.{SortsParts}
@@ -15,7 +15,7 @@ use Rattle.pyver_commands.specs.declared.whole_input.Question.TheVariants as que
 -- how lines are read
 abbrev pub question_lines : LinesQuestion → LineOptions
 question_lines (lines_question.Sort options) = options.lines
-question_lines (lines_question.Bump rule) = no_line_options
+question_lines (lines_question.Bump rule) = bare_line_options
 
 -- what is written of lines that were read, where no invalid one is an error
 abbrev pub AnswersParts : LinesQuestion → InputParts → Outcome → Type 0

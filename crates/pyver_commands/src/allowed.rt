@@ -7,7 +7,7 @@ ghost use Rattle.pyver_commands.specs.Outcomes.{followed_by};
 use crate::answer::Answer;
 use crate::prerelease_rule::{Prereleases, takes_prereleases};
 use crate::reading::{Reading, parse_version};
-use crate::specifiers::{SpecifiersReading, parse_specifiers, push_list_fault};
+use crate::specifiers::{SpecifiersReading, parse_specifiers, report_list_fault};
 use cli_io::push_escaped;
 use pep440_rs::VersionSpecifiers;
 use std::alloc::{AllocError, Global};
@@ -87,14 +87,15 @@ fn match_words(
     Ok(answer)
 }
 
-/// `match SPECS V..`: the status is 0 where all are allowed, 1 where one is not and 2 where one is invalid.
+/// `match SPECS V..`, whose usage line this is: the status is 0 where all are allowed, 1 where one is not and 2 where one is invalid.
 pub fn match_versions(
     alloc: Global,
+    usage: &str,
     options: MatchOptions,
     specifiers: &str,
     words: &[String],
 ) -> Result<Answer, AllocError>
-    ensures { IfOk result (λ a. Matches options specifiers.now (map string_bytes words.now) (outcome_of a)) }
+    ensures { IfOk result (λ a. Matches usage.now options specifiers.now (map string_bytes words.now) (outcome_of a)) }
 {
     match parse_specifiers(alloc, specifiers)? {
         SpecifiersReading::Specifiers(list) => {
@@ -102,9 +103,7 @@ pub fn match_versions(
             match_words(alloc, options.quiet, takes, &list, words)
         }
         SpecifiersReading::Invalid(message) => {
-            let mut answer = Answer::silent(alloc, 0);
-            push_list_fault(&mut answer, message.as_str())?;
-            Ok(answer)
+            report_list_fault(alloc, usage, specifiers, message.as_str())
         }
     }
 }

@@ -320,7 +320,8 @@ fn error_text(error: BumpError) -> &'static str
     ensures { result.now ≡ bump_error_text error }
 {
     match error {
-        BumpError::NoRelease => "nothing says of which release: put major, minor or patch before",
+        BumpError::NoRelease =>
+            "name the next release first, by major, minor or patch, as in: pyver bump minor alpha 1.0",
         BumpError::NotGreater => "the result would not be greater",
         BumpError::Greatest => "a number is the greatest that there is",
         BumpError::NoNumber => "stable has no number that --to could set",

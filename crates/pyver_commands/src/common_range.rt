@@ -1,14 +1,11 @@
 // The command `range`.
-ghost use Rattle.std.specs.Prelude.{◌≡◌, ◌++◌, [], None, IfOk, fold, map, string_bytes, if◌then◌else◌};
-ghost use Rattle.pep440_ranges.specs.Intersection.{overlaps};
-ghost use Rattle.pep440_rs.specs.Bounds.{list_range, range_of};
-ghost use Rattle.pep440_rs.specs.Cover.{cover_of};
-ghost use Rattle.pep440_version.specs.Key.{record_cmp};
+ghost use Rattle.std.specs.Prelude.{◌≡◌, ◌++◌, [], IfOk, codes, map, string_bytes, if◌then◌else◌};
+ghost use Rattle.pep440_rs.specs.ErrorTexts.{range_error_text};
 ghost use Rattle.pyver_commands.specs.AnswerViews.{outcome_of};
-ghost use Rattle.pyver_commands.specs.CommonRanges.{FindsCommon, HasNone, ReadsRange, common_outcome, covers_in, lists_outcome, members_in, message_in, no_version_text, ranges_in, segments_text, allowed_text, with_cover};
-ghost use Rattle.pyver_commands.specs.AnswerViews.{range_reading_of};
+ghost use Rattle.pyver_commands.specs.CommonRanges.{ArrangesAll, FindsCommon, PrintsLists, allowed_text, common, common_outcome, length_cmp, range_outcome, segments_text};
+ghost use Rattle.pyver_commands.specs.Outcomes.{message_outcome};
 
-use crate::answer::{Answer, push_fault};
+use crate::answer::Answer;
 use crate::range_json::push_segments;
 use crate::specifiers::{SpecifiersReading, parse_specifiers, push_list_message};
 use crate::version_json::push_text;
@@ -18,6 +15,7 @@ use pep440_rs::{
 };
 use pep440_witness::find_version;
 use std::alloc::{AllocError, Global};
+use std::cmp::Ordering;
 
 /// What is printed of the range that all lists allow.
 #[derive(Clone, Copy)]
@@ -26,76 +24,13 @@ pub struct RangeOptions {
     pub json: bool,
 }
 
-// What a list is read as.
+// What is known after some of the words.
 #[derive(Drop)]
-pub(crate) enum RangeReading {
-    // Its range, its cover, and the list.
-    Ranges(Ranges<Version>, Ranges<Version>, VersionSpecifiers),
-    // None, with this message.
-    Failed(Vec<u8>),
-}
-
-// What is known after some of the lists.
-#[derive(Drop)]
-struct CommonRanges {
-    // The messages of those that have no range.
+struct CommonLists {
+    // The messages of those that are no lists.
     errors: Vec<u8>,
-    range: Ranges<Version>,
-    cover: Ranges<Version>,
+    // The members of the others.
     members: Vec<VersionSpecifier>,
-}
-
-// The message that the word's list has no range, unless an allocation failed.
-fn report_range_error(
-    alloc: Global,
-    word: &str,
-    error: RangeError,
-) -> Result<RangeReading, AllocError>
-    ensures { IfOk result (λ x. (error ≡ RangeError.NumberAtMax) × (range_reading_of x ≡ with_cover word.now [] None None)) }
-{
-    match error {
-        RangeError::OutOfMemory => Err(AllocError),
-        RangeError::NumberAtMax => {
-            let mut message = Vec::new(alloc);
-            push_fault(
-                &mut message,
-                word.as_bytes(),
-                error.to_string(alloc)?.as_str(),
-            )?;
-            Ok(RangeReading::Failed(message))
-        }
-    }
-}
-
-fn convert_list(
-    alloc: Global,
-    word: &str,
-    list: VersionSpecifiers,
-) -> Result<RangeReading, AllocError>
-    ensures { IfOk result (λ x. range_reading_of x ≡ with_cover word.now list (list_range range_of list) (list_range cover_of list)) }
-{
-    let range = match specifiers_to_ranges(alloc, list.clone()?) {
-        Ok(range) => range,
-        Err(error) => return report_range_error(alloc, word, error),
-    };
-    match specifiers_to_cover(alloc, list.clone()?) {
-        Ok(cover) => Ok(RangeReading::Ranges(range, cover, list)),
-        Err(error) => report_range_error(alloc, word, error),
-    }
-}
-
-// The range, the cover and the list that the word denotes, or why it has none.
-fn parse_list_range(alloc: Global, word: &str) -> Result<RangeReading, AllocError>
-    ensures { IfOk result (λ x. ReadsRange word.now (range_reading_of x)) }
-{
-    match parse_specifiers(alloc, word)? {
-        SpecifiersReading::Specifiers(list) => convert_list(alloc, word, list),
-        SpecifiersReading::Invalid(reason) => {
-            let mut message = Vec::new(alloc);
-            push_list_message(&mut message, reason.as_str())?;
-            Ok(RangeReading::Failed(message))
-        }
-    }
 }
 
 // Pushes the members of the list.
@@ -111,23 +46,41 @@ fn push_members(
     Ok(())
 }
 
-impl CommonRanges {
-    // What is known after one list more.
-    fn intersect(&mut self, alloc: Global, reading: &RangeReading) -> Result<(), AllocError>
-        ensures errors { IfOk result (λ _. self.new.errors.items ≡ self.old.errors.items ++ message_in (range_reading_of reading.now)) }
-        ensures range { IfOk result (λ _. self.new.range ≡ fold (overlaps record_cmp) self.old.range (ranges_in (range_reading_of reading.now))) }
-        ensures cover { IfOk result (λ _. self.new.cover ≡ fold (overlaps record_cmp) self.old.cover (covers_in (range_reading_of reading.now))) }
-        ensures members { IfOk result (λ _. self.new.members.items ≡ self.old.members.items ++ members_in (range_reading_of reading.now)) }
+impl CommonLists {
+    ghost use Rattle.pyver_commands.specs.CommonRanges.{ListReading, ReadsMembers};
+
+    // What is known after one word more.
+    fn push_word(&mut self, alloc: Global, word: &str) -> Result<(), AllocError>
+        ensures { IfOk result (λ _. (x : ListReading) × ReadsMembers word.now x × (self.new.errors.items ≡ self.old.errors.items ++ x.message) × (self.new.members.items ≡ self.old.members.items ++ x.members)) }
     {
-        match reading {
-            RangeReading::Ranges(range, cover, list) => {
-                self.range = self.range.intersection(alloc, range)?;
-                self.cover = self.cover.intersection(alloc, cover)?;
-                push_members(&mut self.members, list)
+        match parse_specifiers(alloc, word)? {
+            SpecifiersReading::Specifiers(list) => push_members(&mut self.members, &list)?,
+            SpecifiersReading::Invalid(message) => {
+                push_list_message(&mut self.errors, word, message.as_str())?;
             }
-            RangeReading::Failed(message) => self.errors.extend_from_slice(message.as_slice()),
         }
+        Ok(())
     }
+}
+
+fn compare_lengths(a: &VersionSpecifier, b: &VersionSpecifier) -> Ordering
+    ensures { result ≡ length_cmp a.now b.now }
+{
+    let (a, b) = (a.version().release(), b.version().release());
+    a.len().cmp(&b.len())
+}
+
+// The members by version, and of equal versions the shorter first.
+fn arrange_members(
+    alloc: Global,
+    members: Vec<VersionSpecifier>,
+) -> Result<VersionSpecifiers, AllocError>
+    ensures { IfOk result (λ list. ArrangesAll members.items list) }
+{
+    let mut short = members;
+    short.sort_by(|a, b| compare_lengths(a, b))?;
+    let list = VersionSpecifiers::from_specifiers(alloc, short)?;
+    Ok(list)
 }
 
 fn push_range(
@@ -188,32 +141,60 @@ fn print_common(
     Ok(answer)
 }
 
-// The outcome of lists that have these ranges and covers in common, and these members.
-fn print_found(
+// The range of the list or its cover, and a version that is in all lists.
+fn print_arranged(
     alloc: Global,
     options: RangeOptions,
-    range: &Ranges<Version>,
-    cover: &Ranges<Version>,
-    members: &[VersionSpecifier],
+    list: VersionSpecifiers,
+    found: Option<Version>,
 ) -> Result<Answer, AllocError>
-    ensures { IfOk result (λ a. outcome_of a ≡ lists_outcome options [] range.now cover.now members.now) }
+    ensures { IfOk result (λ a. outcome_of a ≡ range_outcome options.json (common options.cover list) found) }
 {
-    let version = find_version(alloc, members)?;
-    if options.cover {
-        return print_common(alloc, options.json, cover, version);
+    let range = if options.cover {
+        specifiers_to_cover(alloc, list)
+    } else {
+        specifiers_to_ranges(alloc, list)
+    };
+    match range {
+        Ok(range) => print_common(alloc, options.json, &range, found),
+        Err(RangeError::OutOfMemory) => Err(AllocError),
+        Err(RangeError::NumberAtMax) => report_range_error(alloc, RangeError::NumberAtMax),
     }
-    print_common(alloc, options.json, range, version)
+}
+
+// The message that the lists have no range.
+fn report_range_error(alloc: Global, error: RangeError) -> Result<Answer, AllocError>
+    ensures { IfOk result (λ a. outcome_of a ≡ message_outcome (codes "pyver: " ++ (range_error_text error ++ codes "\n"))) }
+{
+    let mut answer = Answer::silent(alloc, 2);
+    push_text(&mut answer.errors, "pyver: ")?;
+    push_text(&mut answer.errors, error.to_string(alloc)?.as_str())?;
+    push_text(&mut answer.errors, "\n")?;
+    Ok(answer)
+}
+
+fn print_members(
+    alloc: Global,
+    options: RangeOptions,
+    members: Vec<VersionSpecifier>,
+) -> Result<Answer, AllocError>
+    ensures { IfOk result (λ a. PrintsLists options [] members.items (outcome_of a)) }
+{
+    let version = find_version(alloc, members.as_slice())?;
+    let list = arrange_members(alloc, members)?;
+    let answer = print_arranged(alloc, options, list, version)?;
+    Ok(answer)
 }
 
 fn print_lists(
     alloc: Global,
     options: RangeOptions,
-    found: CommonRanges,
+    found: CommonLists,
 ) -> Result<Answer, AllocError>
-    ensures { IfOk result (λ a. outcome_of a ≡ lists_outcome options found.errors.items found.range found.cover found.members.items) }
+    ensures { IfOk result (λ a. PrintsLists options found.errors.items found.members.items (outcome_of a)) }
 {
     if found.errors.is_empty() {
-        return print_found(alloc, options, &found.range, &found.cover, &found.members);
+        return print_members(alloc, options, found.members);
     }
     Ok(Answer {
         output: Vec::new(alloc),
@@ -230,15 +211,12 @@ pub fn find_common(
 ) -> Result<Answer, AllocError>
     ensures { IfOk result (λ a. FindsCommon options (map string_bytes words.now) (outcome_of a)) }
 {
-    let mut found = CommonRanges {
+    let mut found = CommonLists {
         errors: Vec::new(alloc),
-        range: Ranges::full(alloc)?,
-        cover: Ranges::full(alloc)?,
         members: Vec::new(alloc),
     };
     for word in words {
-        let reading = parse_list_range(alloc, word.as_str())?;
-        found.intersect(alloc, &reading)?;
+        found.push_word(alloc, word.as_str())?;
     }
     let answer = print_lists(alloc, options, found)?;
     Ok(answer)

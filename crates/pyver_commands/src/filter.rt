@@ -7,7 +7,6 @@ ghost use Rattle.pyver_commands.specs.Sources.SourceViews.{unopened_of};
 use crate::newest_lines::NewestLines;
 use crate::prerelease_rule::Prereleases;
 use crate::reading::Reading;
-use crate::sources::invalid_lines::push_line_fault;
 use crate::sources::line_options::LineOptions;
 use crate::sources::open_failure::{UnopenedSource, push_file_fault};
 use crate::sources::origin::Origin;
@@ -206,15 +205,15 @@ impl FilterState {
         requires { self.old.fault_count + 1 < 2 ^ 63 }
         ensures { IfOk result (λ _. StepsBy rule.now (record { line = origin_line origin.entry self.old.line_count text.now; reading = Entry (Fails reason.now) }) self.old self.new) }
     {
-        if self.fault_count < rule.lines.invalid.message_limit() {
-            push_line_fault(
-                alloc,
-                &mut self.errors,
-                origin.name,
-                self.line_count,
-                reason,
-            )?;
-        }
+        rule.lines.invalid.push_fault(
+            alloc,
+            &mut self.errors,
+            self.fault_count,
+            origin.name,
+            self.line_count,
+            text,
+            reason,
+        )?;
         self.fault_count += 1;
         Ok(())
     }

@@ -1,6 +1,6 @@
 //! What holds of the outcomes of `bump` and `range`, as the contract of a function that does nothing.
 ghost use Rattle.pyver_commands.specs.BumpLaws.{BumpsAreGreater, BumpsChangeOnly, ReleasesAreBumped};
-ghost use Rattle.pyver_commands.specs.RangeLaws.{CommonIsInEach, NoVersionHasItsStatus, NoVersionIsCommon, VersionIsCommon};
+ghost use Rattle.pyver_commands.specs.RangeLaws.{NoVersionHasItsStatus, NoVersionIsCommon, VersionIsCommon};
 
 /// A version that `bump` makes is greater, and differs only in the stated parts; a number of the release can be
 /// raised unless it is the greatest. The epoch stays, and so does each part that no word changes; the local part goes.
@@ -10,11 +10,9 @@ pub fn bumps()
     ensures release { ReleasesAreBumped }
 {}
 
-/// `range` says that there is no version exactly if none is contained in all lists; and a version lies in the intersection of
-/// ranges exactly if it lies in each of them.
+/// `range` says that there is no version exactly if none is contained in all lists.
 pub fn common_ranges()
     ensures none { NoVersionIsCommon }
     ensures some { VersionIsCommon }
     ensures status { NoVersionHasItsStatus }
-    ensures each { CommonIsInEach }
 {}

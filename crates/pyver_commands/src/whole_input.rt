@@ -45,7 +45,7 @@ fn question_lines(question: &LinesQuestion) -> LineOptions
 {
     match question {
         LinesQuestion::Sort(options) => options.lines,
-        LinesQuestion::Bump(_) => LineOptions::none(),
+        LinesQuestion::Bump(_) => LineOptions::bare(),
     }
 }
 

@@ -12,12 +12,13 @@ use Rattle.pyver_commands.specs.BumpInputs.{BumpsOnly}
 use Rattle.pyver_commands.specs.Bumps.{Bumps, bump_outcome}
 use Rattle.pyver_commands.proofs.Choosing.{one_newest}
 use Rattle.pyver_commands.proofs.Sorting.{one_sorted}
-use Rattle.pyver_commands.specs.CommonRanges.{FindsCommon, RangeReading, ReadsRange, found_outcome, range_reading}
+use Rattle.pyver_commands.proofs.CommonRanges.{one_printed}
+use Rattle.pyver_commands.specs.CommonRanges.{FindsCommon, ListReading, PrintsLists, ReadsMembers, list_reading, members_in, messages_in}
 use Rattle.pyver_commands.specs.Comparisons.{Compares, comparison_outcome}
 use Rattle.pyver_commands.specs.Sources.ReadLines.{field}
 use Rattle.pyver_commands.specs.Filters.{Filters, FiltersBy, FiltersLines, filter_outcome, rule_of}
 use Rattle.pyver_commands.specs.Sources.InputLines.{SourceLine, Source, filled_lines}
-use Rattle.pyver_commands.specs.Sources.LineOptions.{is_header, no_line_options}
+use Rattle.pyver_commands.specs.Sources.LineOptions.{bare_line_options, is_header}
 use Rattle.pyver_commands.specs.Matches.{Matches, MatchesBy, MatchesWord, MatchesWords, ReadsSpecifiers, SpecifiersReading, DenotesList, ListFails, word_outcome}
 use Rattle.pyver_commands.specs.NewestOutcomes.{FindsNewest, FindsNewestBy, FindsNewestLine, candidates, newest_outcome, newest_rule}
 use Rattle.pyver_tool.specs.CheckLaws.{ChecksOnce}
@@ -107,22 +108,22 @@ is_read_once options line x y h k =
 words_once : (quiet takes : Bool) (list : List Spec) (words : List (List ℕ)) (a b : Outcome) → MatchesWords quiet takes list words a → MatchesWords quiet takes list words b → a ≡ b
 words_once quiet takes list words a b (os, h, is) (ps, k, so) = is ∙ ap in_turn (all_once (MatchesWord quiet takes list) (word_once quiet takes list) words os ps h k) ∙ sym so
 
-by_once : (options : MatchOptions) (x : SpecifiersReading) (words : List (List ℕ)) (a b : Outcome) → MatchesBy options x words a → MatchesBy options x words b → a ≡ b
-by_once options (DenotesList list) words a b h k = words_once _ _ list words a b h k
-by_once options (ListFails message) words a b h k = h ∙ sym k
+by_once : (usage : List ℕ) (options : MatchOptions) (specifiers : List ℕ) (x : SpecifiersReading) (words : List (List ℕ)) (a b : Outcome) → MatchesBy usage options specifiers x words a → MatchesBy usage options specifiers x words b → a ≡ b
+by_once usage options specifiers (DenotesList list) words a b h k = words_once _ _ list words a b h k
+by_once usage options specifiers (ListFails message) words a b h k = h ∙ sym k
 
-match_once : (options : MatchOptions) (specifiers : List ℕ) (words : List (List ℕ)) (a b : Outcome) → Matches options specifiers words a → Matches options specifiers words b → a ≡ b
-match_once options specifiers words a b (x, hx, h) (u, hu, k) = by_once options x words a b h (subst (λ (z : SpecifiersReading). MatchesBy options z words b) (sym (specifiers_once specifiers x u hx hu)) k)
+match_once : (usage : List ℕ) (options : MatchOptions) (specifiers : List ℕ) (words : List (List ℕ)) (a b : Outcome) → Matches usage options specifiers words a → Matches usage options specifiers words b → a ≡ b
+match_once usage options specifiers words a b (x, hx, h) (u, hu, k) = by_once usage options specifiers x words a b h (subst (λ (z : SpecifiersReading). MatchesBy usage options specifiers z words b) (sym (specifiers_once specifiers x u hx hu)) k)
 
 filters_once : (rule : FilterRule) (input : Input) (a b : Outcome) → Filters rule input a → Filters rule input b → a ≡ b
 filters_once rule input a b (es, h, is) (fs, k, so) = is ∙ ap (λ l. filter_outcome rule l input.unopened) (all_once (IsRead rule.lines) (is_read_once rule.lines) (filled_lines input.sources) es fs h k) ∙ sym so
 
-filter_by_once : (options : FilterOptions) (x : SpecifiersReading) (input : Input) (a b : Outcome) → FiltersBy options x input a → FiltersBy options x input b → a ≡ b
-filter_by_once options (DenotesList list) input a b h k = filters_once (rule_of options list) input a b h k
-filter_by_once options (ListFails message) input a b h k = h ∙ sym k
+filter_by_once : (usage : List ℕ) (options : FilterOptions) (specifiers : List ℕ) (x : SpecifiersReading) (input : Input) (a b : Outcome) → FiltersBy usage options specifiers x input a → FiltersBy usage options specifiers x input b → a ≡ b
+filter_by_once usage options specifiers (DenotesList list) input a b h k = filters_once (rule_of options list) input a b h k
+filter_by_once usage options specifiers (ListFails message) input a b h k = h ∙ sym k
 
-filter_once : (options : FilterOptions) (specifiers : List ℕ) (input : Input) (a b : Outcome) → FiltersLines options specifiers input a → FiltersLines options specifiers input b → a ≡ b
-filter_once options specifiers input a b (x, hx, h) (u, hu, k) = filter_by_once options x input a b h (subst (λ (z : SpecifiersReading). FiltersBy options z input b) (sym (specifiers_once specifiers x u hx hu)) k)
+filter_once : (usage : List ℕ) (options : FilterOptions) (specifiers : List ℕ) (input : Input) (a b : Outcome) → FiltersLines usage options specifiers input a → FiltersLines usage options specifiers input b → a ≡ b
+filter_once usage options specifiers input a b (x, hx, h) (u, hu, k) = filter_by_once usage options specifiers x input a b h (subst (λ (z : SpecifiersReading). FiltersBy usage options specifiers z input b) (sym (specifiers_once specifiers x u hx hu)) k)
 
 -- what is written where no invalid line is an error is one outcome, and so is what is written of any lines
 of_found_once : (how : InvalidLines) (Gives : InputParts → Outcome → Type 0) → ((parts : InputParts) (a b : Outcome) → Gives parts a → Gives parts b → a ≡ b) → (found : List ReadLine) (a b : Outcome) → OfFound how Gives found a → OfFound how Gives found b → a ≡ b
@@ -146,12 +147,12 @@ sort_once options parts a b (xs, h, is) (ys, k, so) = is ∙ ap (sort_outcome op
 finds_once : (rule : NewestRule) (parts : InputParts) (a b : Outcome) → FindsNewest rule parts a → FindsNewest rule parts b → a ≡ b
 finds_once rule parts a b (x, h, is) (y, k, so) = is ∙ ap (newest_outcome parts.messages) (one_newest (candidates rule parts.versions) x y h k) ∙ sym so
 
-newest_by_once : (options : NewestOptions) (x : SpecifiersReading) (input : Input) (a b : Outcome) → FindsNewestBy options x input a → FindsNewestBy options x input b → a ≡ b
-newest_by_once options (DenotesList list) input a b h k = let rule = newest_rule options list in of_versions_once options.lines (FindsNewest rule) (finds_once rule) input a b h k
-newest_by_once options (ListFails message) input a b h k = h ∙ sym k
+newest_by_once : (usage : List ℕ) (options : NewestOptions) (specifiers : List ℕ) (x : SpecifiersReading) (input : Input) (a b : Outcome) → FindsNewestBy usage options specifiers x input a → FindsNewestBy usage options specifiers x input b → a ≡ b
+newest_by_once usage options specifiers (DenotesList list) input a b h k = let rule = newest_rule options list in of_versions_once options.lines (FindsNewest rule) (finds_once rule) input a b h k
+newest_by_once usage options specifiers (ListFails message) input a b h k = h ∙ sym k
 
-newest_once : (options : NewestOptions) (specifiers : List ℕ) (input : Input) (a b : Outcome) → FindsNewestLine options specifiers input a → FindsNewestLine options specifiers input b → a ≡ b
-newest_once options specifiers input a b (x, hx, h) (u, hu, k) = newest_by_once options x input a b h (subst (λ (z : SpecifiersReading). FindsNewestBy options z input b) (sym (specifiers_once specifiers x u hx hu)) k)
+newest_once : (usage : List ℕ) (options : NewestOptions) (specifiers : List ℕ) (input : Input) (a b : Outcome) → FindsNewestLine usage options specifiers input a → FindsNewestLine usage options specifiers input b → a ≡ b
+newest_once usage options specifiers input a b (x, hx, h) (u, hu, k) = newest_by_once usage options specifiers x input a b h (subst (λ (z : SpecifiersReading). FindsNewestBy usage options specifiers z input b) (sym (specifiers_once specifiers x u hx hu)) k)
 
 show_word_once : (format : ShowFormat) (word : List ℕ) (a b : Outcome) → ShowsWord format word a → ShowsWord format word b → a ≡ b
 show_word_once format word a b (x, hx, is) (u, hu, so) = is ∙ ap (show_outcome format word) (reading_once word x u hx hu) ∙ sym so
@@ -162,22 +163,23 @@ show_once format words a b (os, h, is) (ps, k, so) = is ∙ ap in_turn (all_once
 bump_once : (to : Option ℕ) (parts : List BumpPart) (word : List ℕ) (a b : Outcome) → Bumps to parts word a → Bumps to parts word b → a ≡ b
 bump_once to parts word a b (x, hx, is) (u, hu, so) = is ∙ ap (bump_outcome to parts word) (reading_once word x u hx hu) ∙ sym so
 
-range_once : (word : List ℕ) (x y : RangeReading) → ReadsRange word x → ReadsRange word y → x ≡ y
-range_once word x y (l, hl, is) (m, hm, so) = is ∙ ap (range_reading word) (specifiers_once word l m hl hm) ∙ sym so
+list_once : (word : List ℕ) (x y : ListReading) → ReadsMembers word x → ReadsMembers word y → x ≡ y
+list_once word x y (l, hl, is) (m, hm, so) = is ∙ ap (list_reading word) (specifiers_once word l m hl hm) ∙ sym so
 
 common_once : (options : RangeOptions) (words : List (List ℕ)) (a b : Outcome) → FindsCommon options words a → FindsCommon options words b → a ≡ b
-common_once options words a b (xs, h, is) (ys, k, so) = is ∙ ap (found_outcome options) (all_once ReadsRange range_once words xs ys h k) ∙ sym so
+common_once options words a b (xs, h, is) (ys, k, so) =
+    one_printed options (messages_in xs) (members_in xs) a b is (subst (λ (l : List ListReading). PrintsLists options (messages_in l) (members_in l) b) (sym (all_once ReadsMembers list_once words xs ys h k)) so)
 
 pub outcomes_once : OutcomesOnce
 outcomes_once (Help topic) input a b h k = h ∙ sym k
 outcomes_once NameVersion input a b h k = h ∙ sym k
 outcomes_once (Compare left operator right) input a b h k = compare_once left operator right a b h k
-outcomes_once (Match options specifiers words) input a b h k = match_once options specifiers words a b h k
-outcomes_once (Filter options specifiers names) input a b h k = filter_once options specifiers input a b h k
+outcomes_once (Match options specifiers words) input a b h k = match_once _ options specifiers words a b h k
+outcomes_once (Filter options specifiers names) input a b h k = filter_once _ options specifiers input a b h k
 outcomes_once (Sort options names) input a b h k = of_versions_once options.lines (SortsParts options) (sort_once options) input a b h k
-outcomes_once (Newest options specifiers names) input a b h k = newest_once options specifiers input a b h k
+outcomes_once (Newest options specifiers names) input a b h k = newest_once _ options specifiers input a b h k
 outcomes_once (Show format words) input a b h k = show_once format words a b h k
-outcomes_once (Bump to parts None) input a b h k = of_versions_once no_line_options (BumpsOnly to parts) (λ lines a b is so. is ∙ sym so) input a b h k
+outcomes_once (Bump to parts None) input a b h k = of_versions_once bare_line_options (BumpsOnly to parts) (λ lines a b is so. is ∙ sym so) input a b h k
 outcomes_once (Bump to parts (Some word)) input a b h k = bump_once to parts word a b h k
 outcomes_once (Range options words) input a b h k = common_once options words a b h k
 outcomes_once (Check options names) input a b h k = absurd h

@@ -5,7 +5,7 @@ use Rattle.std.specs.Prelude.{Bool, ◌||◌}
 use Rattle.pyver_tool.specs.Options.{Row}
 use Rattle.pyver_tool.specs.Tasks.{Help, NameVersion, help_task, named_task, task_of}
 use Rattle.pyver_tool.specs.declared.help.Topic.TheVariants as topic
-use Rattle.pyver_tool.specs.SplitWords.{Awaits, End, Given, Missing, Split, UnknownWord, Whole, before, by_end, is_option, split_words, word_options}
+use Rattle.pyver_tool.specs.SplitWords.{Awaits, End, Given, Missing, Named, Split, UnknownWord, Whole, before, by_end, is_option, split_words, word_options}
 
 -- the first word and the others
 pub first_word : {W : Type 0} (f : W → List ℕ) (words : List W) (w : W) (text : List ℕ) → 1 ≤ length words → w ≡ get_or words 0 w → text ≡ f w → map f words ≡ text ∷ map f (take (length words - 1) (drop 1 words))
@@ -15,16 +15,16 @@ first_word f (x ∷ rest) w text long is same =
     ap (λ t. t ∷ map f rest) (sym (same ∙ ap f is)) ∙ ap (λ l. text ∷ map f l) (sym whole)
 
 -- options after others
-pub options_before : (options more : List (Row × List ℕ)) (operands : List (List ℕ)) (split : Split) → before (options ++ more) operands split ≡ before options operands (before more [] split)
+pub options_before : (options more : List (Named × List ℕ)) (operands : List (List ℕ)) (split : Split) → before (options ++ more) operands split ≡ before options operands (before more [] split)
 options_before options more operands (Given others names) = ap (λ x. Given x (operands ++ names)) (append_assoc options more others)
 options_before options more operands (UnknownWord word) = refl
-options_before options more operands Missing = refl
+options_before options more operands (Missing option) = refl
 
 -- operands after others
-pub operands_before : (options : List (Row × List ℕ)) (operands more : List (List ℕ)) (split : Split) → before options (operands ++ more) split ≡ before options operands (before [] more split)
+pub operands_before : (options : List (Named × List ℕ)) (operands more : List (List ℕ)) (split : Split) → before options (operands ++ more) split ≡ before options operands (before [] more split)
 operands_before options operands more (Given others names) = ap (λ y. Given (options ++ others) y) (append_assoc operands more names)
 operands_before options operands more (UnknownWord word) = refl
-operands_before options operands more Missing = refl
+operands_before options operands more (Missing option) = refl
 
 module _ (rows : List Row) (word : List ℕ) (rest : List (List ℕ)) (goes_on : bytes_eq word (codes "--") ≡ false) where
   -- the word is an operand
@@ -46,8 +46,8 @@ module _ (rows : List Row) (word : List ℕ) (rest : List (List ℕ)) (goes_on :
   whole_next one is = options_next one ∙ ap (λ (e : End). by_end word ((word_options rows word).0, e) (λ awaited. split_words rows awaited rest)) (sym is)
 
   -- its last option awaits a value
-  pub awaits_next : (row : Row) → is_option word ≡ true → Awaits row ≡ (word_options rows word).1 → split_words rows None (word ∷ rest) ≡ before (word_options rows word).0 [] (split_words rows (Some row) rest)
-  awaits_next row one is = options_next one ∙ ap (λ (e : End). by_end word ((word_options rows word).0, e) (λ awaited. split_words rows awaited rest)) (sym is)
+  pub awaits_next : (option : Named) → is_option word ≡ true → Awaits option ≡ (word_options rows word).1 → split_words rows None (word ∷ rest) ≡ before (word_options rows word).0 [] (split_words rows (Some option) rest)
+  awaits_next option one is = options_next one ∙ ap (λ (e : End). by_end word ((word_options rows word).0, e) (λ awaited. split_words rows awaited rest)) (sym is)
 
 neither : (a b : Bool) → a ≡ false → b ≡ false → (a || b) ≡ false
 neither a b x y = rw (x, y) refl

@@ -1,8 +1,10 @@
 -- The messages of words that name no command, option or value, with a suggestion where a right word is near.
-use Rattle.std.specs.Prelude.{ℕ, List, [], ◌∷◌, ◌++◌, Option, Some, None, codes}
+use Rattle.std.specs.Prelude.{ℕ, List, [], ◌∷◌, ◌++◌, Option, Some, None, codes, if◌then◌else◌}
+use Rattle.std.specs.Fmt.{decimal}
 use Rattle.std.specs.List.{flat_map}
 use Rattle.cli_io.specs.Escapes.{escaped}
 use Rattle.pyver_tool.specs.Nearest.{nearest}
+use Rattle.pyver_tool.specs.SplitWords.{Named}
 
 -- the suggestion of the nearest right word, if one is near
 abbrev pub hint : Option (List ℕ) → List ℕ
@@ -14,21 +16,39 @@ abbrev pub help_hint : List ℕ → List ℕ
 help_hint help = codes "\nTry '" ++ (help ++ codes "'.\n")
 
 -- the message of a word that names nothing of this kind, with a suggestion, as far as it depends on these
-abbrev pub unknown_start : List ℕ → List ℕ → List ℕ → Option (List ℕ) → List ℕ
-unknown_start start kind word near = start ++ (kind ++ (codes " '" ++ (escaped word ++ (codes "'" ++ hint near))))
+abbrev pub unknown_start : List ℕ → List ℕ → Option (List ℕ) → List ℕ
+unknown_start kind word near = codes "pyver: no " ++ (kind ++ (codes " '" ++ (escaped word ++ (codes "'" ++ hint near))))
 
 -- the message of a word that names nothing of this kind, with a suggestion
 abbrev pub unknown_message : List ℕ → List ℕ → List (List ℕ) → List ℕ → List ℕ
-unknown_message kind word names help = unknown_start (codes "pyver: no ") kind word (nearest word names) ++ help_hint help
+unknown_message kind word names help = unknown_start kind word (nearest word names) ++ help_hint help
 
 -- the values of an option, on a line of their own, if they are few
 abbrev pub choices_text : List (List ℕ) → List ℕ
 choices_text [] = []
 choices_text (choice ∷ others) = codes "\nChoices:" ++ flat_map (λ c. codes " " ++ c) (choice ∷ others)
 
--- the message of a word that is no value of the option of this name
-abbrev pub value_message : List ℕ → List ℕ → List (List ℕ) → List ℕ → List ℕ
-value_message name word choices help = unknown_start (codes "pyver: no value of ") name word (nearest word choices) ++ (choices_text choices ++ help_hint help)
+-- an option as it was typed: a dash and its letter, or its name
+abbrev pub typed_name : Named → List ℕ
+typed_name option = if option.1 then codes "-" ++ option.0.letter else option.0.name
+
+-- the message of a word that is no value of the option
+abbrev pub value_message : Named → List ℕ → List ℕ → List ℕ
+value_message option word help =
+    codes "pyver: " ++ (typed_name option ++ (codes " needs " ++ (option.0.value ++ (codes ", not '" ++ (escaped word ++ (codes "'" ++ (hint (nearest word option.0.choices) ++ (choices_text option.0.choices ++ help_hint help))))))))
+
+-- the message of an option whose value is missing
+abbrev pub missing_message : Named → List ℕ → List ℕ
+missing_message option help = codes "pyver: " ++ (typed_name option ++ (codes " needs a value" ++ help_hint help))
+
+-- the option that sets a number, and a space after it
+abbrev pub to_text : Option ℕ → List ℕ
+to_text None = []
+to_text (Some number) = codes "--to " ++ (decimal number ++ codes " ")
+
+-- the message of `bump` where the first word, with a digit as no part has, is followed by parts alone: the call with the version last
+abbrev pub version_last_message : Option ℕ → List ℕ → List (List ℕ) → List ℕ
+version_last_message to word rest = codes "pyver: the version comes last: pyver bump " ++ (to_text to ++ (flat_map (λ w. escaped w ++ codes " ") rest ++ (escaped word ++ codes "\n")))
 
 -- the message of too few or too many words
 abbrev pub usage_message : List ℕ → List ℕ → List ℕ

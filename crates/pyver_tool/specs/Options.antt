@@ -4,8 +4,7 @@ use Rattle.pyver_tool.specs.declared.help.Topic.{Topic}
 use Rattle.pyver_tool.specs.declared.help.Topic.TheVariants as topic
 use Rattle.pyver_tool.specs.declared.options.TheConstants.{BUMP_OPTIONS, CHECK_OPTIONS, COMPARE_OPTIONS, FILTER_OPTIONS, MATCH_OPTIONS, NEWEST_OPTIONS, RANGE_OPTIONS, SHOW_OPTIONS, SORT_OPTIONS}
 
--- an option: its letter or nothing, its name, what stands for its value in the help or nothing if it has none, and its values if
--- they are few
+-- an option: its letter or nothing, its name, what its value is or nothing if it has none, and its values if they are few
 pub record Row : Type 0 where
   pub letter : List ℕ
   pub name : List ℕ
@@ -13,10 +12,10 @@ pub record Row : Type 0 where
   pub choices : List (List ℕ)
 
 -- a row of strings, where `text` are the bytes of a string, and `texts` the strings of a list
-abbrev pub row_of : {S T : Type 0} (text : S → List ℕ) (texts : T → List S) → (S × S × S × T × S) → Row
+abbrev pub row_of : {S T : Type 0} (text : S → List ℕ) (texts : T → List S) → (S × S × S × T) → Row
 row_of text texts row = record { letter = text row.0; name = text row.1; value = text row.2; choices = map text (texts row.3) }
 
-abbrev pub rows_of : {S T : Type 0} (text : S → List ℕ) (texts : T → List S) → List (S × S × S × T × S) → List Row
+abbrev pub rows_of : {S T : Type 0} (text : S → List ℕ) (texts : T → List S) → List (S × S × S × T) → List Row
 rows_of text texts rows = map (row_of text texts) rows
 
 -- the options of a command

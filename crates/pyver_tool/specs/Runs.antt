@@ -1,9 +1,9 @@
--- How a run of the program may end. `files` is what is known of each file, `paths` what is known of its path, and `remaining` are the
--- bytes that the reader has left.
-use Rattle.std.specs.Prelude.{◌≡◌, ◌⊎◌, ℕ, List, Option}
+-- How a run of the program may end. `files` is what is known of each file, `paths` what is known of its path, `outputs` of whether it is
+-- the output, and `remaining` are the bytes that the reader has left.
+use Rattle.std.specs.Prelude.{◌≡◌, ◌⊎◌, ℕ, Bool, List, None, Option, Some}
 use Rattle.cli_io.specs.Runs.{AtOnce, Begun, Ends, InParts, Nothing, Outcome}
 use Rattle.pyver_commands.specs.Sources.RunFailures.{IsWriteFailure, Reports, StopsUnanswered, StopsWithin}
-use Rattle.pyver_commands.specs.Sources.{Input, KnownFile, ReadsInput}
+use Rattle.pyver_commands.specs.Sources.{FindsOutput, Input, KnownFile, ReadsInput, output_outcome}
 use Rattle.pyver_tool.specs.Checks.{Checks, StopsCheck}
 use Rattle.pyver_tool.specs.Tasks.{Check, IsOutcome, IsStream, NeedsInput, Task, names_of}
 use Rattle.pyver_tool.specs.declared.check.CheckOptions.{CheckOptions}
@@ -21,11 +21,17 @@ module _ (Finishes : Outcome → Type 0) (Early : RunFailure → Type 0) (Within
   abbrev pub EndsBy : {W E : Type 0} → (W → Option (List ℕ)) → (E → Option (List ℕ)) → W → W → E → E → ℕ → Type 0
   EndsBy contents error_contents out out' err err' status = Ends contents error_contents Finishes StopsBy out out' err err' status
 
-module _ {R : Type 0} (files : List ℕ → KnownFile) (paths : List ℕ → Option (List ℕ)) (remaining : R → Option (List ℕ)) (task : Task) (reader reader' : R) where
-  -- the outcome once all was read that the task needs, or all sources before a file that was not opened
+module _ {R : Type 0} (files : List ℕ → KnownFile) (paths : List ℕ → Option (List ℕ)) (outputs : List ℕ → Option Bool) (remaining : R → Option (List ℕ)) (task : Task) (reader reader' : R) where
+  -- this source of a command that prints lines before all are read is also the output, or none is
+  abbrev pub Meets : Option (List ℕ) → Type 0
+  Meets found = IsStream task → FindsOutput outputs (names_of task) found
+
+  -- the outcome once all was read that the task needs, or all sources before a file that was not opened; or nothing was read, since a
+  -- source is also the output
   abbrev pub FinishesTask : Outcome → Type 0
-  FinishesTask o = ((input : Input) × (NeedsInput task → ReadsInput files remaining (names_of task) reader reader' input) × IsOutcome task input o)
-      ⊎ ((options : CheckOptions) × (names : List (List ℕ)) × (task ≡ Check options names) × Checks files paths remaining options names reader reader' o)
+  FinishesTask o = ((input : Input) × (NeedsInput task → Meets None × ReadsInput files remaining (names_of task) reader reader' input) × IsOutcome task input o)
+      ⊎ (((name : List ℕ) × IsStream task × NeedsInput task × Meets (Some name) × (o ≡ output_outcome name) × (reader' ≡ reader))
+      ⊎ ((options : CheckOptions) × (names : List (List ℕ)) × (task ≡ Check options names) × Checks files paths remaining options names reader reader' o))
 
   -- there is no outcome: an allocation failed before anything was read, or reading stopped, or an allocation failed after it
   abbrev pub StopsEarly : RunFailure → Type 0
@@ -35,7 +41,7 @@ module _ {R : Type 0} (files : List ℕ → KnownFile) (paths : List ℕ → Opt
 
   -- a command that prints lines before all are read stopped, and this is the outcome of those that were read
   abbrev pub StopsStream : Outcome → RunFailure → Type 0
-  StopsStream o why = IsStream task × NeedsInput task × StopsWithin files remaining (IsOutcome task) (names_of task) reader reader' o why
+  StopsStream o why = IsStream task × NeedsInput task × Meets None × StopsWithin files remaining (IsOutcome task) (names_of task) reader reader' o why
 
   -- the run finishes or stops so
   abbrev pub TaskEnds : {W E : Type 0} → (W → Option (List ℕ)) → (E → Option (List ℕ)) → W → W → E → E → ℕ → Type 0

@@ -5,7 +5,7 @@ use Rattle.pyver_tool.specs.FileKinds.{file_kind_of}
 use Rattle.pyver_commands.specs.Sources.InvalidLines.{invalid_lines_of}
 use Rattle.pyver_commands.specs.Sources.LineOptions.{no_line_options}
 use Rattle.pyver_commands.specs.Numbers.{word_number}
-use Rattle.pyver_tool.specs.Options.{Row}
+use Rattle.pyver_tool.specs.SplitWords.{Named}
 use Rattle.pyver_commands.specs.Parts.{part_of}
 use Rattle.pyver_tool.specs.declared.file_kind.FileKind.TheVariants as file_kind
 use Rattle.pyver_commands.specs.declared.sources.line_options.LineOptions.{LineOptions}
@@ -61,13 +61,13 @@ no_settings = record { quiet = false; prereleases = prereleases.Listed; inverted
 -- what options set, or the first of them with a wrong value
 pub data Effect : Type 0 where
   Sets : Settings → Effect
-  WrongValue : Row → List ℕ → Effect
+  WrongValue : Named → List ℕ → Effect
 
 -- what the others set after this one, or its wrong value
-abbrev pub by_option : Row → List ℕ → Option Settings → (Settings → Effect) → Effect
-by_option row value None others = WrongValue row value
-by_option row value (Some settings) others = others settings
+abbrev pub by_option : Named → List ℕ → Option Settings → (Settings → Effect) → Effect
+by_option option value None others = WrongValue option value
+by_option option value (Some settings) others = others settings
 
-abbrev pub effect : Settings → List (Row × List ℕ) → Effect
+abbrev pub effect : Settings → List (Named × List ℕ) → Effect
 effect settings [] = Sets settings
-effect settings (given ∷ rest) = by_option given.0 given.1 (with_option settings given.0.name given.1) (λ taken. effect taken rest)
+effect settings (given ∷ rest) = by_option given.0 given.1 (with_option settings given.0.0.name given.1) (λ taken. effect taken rest)

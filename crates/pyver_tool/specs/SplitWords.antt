@@ -1,5 +1,5 @@
 -- Words as options and operands, by the options that a command has.
-use Rattle.std.specs.Prelude.{ℕ, ◌==◌, ◌&&◌, List, [], ◌∷◌, ◌++◌, length, drop, Bool, false, Option, Some, None, bytes_eq, codes, is_some, nat_eq, nat_lt, if◌then◌else◌}
+use Rattle.std.specs.Prelude.{ℕ, ◌==◌, ◌&&◌, List, [], ◌∷◌, ◌++◌, length, drop, Bool, true, false, Option, Some, None, bytes_eq, codes, is_some, nat_eq, nat_lt, if◌then◌else◌}
 use Rattle.std.specs.List.{starts_with}
 use Rattle.std.specs.Option.{option_map}
 use Rattle.pyver_tool.specs.Options.{Row}
@@ -16,10 +16,14 @@ value_behind start word = if starts_with nat_eq word start then Some (drop (leng
 abbrev pub takes_value : Row → Bool
 takes_value row = nat_lt 0 (length row.value)
 
+-- an option, and whether it is named by its letter
+abbrev pub Named : Type 0
+Named = Row × Bool
+
 -- how a word of options ends: with its last option, with one whose value is the next word, or with what is no option
 pub data End : Type 0 where
   Whole : End
-  Awaits : Row → End
+  Awaits : Named → End
   Unknown : End
 
 -- ---- letters, as in `-ru` and `-n2`
@@ -35,20 +39,20 @@ first_letter rows [] = None
 first_letter rows (b ∷ after) = option_map (λ row. (row, after)) (lettered rows b)
 
 -- an option without a value, and then the others
-abbrev pub with_flag : Row → (List (Row × List ℕ) × End) → (List (Row × List ℕ) × End)
-with_flag row others = ((row, []) ∷ others.0, others.1)
+abbrev pub with_flag : Row → (List (Named × List ℕ) × End) → (List (Named × List ℕ) × End)
+with_flag row others = (((row, true), []) ∷ others.0, others.1)
 
 -- an option with a value, which is the rest of the word, or the next word if nothing is left
-abbrev pub with_rest : Row → List ℕ → (List (Row × List ℕ) × End)
-with_rest row [] = ([], Awaits row)
-with_rest row (b ∷ rest) = ((row, b ∷ rest) ∷ [], Whole)
+abbrev pub with_rest : Row → List ℕ → (List (Named × List ℕ) × End)
+with_rest row [] = ([], Awaits (row, true))
+with_rest row (b ∷ rest) = (((row, true), b ∷ rest) ∷ [], Whole)
 
-abbrev pub by_letter : Option Row → List ℕ → (List (Row × List ℕ) × End) → (List (Row × List ℕ) × End)
+abbrev pub by_letter : Option Row → List ℕ → (List (Named × List ℕ) × End) → (List (Named × List ℕ) × End)
 by_letter None after others = ([], Unknown)
 by_letter (Some row) after others = if takes_value row then with_rest row after else with_flag row others
 
 -- each letter is an option, and the first that takes a value is the last
-abbrev pub letter_options : List Row → List ℕ → (List (Row × List ℕ) × End)
+abbrev pub letter_options : List Row → List ℕ → (List (Named × List ℕ) × End)
 letter_options rows [] = ([], Whole)
 letter_options rows (b ∷ after) = by_letter (lettered rows b) after (letter_options rows after)
 
@@ -71,48 +75,48 @@ abbrev pub named : List Row → List ℕ → Option (Row × Option (List ℕ))
 named [] word = None
 named (row ∷ rows) word = first_named (option_map (λ value. (row, value)) (value_in row word)) (named rows word)
 
-abbrev pub by_name : Option (Row × Option (List ℕ)) → (List (Row × List ℕ) × End)
+abbrev pub by_name : Option (Row × Option (List ℕ)) → (List (Named × List ℕ) × End)
 by_name None = ([], Unknown)
-by_name (Some (row, None)) = if takes_value row then ([], Awaits row) else ((row, []) ∷ [], Whole)
-by_name (Some (row, Some value)) = if takes_value row then ((row, value) ∷ [], Whole) else ([], Unknown)
+by_name (Some (row, None)) = if takes_value row then ([], Awaits (row, false)) else (((row, false), []) ∷ [], Whole)
+by_name (Some (row, Some value)) = if takes_value row then (((row, false), value) ∷ [], Whole) else ([], Unknown)
 
-abbrev pub named_options : List Row → List ℕ → (List (Row × List ℕ) × End)
+abbrev pub named_options : List Row → List ℕ → (List (Named × List ℕ) × End)
 named_options rows word = by_name (named rows word)
 
 -- ---- words
 
-abbrev pub behind_dash : List Row → Option (List ℕ) → (List (Row × List ℕ) × End)
+abbrev pub behind_dash : List Row → Option (List ℕ) → (List (Named × List ℕ) × End)
 behind_dash rows None = ([], Unknown)
 behind_dash rows (Some rest) = letter_options rows rest
 
 -- the options of a word that begins with a dash
-abbrev pub word_options : List Row → List ℕ → (List (Row × List ℕ) × End)
+abbrev pub word_options : List Row → List ℕ → (List (Named × List ℕ) × End)
 word_options rows word = if is_some (value_behind (codes "--") word) then named_options rows word else behind_dash rows (value_behind (codes "-") word)
 
 -- the options with their values and the operands, each in their order; or the first word that names no option; or the value of the
 -- last option is missing
 pub data Split : Type 0 where
-  Given : List (Row × List ℕ) → List (List ℕ) → Split
+  Given : List (Named × List ℕ) → List (List ℕ) → Split
   UnknownWord : List ℕ → Split
-  Missing : Split
+  Missing : Named → Split
 
 -- these options and operands, and then those of the other words
-abbrev pub before : List (Row × List ℕ) → List (List ℕ) → Split → Split
+abbrev pub before : List (Named × List ℕ) → List (List ℕ) → Split → Split
 before options operands (Given others names) = Given (options ++ others) (operands ++ names)
 before options operands (UnknownWord word) = UnknownWord word
-before options operands Missing = Missing
+before options operands (Missing option) = Missing option
 
 -- the options of this word, and then the other words, where an option may await its value
-abbrev pub by_end : List ℕ → (List (Row × List ℕ) × End) → (Option Row → Split) → Split
+abbrev pub by_end : List ℕ → (List (Named × List ℕ) × End) → (Option Named → Split) → Split
 by_end word (options, Whole) others = before options [] (others None)
-by_end word (options, Awaits row) others = before options [] (others (Some row))
+by_end word (options, Awaits option) others = before options [] (others (Some option))
 by_end word (options, Unknown) others = UnknownWord word
 
 -- what the words are, where the first may be the value of an option: `--` ends the options, which may stand behind operands
-abbrev pub split_words : List Row → Option Row → List (List ℕ) → Split
+abbrev pub split_words : List Row → Option Named → List (List ℕ) → Split
 split_words rows None [] = Given [] []
-split_words rows (Some row) [] = Missing
-split_words rows (Some row) (value ∷ rest) = before ((row, value) ∷ []) [] (split_words rows None rest)
+split_words rows (Some option) [] = Missing option
+split_words rows (Some option) (value ∷ rest) = before ((option, value) ∷ []) [] (split_words rows None rest)
 split_words rows None (word ∷ rest) =
     if bytes_eq word (codes "--") then Given [] rest
     else if is_option word then by_end word (word_options rows word) (λ awaited. split_words rows awaited rest)

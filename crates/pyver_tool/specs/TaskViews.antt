@@ -1,8 +1,8 @@
 -- What the program's commands say, apart from where they lie in memory.
 use Rattle.std.specs.Prelude.{ℕ, List, [], map, option_map, string_bytes}
-use Rattle.pyver_tool.specs.Options.{row_of}
-use Rattle.pyver_tool.specs.SplitViews.{split_of}
-use Rattle.pyver_tool.specs.Tasks.{Task, Help, NameVersion, Compare, Match, Filter, Sort, Newest, Show, Range, Check, Misused, bump_from_words, by_split, wrong_command, wrong_count, wrong_operator, wrong_option, wrong_part, wrong_value}
+use Rattle.pyver_tool.specs.MisuseMessages.{version_last_message}
+use Rattle.pyver_tool.specs.SplitViews.{named_of, split_of}
+use Rattle.pyver_tool.specs.Tasks.{Task, Help, NameVersion, Compare, Match, Filter, Sort, Newest, Show, Range, Check, Misused, bump_from_words, by_split, help_text, wrong_command, wrong_count, wrong_end, wrong_operator, wrong_option, wrong_part, wrong_value}
 use Rattle.pyver_tool.specs.declared.command.Command.{Command}
 use Rattle.pyver_tool.specs.declared.command.Command.TheVariants as command
 use Rattle.pyver_tool.specs.declared.words.Words.{Words}
@@ -14,10 +14,13 @@ use Rattle.pyver_tool.specs.declared.misuse.Misuse.TheVariants as misuse
 abbrev pub misuse_message : Misuse → List ℕ
 misuse_message (misuse.Command word) = wrong_command word.now
 misuse_message (misuse.Option topic word) = wrong_option topic word.now
-misuse_message (misuse.Value topic row word) = wrong_value topic (row_of (λ s. s.now) (λ t. t.now) row) word.now
+misuse_message (misuse.Value topic option word) = wrong_value topic (named_of (λ s. s.now) (λ t. t.now) option) word.now
+misuse_message (misuse.Missing topic option) = wrong_end topic (named_of (λ s. s.now) (λ t. t.now) option)
 misuse_message (misuse.Comparison word) = wrong_operator word.now
 misuse_message (misuse.BumpPart word) = wrong_part word.now
+misuse_message (misuse.VersionFirst to word rest) = version_last_message to word.now (map string_bytes rest.now)
 misuse_message (misuse.Count topic) = wrong_count topic
+misuse_message misuse.NoWords = help_text topic.Program
 
 abbrev pub task : Command → Task
 task (command.Help topic) = Help topic
@@ -39,4 +42,5 @@ words_task (words.Help topic) = Help topic
 words_task words.Version = NameVersion
 words_task (words.Command topic split) = by_split topic (split_of split)
 words_task (words.Unknown word) = Misused (wrong_command (string_bytes word))
+words_task words.Nothing = Misused (help_text topic.Program)
 words_task words.Miscounted = Misused (wrong_count topic.Program)

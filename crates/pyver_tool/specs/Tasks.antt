@@ -1,5 +1,6 @@
 -- The tasks that the words of a call name, and their outcomes.
-use Rattle.std.specs.Prelude.{◌≡◌, ⊤, ℕ, List, [], ◌∷◌, ◌++◌, Bool, true, false, ◌||◌, Option, Some, None, bytes_eq, codes, get_or, is_some, length, map, take, if◌then◌else◌}
+use Rattle.std.specs.Prelude.{◌≡◌, ⊤, ℕ, List, [], ◌∷◌, ◌++◌, Bool, true, false, ◌==◌, ◌||◌, Option, Some, None, bytes_eq, codes, get_or, is_some, length, map, take, if◌then◌else◌}
+use Rattle.std.specs.Char.{is_ascii_digit}
 use Rattle.std.specs.List.{list_any}
 use Rattle.std.specs.Option.{option_map_or}
 use Rattle.pep440_rs.specs.ListGrammar.{DerivesList}
@@ -10,15 +11,15 @@ use Rattle.pyver_commands.specs.CommonRanges.{FindsCommon}
 use Rattle.pyver_commands.specs.Comparisons.{Compares, comparison_of}
 use Rattle.pyver_commands.specs.Filters.{FiltersLines}
 use Rattle.pyver_commands.specs.Matches.{Matches}
-use Rattle.pyver_tool.specs.MisuseMessages.{unknown_message, usage_message, value_message}
+use Rattle.pyver_tool.specs.MisuseMessages.{version_last_message, missing_message, unknown_message, usage_message, value_message}
 use Rattle.pyver_commands.specs.NewestOutcomes.{FindsNewestLine}
-use Rattle.pyver_tool.specs.Options.{Row, options}
+use Rattle.pyver_tool.specs.Options.{options}
 use Rattle.cli_io.specs.Runs.{Outcome}
 use Rattle.pyver_commands.specs.Outcomes.{message_outcome}
 use Rattle.pyver_tool.specs.Settings.{Effect, Sets, WrongValue, effect, no_settings}
 use Rattle.pyver_commands.specs.Shows.{Shows}
 use Rattle.pyver_commands.specs.Sorts.{SortsLines}
-use Rattle.pyver_tool.specs.SplitWords.{Given, Missing, Split, UnknownWord, split_words}
+use Rattle.pyver_tool.specs.SplitWords.{Given, Missing, Named, Split, UnknownWord, split_words}
 use Rattle.pyver_commands.specs.Sources.{Input, input_name, source_names}
 use Rattle.pyver_commands.specs.declared.allowed.MatchOptions.{MatchOptions}
 use Rattle.pyver_commands.specs.declared.bump.BumpPart.{BumpPart}
@@ -117,8 +118,12 @@ abbrev pub wrong_option : Topic → List ℕ → List ℕ
 wrong_option topic word = unknown_message (codes "option") word (map (λ row. row.name) (options topic)) (help_words topic)
 
 -- the message of an option with a wrong value
-abbrev pub wrong_value : Topic → Row → List ℕ → List ℕ
-wrong_value topic row value = value_message row.name value row.choices (help_words topic)
+abbrev pub wrong_value : Topic → Named → List ℕ → List ℕ
+wrong_value topic option value = value_message option value (help_words topic)
+
+-- the message of an option without its value
+abbrev pub wrong_end : Topic → Named → List ℕ
+wrong_end topic option = missing_message option (help_words topic)
 
 -- the message of a word that is no operator
 abbrev pub wrong_operator : List ℕ → List ℕ
@@ -144,9 +149,23 @@ abbrev pub bump_word : Option ℕ → List (List ℕ) → List ℕ → Task
 bump_word to [] version = Misused (wrong_count topic.Bump)
 bump_word to (word ∷ words) version = bump_from_words to [] (word ∷ words) (Some version)
 
--- the last of the words is the version, unless it names a part: then all name parts, and the version is read
+abbrev pub begins_with_digit : List ℕ → Bool
+begins_with_digit [] = false
+begins_with_digit (b ∷ rest) = is_ascii_digit b
+
+-- a digit, or `v` and a digit, begins the word, and no part
+abbrev pub has_number : List ℕ → Bool
+has_number [] = false
+has_number (b ∷ rest) = if b == 118 then begins_with_digit rest else is_ascii_digit b
+
+-- the words name parts, and the version is read; but the first may be a version
+abbrev pub bump_parts : Option ℕ → List (List ℕ) → Task
+bump_parts to [] = bump_from_words to [] [] None
+bump_parts to (word ∷ rest) = if has_number word then Misused (version_last_message to word rest) else bump_from_words to [] (word ∷ rest) None
+
+-- the last of the words is the version, unless it names a part: then all name parts
 abbrev pub by_last : Option ℕ → List (List ℕ) → List (List ℕ) → List ℕ → Task
-by_last to words before last = if is_some (bump_part_of last) then bump_from_words to [] words None else bump_word to before last
+by_last to words before last = if is_some (bump_part_of last) then bump_parts to words else bump_word to before last
 
 abbrev pub bump_operands : Option ℕ → List (List ℕ) → Task
 bump_operands to [] = Misused (wrong_count topic.Bump)
@@ -175,31 +194,35 @@ task_with settings topic _ = Misused (wrong_count topic)
 -- the task of a command with what its options set
 abbrev pub by_effect : Topic → List (List ℕ) → Effect → Task
 by_effect topic operands (Sets settings) = task_with settings topic operands
-by_effect topic operands (WrongValue row value) = Misused (wrong_value topic row value)
+by_effect topic operands (WrongValue option value) = Misused (wrong_value topic option value)
 
 -- `--help` is among the options
-abbrev pub asks_help : List (Row × List ℕ) → Bool
-asks_help given = list_any (λ g. bytes_eq g.0.name (codes "--help")) given
+abbrev pub asks_help : List (Named × List ℕ) → Bool
+asks_help given = list_any (λ g. bytes_eq g.0.0.name (codes "--help")) given
 
 -- the task of a command with these options and operands
 abbrev pub by_split : Topic → Split → Task
 by_split topic (Given given operands) = if asks_help given then Help topic else by_effect topic operands (effect no_settings given)
 by_split topic (UnknownWord word) = Misused (wrong_option topic word)
-by_split topic Missing = Misused (wrong_count topic)
+by_split topic (Missing option) = Misused (wrong_end topic option)
+
+-- the word is one of the program's own, and no command
+abbrev pub is_program_word : List ℕ → Bool
+is_program_word word = bytes_eq word (codes "help") || (bytes_eq word (codes "-h") || (bytes_eq word (codes "--help") || (bytes_eq word (codes "-V") || bytes_eq word (codes "--version"))))
 
 -- the help of the program or of the command that is named
 abbrev pub help_task : List (List ℕ) → Task
 help_task [] = Help topic.Program
-help_task (word ∷ []) = option_map_or Help (topic_of word) (Misused (wrong_command word))
+help_task (word ∷ []) = if is_program_word word then Help topic.Program else option_map_or Help (topic_of word) (Misused (wrong_command word))
 help_task _ = Misused (wrong_count topic.Program)
 
 -- the task of a word that names a command, and the words after it
 abbrev pub named_task : List ℕ → List (List ℕ) → Task
 named_task word rest = option_map_or (λ topic. by_split topic (split_words (options topic) None rest)) (topic_of word) (Misused (wrong_command word))
 
--- the task that the words ask for, of which the first is a command
+-- the task that the words ask for, of which the first is a command; without one the help is the message
 abbrev pub task_of : List (List ℕ) → Task
-task_of [] = Misused (wrong_count topic.Program)
+task_of [] = Misused (help_text topic.Program)
 task_of (word ∷ rest) =
     if bytes_eq word (codes "-h") || bytes_eq word (codes "--help") then Help topic.Program
     else if bytes_eq word (codes "-V") || bytes_eq word (codes "--version") then NameVersion
@@ -215,10 +238,10 @@ abbrev pub IsOutcome : Task → Input → Outcome → Type 0
 IsOutcome (Help about) input o = o ≡ printed (help_text about)
 IsOutcome NameVersion input o = o ≡ printed VERSION_LINE.now
 IsOutcome (Compare left operator right) input o = Compares left operator right o
-IsOutcome (Match options specifiers words) input o = Matches options specifiers words o
-IsOutcome (Filter options specifiers names) input o = FiltersLines options specifiers input o
+IsOutcome (Match options specifiers words) input o = Matches (usage topic.Match) options specifiers words o
+IsOutcome (Filter options specifiers names) input o = FiltersLines (usage topic.Filter) options specifiers input o
 IsOutcome (Sort options names) input o = SortsLines options input o
-IsOutcome (Newest options specifiers names) input o = FindsNewestLine options specifiers input o
+IsOutcome (Newest options specifiers names) input o = FindsNewestLine (usage topic.Newest) options specifiers input o
 IsOutcome (Show asked words) input o = Shows asked words o
 IsOutcome (Bump to parts None) input o = BumpsInput to parts input o
 IsOutcome (Bump to parts (Some word)) input o = Bumps to parts word o

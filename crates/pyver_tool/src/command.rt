@@ -5,12 +5,12 @@ ghost use Rattle.pyver_tool.specs.TaskViews.{task, words_task};
 ghost use Rattle.pyver_commands.specs.Outcomes.{message_outcome};
 ghost use Rattle.pyver_tool.specs.Settings.{effect, no_settings};
 ghost use Rattle.pyver_tool.specs.SplitViews.{given_of, split_of};
-ghost use Rattle.pyver_tool.specs.Tasks.{Check, Filter, Newest, asks_help, bump_from_words, bump_operands, bump_word, by_effect, by_last, by_split, is_json, printed, task_with};
+ghost use Rattle.pyver_tool.specs.Tasks.{Check, Filter, Newest, asks_help, begins_with_digit, bump_from_words, bump_operands, bump_parts, bump_word, by_effect, by_last, by_split, has_number, is_json, printed, task_with};
 ghost use Rattle.pyver_tool.specs.TaskViews.{misuse_message};
 ghost use Rattle.pyver_tool.specs.WorkViews.{IsWork};
 
 use crate::check::CheckOptions;
-use crate::help::{Topic, VERSION_LINE, help};
+use crate::help::{Topic, VERSION_LINE, help, usage};
 use crate::misuse::{Misuse, push_misuse};
 use crate::settings::Settings;
 use crate::split_words::{GivenOption, Split};
@@ -19,7 +19,7 @@ use pyver_commands::{
     Answer, BumpRule, Comparison, FilterOptions, FilterRule, LinesQuestion, MatchOptions,
     NewestOptions, NewestRule, Question, RangeOptions, Selection, ShowFormat, SortOptions,
     SpecifiersReading, bump_version, compare, find_common, match_versions, parse_bump_part,
-    parse_comparison, parse_specifiers, push_list_fault, show_versions, takes_prereleases,
+    parse_comparison, parse_specifiers, report_list_fault, show_versions, takes_prereleases,
 };
 use std::alloc::{AllocError, Global};
 
@@ -167,6 +167,37 @@ fn parse_bump_word<'a>(to: Option<u64>, parts: &'a [String], version: &'a str) -
     Command::Bump(to, parts, Some(version))
 }
 
+fn begins_with_digit(bytes: &[u8]) -> bool
+    ensures { result ≡ begins_with_digit bytes.now }
+{
+    match bytes {
+        [first, ..] => first.is_ascii_digit(),
+        [] => false,
+    }
+}
+
+// Whether the word begins as a version may and no part does.
+fn has_number(word: &[u8]) -> bool
+    ensures { result ≡ has_number word.now }
+{
+    match word {
+        [b'v', rest @ ..] => begins_with_digit(rest),
+        _ => begins_with_digit(word),
+    }
+}
+
+// Parts, of which the first may be a version.
+fn parse_bump_parts<'a>(to: Option<u64>, words: &'a [String]) -> Command<'a>
+    ensures { task result ≡ bump_parts to (map string_bytes words.now) }
+{
+    match words {
+        [word, rest @ ..] if has_number(word.as_bytes()) => {
+            Command::Misused(Misuse::VersionFirst(to, word.as_str(), rest))
+        }
+        _ => Command::Bump(to, words, None),
+    }
+}
+
 // The last of the words, and those before it.
 fn parse_bump_last<'a>(
     to: Option<u64>,
@@ -177,7 +208,7 @@ fn parse_bump_last<'a>(
     ensures { task result ≡ by_last to (map string_bytes words.now) (map string_bytes before.now) last.now }
 {
     if parse_bump_part(last).is_some() {
-        Command::Bump(to, words, None)
+        parse_bump_parts(to, words)
     } else {
         parse_bump_word(to, before, last)
     }
@@ -227,7 +258,7 @@ fn asks_help(options: &[GivenOption]) -> bool
     ensures { result ≡ asks_help (map (given_of (λ s. s.now) (λ t. t.now) string_bytes) options.now) }
 {
     for given in options {
-        if given.0.1 == "--help" {
+        if given.0.0.1 == "--help" {
             return true;
         }
     }
@@ -240,7 +271,7 @@ fn parse_given<'a>(topic: Topic, options: &'a [GivenOption], operands: &'a [Stri
 {
     let mut settings = Settings::none();
     for given in options {
-        match settings.with_option(given.0.1, given.1.as_str()) {
+        match settings.with_option(given.0.0.1, given.1.as_str()) {
             Some(taken) => settings = taken,
             None => return Command::Misused(Misuse::Value(topic, given.0, given.1.as_str())),
         }
@@ -260,7 +291,7 @@ fn parse_split<'a>(topic: Topic, split: &'a Split) -> Command<'a>
             }
         }
         Split::Unknown(word) => Command::Misused(Misuse::Option(topic, word.as_str())),
-        Split::Missing => Command::Misused(Misuse::Count(topic)),
+        Split::Missing(option) => Command::Misused(Misuse::Missing(topic, *option)),
     }
 }
 
@@ -274,6 +305,7 @@ impl<'a> Command<'a> {
             Words::Version => Command::Version,
             Words::Command(topic, split) => parse_split(*topic, split),
             Words::Unknown(word) => Command::Misused(Misuse::Command(word.as_str())),
+            Words::Nothing => Command::Misused(Misuse::NoWords),
             Words::Miscounted => Command::Misused(Misuse::Count(Topic::Program)),
         }
     }
@@ -289,7 +321,13 @@ impl<'a> Command<'a> {
                 Ok(Work::Answer(compare(alloc, left, operator, right)?))
             }
             Command::Match(options, specifiers, words) => {
-                Ok(Work::Answer(match_versions(alloc, options, specifiers, words)?))
+                Ok(Work::Answer(match_versions(
+                    alloc,
+                    usage(Topic::Match),
+                    options,
+                    specifiers,
+                    words,
+                )?))
             }
             Command::Filter(options, specifiers, names) => {
                 start_filter(alloc, options, specifiers, names)
@@ -333,11 +371,12 @@ fn start_filter<'a>(
             };
             Ok(Work::Filter(rule, names))
         }
-        SpecifiersReading::Invalid(message) => {
-            let mut answer = Answer::silent(alloc, 0);
-            push_list_fault(&mut answer, message.as_str())?;
-            Ok(Work::Answer(answer))
-        }
+        SpecifiersReading::Invalid(message) => Ok(Work::Answer(report_list_fault(
+            alloc,
+            usage(Topic::Filter),
+            specifiers,
+            message.as_str(),
+        )?)),
     }
 }
 
@@ -359,11 +398,12 @@ fn start_newest<'a>(
             };
             Ok(Work::Whole(Question::Newest(rule), names))
         }
-        SpecifiersReading::Invalid(message) => {
-            let mut answer = Answer::silent(alloc, 0);
-            push_list_fault(&mut answer, message.as_str())?;
-            Ok(Work::Answer(answer))
-        }
+        SpecifiersReading::Invalid(message) => Ok(Work::Answer(report_list_fault(
+            alloc,
+            usage(Topic::Newest),
+            specifiers,
+            message.as_str(),
+        )?)),
     }
 }
 
@@ -408,6 +448,6 @@ fn report_misuse(alloc: Global, why: Misuse<'_>) -> Result<Answer, AllocError>
     ensures { IfOk result (λ a. outcome_of a ≡ message_outcome (misuse_message why.entry)) }
 {
     let mut answer = Answer::silent(alloc, 2);
-    push_misuse(&mut answer.errors, why)?;
+    push_misuse(alloc, &mut answer.errors, why)?;
     Ok(answer)
 }

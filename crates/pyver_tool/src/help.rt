@@ -65,8 +65,8 @@ examples:
   pyver compare 1.9 lt 1.10 && echo older
   pyver match '>=1.16,<2.0' 1.19
   pyver filter '>=1.0,<2.0' versions.txt
-  git tag | pyver sort -n 3
-  git tag | pyver newest '<2.0'
+  git tag | pyver sort -n 3 --invalid skip
+  git tag | pyver newest --invalid skip '<2.0'
   pyver show --part major 1.19
   pyver bump minor 1.19
   pyver range '>=1,<2' '>=1.5'
@@ -109,7 +109,7 @@ order mark before the first line and carriage returns at line ends are dropped.
 HOW is error, skip or keep. With error, the default, standard error names each invalid line by file
 and number, the first 20 and then how many more there are, and the exit status is 2 at the end. skip
 only counts them at the end, and keep says nothing; neither changes the status. filter stops at a
-file that cannot be opened, and the exit status is 2.
+file that cannot be opened, and reads nothing if a file is also the output: the exit status is 2.
 Pre-releases and dev releases are left out, unless a specifier other than != has such a version.
 They are left out too if nothing else is allowed: that is not known before the last line.
 Every byte C ends a field: quotes have no meaning.
@@ -126,7 +126,7 @@ options:
 
 examples:
   pyver filter '>=1.0,<2.0,!=1.5.*' versions.txt more.txt
-  git tag | pyver filter --pre '' 2> /dev/null
+  git tag | pyver filter --pre --invalid skip ''
   pyver filter -d , -k 2 --header '>=1.0' < packages.csv
 ";
 
@@ -238,6 +238,7 @@ const RANGE_HELP: &str = "usage: pyver range [--cover] [--json] SPECS..
 Prints the range of versions that all lists allow, a line for each segment: [ and ] mark a bound
 that is in it, ( and ) one that is not, and * no bound. 2~min0 is below all versions of
 the release 2, and 2~max0 above them. The range of '' is (*, *). Pre-releases are not left out.
+Of equal versions, as 1.0 and 1.0.0, the bounds of the shorter one are printed.
 The exit status is 0, 1 if no version is in all lists, and 2 if one is not a list.
 
 A range says nothing of local versions and little of suffixes: 2.1.0+cu118 is in both ==2.1.0+cu118

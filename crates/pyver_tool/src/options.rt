@@ -4,147 +4,66 @@ ghost use Rattle.pyver_tool.specs.Options.{options, rows_of};
 
 use crate::help::Topic;
 
-// The letter of an option, its name, what stands for its value in the help, its values if they are few, and what it is for; empty
-// where it has none. Tuples of strings, since definitions can cite a constant of them.
+// The letter of an option, its name, what its value is, and its values if they are few; empty where it has none. Tuples of
+// strings, since definitions can cite a constant of them.
 pub(crate) type OptionRow = (
     &'static str,
     &'static str,
     &'static str,
     &'static [&'static str],
-    &'static str,
 );
 
-const HELP: OptionRow = ("h", "--help", "", &[], "print this help");
+const HELP: OptionRow = ("h", "--help", "", &[]);
 
-const QUIET: OptionRow = ("q", "--quiet", "", &[], "print nothing");
+const QUIET: OptionRow = ("q", "--quiet", "", &[]);
 
-const PRE: OptionRow = (
-    "",
-    "--pre",
-    "",
-    &[],
-    "allow pre-releases and dev releases too",
-);
+const PRE: OptionRow = ("", "--pre", "", &[]);
 
-const NO_PRE: OptionRow = ("", "--no-pre", "", &[], "allow none of them");
+const NO_PRE: OptionRow = ("", "--no-pre", "", &[]);
 
-const INVERT_MATCH: OptionRow = (
-    "v",
-    "--invert-match",
-    "",
-    &[],
-    "print the other lines, but no invalid ones",
-);
+const INVERT_MATCH: OptionRow = ("v", "--invert-match", "", &[]);
 
-const FIELD: OptionRow = (
-    "k",
-    "--field",
-    "N",
-    &[],
-    "the version is field N, counted from 1, and not the whole line",
-);
+const FIELD: OptionRow = ("k", "--field", "a whole number from 1", &[]);
 
-const DELIMITER: OptionRow = (
-    "d",
-    "--delimiter",
-    "C",
-    &[],
-    "the byte between fields, an ASCII character; without -d a tab",
-);
+const DELIMITER: OptionRow = ("d", "--delimiter", "one ASCII character", &[]);
 
-const HEADER: OptionRow = (
-    "",
-    "--header",
-    "",
-    &[],
-    "the first line of a file is a header; print only the first one",
-);
-
-const NEWEST_HEADER: OptionRow = (
-    "",
-    "--header",
-    "",
-    &[],
-    "leave out the first line of each file",
-);
+const HEADER: OptionRow = ("", "--header", "", &[]);
 
 const INVALID: OptionRow = (
     "",
     "--invalid",
-    "HOW",
+    "one of its choices",
     &["error", "skip", "keep"],
-    "what to do with invalid lines",
 );
 
-const REVERSE: OptionRow = ("r", "--reverse", "", &[], "the newest first");
+const REVERSE: OptionRow = ("r", "--reverse", "", &[]);
 
-const UNIQUE: OptionRow = (
-    "u",
-    "--unique",
-    "",
-    &[],
-    "print only the first of lines with equal versions",
-);
+const UNIQUE: OptionRow = ("u", "--unique", "", &[]);
 
-const LAST: OptionRow = (
-    "n",
-    "--last",
-    "K",
-    &[],
-    "print only the last K lines, after the header",
-);
+const LAST: OptionRow = ("n", "--last", "a whole number", &[]);
 
 const PART: OptionRow = (
     "",
     "--part",
-    "PART",
+    "one of its choices",
     &[
         "epoch", "release", "major", "minor", "micro", "pre", "post", "dev", "local", "public",
         "base",
     ],
-    "print only this part",
 );
 
-const SHOW_JSON: OptionRow = (
-    "",
-    "--json",
-    "",
-    &[],
-    "print all parts as a JSON object, numbers above 2^53 as strings",
-);
+const JSON: OptionRow = ("", "--json", "", &[]);
 
-const TO: OptionRow = ("", "--to", "N", &[], "set the number of the last part");
+const TO: OptionRow = ("", "--to", "a whole number", &[]);
 
-const COVER: OptionRow = (
-    "",
-    "--cover",
-    "",
-    &[],
-    "print the cover instead of the range",
-);
+const COVER: OptionRow = ("", "--cover", "", &[]);
 
-const RANGE_JSON: OptionRow = (
-    "",
-    "--json",
-    "",
-    &[],
-    "print an array of segments; no version and perhaps are [], told apart by the exit status",
-);
-
-const CHECK_JSON: OptionRow = ("", "--json", "", &[], "print an array of what is wrong");
-
-const EACH: OptionRow = (
-    "",
-    "--each",
-    "",
-    &[],
-    "check each file by itself, with those that its lines name",
-);
+const EACH: OptionRow = ("", "--each", "", &[]);
 
 const FORMAT: OptionRow = (
     "",
     "--format",
-    "KIND",
+    "one of its choices",
     &[
         "requirements",
         "pyproject",
@@ -153,7 +72,6 @@ const FORMAT: OptionRow = (
         "poetry",
         "pipfile",
     ],
-    "the kind of files that have none by name",
 );
 
 const COMPARE_OPTIONS: &[OptionRow] = &[HELP];
@@ -175,15 +93,15 @@ const SORT_OPTIONS: &[OptionRow] = &[
     HELP, REVERSE, UNIQUE, LAST, FIELD, DELIMITER, HEADER, INVALID,
 ];
 
-const NEWEST_OPTIONS: &[OptionRow] = &[HELP, PRE, NO_PRE, FIELD, DELIMITER, NEWEST_HEADER, INVALID];
+const NEWEST_OPTIONS: &[OptionRow] = &[HELP, PRE, NO_PRE, FIELD, DELIMITER, HEADER, INVALID];
 
-const SHOW_OPTIONS: &[OptionRow] = &[HELP, PART, SHOW_JSON];
+const SHOW_OPTIONS: &[OptionRow] = &[HELP, PART, JSON];
 
 const BUMP_OPTIONS: &[OptionRow] = &[HELP, TO];
 
-const RANGE_OPTIONS: &[OptionRow] = &[HELP, COVER, RANGE_JSON];
+const RANGE_OPTIONS: &[OptionRow] = &[HELP, COVER, JSON];
 
-const CHECK_OPTIONS: &[OptionRow] = &[HELP, QUIET, EACH, FORMAT, CHECK_JSON];
+const CHECK_OPTIONS: &[OptionRow] = &[HELP, QUIET, EACH, FORMAT, JSON];
 
 // The options of the command.
 pub(crate) fn options(topic: Topic) -> &'static [OptionRow]

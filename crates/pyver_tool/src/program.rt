@@ -12,7 +12,7 @@ use crate::words::Words;
 use cli_io::status::{FAILED, NOBODY_READS, OUT_OF_MEMORY};
 use cli_io::{WriteFailure, write_whole};
 use pyver_commands::filter_sources::filter_sources;
-use pyver_commands::{Answer, Files, RunFailure, answer_input};
+use pyver_commands::{Answer, Files, RunFailure, answer_input, find_output, report_output};
 use std::alloc::Global;
 use std::io::{Read, Write};
 
@@ -98,7 +98,8 @@ fn write_result<W: Write, E: Write>(
 /// and the whole outcome was written. Or it stops, with 3, 4 or 141, and of a message `err` got what it took. If reading stopped or
 /// an allocation failed before there was an outcome, only that message was written, which names the source if a read failed. If a write failed, a prefix of
 /// the output was written and then the message, or all output and a prefix of the errors. `filter`, which prints lines as they come, wrote a
-/// prefix of the output of the first lines read, and a prefix of their errors and then of the message.
+/// prefix of the output of the first lines read, and a prefix of their errors and then of the message. It reads nothing if a source is
+/// also the output: the status is 2.
 pub fn run<F: Files, R: Read, W: Write, E: Write>(
     alloc: Global,
     words: &[String],
@@ -107,7 +108,7 @@ pub fn run<F: Files, R: Read, W: Write, E: Write>(
     out: &mut W,
     err: &mut E,
 ) -> u8
-    ensures ends { TaskEnds (F.known files.old) (F.path files.old) R.remaining (task_of (map string_bytes words.now)) input.old input.new W.contents E.contents out.old out.new err.old err.new result }
+    ensures ends { TaskEnds (F.known files.old) (F.path files.old) (F.output files.old) R.remaining (task_of (map string_bytes words.now)) input.old input.new W.contents E.contents out.old out.new err.old err.new result }
     ensures unread { ¬ NeedsInput (task_of (map string_bytes words.now)) → (input.new ≡ input.old) × (files.new ≡ files.old) }
     ensures kept { F.known files.new ≡ F.known files.old }
 {
@@ -117,6 +118,9 @@ pub fn run<F: Files, R: Read, W: Write, E: Write>(
     match Command::parse(&read).run(alloc) {
         Ok(Work::Answer(answer)) => write_answer(&answer, out, err),
         Ok(Work::Filter(rule, names)) => {
+            if let Some(name) = find_output(names, files) {
+                return write_result(report_output(alloc, name), out, err);
+            }
             match filter_sources(alloc, &rule, names, files, input, out, err) {
                 Ok(status) => status,
                 Err(failure) => report_run_failure(failure, err),

@@ -8,8 +8,11 @@ ghost use Rattle.pyver_tool.specs.SplitWords.{first_letter, is_option, letter_op
 use crate::options::OptionRow;
 use std::alloc::{AllocError, Global};
 
+// An option, and whether it is named by its letter.
+pub(crate) type NamedOption = (OptionRow, bool);
+
 // An option and its value, which is empty where it takes none.
-pub(crate) type GivenOption = (OptionRow, String);
+pub(crate) type GivenOption = (NamedOption, String);
 
 // What words are.
 #[derive(Drop)]
@@ -18,8 +21,8 @@ pub(crate) enum Split {
     Given(Vec<GivenOption>, Vec<String>),
     // The word names no option, or gives a value to one that takes none.
     Unknown(String),
-    // The last word names an option whose value is missing.
-    Missing,
+    // The last word names this option, whose value is missing.
+    Missing(NamedOption),
 }
 
 // How a word of options ends.
@@ -27,7 +30,7 @@ pub(crate) enum Split {
 enum WordEnd {
     Whole,
     // With an option whose value is the next word.
-    Awaits(OptionRow),
+    Awaits(NamedOption),
     Unknown,
 }
 
@@ -100,12 +103,12 @@ fn push_letters(
     let mut left = letters;
     while let Some((row, after)) = first_letter(rows, left) {
         if row.2.is_empty() {
-            options.push((row, String::new(alloc)))?;
+            options.push(((row, true), String::new(alloc)))?;
             left = after;
         } else if after.is_empty() {
-            return Ok(WordEnd::Awaits(row));
+            return Ok(WordEnd::Awaits((row, true)));
         } else {
-            options.push((row, after.to_string(alloc)?))?;
+            options.push(((row, true), after.to_string(alloc)?))?;
             return Ok(WordEnd::Whole);
         }
     }
@@ -130,16 +133,16 @@ fn push_named(
         None => Ok(WordEnd::Unknown),
         Some((row, None)) => {
             if !row.2.is_empty() {
-                return Ok(WordEnd::Awaits(row));
+                return Ok(WordEnd::Awaits((row, false)));
             }
-            options.push((row, String::new(alloc)))?;
+            options.push(((row, false), String::new(alloc)))?;
             Ok(WordEnd::Whole)
         }
         Some((row, Some(value))) => {
             if row.2.is_empty() {
                 return Ok(WordEnd::Unknown);
             }
-            options.push((row, value.to_string(alloc)?))?;
+            options.push(((row, false), value.to_string(alloc)?))?;
             Ok(WordEnd::Whole)
         }
     }
@@ -189,8 +192,8 @@ pub(crate) fn split_words(
     while let [word, rest @ ..] = left {
         left = rest;
         let word = word.as_str();
-        if let Some(row) = awaited {
-            options.push((row, word.to_string(alloc)?))?;
+        if let Some(option) = awaited {
+            options.push((option, word.to_string(alloc)?))?;
             awaited = None;
         } else if word == "--" {
             push_all(&mut operands, rest)?;
@@ -200,13 +203,13 @@ pub(crate) fn split_words(
         } else {
             match push_word(alloc, &mut options, rows, word)? {
                 WordEnd::Whole => {}
-                WordEnd::Awaits(row) => awaited = Some(row),
+                WordEnd::Awaits(option) => awaited = Some(option),
                 WordEnd::Unknown => return Ok(Split::Unknown(word.to_string(alloc)?)),
             }
         }
     }
     match awaited {
         None => Ok(Split::Given(options, operands)),
-        Some(_) => Ok(Split::Missing),
+        Some(option) => Ok(Split::Missing(option)),
     }
 }

@@ -1,7 +1,7 @@
 // The words of a call, split by the options of their command.
 ghost use Rattle.std.specs.Prelude.{◌≡◌, IfOk, map, string_bytes};
 ghost use Rattle.pyver_tool.specs.TaskViews.{words_task};
-ghost use Rattle.pyver_tool.specs.Tasks.{help_task, named_task, task_of, topic_of};
+ghost use Rattle.pyver_tool.specs.Tasks.{help_task, is_program_word, named_task, task_of, topic_of};
 
 use crate::help::Topic;
 use crate::options::options;
@@ -16,7 +16,9 @@ pub(crate) enum Words {
     Command(Topic, Split),
     // There is no such command.
     Unknown(String),
-    // They are too few or too many.
+    // There are none.
+    Nothing,
+    // They are too many.
     Miscounted,
 }
 
@@ -38,12 +40,20 @@ fn parse_topic(word: &str) -> Option<Topic>
     }
 }
 
+// Whether it is one of the program's own words, which name no command.
+fn is_program_word(word: &str) -> bool
+    ensures { result ≡ is_program_word word.now }
+{
+    matches!(word, "help" | "-h" | "--help" | "-V" | "--version")
+}
+
 // The words after `help`.
 fn read_help(words: &[String]) -> Result<Words, AllocError>
     ensures { IfOk result (λ w. words_task w ≡ help_task (map string_bytes words.now)) }
 {
     match words {
         [] => Ok(Words::Help(Topic::Program)),
+        [word] if is_program_word(word.as_str()) => Ok(Words::Help(Topic::Program)),
         [word] => match parse_topic(word.as_str()) {
             Some(topic) => Ok(Words::Help(topic)),
             None => Ok(Words::Unknown(word.clone()?)),
@@ -68,7 +78,7 @@ impl Words {
         ensures { IfOk result (λ w. words_task w ≡ task_of (map string_bytes words.now)) }
     {
         let [word, rest @ ..] = words else {
-            return Ok(Words::Miscounted);
+            return Ok(Words::Nothing);
         };
         match word.as_str() {
             "-h" => Ok(Words::Help(Topic::Program)),

@@ -1,11 +1,11 @@
 -- Lines of the input with their sources and numbers and what they are read as, and the messages of those that are invalid.
-use Rattle.std.specs.Prelude.{◌≡◌, ◌⊎◌, ℕ, ◌-◌, ◌==◌, List, [], ◌∷◌, ◌++◌, Bool, true, false, Option, Some, None, codes, length, slice_get, take}
+use Rattle.std.specs.Prelude.{◌≡◌, ◌⊎◌, ℕ, ◌-◌, ◌==◌, List, [], ◌∷◌, ◌++◌, Bool, true, false, Option, Some, None, codes, slice_get}
 use Rattle.std.specs.Fmt.{decimal}
-use Rattle.std.specs.List.{concat, flat_map, slice_split}
+use Rattle.std.specs.List.{flat_map, slice_split}
 use Rattle.std.specs.Str.{IsUtf8}
 use Rattle.pyver_commands.specs.Sources.InputLines.{SourceLine}
 use Rattle.pyver_commands.specs.Sources.LineOptions.{is_header}
-use Rattle.pyver_commands.specs.Messages.{line_fault_message, more_faults_message}
+use Rattle.pyver_commands.specs.Messages.{line_fault_message}
 use Rattle.pyver_commands.specs.Readings.{Denotes, Fails, Reading, Reads}
 use Rattle.pyver_commands.specs.declared.sources.line_options.LineOptions.{LineOptions}
 
@@ -56,11 +56,7 @@ IsRead options line x = (x.line ≡ line) × IsEntry (is_header options line.num
 abbrev pub fault_at : SourceLine → LineReading → List (List ℕ)
 fault_at line Header = []
 fault_at line (Entry (Denotes r)) = []
-fault_at line (Entry (Fails reason)) = line_fault_message line.origin.name line.number reason ∷ []
+fault_at line (Entry (Fails reason)) = line_fault_message line.origin.name line.number line.text reason ∷ []
 
 abbrev pub faults : List ReadLine → List (List ℕ)
 faults found = flat_map (λ (x : ReadLine). fault_at x.line x.reading) found
-
--- the first 20 invalid lines are named, and then how many more there are
-abbrev pub fault_messages : List ReadLine → List ℕ
-fault_messages found = concat (take 20 (faults found)) ++ more_faults_message (length (faults found) - 20)

@@ -45,6 +45,7 @@ version_lines found = flat_map (λ (x : ReadLine). line_with x.line.text x.readi
 -- an invalid line as it was written, where such lines are kept
 abbrev pub kept_text : InvalidLines → List ℕ → List (List ℕ)
 kept_text invalid.Error text = []
+kept_text invalid.AlwaysError text = []
 kept_text invalid.Skip text = []
 kept_text invalid.Keep text = text ∷ []
 

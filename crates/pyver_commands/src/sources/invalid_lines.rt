@@ -1,7 +1,8 @@
 // What is done with invalid lines, by the option `--invalid`.
-ghost use Rattle.std.specs.Prelude.{◌≡◌, ◌≤◌, ◌++◌, IfOk};
+ghost use Rattle.std.specs.Prelude.{◌≡◌, ◌≤◌, ◌-◌, ◌++◌, ◌∷◌, [], IfOk, take};
+ghost use Rattle.std.specs.List.{concat};
 ghost use Rattle.pyver_commands.specs.Sources.InvalidLines.{invalid_lines_of, last_message, lines_status, message_limit};
-ghost use Rattle.pyver_commands.specs.Messages.{count_message, line_fault_message, more_faults_message};
+ghost use Rattle.pyver_commands.specs.Messages.{count_message, line_fault_message, more_faults_message, skip_message};
 
 use cli_io::push_escaped;
 use std::alloc::{AllocError, Global};
@@ -11,6 +12,8 @@ use std::alloc::{AllocError, Global};
 pub enum InvalidLines {
     /// They are named, and the status is 2.
     Error,
+    /// The same; no option leaves them out.
+    AlwaysError,
     /// They are left out and counted.
     Skip,
     /// They are no error.
@@ -34,14 +37,34 @@ pub fn parse_invalid_lines(word: &str) -> Option<InvalidLines>
 
 impl InvalidLines {
     // So many of the first get a message of their own.
-    pub(crate) fn message_limit(self) -> u64
+    fn message_limit(self) -> u64
         ensures { result ≡ message_limit self }
     {
         match self {
             InvalidLines::Error => MESSAGE_LIMIT,
+            InvalidLines::AlwaysError => MESSAGE_LIMIT,
             InvalidLines::Skip => 0,
             InvalidLines::Keep => 0,
         }
+    }
+
+    // Pushes the message of an invalid line of the source with this name, where so many lines before it were invalid.
+    pub(crate) fn push_fault(
+        self,
+        alloc: Global,
+        errors: &mut Vec<u8>,
+        count: u64,
+        name: &str,
+        number: u64,
+        text: &[u8],
+        reason: &str,
+    ) -> Result<(), AllocError>
+        ensures { IfOk result (λ _. errors.new.items ≡ errors.old.items ++ concat (take (message_limit self - count) (line_fault_message name.now number text.now reason.now ∷ []))) }
+    {
+        if count < self.message_limit() {
+            push_line_fault(alloc, errors, name, number, text, reason)?;
+        }
+        Ok(())
     }
 
     // Pushes the message at the end, where so many lines were invalid.
@@ -55,6 +78,10 @@ impl InvalidLines {
     {
         match self {
             InvalidLines::Error => {
+                push_more_faults(alloc, errors, count.saturating_sub(MESSAGE_LIMIT))?;
+                push_skip_hint(errors, count)
+            }
+            InvalidLines::AlwaysError => {
                 push_more_faults(alloc, errors, count.saturating_sub(MESSAGE_LIMIT))
             }
             InvalidLines::Skip => {
@@ -71,6 +98,7 @@ impl InvalidLines {
     {
         match self {
             InvalidLines::Error => { if count == 0 { 0 } else { 2 } }
+            InvalidLines::AlwaysError => { if count == 0 { 0 } else { 2 } }
             InvalidLines::Skip => 0,
             InvalidLines::Keep => 0,
         }
@@ -78,20 +106,23 @@ impl InvalidLines {
 }
 
 // The message of an invalid line of the source with this name, at the end.
-pub(crate) fn push_line_fault(
+fn push_line_fault(
     alloc: Global,
     errors: &mut Vec<u8>,
     name: &str,
     number: u64,
+    text: &[u8],
     reason: &str,
 ) -> Result<(), AllocError>
-    ensures { IfOk result (λ _. errors.new.items ≡ errors.old.items ++ line_fault_message name.now number reason.now) }
+    ensures { IfOk result (λ _. errors.new.items ≡ errors.old.items ++ line_fault_message name.now number text.now reason.now) }
 {
     errors.extend_from_slice(b"pyver: ")?;
     push_escaped(errors, name.as_bytes())?;
-    errors.extend_from_slice(b": line ")?;
+    errors.extend_from_slice(b":")?;
     errors.extend_from_slice(number.to_string(alloc)?.as_bytes())?;
-    errors.extend_from_slice(b": ")?;
+    errors.extend_from_slice(b": '")?;
+    push_escaped(errors, text)?;
+    errors.extend_from_slice(b"' is not a version: ")?;
     push_escaped(errors, reason.as_bytes())?;
     errors.push(b'\n')?;
     Ok(())
@@ -106,6 +137,16 @@ pub(crate) fn push_more_faults(
     ensures { IfOk result (λ _. errors.new.items ≡ errors.old.items ++ more_faults_message count) }
 {
     push_count(alloc, errors, "pyver: more invalid lines: ", count)
+}
+
+// How to leave them out, where there are some.
+fn push_skip_hint(errors: &mut Vec<u8>, count: u64) -> Result<(), AllocError>
+    ensures { IfOk result (λ _. errors.new.items ≡ errors.old.items ++ skip_message count) }
+{
+    if count == 0 {
+        return Ok(());
+    }
+    errors.extend_from_slice(b"pyver: --invalid=skip leaves such lines out\n")
 }
 
 // How many there are, where there are some.

@@ -16,7 +16,7 @@ pub struct LineOptions {
 }
 
 impl LineOptions {
-    ghost use Rattle.pyver_commands.specs.Sources.LineOptions.{is_header, no_line_options};
+    ghost use Rattle.pyver_commands.specs.Sources.LineOptions.{bare_line_options, is_header, no_line_options};
 
     /// What is read without options.
     pub fn none() -> LineOptions
@@ -27,6 +27,16 @@ impl LineOptions {
             field: None,
             delimiter: b'\t',
             header: false,
+        }
+    }
+
+    // What a command without these options reads.
+    pub(crate) fn bare() -> LineOptions
+        ensures { result ≡ bare_line_options }
+    {
+        LineOptions {
+            invalid: InvalidLines::AlwaysError,
+            ..LineOptions::none()
         }
     }
 

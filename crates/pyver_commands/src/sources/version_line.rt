@@ -4,7 +4,7 @@ ghost use Rattle.cli_io.specs.Newlines.{input_lines};
 ghost use Rattle.pyver_commands.specs.Sources.VersionLines.{kept_text};
 
 use crate::reading::Reading;
-use crate::sources::invalid_lines::{InvalidLines, push_line_fault};
+use crate::sources::invalid_lines::InvalidLines;
 use crate::sources::line_options::LineOptions;
 use crate::sources::origin::Origin;
 use crate::sources::source_lines::{is_blank, line_text, parse_line};
@@ -45,6 +45,7 @@ fn keep_text<'a>(
 {
     match how {
         InvalidLines::Error => Ok(()),
+        InvalidLines::AlwaysError => Ok(()),
         InvalidLines::Skip => Ok(()),
         InvalidLines::Keep => {
             kept.push(text)?;
@@ -116,15 +117,15 @@ impl<'a> VersionLines<'a> {
         requires { self.old.fault_count < 2 ^ 63 }
         ensures { IfOk result (λ _. KeepsOne options (record { line = origin_line origin.entry self.old.line_count text.now; reading = Entry (Fails reason.now) }) self.old self.new) }
     {
-        if self.fault_count < options.invalid.message_limit() {
-            push_line_fault(
-                alloc,
-                &mut self.errors,
-                origin.name,
-                self.line_count,
-                reason,
-            )?;
-        }
+        options.invalid.push_fault(
+            alloc,
+            &mut self.errors,
+            self.fault_count,
+            origin.name,
+            self.line_count,
+            text,
+            reason,
+        )?;
         keep_text(options.invalid, &mut self.invalid, text)?;
         self.fault_count += 1;
         Ok(())

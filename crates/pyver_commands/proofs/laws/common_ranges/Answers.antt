@@ -1,11 +1,8 @@
-use Rattle.pyver_commands.proofs.CommonRanges.{common_is_in_each, no_version_is_common, version_is_common}
+use Rattle.pyver_commands.proofs.CommonRanges.{no_version_is_common, version_is_common}
 use Rattle.pyver_commands.proofs.laws.common_ranges.Goals as goal
 
 pub returns-clause-none : goal.returns-clause-none
 returns-clause-none c = no_version_is_common
-
-pub returns-clause-each : goal.returns-clause-each
-returns-clause-each c = common_is_in_each
 
 pub returns-clause-some : goal.returns-clause-some
 returns-clause-some c = version_is_common

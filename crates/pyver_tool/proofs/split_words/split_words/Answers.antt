@@ -2,8 +2,8 @@ use Rattle.std.proofs.Common.{◌≡◌, ◌∙◌, ◌-◌, ◌++◌, [], ◌�
 use Rattle.std.proofs.lemmas.List.{map-append}
 use Rattle.std.specs.Option.{option_map}
 use Rattle.pyver_tool.proofs.SplitWords.{awaits_next, first_word, operand_next, operands_before, options_before, whole_next}
-use Rattle.pyver_tool.specs.Options.{row_of, rows_of}
-use Rattle.pyver_tool.specs.SplitViews.{given_of}
+use Rattle.pyver_tool.specs.Options.{rows_of}
+use Rattle.pyver_tool.specs.SplitViews.{given_of, named_of}
 use Rattle.pyver_tool.specs.SplitWords.{Awaits, Whole, before, is_option, split_words, word_options}
 use Rattle.pyver_tool.proofs.split_words.split_words.Goals as goal
 
@@ -16,12 +16,12 @@ loop-left-preserved-in-Some c =
     let rest = map string_bytes (take (length left - 1) (drop 1 left)) in
     let operands = map string_bytes c.loop-left.operands.items in
     let options = map given c.loop-left.options.items in
-    let row = row_of (λ s. s.now) (λ t. t.now) c.in-Some.row in
+    let option = named_of (λ s. s.now) (λ t. t.now) c.in-Some.option in
     let same : string_bytes c.in_ok-to_string.field-0 ≡ word = search rules in
-    ap (λ os. before os operands (split_words rows None rest)) (ap (λ items. map given items) c.in_ok-push.ensures.items ∙ map-append given c.loop-left.options.items ((c.in-Some.row, c.in_ok-to_string.field-0) ∷ []) ∙ ap (λ t. options ++ (row, t) ∷ []) same)
-    ∙ options_before options ((row, word) ∷ []) operands (split_words rows None rest)
-    ∙ ap (λ ws. before options operands (split_words rows (Some row) ws)) (sym (first_word string_bytes left c.word-item.result word c.in-len1-up.len_at_least c.word-item.is c.as_str-word.ensures.value))
-    ∙ ap (λ a. before options operands (split_words rows (option_map (row_of (λ s. s.now) (λ t. t.now)) a) (map string_bytes left))) (sym c.in-Some.is)
+    ap (λ os. before os operands (split_words rows None rest)) (ap (λ items. map given items) c.in_ok-push.ensures.items ∙ map-append given c.loop-left.options.items ((c.in-Some.option, c.in_ok-to_string.field-0) ∷ []) ∙ ap (λ t. options ++ (option, t) ∷ []) same)
+    ∙ options_before options ((option, word) ∷ []) operands (split_words rows None rest)
+    ∙ ap (λ ws. before options operands (split_words rows (Some option) ws)) (sym (first_word string_bytes left c.word-item.result word c.in-len1-up.len_at_least c.word-item.is c.as_str-word.ensures.value))
+    ∙ ap (λ a. before options operands (split_words rows (option_map (named_of (λ s. s.now) (λ t. t.now)) a) (map string_bytes left))) (sym c.in-Some.is)
     ∙ c.loop-left.invariant
 
 pub loop-left-preserved-in_ok-push-2 : goal.loop-left-preserved-in_ok-push-2
@@ -35,12 +35,12 @@ loop-left-preserved-in_ok-push-2 c =
     let same : string_bytes c.in_ok-to_string-2.field-0 ≡ word = search rules in
     let goes_on : bytes_eq word (codes "--") ≡ false = search rules in
     let none : is_option word ≡ false = search rules in
-    ap (λ names. before options names (split_words rows (option_map (row_of (λ s. s.now) (λ t. t.now)) c.loop-left.awaited) rest)) (ap (λ items. map string_bytes items) c.in_ok-push-2.ensures.items ∙ map-append string_bytes c.loop-left.operands.items (c.in_ok-to_string-2.field-0 ∷ []) ∙ ap (λ t. operands ++ t ∷ []) same)
-    ∙ ap (λ a. before options (operands ++ word ∷ []) (split_words rows (option_map (row_of (λ s. s.now) (λ t. t.now)) a) rest)) c.in_default-awaited.is
+    ap (λ names. before options names (split_words rows (option_map (named_of (λ s. s.now) (λ t. t.now)) c.loop-left.awaited) rest)) (ap (λ items. map string_bytes items) c.in_ok-push-2.ensures.items ∙ map-append string_bytes c.loop-left.operands.items (c.in_ok-to_string-2.field-0 ∷ []) ∙ ap (λ t. operands ++ t ∷ []) same)
+    ∙ ap (λ a. before options (operands ++ word ∷ []) (split_words rows (option_map (named_of (λ s. s.now) (λ t. t.now)) a) rest)) c.in_default-awaited.is
     ∙ operands_before options operands (word ∷ []) (split_words rows None rest)
     ∙ ap (λ s. before options operands s) (sym (operand_next rows word rest goes_on none))
     ∙ ap (λ ws. before options operands (split_words rows None ws)) (sym (first_word string_bytes left c.word-item.result word c.in-len1-up.len_at_least c.word-item.is c.as_str-word.ensures.value))
-    ∙ ap (λ a. before options operands (split_words rows (option_map (row_of (λ s. s.now) (λ t. t.now)) a) (map string_bytes left))) (sym c.in_default-awaited.is)
+    ∙ ap (λ a. before options operands (split_words rows (option_map (named_of (λ s. s.now) (λ t. t.now)) a) (map string_bytes left))) (sym c.in_default-awaited.is)
     ∙ c.loop-left.invariant
 
 pub loop-left-preserved-in-Whole : goal.loop-left-preserved-in-Whole
@@ -55,12 +55,12 @@ loop-left-preserved-in-Whole c =
     let goes_on : bytes_eq word (codes "--") ≡ false = search rules in
     let one : is_option word ≡ true = search rules in
     let ended : Whole ≡ (word_options rows word).1 = search rules in
-    ap (λ os. before os operands (split_words rows (option_map (row_of (λ s. s.now) (λ t. t.now)) c.loop-left.awaited) rest)) c.in_ok-push_word.ensures.options
-    ∙ ap (λ a. before (options ++ more) operands (split_words rows (option_map (row_of (λ s. s.now) (λ t. t.now)) a) rest)) c.in_default-awaited.is
+    ap (λ os. before os operands (split_words rows (option_map (named_of (λ s. s.now) (λ t. t.now)) c.loop-left.awaited) rest)) c.in_ok-push_word.ensures.options
+    ∙ ap (λ a. before (options ++ more) operands (split_words rows (option_map (named_of (λ s. s.now) (λ t. t.now)) a) rest)) c.in_default-awaited.is
     ∙ options_before options more operands (split_words rows None rest)
     ∙ ap (λ s. before options operands s) (sym (whole_next rows word rest goes_on one ended))
     ∙ ap (λ ws. before options operands (split_words rows None ws)) (sym (first_word string_bytes left c.word-item.result word c.in-len1-up.len_at_least c.word-item.is c.as_str-word.ensures.value))
-    ∙ ap (λ a. before options operands (split_words rows (option_map (row_of (λ s. s.now) (λ t. t.now)) a) (map string_bytes left))) (sym c.in_default-awaited.is)
+    ∙ ap (λ a. before options operands (split_words rows (option_map (named_of (λ s. s.now) (λ t. t.now)) a) (map string_bytes left))) (sym c.in_default-awaited.is)
     ∙ c.loop-left.invariant
 
 pub loop-left-preserved : goal.loop-left-preserved
@@ -72,13 +72,13 @@ loop-left-preserved c =
     let operands = map string_bytes c.loop-left.operands.items in
     let options = map (given_of (λ s. s.now) (λ t. t.now) string_bytes) c.loop-left.options.items in
     let more = (word_options rows word).0 in
-    let row = row_of (λ s. s.now) (λ t. t.now) c.in-Awaits.row in
+    let option = named_of (λ s. s.now) (λ t. t.now) c.in-Awaits.option in
     let goes_on : bytes_eq word (codes "--") ≡ false = search rules in
     let one : is_option word ≡ true = search rules in
-    let ended : Awaits row ≡ (word_options rows word).1 = search rules in
-    ap (λ os. before os operands (split_words rows (Some row) rest)) c.in_ok-push_word.ensures.options
-    ∙ options_before options more operands (split_words rows (Some row) rest)
-    ∙ ap (λ s. before options operands s) (sym (awaits_next rows word rest goes_on row one ended))
+    let ended : Awaits option ≡ (word_options rows word).1 = search rules in
+    ap (λ os. before os operands (split_words rows (Some option) rest)) c.in_ok-push_word.ensures.options
+    ∙ options_before options more operands (split_words rows (Some option) rest)
+    ∙ ap (λ s. before options operands s) (sym (awaits_next rows word rest goes_on option one ended))
     ∙ ap (λ ws. before options operands (split_words rows None ws)) (sym (first_word string_bytes left c.word-item.result word c.in-len1-up.len_at_least c.word-item.is c.as_str-word.ensures.value))
-    ∙ ap (λ a. before options operands (split_words rows (option_map (row_of (λ s. s.now) (λ t. t.now)) a) (map string_bytes left))) (sym c.in_default-awaited.is)
+    ∙ ap (λ a. before options operands (split_words rows (option_map (named_of (λ s. s.now) (λ t. t.now)) a) (map string_bytes left))) (sym c.in_default-awaited.is)
     ∙ c.loop-left.invariant

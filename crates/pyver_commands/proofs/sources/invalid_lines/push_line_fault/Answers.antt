@@ -8,7 +8,9 @@ pub returns : goal.returns
 returns c =
     appended_more c.args.errors.now.items (codes "pyver: ") _ _ _ c.in_ok-extend_from_slice.ensures.items
     (appended_more _ (escaped c.args.name.now) _ _ _ (rw c.as_bytes.ensures.value at c.in_ok-push_escaped.ensures)
-    (appended_more _ (codes ": line ") _ _ _ c.in_ok-extend_from_slice-2.ensures.items
+    (appended_more _ (codes ":") _ _ _ c.in_ok-extend_from_slice-2.ensures.items
     (appended_more _ (decimal c.args.number) _ _ _ (rw c.in_ok-to_string.ensures.ok at (rw c.as_bytes-2.ensures.value at c.in_ok-extend_from_slice-3.ensures.items))
-    (appended_more _ (codes ": ") _ _ _ c.in_ok-extend_from_slice-4.ensures.items
-    (appended_more _ (escaped c.args.reason.now) (codes "\n") _ _ (rw c.as_bytes-3.ensures.value at c.in_ok-push_escaped-2.ensures) c.in_ok-push.ensures.items)))))
+    (appended_more _ (codes ": '") _ _ _ c.in_ok-extend_from_slice-4.ensures.items
+    (appended_more _ (escaped c.args.text.now) _ _ _ c.in_ok-push_escaped-2.ensures
+    (appended_more _ (codes "' is not a version: ") _ _ _ c.in_ok-extend_from_slice-5.ensures.items
+    (appended_more _ (escaped c.args.reason.now) (codes "\n") _ _ (rw c.as_bytes-3.ensures.value at c.in_ok-push_escaped-3.ensures) c.in_ok-push.ensures.items)))))))
