@@ -9,7 +9,7 @@ use Rattle.std.specs.declared.cmp.Ordering.{Ordering}
 use Rattle.pep440_keys.specs.SortKeys.{key_bytes}
 use Rattle.pep440_version.specs.Key.{record_cmp}
 use Rattle.pep440_version.specs.Record.{Record}
-use Rattle.pep440_calls.specs.Batches.{ArrangesPlaces, MeansKeys, MeansPlaced, Sorts, StopsAll, stop_at}
+use Rattle.pep440_calls.specs.Batches.{ArrangesPlaces, MeansKeys, StopsAll, stop_at}
 use Rattle.pep440_calls.specs.JoinedStrings.{Joins}
 use Rattle.pep440_calls.specs.Statuses.{Faults}
 use Rattle.pep440_calls.specs.declared.fault.Fault.{Fault}
@@ -75,9 +75,6 @@ all_length Means (t ∷ texts) (v ∷ versions) h = let e = all_length Means tex
 abbrev pub PlacedBy : (List ℕ → Record → Type 0) → List (List ℕ) → List (ℕ × Record) → Type 0
 PlacedBy Means texts given = (versions : List Record) × AllZip Means texts versions × (given ≡ enumerate_from 0 versions)
 
-pub placed_none : MeansPlaced [] []
-placed_none = ([], tt, refl)
-
 pub placed_more : (Means : List ℕ → Record → Type 0) (texts : List (Bor (List ℕ))) (i : ℕ) (x : Bor (List ℕ)) (pairs new : List (ℕ × Record)) (v : Record) → i < length texts → Means (get_or texts i x).now v
     → new ≡ pairs ++ (i, v) ∷ [] → PlacedBy Means (map (λ t. t.now) (take i texts)) pairs → PlacedBy Means (map (λ t. t.now) (take (i + 1) texts)) new
 placed_more Means texts i x pairs new v inside means more (versions, all, placed) =
@@ -103,10 +100,6 @@ pub marked_more : (Marks : List ℕ → ℕ → Type 0) (texts : List (Bor (List
     → AllZip Marks (map (λ t. t.now) (take i texts)) marks → AllZip Marks (map (λ t. t.now) (take (i + 1) texts)) new
 marked_more Marks texts i x marks new m inside is more all =
     each_more Marks texts i (get_or texts i x) marks new m inside (get_or_default texts i x (get_or texts i x) inside) is more all
-
--- the places of the versions that the texts mean
-pub sorts : (texts : List (List ℕ)) (pairs : List (ℕ × Record)) (places : List ℕ) → MeansPlaced texts pairs → ArrangesPlaces pairs places → Sorts texts places
-sorts texts pairs places (versions, all, placed) sort_pairs = (versions, all, rw placed at sort_pairs)
 
 abbrev pub placed_cmp : ℕ × Record → ℕ × Record → Ordering
 placed_cmp = on (λ (p : ℕ × Record). p.1) record_cmp

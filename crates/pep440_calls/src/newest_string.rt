@@ -1,10 +1,10 @@
 //! The newest version of a batch that a list contains.
-ghost use Rattle.std.specs.Option.{option_map};
 ghost use Rattle.std.specs.Prelude.{IfOk, MatchOption, false, map, not, true, ◌||◌, ◌≡◌, ◌⊎◌};
+ghost use Rattle.pep440_pick.specs.Greatest.{Greatest, is_above};
 ghost use Rattle.pep440_rs.specs.Matching.{any_prerelease, list_matches};
 ghost use Rattle.pep440_version.specs.Record.{Record};
 ghost use Rattle.pep440_calls.specs.Meaning.{MeansBytes, RefusesBytes, RefusesListBytes};
-ghost use Rattle.pep440_calls.specs.NewestString.{FindsNewestString, NewestAnswer, NewestString, newer, preference};
+ghost use Rattle.pep440_calls.specs.NewestString.{FindsNewestString, IsContained, NewestAnswer, preference};
 ghost use Rattle.pep440_calls.specs.Statuses.{Gives, flag};
 
 use crate::buffer::{OK, flag};
@@ -39,16 +39,7 @@ fn find(alloc: Global, list: &[u8], texts: &[&[u8]]) -> Result<Option<usize>, Fa
     let specifiers = read_list(alloc, list)?;
     let takes = specifiers.requests_prereleases();
     let newest = find_newest(alloc, takes, &specifiers, texts)?;
-    Ok(position_of(&newest))
-}
-
-fn position_of(newest: &Option<(usize, Version)>) -> Option<usize>
-    ensures { result ≡ option_map (λ p. p.0) newest.now }
-{
-    match newest {
-        None => None,
-        Some((position, _)) => Some(*position),
-    }
+    Ok(newest.map(|(position, _)| position))
 }
 
 // 1 for a final release and for what is taken as one, else 0.
@@ -72,7 +63,7 @@ fn read_contained(
     list: &VersionSpecifiers,
     bytes: &[u8],
 ) -> Result<Option<Version>, AllocError>
-    ensures { IfOk result (λ found. MatchOption found (RefusesBytes bytes.now ⊎ ((r : Record) × MeansBytes bytes.now r × (list_matches list.now r ≡ false))) (λ v. MeansBytes bytes.now v × (list_matches list.now v ≡ true))) }
+    ensures { IfOk result (λ found. MatchOption found (RefusesBytes bytes.now ⊎ ((r : Record) × MeansBytes bytes.now r × (list_matches list.now r ≡ false))) (IsContained list.now bytes.now)) }
 {
     let version = match read(alloc, bytes) {
         Ok(version) => version,
@@ -86,21 +77,12 @@ fn read_contained(
     }
 }
 
-// The newest so far, or the version found at this position.
-fn choose_newer(
-    takes: bool,
-    newest: Option<(usize, Version)>,
-    position: usize,
-    found: Option<Version>,
-) -> Option<(usize, Version)>
-    ensures { result ≡ newer takes newest position found }
+fn is_above(takes: bool, newest: &Option<(usize, Version)>, version: &Version) -> bool
+    ensures { result ≡ is_above (preference takes) newest.now version.now }
 {
-    let Some(version) = found else {
-        return newest;
-    };
     match newest {
-        Some(greatest) if !cmp_preference(takes, &greatest.1, &version).is_lt() => Some(greatest),
-        _ => Some((position, version)),
+        None => true,
+        Some((_, newest)) => cmp_preference(takes, newest, version).is_lt(),
     }
 }
 
@@ -111,12 +93,16 @@ fn find_newest(
     list: &VersionSpecifiers,
     texts: &[&[u8]],
 ) -> Result<Option<(usize, Version)>, AllocError>
-    ensures { IfOk result (NewestString takes list.now (map (λ t. t.now) texts.now)) }
+    ensures { IfOk result (Greatest (IsContained list.now) (preference takes) (map (λ t. t.now) texts.now)) }
 {
     let mut newest: Option<(usize, Version)> = None;
     for (position, text) in texts.iter().enumerate() {
-        let found = read_contained(alloc, list, text)?;
-        newest = choose_newer(takes, newest, position, found);
+        let Some(version) = read_contained(alloc, list, text)? else {
+            continue;
+        };
+        if is_above(takes, &newest, &version) {
+            newest = Some((position, version));
+        }
     }
     Ok(newest)
 }

@@ -10,7 +10,7 @@ use crate::buffer::{NOT_PACKED, OK, flag, put, put_and_count, put_bytes, put_sli
 use crate::fault::Fault;
 use crate::read::read;
 use arrayvec::ArrayVec;
-use pep440_compiled::{CompiledError, compile_normal, compile_version, has_version_format};
+use pep440_compiled::{compile_normal, compile_version, has_version_format};
 use pep440_keys::sort_key;
 use pep440_rs::{PrereleaseKind, Version};
 use pep440_version::laws::word;
@@ -23,25 +23,10 @@ pub fn write_normal_form(alloc: Global, text: &[u8], out: &mut [u8], written: &m
     put_text(normalize(alloc, text), out, written)
 }
 
-// The normal form of a compiled version.
-fn normalize_compiled(alloc: Global, bytes: &[u8]) -> Result<String, Fault>
-    requires { HasVersionFormat bytes.now }
-    ensures { Gives (RefusesBytes bytes.now) ⊥ ⊥ (λ text. IsNormal bytes.now (string_bytes text)) result }
-{
-    match pep440_compiled::normalize(alloc, bytes) {
-        Ok(text) => Ok(text),
-        Err(CompiledError::NotCompiled) => Err(Fault::InvalidVersion),
-        Err(CompiledError::OutOfMemory) => Err(Fault::OutOfMemory),
-    }
-}
-
 // The normal form of a version.
 fn normalize(alloc: Global, bytes: &[u8]) -> Result<String, Fault>
     ensures { Gives (RefusesBytes bytes.now) ⊥ ⊥ (λ text. IsNormal bytes.now (string_bytes text)) result }
 {
-    if has_version_format(bytes) {
-        return normalize_compiled(alloc, bytes);
-    }
     let version = read(alloc, bytes)?;
     Ok(version.to_string(alloc)?)
 }

@@ -11,7 +11,6 @@ pub mod Loops
 pub mod Members
 pub mod Numbers
 pub mod Prefixes
-pub mod Printing
 pub mod Rewritten
 pub mod Shared
 pub mod Suffixes

@@ -1,10 +1,8 @@
 -- The parts of a sort key that matching asks for; no public clause cites them.
-use Rattle.std.specs.Prelude.{◌≢◌, ◌==◌, ◌&&◌, ◌||◌, Bool, nat_le, take, ℕ, List, [], ◌∷◌, ◌++◌, drop, length, codes, if◌then◌else◌}
-use Rattle.std.specs.Fmt.{decimal}
+use Rattle.std.specs.Prelude.{◌≢◌, ◌==◌, ◌&&◌, ◌||◌, Bool, nat_le, take, ℕ, List, [], ◌∷◌, ◌++◌, drop, length}
 use Rattle.std.specs.List.{flat_map, list_all}
 use Rattle.pep440_keys.specs.SortKeys.{number_bytes, rank_bytes}
 use Rattle.pep440_version.specs.Key.{dev_rank, key, post_rank, stage_rank}
-use Rattle.pep440_version.specs.Print.{dotted}
 use Rattle.pep440_version.specs.Record.{Record}
 use Rattle.pep440_version.specs.Trim.{trim}
 
@@ -37,7 +35,3 @@ begins_with_ones count bytes = nat_le count (length bytes) && list_all (λ b. b 
 abbrev pub continues_with_zeros : ℕ → List ℕ → Bool
 continues_with_zeros zeros [] = begins_with_ones zeros []
 continues_with_zeros zeros (b ∷ bytes) = (b == 0) || begins_with_ones zeros (b ∷ bytes)
-
--- the strings of release numbers: the first after a dot if others stand before them
-abbrev pub continued : Bool → List ℕ → List ℕ
-continued is_first numbers = if is_first then dotted decimal numbers else flat_map (λ n. codes "." ++ decimal n) numbers

@@ -1,13 +1,11 @@
 -- What the views of compiled versions say; no public clause cites it.
 use Rattle.std.specs.Prelude.{◌≡◌, ◌⊎◌, ◌++◌, ◌∷◌, [], Bool, true, false, is_some}
-use Rattle.std.specs.List.{flat_map}
-use Rattle.pep440_compiled.specs.KeyParts.{ending_zeros, base_bytes, public_bytes, suffix_bytes}
+use Rattle.pep440_compiled.specs.KeyParts.{ending_zeros, base_bytes, public_bytes}
 use Rattle.pep440_compiled.specs.Version.{IsParsed}
-use Rattle.pep440_compiled.specs.declared.checked_version.CheckedVersion.{CheckedVersion}
 use Rattle.pep440_compiled.specs.declared.views.KeyView.{KeyView}
 use Rattle.pep440_compiled.specs.declared.views.PartsView.{PartsView}
 use Rattle.pep440_compiled.specs.declared.views.VersionView.{VersionView}
-use Rattle.pep440_keys.specs.SortKeys.{key_bytes, local_bytes, number_bytes}
+use Rattle.pep440_keys.specs.SortKeys.{key_bytes}
 use Rattle.std.specs.declared.cmp.Ordering.{Ordering}
 use Rattle.std.specs.declared.cmp.Ordering.TheVariants.{Equal}
 use Rattle.pep440_rs.specs.Matching.{any_prerelease, candidate, has_local}
@@ -15,7 +13,6 @@ use Rattle.pep440_rs.specs.declared.specifier.operator.Operator.{Operator}
 use Rattle.pep440_rs.specs.declared.specifier.operator.Operator.TheVariants.{EqualStar, ExactEqual, NotEqualStar, TildeEqual}
 use Rattle.pep440_version.specs.Key.{record_cmp}
 use Rattle.pep440_version.specs.Record.{Record}
-use Rattle.pep440_version.specs.Trim.{trim}
 
 -- the view is of this version
 pub record IsViewOf (view : VersionView) (r : Record) : Type 0 where
@@ -49,16 +46,6 @@ pub record HasKey (view : KeyView) (r : Record) : Type 0 where
 pub record IsDecided (order : Ordering) (s v : Record) : Type 0 where
   pub found : order ≡ record_cmp (candidate s v) s
   pub alone : (order ≡ Equal) ⊎ IsFinal v
-
--- the tested parts are those of this version
-pub record HasCheckedParts (version : CheckedVersion) (r : Record) : Type 0 where
-  pub view : IsViewOf version.view r
-  pub epoch : version.epoch ≡ r.epoch
-  pub numbers : version.numbers.now ≡ flat_map (number_bytes 1) (trim r.release) ++ 0 ∷ (suffix_bytes r ++ local_bytes r.local)
-  pub pre : version.suffix.pre ≡ r.pre
-  pub post : version.suffix.post ≡ r.post
-  pub dev : version.suffix.dev ≡ r.dev
-  pub local : version.local.now ≡ local_bytes r.local
 
 -- the operator only compares a version with the one after it
 abbrev pub is_compared : Operator → Bool

@@ -39,7 +39,7 @@ pub(crate) fn read_half_word(bytes: &[u8]) -> u32
 ///
 /// Does not allocate.
 #[inline(always)]
-pub fn cmp_bytes(a: &[u8], b: &[u8]) -> Ordering
+pub(crate) fn cmp_bytes(a: &[u8], b: &[u8]) -> Ordering
     ensures { result ≡ slice_cmp nat_cmp a.now b.now }
 {
     let mut left = a;

@@ -1,29 +1,17 @@
 //! Compiled versions tested as they lie: each byte of them, without making a version.
-ghost use Rattle.std.specs.Prelude.{◌≡◌, ◌<◌, ◌≤◌, ◌++◌, ◌∷◌, ℕ, List, length, IfSome, MatchOption, true};
+ghost use Rattle.std.specs.Prelude.{◌≡◌, ◌<◌, ◌≤◌, ◌++◌, ◌∷◌, ℕ, List, length, IfSome, IsSome, MatchOption, true};
 ghost use Rattle.std.specs.List.{All, flat_map};
 ghost use Rattle.pep440_compiled.specs.KeyParts.{ending_zeros};
-ghost use Rattle.pep440_compiled.specs.KeyViews.{HasCheckedParts};
 ghost use Rattle.pep440_compiled.specs.Version.{DenotesVersion};
-ghost use Rattle.pep440_keys.specs.SortKeys.{local_bytes, number_bytes, segment_bytes};
+ghost use Rattle.pep440_keys.specs.SortKeys.{key_bytes, local_bytes, number_bytes, segment_bytes};
 ghost use Rattle.pep440_version.specs.Record.{Fits, LocalSegmentValue, Record, SegmentFits};
 ghost use Rattle.pep440_version.specs.RoundTrip.{SegmentRereads};
 ghost use Rattle.pep440_version.specs.Trim.{trim};
 
-use crate::decode::{SuffixParts, read_epoch, read_number, read_suffix, split_text};
+use crate::decode::{read_epoch, read_number, read_suffix, split_text};
 use crate::parsed::is_normal_string;
-use crate::views::{VersionView, view_version};
+use crate::views::view_version;
 use pep440_version::Prerelease;
-
-// A version, all of whose bytes were tested: its epoch, what begins with the numbers of its release and the 0 that ends them, what
-// its suffix says, and its local part.
-#[derive(Clone, Copy)]
-pub(crate) struct CheckedVersion<'a> {
-    pub(crate) view: VersionView<'a>,
-    pub(crate) epoch: u64,
-    pub(crate) numbers: &'a [u8],
-    pub(crate) suffix: SuffixParts,
-    pub(crate) local: &'a [u8],
-}
 
 // A number fits, since it is a `u64`.
 fn prove_fits(number: Option<u64>)
@@ -105,15 +93,14 @@ fn is_local_part(bytes: &[u8]) -> bool
     false
 }
 
-// The version that the bytes denote. Inlined, since one caller asks only for the key.
-#[inline(always)]
-pub(crate) fn check_version(bytes: &[u8]) -> Option<CheckedVersion<'_>>
-    ensures found { (r : Record) → DenotesVersion bytes.now r → MatchOption result ⊥ (λ version. HasCheckedParts version r) }
-    ensures exact { IfSome result (λ version. (r : Record) × DenotesVersion bytes.now r) }
+// The sort key of the version that the bytes denote.
+pub(crate) fn check_version(bytes: &[u8]) -> Option<&[u8]>
+    ensures found { (r : Record) → DenotesVersion bytes.now r → IsSome result }
+    ensures exact { IfSome result (λ key. (r : Record) × DenotesVersion bytes.now r × (key.now ≡ key_bytes r)) }
 {
     let view = view_version(bytes)?;
-    let (epoch, numbers) = read_epoch(view.key)?;
-    let rest = check_release(numbers, view.zeros)?;
+    let (epoch, rest) = read_epoch(view.key)?;
+    let rest = check_release(rest, view.zeros)?;
     let (suffix, local) = read_suffix(rest)?;
     if !is_local_part(local) {
         return None;
@@ -122,11 +109,5 @@ pub(crate) fn check_version(bytes: &[u8]) -> Option<CheckedVersion<'_>>
     prove_pre_fits(suffix.pre);
     prove_fits(suffix.post);
     prove_fits(suffix.dev);
-    Some(CheckedVersion {
-        view,
-        epoch,
-        numbers,
-        suffix,
-        local,
-    })
+    Some(view.key)
 }

@@ -26,12 +26,10 @@ pub mod laws;
 mod list;
 mod matching;
 mod parsed;
-mod print;
 mod stack_form;
 mod version;
 mod views;
 
-pub use byte_order::cmp_bytes;
 pub use error::{CompileError, CompiledError, ContainsError, NotCompiled};
 pub use list::{
     compile_list, contains, has_list_format, normalize_list, read_list, requests_prereleases,

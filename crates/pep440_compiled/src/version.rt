@@ -14,7 +14,6 @@ use crate::checked_version::check_version;
 use crate::decode::decode_version;
 use crate::error::{CompileError, CompiledError, NotCompiled};
 use crate::parsed::is_parsed;
-use crate::print::push_version as push_version_text;
 use crate::views::{VERSION, has_version_format, view_version, view_version_parts};
 use pep440_keys::{KeySink, push_sort_key};
 use pep440_version::Version;
@@ -95,12 +94,8 @@ pub fn normalize(alloc: Global, bytes: &[u8]) -> Result<String, CompiledError>
     ensures ok { IfOk result (λ text. (r : Record) × DenotesVersion bytes.now r × (string_bytes text ≡ print r)) }
     ensures err { IfErr result (λ e. e ≡ unread.NotCompiled → (r : Record) → DenotesVersion bytes.now r → ⊥) }
 {
-    let Some(version) = check_version(bytes) else {
-        return Err(CompiledError::NotCompiled);
-    };
-    let mut text = String::with_capacity(alloc, 32)?;
-    push_version_text(&mut text, version)?;
-    Ok(text)
+    let version = read_version(alloc, bytes)?;
+    Ok(version.to_string(alloc)?)
 }
 
 /// The sort key of the version that the bytes denote (`pep440_keys::sort_key`), as it lies in them. Bytes of another format
@@ -125,10 +120,7 @@ pub fn read_sort_key(bytes: &[u8]) -> Result<&[u8], NotCompiled>
     ensures ok { IfOk result (λ key. (r : Record) × DenotesVersion bytes.now r × (key.now ≡ key_bytes r)) }
     ensures err { IfErr result (λ _. (r : Record) → DenotesVersion bytes.now r → ⊥) }
 {
-    match check_version(bytes) {
-        Some(version) => Ok(version.view.key),
-        None => Err(NotCompiled),
-    }
+    check_version(bytes).ok_or(NotCompiled)
 }
 
 /// The order of the versions that the bytes denote (PEP 440, "Summary of permitted suffixes and relative ordering"). If `a` or

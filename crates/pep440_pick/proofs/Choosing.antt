@@ -1,141 +1,125 @@
--- The newest of the candidates so far, and one candidate more.
-use Rattle.std.proofs.Common.{◌≡◌, ◌<◌, ◌+◌, ◌∙◌, ℕ, List, [], ◌∷◌, ◌++◌, true, false, length, get_or, take, Option, Some, None, refl, sym, ap, subst, arith, append_assoc}
-use Rattle.std.proofs.lemmas.Bool.{both_ways}
-use Rattle.std.proofs.lemmas.List.{get_or-take, get_or_at, length-append, length-take, length-take-le, take_more}
-use Rattle.std.proofs.lemmas.List.Elements.{All-append, All-cons, All-nil, All-push, All-weaker}
+-- The greatest of the items so far, and one item more; and that there is one greatest.
+use Rattle.std.proofs.Common.{◌≡◌, ◌<◌, ◌∙◌, ℕ, List, [], ◌∷◌, ◌++◌, true, false, length, Option, Some, None, refl, sym, ap, subst, arith, append_assoc}
+use Rattle.std.proofs.lemmas.List.{length-append}
+use Rattle.std.proofs.lemmas.List.Elements.{All-append, All-cons, All-head, All-nil, All-push, All-tail, All-weaker}
 use Rattle.std.specs.Cmp.{IsTotalOrder}
 use Rattle.std.specs.List.{All}
-use Rattle.std.specs.Option.{option_map_or}
 use Rattle.std.specs.Ordering.{is_le, is_lt, ordering_reverse}
-use Rattle.std.specs.Prelude.{IsTrue, not}
+use Rattle.std.specs.Prelude.{IsTrue}
 use Rattle.std.specs.declared.cmp.Ordering.{Ordering}
 use Rattle.std.specs.declared.cmp.Ordering.TheVariants.{Less, Equal, Greater}
-use Rattle.pep440_rs.specs.Specifiers.{Spec}
-use Rattle.pep440_version.specs.Key.{record_cmp}
-use Rattle.pep440_version.specs.KeyLaws.{record_total}
-use Rattle.pep440_version.specs.Record.{Record}
-use Rattle.pep440_pick.specs.Newest.{IsNewest, Newest, all_contain}
+use Rattle.pep440_pick.specs.Greatest.{Greatest, IsGreatest, is_above}
 
 is_less : (r : Ordering) → is_lt r ≡ true → r ≡ Less
 is_less Less e = refl
 is_less Equal e = cc e
 is_less Greater e = cc e
 
-less_after : {K : Type 0} {R : K → K → Ordering} (o : IsTotalOrder R) (x y z : K) → is_le (R x y) ≡ true → is_lt (R y z) ≡ true → is_lt (R x z) ≡ true
-less_after {K} {R} o x y z le lt = go (R x y) refl le
-  where
-    go : (r : Ordering) → R x y ≡ r → is_le r ≡ true → is_lt (R x z) ≡ true
-    go Less e h = ap is_lt (o.trans x y z e (is_less (R y z) lt))
-    go Equal e h = ap is_lt (o.congr x y z e) ∙ lt
-    go Greater e h = cc h
-
 flipped : (r : Ordering) → is_lt r ≡ false → is_le (ordering_reverse r) ≡ true
 flipped Less e = cc e
 flipped Equal e = refl
 flipped Greater e = refl
 
-not_below : (v w : Record) → is_lt (record_cmp w v) ≡ false → is_le (record_cmp v w) ≡ true
-not_below v w e = ap is_le (record_total.antisymm v w) ∙ flipped (record_cmp w v) e
+turned : (r : Ordering) → is_lt r ≡ true → is_le (ordering_reverse r) ≡ true → ⊥
+turned Less e h = cc h
+turned Equal e h = cc e
+turned Greater e h = cc e
 
 weak : (r : Ordering) → is_lt r ≡ true → is_le r ≡ true
 weak Less e = refl
-weak Equal e = cc e
+weak Equal e = refl
 weak Greater e = cc e
 
-module _ (lists : List (List Spec)) where
-  abbrev IsBelow : Record → Record → Type 0
-  IsBelow v w = IsTrue (all_contain lists w) → IsTrue (is_lt (record_cmp w v))
+tails : {A : Type 0} (a b : A) (xs ys : List A) → a ∷ xs ≡ b ∷ ys → xs ≡ ys
+tails a b xs ys e = cc e
 
-  abbrev IsUpTo : Record → Record → Type 0
-  IsUpTo v w = IsTrue (all_contain lists w) → IsTrue (is_le (record_cmp w v))
+inside_of : {A : Type 0} (before : List A) (x : A) (after : List A) (P : A → Type 0) → All P (before ++ (x ∷ after)) → P x
+inside_of [] x after P h = All-head P x after h
+inside_of (y ∷ before) x after P h = inside_of before x after P (All-tail P y (before ++ (x ∷ after)) h)
 
-  abbrev IsOut : Record → Type 0
-  IsOut w = IsTrue (not (all_contain lists w))
+-- an item has at most one value
+module _ {A K : Type 0} (Has : A → K → Type 0) (only : (a : A) (j k : K) → Has a j → Has a k → j ≡ k) (order : K → K → Ordering) (total : IsTotalOrder order) where
+  less_after : (x y z : K) → is_le (order x y) ≡ true → is_lt (order y z) ≡ true → is_lt (order x z) ≡ true
+  less_after x y z le lt = go (order x y) refl le
+    where
+      go : (r : Ordering) → order x y ≡ r → is_le r ≡ true → is_lt (order x z) ≡ true
+      go Less e h = ap is_lt (total.trans x y z e (is_less (order y z) lt))
+      go Equal e h = ap is_lt (total.congr x y z e) ∙ lt
+      go Greater e h = cc h
 
-  pub none_of_none : Newest lists [] None
-  none_of_none = All-nil IsOut
+  apart : (v w : K) → is_lt (order v w) ≡ true → is_le (order w v) ≡ true → ⊥
+  apart v w lt le = turned (order v w) lt (ap is_le (sym (total.antisymm w v)) ∙ le)
 
-  pub still_none : (seen : List Record) (v : Record) → all_contain lists v ≡ false → Newest lists seen None → Newest lists (seen ++ v ∷ []) None
-  still_none seen v out none = All-push IsOut seen v none (ap not out)
+  abbrev IsBelow : K → A → Type 0
+  IsBelow v a = (k : K) → Has a k → IsTrue (is_lt (order k v))
 
-  pub first_one : (seen : List Record) (v : Record) → all_contain lists v ≡ true → Newest lists seen None → Newest lists (seen ++ v ∷ []) (Some (length seen))
-  first_one seen v contained none = record {
+  abbrev IsUpTo : K → A → Type 0
+  IsUpTo v a = (k : K) → Has a k → IsTrue (is_le (order k v))
+
+  all_below : (seen : List A) (v : K) (greatest : Option (ℕ × K)) → Greatest Has order seen greatest → is_above order greatest v ≡ true → All (IsBelow v) seen
+  all_below seen v None none above = All-weaker (λ a. (k : K) → ¬ (Has a k)) (IsBelow v) (λ a out k has. absurd (out k has)) seen none
+  all_below seen v (Some (position, w)) n above =
+      subst (All (IsBelow v)) (sym n.split)
+      (All-append (IsBelow v) n.before (n.item ∷ n.after)
+      (All-weaker (IsBelow w) (IsBelow v) (λ a below k has. less_after k w v (weak (order k w) (below k has)) above) n.before n.above)
+      (All-cons (IsBelow v) n.item n.after (λ k has. subst (λ x. is_lt (order x v) ≡ true) (only n.item w k n.has has) above)
+      (All-weaker (IsUpTo w) (IsBelow v) (λ a upto k has. less_after k w v (upto k has) above) n.after n.greatest)))
+
+  -- an item whose value is above the greatest so far
+  pub found_more : (seen : List A) (a : A) (v : K) (greatest : Option (ℕ × K)) → Greatest Has order seen greatest → Has a v → is_above order greatest v ≡ true → IsGreatest Has order (seen ++ a ∷ []) (length seen) v
+  found_more seen a v greatest g has above = record {
     before = seen;
-    version = v;
+    item = a;
     after = [];
     split = refl;
     at = refl;
-    contained = contained;
-    above = All-weaker IsOut (IsBelow v) (λ w out h. absurd (both_ways (not (all_contain lists w)) (ap not h) out)) seen none;
+    has = has;
+    above = all_below seen v greatest g above;
     greatest = All-nil (IsUpTo v);
   }
 
-  pub newer : (seen : List Record) (v : Record) (position : ℕ) → all_contain lists v ≡ true → (n : IsNewest lists seen position) → is_lt (record_cmp n.version v) ≡ true → Newest lists (seen ++ v ∷ []) (Some (length seen))
-  newer seen v position contained n lt = record {
-    before = seen;
-    version = v;
-    after = [];
-    split = refl;
-    at = refl;
-    contained = contained;
-    above = subst (All (IsBelow v)) (sym n.split)
-        (All-append (IsBelow v) n.before (n.version ∷ n.after)
-        (All-weaker (IsBelow n.version) (IsBelow v) (λ w below h. less_after record_total w n.version v (weak (record_cmp w n.version) (below h)) lt) n.before n.above)
-        (All-cons (IsBelow v) n.version n.after (λ h. lt)
-        (All-weaker (IsUpTo n.version) (IsBelow v) (λ w upto h. less_after record_total w n.version v (upto h) lt) n.after n.greatest)));
-    greatest = All-nil (IsUpTo v);
-  }
-
-  pub stays : (seen : List Record) (v : Record) (position : ℕ) → (n : IsNewest lists seen position) → (all_contain lists v ≡ true → is_le (record_cmp v n.version) ≡ true) → Newest lists (seen ++ v ∷ []) (Some position)
-  stays seen v position n upto = record {
+  -- one that has no value, or one that is not above it
+  pub kept_more : (seen : List A) (a : A) (greatest : Option (ℕ × K)) → Greatest Has order seen greatest → ((k : K) → Has a k → is_above order greatest k ≡ false) → Greatest Has order (seen ++ a ∷ []) greatest
+  kept_more seen a None none out = All-push (λ a. (k : K) → ¬ (Has a k)) seen a none (λ k has. cc (out k has))
+  kept_more seen a (Some (position, w)) n out = record {
     before = n.before;
-    version = n.version;
-    after = n.after ++ v ∷ [];
-    split = ap (λ (l : List Record). l ++ v ∷ []) n.split ∙ append_assoc n.before (n.version ∷ n.after) (v ∷ []);
+    item = n.item;
+    after = n.after ++ a ∷ [];
+    split = ap (λ (l : List A). l ++ a ∷ []) n.split ∙ append_assoc n.before (n.item ∷ n.after) (a ∷ []);
     at = n.at;
-    contained = n.contained;
+    has = n.has;
     above = n.above;
-    greatest = All-push (IsUpTo n.version) n.after v n.greatest upto;
+    greatest = All-push (IsUpTo w) n.after a n.greatest (λ k has. ap is_le (total.antisymm k w) ∙ flipped (order w k) (out k has));
   }
 
-  -- the newest of some stands at its place
-  pub stands : (seen : List Record) (position : ℕ) (d : Record) → (n : IsNewest lists seen position) → (position < length seen) × (get_or seen position d ≡ n.version)
-  stands seen position d n =
-      let long = ap length n.split ∙ length-append n.before (n.version ∷ n.after) in
-      let at = n.at in
-      (omega (arith, long, at), ap (λ (l : List Record). get_or l position d) n.split ∙ get_or_at n.before n.version n.after d position n.at)
+  pub inside : (items : List A) (position : ℕ) (v : K) → IsGreatest Has order items position v → position < length items
+  inside items position v n = let long = ap length n.split ∙ length-append n.before (n.item ∷ n.after) in let at = n.at in omega (arith, long, at)
 
-  -- ---- the same at a place of the candidates
+  -- ---- there is one
 
-  at_place : (candidates : List Record) (i : ℕ) (v : Record) → i < length candidates → v ≡ get_or candidates i v → take (i + 1) candidates ≡ take i candidates ++ v ∷ []
-  at_place candidates i v inside is = take_more candidates i v inside ∙ ap (λ (x : Record). take i candidates ++ x ∷ []) (sym is)
+  not_none : (items : List A) (position : ℕ) (v : K) → IsGreatest Has order items position v → Greatest Has order items None → ⊥
+  not_none items position v n none = inside_of n.before n.item n.after (λ a. (k : K) → ¬ (Has a k)) (subst (All (λ a. (k : K) → ¬ (Has a k))) n.split none) v n.has
 
-  so_far : (candidates : List Record) (i position : ℕ) (v : Record) → i < length candidates → (n : IsNewest lists (take i candidates) position) → n.version ≡ get_or candidates position v
-  so_far candidates i position v inside n =
-      let there = stands (take i candidates) position v n in
-      let long = length-take i candidates in
-      sym there.1 ∙ get_or-take i candidates position v (omega (arith, there.0, long))
+  one_of : (before there : List A) (x y : A) (after behind : List A) (v w : K) → before ++ (x ∷ after) ≡ there ++ (y ∷ behind) → Has x v → Has y w
+      → All (IsBelow v) before → All (IsUpTo v) after → All (IsBelow w) there → All (IsUpTo w) behind → (length before ≡ length there) × (v ≡ w)
+  one_of [] [] x y after behind v w e has holds above greatest below upto = let same : x ≡ y = cc e in (refl, only y v w (subst (λ a. Has a v) same has) holds)
+  one_of [] (z ∷ there) x y after behind v w e has holds above greatest below upto =
+      let first : x ≡ z = cc e in
+      let rest = tails x z after (there ++ (y ∷ behind)) e in
+      absurd (apart v w (All-head (IsBelow w) z there below v (subst (λ a. Has a v) first has)) (inside_of there y behind (IsUpTo v) (subst (All (IsUpTo v)) rest greatest) w holds))
+  one_of (z ∷ before) [] x y after behind v w e has holds above greatest below upto =
+      let first : z ≡ y = cc e in
+      let rest = tails z y (before ++ (x ∷ after)) behind e in
+      absurd (apart w v (All-head (IsBelow v) z before above w (subst (λ a. Has a w) (sym first) holds)) (inside_of before x after (IsUpTo w) (subst (All (IsUpTo w)) (sym rest) upto) v has))
+  one_of (z ∷ before) (u ∷ there) x y after behind v w e has holds above greatest below upto =
+      let one = one_of before there x y after behind v w (tails z u (before ++ (x ∷ after)) (there ++ (y ∷ behind)) e) has holds (All-tail (IsBelow v) z before above) greatest (All-tail (IsBelow w) u there below) upto in
+      (omega (arith, one.0), one.1)
 
-  pub found_more : (candidates : List Record) (i : ℕ) (v : Record) (newest : Option ℕ) → i < length candidates → v ≡ get_or candidates i v → Newest lists (take i candidates) newest
-      → option_map_or (λ position. is_lt (record_cmp (get_or candidates position v) v)) newest true ≡ true → all_contain lists v ≡ true → Newest lists (take (i + 1) candidates) (Some i)
-  found_more candidates i v None inside is n above contained =
-      let long : length (take i candidates) ≡ i = length-take-le i candidates (omega (arith, inside)) in
-      subst (λ (l : List Record). Newest lists l (Some i)) (sym (at_place candidates i v inside is)) (subst (λ k. Newest lists (take i candidates ++ v ∷ []) (Some k)) long (first_one (take i candidates) v contained n))
-  found_more candidates i v (Some position) inside is n above contained =
-      let long : length (take i candidates) ≡ i = length-take-le i candidates (omega (arith, inside)) in
-      let lt : is_lt (record_cmp n.version v) ≡ true = ap (λ (r : Record). is_lt (record_cmp r v)) (so_far candidates i position v inside n) ∙ above in
-      subst (λ (l : List Record). Newest lists l (Some i)) (sym (at_place candidates i v inside is))
-      (subst (λ k. Newest lists (take i candidates ++ v ∷ []) (Some k)) long (newer (take i candidates) v position contained n lt))
-
-  pub out_more : (candidates : List Record) (i : ℕ) (v : Record) (newest : Option ℕ) → i < length candidates → v ≡ get_or candidates i v → Newest lists (take i candidates) newest
-      → all_contain lists v ≡ false → Newest lists (take (i + 1) candidates) newest
-  out_more candidates i v None inside is n out = subst (λ (l : List Record). Newest lists l None) (sym (at_place candidates i v inside is)) (still_none (take i candidates) v out n)
-  out_more candidates i v (Some position) inside is n out =
-      subst (λ (l : List Record). Newest lists l (Some position)) (sym (at_place candidates i v inside is)) (stays (take i candidates) v position n (λ h. absurd (both_ways (all_contain lists v) out h)))
-
-  pub below_more : (candidates : List Record) (i : ℕ) (v : Record) (newest : Option ℕ) → i < length candidates → v ≡ get_or candidates i v → Newest lists (take i candidates) newest
-      → option_map_or (λ position. is_lt (record_cmp (get_or candidates position v) v)) newest true ≡ false → Newest lists (take (i + 1) candidates) newest
-  below_more candidates i v None inside is n above = cc above
-  below_more candidates i v (Some position) inside is n above =
-      let lt : is_lt (record_cmp n.version v) ≡ false = ap (λ (r : Record). is_lt (record_cmp r v)) (so_far candidates i position v inside n) ∙ above in
-      subst (λ (l : List Record). Newest lists l (Some position)) (sym (at_place candidates i v inside is)) (stays (take i candidates) v position n (λ h. not_below v n.version lt))
+  pub one_greatest : (items : List A) (a b : Option (ℕ × K)) → Greatest Has order items a → Greatest Has order items b → a ≡ b
+  one_greatest items None None h k = refl
+  one_greatest items None (Some (j, w)) h k = absurd (not_none items j w k h)
+  one_greatest items (Some (i, v)) None h k = absurd (not_none items i v h k)
+  one_greatest items (Some (i, v)) (Some (j, w)) h k =
+      let one = one_of h.before k.before h.item k.item h.after k.after v w (sym h.split ∙ k.split) h.has k.has h.above h.greatest k.above k.greatest in
+      let same : i ≡ j = sym h.at ∙ one.0 ∙ k.at in
+      λ n. Some (same n, one.1 n)

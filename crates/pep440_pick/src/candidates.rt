@@ -1,11 +1,10 @@
 //! The newest of some candidates.
-ghost use Rattle.std.specs.Prelude.{◌≡◌, ◌≢◌, ◌<◌, true, length, slice_index_or, IfOk, IfSome, IsOk};
+ghost use Rattle.std.specs.Prelude.{◌≡◌, ◌≢◌, ◌<◌, length, IfOk, IfSome, IsOk};
 ghost use Rattle.std.specs.List.{All};
-ghost use Rattle.std.specs.Option.{option_map_or};
-ghost use Rattle.std.specs.Ordering.{is_lt};
 ghost use Rattle.pep440_version.specs.Key.{record_cmp};
 ghost use Rattle.pep440_rs.specs.declared.specifier.operator.Operator.TheVariants.{ExactEqual};
-ghost use Rattle.pep440_pick.specs.Newest.{Newest, all_contain};
+ghost use Rattle.pep440_pick.specs.Greatest.{is_above};
+ghost use Rattle.pep440_pick.specs.Newest.{Newest, all_contain, positioned};
 
 use pep440_rs::{Version, VersionSpecifiers};
 use std::alloc::{AllocError, Global};
@@ -27,14 +26,12 @@ fn all_contain(
     Ok(true)
 }
 
-// The version is above the newest so far.
-fn is_above(candidates: &[Version], newest: Option<usize>, version: &Version) -> bool
-    requires { IfSome newest (λ position. position < length candidates.now) }
-    ensures { result ≡ option_map_or (λ position. is_lt (record_cmp (slice_index_or candidates.now position version.now) version.now)) newest true }
+fn is_above(newest: Option<(usize, &Version)>, version: &Version) -> bool
+    ensures { result ≡ is_above record_cmp (positioned newest.entry) version.now }
 {
     match newest {
         None => true,
-        Some(position) => candidates[position] < *version,
+        Some((_, newest)) => *newest < *version,
     }
 }
 
@@ -53,11 +50,11 @@ pub fn newest(
     ensures inside { IfOk result (λ newest. IfSome newest (λ position. position < length candidates.now)) }
     ensures answered { All (λ list. All (λ m. m.operator ≢ ExactEqual) list) lists.now → IsOk result }
 {
-    let mut newest: Option<usize> = None;
+    let mut newest: Option<(usize, &Version)> = None;
     for (position, candidate) in candidates.iter().enumerate() {
-        if is_above(candidates, newest, candidate) && all_contain(alloc, lists, candidate)? {
-            newest = Some(position);
+        if is_above(newest, candidate) && all_contain(alloc, lists, candidate)? {
+            newest = Some((position, candidate));
         }
     }
-    Ok(newest)
+    Ok(newest.map(|(position, _)| position))
 }

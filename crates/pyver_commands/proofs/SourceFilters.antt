@@ -12,6 +12,7 @@ use Rattle.pyver_commands.specs.Filters.{filter_outcome, printed_lines}
 use Rattle.cli_io.specs.Newlines.{input_lines}
 use Rattle.pyver_commands.specs.Sources.InputLines.{Origin, Source}
 use Rattle.pyver_commands.specs.Sources.InvalidLines.{last_message, lines_status, message_limit}
+use Rattle.pyver_commands.proofs.Choosing.{no_lines}
 use Rattle.pyver_commands.specs.NewestViews.{HasNoLine, kept_line}
 use Rattle.pyver_commands.specs.NewestOutcomes.{NewestLine}
 use Rattle.pyver_commands.specs.Sources.ReadLines.{IsRead, faults}
@@ -142,7 +143,7 @@ module _ {R : Type 0} (files : List ℕ → KnownFile) (remaining : R → Option
   reads_last (name ∷ names) reader middle reader' sources next source k q = reads_more true name names reader middle reader' sources next source k q
 
 no_newest : (kept : Option KeptLine) → kept ≡ None → NewestLine [] (option_map kept_line kept)
-no_newest kept is = subst (λ (k : Option KeptLine). NewestLine [] (option_map kept_line k)) (sym is) refl
+no_newest kept is = subst (λ (k : Option KeptLine). NewestLine [] (option_map kept_line k)) (sym is) no_lines
 
 module _ {R W E : Type 0} (files : List ℕ → KnownFile) (remaining : R → Option (List ℕ)) (contents : W → Option (List ℕ)) (error_contents : E → Option (List ℕ)) where
   -- the sources with these names were read, and all that they ask for was written

@@ -1,7 +1,9 @@
 -- `newest SPECS`: the line of the newest version that the list allows.
-use Rattle.std.specs.Prelude.{◌≡◌, ℕ, List, [], ◌∷◌, ◌++◌, Bool, true, codes, IsTrue, Option, Some, None}
-use Rattle.std.specs.List.{All, filter}
-use Rattle.std.specs.Ordering.{is_le, is_lt}
+use Rattle.std.specs.Prelude.{◌≡◌, ℕ, List, [], ◌∷◌, ◌++◌, Bool, true, codes, Option, Some, None}
+use Rattle.std.specs.List.{filter}
+use Rattle.std.specs.Option.{option_map}
+use Rattle.std.specs.Ordering.{on}
+use Rattle.pep440_pick.specs.Greatest.{Greatest}
 use Rattle.pep440_rs.specs.Prereleases.{list_allows}
 use Rattle.pep440_rs.specs.Specifiers.{Spec}
 use Rattle.pep440_version.specs.Key.{record_cmp}
@@ -30,18 +32,11 @@ or_else prereleases.Never lines others = lines
 abbrev pub candidates : NewestRule → List VersionLine → List VersionLine
 candidates rule lines = or_else rule.prereleases (allowed_lines (takes_prereleases rule.prereleases rule.list) rule.list lines) (allowed_lines true rule.list lines)
 
--- the line is one of these; those before it are older, and none after it is newer
-pub record IsNewestLine (lines : List VersionLine) (x : VersionLine) : Type 0 where
-  pub before : List VersionLine
-  pub after : List VersionLine
-  pub split : lines ≡ before ++ (x ∷ after)
-  pub above : All (λ (y : VersionLine). IsTrue (is_lt (record_cmp y.version x.version))) before
-  pub greatest : All (λ (y : VersionLine). IsTrue (is_le (record_cmp y.version x.version))) after
-
 -- the newest of the lines, and of equal ones the first; None where there are no lines
-abbrev pub NewestLine : List VersionLine → Option VersionLine → Type 0
-NewestLine lines None = lines ≡ []
-NewestLine lines (Some x) = IsNewestLine lines x
+pub record NewestLine (lines : List VersionLine) (newest : Option VersionLine) : Type 0 where
+  pub greatest : Option (ℕ × VersionLine)
+  pub is : Greatest (λ (x y : VersionLine). x ≡ y) (on (λ (x : VersionLine). x.version) record_cmp) lines greatest
+  pub line : newest ≡ option_map (λ (p : ℕ × VersionLine). p.1) greatest
 
 -- the line as it was written, or nothing and status 1; and the messages of invalid lines
 abbrev pub newest_outcome : List ℕ → Option VersionLine → Outcome

@@ -37,22 +37,6 @@ returns-then-not-is_local_part-clause-found c r d =
     let suffix = c.in_ok-suffix.ensures.found r (local_bytes r.local) v.parsed release in
     absurd (true≢false (sym (c.is_local_part.ensures.found r.local v.parsed.valid.local v.parsed.round_trips.local suffix.3) ∙ c.if-not-is_local_part.true))
 
-pub returns-clause-found : goal.returns-clause-found
-returns-clause-found c r d =
-    let v = c.in_ok-view.ensures.found r d in
-    let epoch = c.in_ok-epoch.ensures.found r.epoch _ v.parsed.valid.epoch (v.key ∙ key_in_turn r) in
-    let release = c.in_ok-rest.ensures.found r.release _ (release_fits r (keyed r v.parsed)) v.parsed.valid.some v.zeros epoch.1 in
-    let suffix = c.in_ok-suffix.ensures.found r (local_bytes r.local) v.parsed release in
-    record {
-      view = v;
-      epoch = epoch.0;
-      numbers = epoch.1;
-      pre = suffix.0;
-      post = suffix.1;
-      dev = suffix.2;
-      local = suffix.3;
-    }
-
 pub returns-clause-exact : goal.returns-clause-exact
 returns-clause-exact c =
     let epoch = c.in_ok-epoch.epoch in
@@ -76,6 +60,6 @@ returns-clause-exact c =
       round_trips = record { no_min = refl; no_max = refl; local = local.2 };
     } in
     let key =
-    version_again view.key.now c.in_ok-epoch.numbers.now c.in_ok-rest.rest.now c.in_ok-suffix.local.now epoch release.0 suffix.pre suffix.post suffix.dev local.0
+    version_again view.key.now c.in_ok-epoch.rest.now c.in_ok-rest.rest.now c.in_ok-suffix.local.now epoch release.0 suffix.pre suffix.post suffix.dev local.0
     c.in_ok-epoch.ensures.exact release.4 c.in_ok-suffix.ensures.exact local.3 in
-    (r, denoted c.args.bytes.now view r (record { parsed = parsed; key = key; zeros = release.3 }) c.in_ok-view.ensures.exact)
+    (r, denoted c.args.bytes.now view r (record { parsed = parsed; key = key; zeros = release.3 }) c.in_ok-view.ensures.exact, key)
