@@ -1,10 +1,11 @@
-//! The set of a specifier, operator by operator.
-ghost use Rattle.std.specs.Prelude.{◌≡◌, ◌<◌, IfOk, length, map};
+//! The set of a specifier, operator by operator, and of a list.
+ghost use Rattle.std.specs.Prelude.{◌≡◌, ◌<◌, ◌↔◌, IfOk, IsErrOf, false, length, map, true};
 ghost use Rattle.pep440_ranges.specs.Complement.{gaps};
 ghost use Rattle.pep440_rs.specs.Matching.{without_last};
 ghost use Rattle.pep440_rs.specs.Specifiers.{Spec};
-ghost use Rattle.pep440_sets.specs.Sets.{above_start, below_end, between, equal_to, from_version, list_set, set_of, star};
+ghost use Rattle.pep440_sets.specs.Sets.{above_start, below_end, between, equal_to, from_version, has_exact, is_exact, list_set, set_of, star};
 
+use crate::error::SetError;
 use crate::next_versions::{after_posts, after_prefix, after_public, first_dev, least_version};
 use pep440_rs::{Operator, Ranges, VersionSpecifier, intersect_all};
 use pep440_version::Version;
@@ -151,4 +152,36 @@ pub(crate) fn list_set(
     let sets = member_sets(alloc, members)?;
     let common = intersect_all(alloc, sets)?;
     Ok(common)
+}
+
+// Whether the specifier compares how versions are written.
+pub(crate) fn is_exact(specifier: &VersionSpecifier) -> bool
+    ensures { result ≡ is_exact specifier.now.operator }
+{
+    matches!(specifier.operator(), Operator::ExactEqual)
+}
+
+fn has_exact(specifiers: &[VersionSpecifier]) -> bool
+    ensures { result ≡ has_exact specifiers.now }
+{
+    specifiers.iter().any(is_exact)
+}
+
+/// The intervals of the versions that match each of these specifiers by the literal rule (PEP 440, "Version specifiers"), as
+/// `VersionSet::from_specifiers` has them. n specifiers take n log n steps.
+///
+/// Allocates. Returns `ArbitraryEquality` exactly if some specifier has the operator `===`, and `OutOfMemory` if an allocation fails.
+pub fn specifiers_to_set(
+    alloc: Global,
+    specifiers: &[VersionSpecifier],
+) -> Result<Ranges<Version>, SetError>
+    ensures value { IfOk result (λ set. set ≡ list_set specifiers.now) }
+    ensures without { IfOk result (λ set. has_exact specifiers.now ≡ false) }
+    ensures exact { IsErrOf result SetError.ArbitraryEquality ↔ (has_exact specifiers.now ≡ true) }
+{
+    if has_exact(specifiers) {
+        return Err(SetError::ArbitraryEquality);
+    }
+    let set = list_set(alloc, specifiers)?;
+    Ok(set)
 }

@@ -6,8 +6,7 @@ ghost use Rattle.pep440_rs.specs.LiteralMatching.{list_matches_literally};
 ghost use Rattle.pep440_sets.specs.Common.{common_version, named_version};
 ghost use Rattle.pep440_sets.specs.Emptiness.{IsUnsatisfiable};
 
-use crate::convert::list_set;
-use crate::set::is_exact;
+use crate::convert::{is_exact, list_set};
 use crate::witness::first_version;
 use pep440_rs::VersionSpecifier;
 use pep440_version::Version;

@@ -16,8 +16,9 @@ mod next_versions;
 mod set;
 mod witness;
 
+pub use convert::specifiers_to_set;
 pub use error::SetError;
 pub use find::find_version;
-pub use lines::{BoundaryText, is_closed_end, is_closed_start};
+pub use lines::{BoundaryText, SetLines, is_closed_end, is_closed_start};
 pub use next_versions::least_version;
 pub use set::VersionSet;

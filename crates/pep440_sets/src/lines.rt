@@ -122,7 +122,21 @@ fn write_intervals<W: fmt::Write>(
     Ok(())
 }
 
-/// A line for each interval: `[1.0, 2.0.dev0)`, `(*, 1.0.post*]`; the empty set has none.
+/// The intervals of a set to be printed, a line each: `[1.0, 2.0.dev0)`, `(*, 1.0.post*]`; the empty set has none.
+#[derive(Clone, Copy)]
+pub struct SetLines<'a>(pub &'a Ranges<Version>);
+
+impl fmt::Display for SetLines<'_> {
+    ghost output = { λ lines. Some (set_lines lines.0.now) };
+
+    ghost styled_output = { λ lines _. Some (set_lines lines.0.now) };
+
+    fn fmt<W: fmt::Write>(&self, f: &mut fmt::Formatter<W>) -> fmt::Result {
+        write_intervals(f, self.0)
+    }
+}
+
+/// As `SetLines` prints its intervals.
 impl fmt::Display for VersionSet {
     ghost output = { λ set. Some (set_lines set) };
 

@@ -4,16 +4,16 @@ ghost use Rattle.std.specs.List.{All};
 ghost use Rattle.pep440_ranges.specs.RangeSegments.{contains};
 ghost use Rattle.pep440_rs.specs.Bounds.{full};
 ghost use Rattle.pep440_rs.specs.Cover.{IsCoverable, IsDenoted};
-ghost use Rattle.pep440_sets.specs.Sets.{HoldsListMatches, has_exact, is_exact, list_set};
+ghost use Rattle.pep440_sets.specs.Sets.{HoldsListMatches, has_exact, list_set};
 ghost use Rattle.pep440_sets.specs.Emptiness.{HasNoVersion, IsDisjoint, IsSubset, IsVersionIn};
 ghost use Rattle.pep440_sets.specs.Witnesses.{version_in};
 ghost use Rattle.pep440_version.specs.Key.{record_cmp};
 ghost use Rattle.pep440_version.specs.Record.{Record};
 
-use crate::convert::list_set;
+use crate::convert::specifiers_to_set;
 use crate::error::SetError;
 use crate::witness::first_version;
-use pep440_rs::{Operator, Ranges, VersionSpecifier};
+use pep440_rs::{Ranges, VersionSpecifier};
 use pep440_version::Version;
 use std::alloc::{AllocError, Global};
 use std::marker::Model;
@@ -37,19 +37,6 @@ impl Model for VersionSet {
     ghost invariant = { λ s. IsVersionSet s.intervals };
 }
 
-// Whether the specifier compares how versions are written.
-pub(crate) fn is_exact(specifier: &VersionSpecifier) -> bool
-    ensures { result ≡ is_exact specifier.now.operator }
-{
-    matches!(specifier.operator(), Operator::ExactEqual)
-}
-
-fn has_exact(specifiers: &[VersionSpecifier]) -> bool
-    ensures { result ≡ has_exact specifiers.now }
-{
-    specifiers.iter().any(is_exact)
-}
-
 impl VersionSet {
     #[tactic(auto, using(crate::proofs::Lists::list_is_set, crate::proofs::Lists::list_holds))]
     /// The versions that match each of these specifiers by the literal rule, as `VersionSpecifier::matches_literally` has it (PEP 440, "Version
@@ -65,14 +52,10 @@ impl VersionSet {
         ensures matches { IfOk result (HoldsListMatches specifiers.now) }
         ensures exact { IsErrOf result SetError.ArbitraryEquality ↔ (has_exact specifiers.now ≡ true) }
     {
-        if has_exact(specifiers) {
-            return Err(SetError::ArbitraryEquality);
-        }
-        let intervals = list_set(alloc, specifiers)?;
+        let intervals = specifiers_to_set(alloc, specifiers)?;
         Ok(VersionSet { intervals })
     }
 
-    #[tactic(auto, using(crate::proofs::SetBoundaries::full_set))]
     /// All versions.
     ///
     /// Allocates.

@@ -7,7 +7,7 @@ use Rattle.std.specs.Ordering.{is_lt, on}
 use Rattle.std.specs.declared.cmp.Ordering.{Ordering}
 use Rattle.pep440_pick.proofs.Choosing as greatest
 use Rattle.pep440_pick.specs.Greatest.{Greatest, is_above}
-use Rattle.pep440_rs.specs.Prereleases.{list_allows}
+use Rattle.pep440_rs.specs.LiteralMatching.{list_allows_literally}
 use Rattle.pep440_rs.specs.Specifiers.{Spec}
 use Rattle.pep440_version.specs.Key.{record_cmp}
 use Rattle.pep440_version.specs.KeyLaws.{record_total}
@@ -42,16 +42,16 @@ newer_than (Some x) None line is = cc is
 newer_than (Some x) (Some p) line is = let same : kept_line x ≡ p.1 = cc is in ap (λ y. is_lt (order y line)) (sym same)
 
 module _ (takes : Bool) (list : List Spec) (lines : List VersionLine) (line : VersionLine) where
-  one_more : allowed_lines takes list (lines ++ line ∷ []) ≡ allowed_lines takes list lines ++ cond (list_allows takes list line.version) (line ∷ []) []
-  one_more = filter-append (λ (x : VersionLine). list_allows takes list x.version) lines (line ∷ [])
+  one_more : allowed_lines takes list (lines ++ line ∷ []) ≡ allowed_lines takes list lines ++ cond (list_allows_literally takes list line.version) (line ∷ []) []
+  one_more = filter-append (λ (x : VersionLine). list_allows_literally takes list x.version) lines (line ∷ [])
 
-  one_allowed : list_allows takes list line.version ≡ true → allowed_lines takes list (lines ++ line ∷ []) ≡ allowed_lines takes list lines ++ line ∷ []
+  one_allowed : list_allows_literally takes list line.version ≡ true → allowed_lines takes list (lines ++ line ∷ []) ≡ allowed_lines takes list lines ++ line ∷ []
   one_allowed allowed = one_more ∙ ap (λ b. allowed_lines takes list lines ++ cond b (line ∷ []) []) allowed
 
-  pub out_more : (newest : Option VersionLine) → NewestLine (allowed_lines takes list lines) newest → list_allows takes list line.version ≡ false → NewestLine (allowed_lines takes list (lines ++ line ∷ [])) newest
+  pub out_more : (newest : Option VersionLine) → NewestLine (allowed_lines takes list lines) newest → list_allows_literally takes list line.version ≡ false → NewestLine (allowed_lines takes list (lines ++ line ∷ [])) newest
   out_more newest n out = subst (λ l. NewestLine l newest) (sym (one_more ∙ ap (λ b. allowed_lines takes list lines ++ cond b (line ∷ []) []) out ∙ append-nil (allowed_lines takes list lines))) n
 
-  pub found_more : (newest : Option KeptLine) → NewestLine (allowed_lines takes list lines) (option_map kept_line newest) → is_newer newest line.version ≡ true → list_allows takes list line.version ≡ true
+  pub found_more : (newest : Option KeptLine) → NewestLine (allowed_lines takes list lines) (option_map kept_line newest) → is_newer newest line.version ≡ true → list_allows_literally takes list line.version ≡ true
       → NewestLine (allowed_lines takes list (lines ++ line ∷ [])) (Some line)
   found_more newest n above allowed =
       subst (λ l. NewestLine l (Some line)) (sym (one_allowed allowed)) (record {
@@ -61,9 +61,9 @@ module _ (takes : Bool) (list : List Spec) (lines : List VersionLine) (line : Ve
       })
 
   pub below_more : (newest : Option KeptLine) → NewestLine (allowed_lines takes list lines) (option_map kept_line newest) → is_newer newest line.version ≡ false → NewestLine (allowed_lines takes list (lines ++ line ∷ [])) (option_map kept_line newest)
-  below_more newest n below = go (list_allows takes list line.version) refl
+  below_more newest n below = go (list_allows_literally takes list line.version) refl
     where
-      go : (b : Bool) → list_allows takes list line.version ≡ b → NewestLine (allowed_lines takes list (lines ++ line ∷ [])) (option_map kept_line newest)
+      go : (b : Bool) → list_allows_literally takes list line.version ≡ b → NewestLine (allowed_lines takes list (lines ++ line ∷ [])) (option_map kept_line newest)
       go true allowed =
           subst (λ l. NewestLine l (option_map kept_line newest)) (sym (one_allowed allowed)) (record {
             greatest = n.greatest;

@@ -1,14 +1,16 @@
 -- What lists have in common, and that `no version` is printed exactly where no version is in all of them.
-use Rattle.std.proofs.Common.{◌≡◌, ◌+◌, ◌<◌, ◌≤◌, ◌∙◌, ℕ, List, [], ◌∷◌, ◌++◌, ◌&&◌, Bool, true, false, IfSome, IsTrue, Option, Some, None, length, get_or, take, take_all, map, refl, sym, ap, subst}
+use Rattle.std.proofs.Common.{◌≡◌, ◌+◌, ◌<◌, ◌≤◌, ◌∙◌, ℕ, List, [], ◌∷◌, ◌++◌, ◌&&◌, Bool, true, false, IfSome, IsTrue, Option, Some, None, length, get_or, take, take_all, map, refl, sym, ap, subst, arith, if◌then◌else◌}
+use Rattle.std.proofs.lemmas.Bool.{true≢false}
 use Rattle.std.proofs.lemmas.Cmp.{nat_cmp_total}
 use Rattle.std.proofs.lemmas.List.{append-nil, map-append, take_more}
 use Rattle.std.proofs.lemmas.List.Concat.{flat_map-append}
 use Rattle.std.proofs.lemmas.List.Elements.{All-append, All-cons, All-head, All-tail}
 use Rattle.std.proofs.lemmas.List.Folds.{list_all-append}
-use Rattle.std.proofs.lemmas.List.Sorted.{ranks_by}
+use Rattle.std.proofs.lemmas.List.Sorted.{All-permutation, IsPermutation-sym, ranks_by}
 use Rattle.std.specs.Cmp.{IsStrictWeakOrder}
 use Rattle.std.specs.List.{All, AllZip, flat_map}
 use Rattle.std.specs.Ordering.{is_lt}
+use Rattle.pep440_ranges.specs.RangeSegments.{contains}
 use Rattle.pep440_rs.proofs.Agreement.Operands.{list_has_texts}
 use Rattle.pep440_rs.proofs.Arranging.Arranged.{one_arrangement, same_by_ties}
 use Rattle.pep440_rs.proofs.Covering.Lists.{is_coverable}
@@ -17,17 +19,21 @@ use Rattle.pep440_rs.specs.Arrangement.{Arranges}
 use Rattle.pep440_rs.specs.Bounds.{Segments}
 use Rattle.pep440_rs.specs.Cover.{IsCoverable}
 use Rattle.pep440_rs.specs.ListGrammar.{DerivesList}
-use Rattle.pep440_rs.specs.Matching.{list_matches, matches}
+use Rattle.pep440_rs.specs.LiteralMatching.{list_matches_literally, matches_literally}
 use Rattle.pep440_rs.specs.Specifiers.{Spec}
+use Rattle.pep440_version.specs.Key.{record_cmp}
 use Rattle.pep440_version.specs.Record.{Record}
-use Rattle.pyver_commands.specs.CommonRanges.{ArrangesAll, FindsCommon, ListReading, PrintsLists, ReadsMembers, common, common_outcome, length_cmp, members_in, messages_in, range_outcome}
+use Rattle.pyver_commands.specs.CommonRanges.{ArrangesAll, FindsCommon, ListReading, PrintsLists, ReadsMembers, length_cmp, lines_outcome, members_in, messages_in, named_outcome, set_outcome}
 use Rattle.pyver_commands.specs.Matches.{DenotesList, ListFails}
 use Rattle.cli_io.specs.Runs.{Outcome}
 use Rattle.pyver_commands.specs.RangeLaws.{AllowsVersion, NoVersionIsCommon, VersionIsCommon}
 use Rattle.pep440_version.proofs.RoundTrip.PrintIsRead.{none_all}
-use Rattle.pep440_witness.proofs.Finding.{first_contained, is_none}
-use Rattle.pep440_witness.specs.Probes.{first_match}
-use Rattle.pyver_commands.specs.declared.common_range.RangeOptions.{RangeOptions}
+use Rattle.pep440_sets.proofs.CommonVersions.{common_matches, none_in_common}
+use Rattle.pep440_sets.proofs.Lists.{found_is_in, list_holds, list_is_set}
+use Rattle.pep440_sets.specs.Common.{common_version}
+use Rattle.pep440_sets.specs.Emptiness.{IsUnsatisfiable}
+use Rattle.pep440_sets.specs.Sets.{has_exact, list_set}
+use Rattle.pep440_sets.specs.Witnesses.{version_between}
 use Rattle.pyver_commands.proofs.InTurn.{all_more}
 
 -- ---- one list after another
@@ -54,9 +60,9 @@ found_more view words i w x m n ms ns inside is reads told joined k =
     )
 
 -- all words were read
-pub found_all : {X : Type 0} (view : X → List ℕ) (words : List X) (i : ℕ) (m : List ℕ) (ms : List Spec) (options : RangeOptions) (o : Outcome) → length words ≤ i → PrintsLists options m ms o → Found view words i m ms → FindsCommon options (map view words) o
+pub found_all : {X : Type 0} (view : X → List ℕ) (words : List X) (i : ℕ) (m : List ℕ) (ms : List Spec) (json : Bool) (o : Outcome) → length words ≤ i → PrintsLists json m ms o → Found view words i m ms → FindsCommon json (map view words) o
 found_all view words i m ms options o end is k =
-    (k.0, subst (λ ws. AllZip ReadsMembers (map view ws) k.0) (take_all i words end) k.1, subst (λ t. PrintsLists options t (members_in k.0) o) k.2 (subst (λ t. PrintsLists options m t o) k.3 is))
+    (k.0, subst (λ ws. AllZip ReadsMembers (map view ws) k.0) (take_all i words end) k.1, subst (λ t. PrintsLists json t (members_in k.0) o) k.2 (subst (λ t. PrintsLists json m t o) k.3 is))
 
 -- ---- the arrangement
 
@@ -68,38 +74,79 @@ one_arranged members a b (short, h, up) (other, g, down) =
     let same = same_by_ties (λ (x y : Spec). is_lt (length_cmp x y)) length_weak short other h.rises g.rises (λ z. h.stable z ∙ sym (g.stable z)) in
     one_arrangement other a b (subst (λ l. Arranges l a) same up) down
 
-pub one_printed : (options : RangeOptions) (messages : List ℕ) (members : List Spec) (a b : Outcome) → PrintsLists options messages members a → PrintsLists options messages members b → a ≡ b
-one_printed options [] members a b (l, h, is) (m, g, so) =
-    is ∙ ap (λ list. range_outcome options.json (common options.cover list) (first_match members)) (one_arranged members l m h g) ∙ sym so
-one_printed options (c ∷ messages) members a b is so = is ∙ sym so
+pub one_printed : (json : Bool) (messages : List ℕ) (members : List Spec) (a b : Outcome) → PrintsLists json messages members a → PrintsLists json messages members b → a ≡ b
+one_printed json [] members a b (l, h, is) (m, g, so) = is ∙ ap (set_outcome json) (one_arranged members l m h g) ∙ sym so
+one_printed json (c ∷ messages) members a b is so = is ∙ sym so
 
 -- ---- a version in all lists, or none
 
-common_none : (json : Bool) (range : Segments) (found : Option Record) → (common_outcome json range found).status ≡ 1 → found ≡ None
-common_none json range None e = refl
-common_none json [] (Some v) e = cc e
-common_none json (r ∷ range) (Some v) e = cc e
+both : (a b : Bool) → IsTrue a → IsTrue b → IsTrue (a && b)
+both true b h k = k
+both false b h k = cc h
 
-common_some : (json : Bool) (range : Segments) (found : Option Record) → (common_outcome json range found).status ≡ 0 → (v : Record) × (Some v ≡ found)
-common_some json range None e = cc e
-common_some json [] (Some v) e = (v, refl)
-common_some json (r ∷ range) (Some v) e = (v, refl)
+first_of_both : (a b : Bool) → IsTrue (a && b) → IsTrue a × IsTrue b
+first_of_both true b h = (refl, h)
+first_of_both false b h = cc h
 
-range_none : (json : Bool) (range : Option Segments) (found : Option Record) → (range_outcome json range found).status ≡ 1 → found ≡ None
-range_none json None found e = cc e
-range_none json (Some range) found e = common_none json range found e
+-- what an outcome says of a list: with status 1 it matches no version, and with status 0 some
+record Says (list : List Spec) (o : Outcome) : Type 0 where
+  none : o.status ≡ 1 → IsUnsatisfiable list
+  some : o.status ≡ 0 → (v : Record) × IsTrue (list_matches_literally list v)
 
-range_some : (json : Bool) (range : Option Segments) (found : Option Record) → (range_outcome json range found).status ≡ 0 → (v : Record) × (Some v ≡ found)
-range_some json None found e = cc e
-range_some json (Some range) found e = common_some json range found e
+lines_say : (json : Bool) (list : List Spec) (set : Segments) → All IsCoverable list → has_exact list ≡ false → list_set list ≡ set → Says list (lines_outcome json set)
+lines_say json list [] all none is = record {
+  none = λ e v d h. true≢false (sym h ∙ sym (list_holds list all none v d) ∙ ap (λ q. contains record_cmp q v) is);
+  some = λ e. absurd (cc e);
+}
+lines_say json list (s ∷ set) all none is =
+    let found = found_is_in (list_set list) (list_is_set list all) s set is in
+    record {
+      none = λ e. absurd (cc e);
+      some = λ e. (version_between s.0 s.1, sym (list_holds list all none (version_between s.0 s.1) found.0) ∙ found.1);
+    }
 
-none_left : (options : RangeOptions) (messages : List ℕ) (members : List Spec) (o : Outcome) → PrintsLists options messages members o → o.status ≡ 1 → (messages ≡ []) × (None ≡ first_match members)
-none_left options [] members o (list, h, is) e = (refl, sym (range_none options.json (common options.cover list) (first_match members) (sym (ap (λ (q : Outcome). q.status) is) ∙ e)))
-none_left options (b ∷ messages) members o is e = let f = sym (ap (λ (q : Outcome). q.status) is) ∙ e in cc f
+named_says : (json : Bool) (list : List Spec) (found : Option Record) → All IsCoverable list → common_version list ≡ found → Says list (named_outcome json found)
+named_says json list None all is = record { none = λ e. none_in_common list all is; some = λ e. absurd (cc e) }
+named_says json list (Some v) all is = record { none = λ e. absurd (cc e); some = λ e. (v, subst (λ o. IfSome o (λ w. IsTrue (list_matches_literally list w))) is (common_matches list all)) }
 
-some_left : (options : RangeOptions) (messages : List ℕ) (members : List Spec) (o : Outcome) → PrintsLists options messages members o → o.status ≡ 0 → (messages ≡ []) × ((v : Record) × (Some v ≡ first_match members))
-some_left options [] members o (list, h, is) e = (refl, range_some options.json (common options.cover list) (first_match members) (sym (ap (λ (q : Outcome). q.status) is) ∙ e))
-some_left options (b ∷ messages) members o is e = let f = sym (ap (λ (q : Outcome). q.status) is) ∙ e in cc f
+outcome_says : (json : Bool) (list : List Spec) → All IsCoverable list → Says list (set_outcome json list)
+outcome_says json list all = go (has_exact list) refl
+  where
+    go : (b : Bool) → has_exact list ≡ b → Says list (if b then named_outcome json (common_version list) else lines_outcome json (list_set list))
+    go true e = named_says json list (common_version list) all refl
+    go false e = lines_say json list (list_set list) all e refl
+
+-- ---- a list and its arrangement match the same versions
+
+all_of : (v : Record) (list : List Spec) → IsTrue (list_matches_literally list v) → All (λ (m : Spec). IsTrue (matches_literally m.operator m.version v)) list
+all_of v [] h = none_all (λ (m : Spec). IsTrue (matches_literally m.operator m.version v))
+all_of v (m ∷ list) h =
+    let two = first_of_both (matches_literally m.operator m.version v) (list_matches_literally list v) h in
+    All-cons (λ (m : Spec). IsTrue (matches_literally m.operator m.version v)) m list two.0 (all_of v list two.1)
+
+of_all : (v : Record) (list : List Spec) → All (λ (m : Spec). IsTrue (matches_literally m.operator m.version v)) list → IsTrue (list_matches_literally list v)
+of_all v [] h = refl
+of_all v (m ∷ list) h =
+    both (matches_literally m.operator m.version v) (list_matches_literally list v)
+    (All-head (λ (m : Spec). IsTrue (matches_literally m.operator m.version v)) m list h)
+    (of_all v list (All-tail (λ (m : Spec). IsTrue (matches_literally m.operator m.version v)) m list h))
+
+arranged_all : (P : Spec → Type 0) (members list : List Spec) → ArrangesAll members list → All P members → All P list
+arranged_all P members list (short, h, up) all = All-permutation P short list up.same (All-permutation P members short h.same all)
+
+members_all : (P : Spec → Type 0) (members list : List Spec) → ArrangesAll members list → All P list → All P members
+members_all P members list (short, h, up) all = All-permutation P short members (IsPermutation-sym members short h.same) (All-permutation P list short (IsPermutation-sym short list up.same) all)
+
+to_arranged : (v : Record) (members list : List Spec) → ArrangesAll members list → IsTrue (list_matches_literally members v) → IsTrue (list_matches_literally list v)
+to_arranged v members list h k = of_all v list (arranged_all (λ (m : Spec). IsTrue (matches_literally m.operator m.version v)) members list h (all_of v members k))
+
+from_arranged : (v : Record) (members list : List Spec) → ArrangesAll members list → IsTrue (list_matches_literally list v) → IsTrue (list_matches_literally members v)
+from_arranged v members list h k = of_all v members (members_all (λ (m : Spec). IsTrue (matches_literally m.operator m.version v)) members list h (all_of v list k))
+
+-- without messages the outcome is that of an arrangement of the members
+status_left : (json : Bool) (messages : List ℕ) (members : List Spec) (o : Outcome) (n : ℕ) → n < 2 → o.status ≡ n → PrintsLists json messages members o → (messages ≡ []) × ((list : List Spec) × ArrangesAll members list × (o ≡ set_outcome json list))
+status_left json [] members o n low e h = (refl, h)
+status_left json (b ∷ messages) members o n low e is = let two : 2 ≡ n = sym (ap (λ (q : Outcome). q.status) is) ∙ e in absurd (omega (arith, low, two))
 
 -- the list that a word denotes, which has no message
 one_list_in : (word : List ℕ) (x : ListReading) (rest : List ℕ) → ReadsMembers word x → x.message ++ rest ≡ [] → (list : List Spec) × DerivesList word list × (x.members ≡ list) × (rest ≡ [])
@@ -117,44 +164,41 @@ coverable (w ∷ words) (x ∷ xs) h none =
     (subst (All IsCoverable) (sym k.2) (λ j m lt. is_coverable _ (list_has_texts w k.0 k.1 j m lt)))
     (coverable words xs h.1 k.3)
 
-both : (a b : Bool) → IsTrue a → IsTrue b → IsTrue (a && b)
-both true b h k = k
-both false b h k = cc h
-
-first_of_both : (a b : Bool) → IsTrue (a && b) → IsTrue a × IsTrue b
-first_of_both true b h = (refl, h)
-first_of_both false b h = cc h
-
 -- all of them contain what each list contains
-all_contain : (v : Record) (words : List (List ℕ)) (xs : List ListReading) → AllZip ReadsMembers words xs → messages_in xs ≡ [] → All (AllowsVersion v) words → IsTrue (list_matches (members_in xs) v)
+all_contain : (v : Record) (words : List (List ℕ)) (xs : List ListReading) → AllZip ReadsMembers words xs → messages_in xs ≡ [] → All (AllowsVersion v) words → IsTrue (list_matches_literally (members_in xs) v)
 all_contain v [] [] h none all = refl
 all_contain v [] (x ∷ xs) h none all = absurd h
 all_contain v (w ∷ words) [] h none all = absurd h
 all_contain v (w ∷ words) (x ∷ xs) h none all =
     let k = one_list_in w x (messages_in xs) h.0 none in
     let own = All-head (AllowsVersion v) w words all in
-    subst IsTrue (sym (list_all-append (λ (m : Spec). matches m.operator m.version v) x.members (members_in xs)))
-    (both (list_matches x.members v) (list_matches (members_in xs) v)
-    (subst (λ (l : List Spec). IsTrue (list_matches l v)) (one_list w own.0 k.0 own.1 k.1 ∙ sym k.2) own.2)
+    subst IsTrue (sym (list_all-append (λ (m : Spec). matches_literally m.operator m.version v) x.members (members_in xs)))
+    (both (list_matches_literally x.members v) (list_matches_literally (members_in xs) v)
+    (subst (λ (l : List Spec). IsTrue (list_matches_literally l v)) (one_list w own.0 k.0 own.1 k.1 ∙ sym k.2) own.2)
     (all_contain v words xs h.1 k.3 (All-tail (AllowsVersion v) w words all)))
 
 -- each list contains what all of them contain
-each_contains : (v : Record) (words : List (List ℕ)) (xs : List ListReading) → AllZip ReadsMembers words xs → messages_in xs ≡ [] → IsTrue (list_matches (members_in xs) v) → All (AllowsVersion v) words
+each_contains : (v : Record) (words : List (List ℕ)) (xs : List ListReading) → AllZip ReadsMembers words xs → messages_in xs ≡ [] → IsTrue (list_matches_literally (members_in xs) v) → All (AllowsVersion v) words
 each_contains v [] [] h none all = none_all (AllowsVersion v)
 each_contains v [] (x ∷ xs) h none all = absurd h
 each_contains v (w ∷ words) [] h none all = absurd h
 each_contains v (w ∷ words) (x ∷ xs) h none all =
     let k = one_list_in w x (messages_in xs) h.0 none in
-    let two = first_of_both (list_matches x.members v) (list_matches (members_in xs) v)
-    (subst IsTrue (list_all-append (λ (m : Spec). matches m.operator m.version v) x.members (members_in xs)) all) in
-    All-cons (AllowsVersion v) w words (k.0, k.1, subst (λ (l : List Spec). IsTrue (list_matches l v)) k.2 two.0) (each_contains v words xs h.1 k.3 two.1)
+    let two = first_of_both (list_matches_literally x.members v) (list_matches_literally (members_in xs) v)
+    (subst IsTrue (list_all-append (λ (m : Spec). matches_literally m.operator m.version v) x.members (members_in xs)) all) in
+    All-cons (AllowsVersion v) w words (k.0, k.1, subst (λ (l : List Spec). IsTrue (list_matches_literally l v)) k.2 two.0) (each_contains v words xs h.1 k.3 two.1)
 
 pub no_version_is_common : NoVersionIsCommon
-no_version_is_common options words o (xs, h, is) ended v d all =
-    let e = none_left options (messages_in xs) (members_in xs) o is ended in
-    is_none (members_in xs) e.1 (coverable words xs h e.0) v d (all_contain v words xs h e.0 all)
+no_version_is_common json words o (xs, h, is) ended v d all =
+    let left = status_left json (messages_in xs) (members_in xs) o 1 (omega arith) ended is in
+    let list = left.1.0 in
+    let says = outcome_says json list (arranged_all IsCoverable (members_in xs) list left.1.1 (coverable words xs h left.0)) in
+    says.none (sym (ap (λ (q : Outcome). q.status) left.1.2) ∙ ended) v d (to_arranged v (members_in xs) list left.1.1 (all_contain v words xs h left.0 all))
 
 pub version_is_common : VersionIsCommon
-version_is_common options words o (xs, h, is) ended =
-    let e = some_left options (messages_in xs) (members_in xs) o is ended in
-    (e.1.0, each_contains e.1.0 words xs h e.0 (subst (λ o. IfSome o (λ w. IsTrue (list_matches (members_in xs) w))) (sym e.1.1) (first_contained (members_in xs))))
+version_is_common json words o (xs, h, is) ended =
+    let left = status_left json (messages_in xs) (members_in xs) o 0 (omega arith) ended is in
+    let list = left.1.0 in
+    let says = outcome_says json list (arranged_all IsCoverable (members_in xs) list left.1.1 (coverable words xs h left.0)) in
+    let found = says.some (sym (ap (λ (q : Outcome). q.status) left.1.2) ∙ ended) in
+    (found.0, each_contains found.0 words xs h left.0 (from_arranged found.0 (members_in xs) list left.1.1 found.1))

@@ -9,7 +9,7 @@ use Rattle.std.specs.Io.KnownBytes.{Appends, Consumes, IsAtEnd}
 use Rattle.std.specs.List.{AllZip, concat, filter, flat_map}
 use Rattle.pyver_commands.proofs.InputLines.{all_append, cuts_all, cuts_more, filled_lines_from-append, filled_one, no_newline_none, some_line}
 use Rattle.pyver_commands.specs.FilterSteps.{Cuts, Goes, Keeps, KeepsMore, SourceFinishes, SourceStops, Steps, StepsBy, Wrote, WroteSome}
-use Rattle.pep440_rs.specs.Prereleases.{list_allows}
+use Rattle.pep440_rs.specs.LiteralMatching.{list_allows_literally}
 use Rattle.pyver_commands.specs.Filters.{is_printed, is_wanted, printed_lines}
 use Rattle.cli_io.specs.Newlines.{input_lines}
 use Rattle.pyver_commands.specs.Sources.InputLines.{SourceLine, Origin, Source, filled_lines_from, is_blank, numbered}
@@ -142,7 +142,7 @@ pub steps_kept : (rule : FilterRule) (line : SourceLine) (r : Record) (a b : Fil
     → ((lines : List VersionLine) → KeepsNewest rule.takes rule.list lines a.newest → KeepsNewest rule.takes rule.list (lines ++ record { text = line.text; version = r } ∷ []) b.newest) → StepsBy rule (record { line = line; reading = Entry (Denotes r) }) a b
 steps_kept rule line r a b is reads count fault output errors more =
     let x : ReadLine = record { line = line; reading = Entry (Denotes r) } in
-    let unprinted : printed_lines rule (x ∷ []) ≡ [] = ap (λ w. flat_map (λ (y : ReadLine). y.line.text ++ 10 ∷ []) (cond (is_wanted w (list_allows rule.takes rule.list r)) (x ∷ []) [])) is in
+    let unprinted : printed_lines rule (x ∷ []) ≡ [] = ap (λ w. flat_map (λ (y : ReadLine). y.line.text ++ 10 ∷ []) (cond (is_wanted w (list_allows_literally rule.takes rule.list r)) (x ∷ []) [])) is in
     record {
       read_count = reads;
       line_count = count;

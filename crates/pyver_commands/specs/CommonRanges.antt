@@ -1,23 +1,20 @@
--- `range [--cover] [--json] SPECS..`: the versions that all lists allow, as a range.
+-- `range [--json] SPECS..`: the versions that all lists match literally, as a set.
 use Rattle.std.specs.Prelude.{◌≡◌, ℕ, List, [], ◌∷◌, ◌++◌, Bool, Option, Some, None, codes, length, if◌then◌else◌}
 use Rattle.std.specs.List.{AllZip, flat_map}
 use Rattle.std.specs.Ordering.{nat_cmp, on}
 use Rattle.std.specs.declared.cmp.Ordering.{Ordering}
 use Rattle.pep440_rs.specs.Arrangement.{Arranges, ArrangesBy}
-use Rattle.pep440_rs.specs.Bounds.{Segments, list_range, range_of}
-use Rattle.pep440_rs.specs.Cover.{cover_of}
-use Rattle.pep440_rs.specs.ErrorTexts.{range_error_text}
-use Rattle.pep440_rs.specs.RangeLines.{range_lines}
-use Rattle.pep440_rs.specs.declared.range.error.RangeError.TheVariants.{NumberAtMax}
+use Rattle.pep440_rs.specs.Bounds.{Segments, alone}
 use Rattle.pep440_rs.specs.Specifiers.{Spec}
 use Rattle.pep440_version.specs.Print.{print}
 use Rattle.pep440_version.specs.Record.{Record}
-use Rattle.pep440_witness.specs.Probes.{first_match}
+use Rattle.pep440_sets.specs.Common.{common_version}
+use Rattle.pep440_sets.specs.SetLines.{set_lines}
+use Rattle.pep440_sets.specs.Sets.{has_exact, list_set}
 use Rattle.pyver_commands.specs.Matches.{DenotesList, ListFails, ReadsSpecifiers, SpecifiersReading, list_message}
 use Rattle.pyver_commands.specs.Outcomes.{message_outcome}
 use Rattle.cli_io.specs.Runs.{Outcome}
 use Rattle.pyver_commands.specs.RangeObjects.{json_segments}
-use Rattle.pyver_commands.specs.declared.common_range.RangeOptions.{RangeOptions}
 
 -- ---- each list
 
@@ -52,40 +49,39 @@ length_cmp = on (λ (s : Spec). length s.version.release) nat_cmp
 abbrev pub ArrangesAll : List Spec → List Spec → Type 0
 ArrangesAll members list = (short : List Spec) × ArrangesBy length_cmp members short × Arranges short list
 
--- the range of the members, or their cover
-abbrev pub common : Bool → List Spec → Option Segments
-common cover list = if cover then list_range cover_of list else list_range range_of list
-
 -- ---- what is printed
 
--- the segments as lines, or as a JSON array
-abbrev pub segments_text : Bool → Segments → List ℕ
-segments_text json segments = if json then json_segments segments ++ codes "\n" else range_lines segments
+-- the intervals as lines, or as a JSON array
+abbrev pub set_text : Bool → Segments → List ℕ
+set_text json set = if json then json_segments set ++ codes "\n" else set_lines set
 
--- what is printed where there is no version; in JSON an array without segments
-abbrev pub no_version_text : Bool → List ℕ
-no_version_text json = if json then segments_text json [] else codes "no version\n"
+-- a version as a line, or as a JSON array of the one interval that has it alone
+abbrev pub version_text : Bool → Record → List ℕ
+version_text json v = if json then json_segments (alone v) ++ codes "\n" else print v ++ codes "\n"
 
--- what is printed where the range is empty, and this version is in all lists; in JSON an array without segments
-abbrev pub allowed_text : Bool → Record → List ℕ
-allowed_text json v = if json then segments_text json [] else codes "no range, but " ++ (print v ++ codes " is allowed\n")
+-- the outcome where there is no version; in JSON an array without intervals
+abbrev pub none_outcome : Bool → Outcome
+none_outcome json = record { output = if json then codes "[]\n" else codes "no version\n"; errors = []; status = 1 }
 
--- the outcome of a range, and of a version that is in all lists: without one there is no version, and otherwise the range decides
-abbrev pub common_outcome : Bool → Segments → Option Record → Outcome
-common_outcome json range None = record { output = no_version_text json; errors = []; status = 1 }
-common_outcome json [] (Some v) = record { output = allowed_text json v; errors = []; status = 0 }
-common_outcome json (r ∷ range) (Some v) = record { output = segments_text json (r ∷ range); errors = []; status = 0 }
+-- the outcome of a set
+abbrev pub lines_outcome : Bool → Segments → Outcome
+lines_outcome json [] = none_outcome json
+lines_outcome json (s ∷ set) = record { output = set_text json (s ∷ set); errors = []; status = 0 }
 
--- the outcome of a range, where there is one, and of a version that is in all lists; without a range a number cannot be raised
-abbrev pub range_outcome : Bool → Option Segments → Option Record → Outcome
-range_outcome json None found = message_outcome (codes "pyver: " ++ (range_error_text NumberAtMax ++ codes "\n"))
-range_outcome json (Some range) found = common_outcome json range found
+-- the outcome of lists with `===`, which have at most one version
+abbrev pub named_outcome : Bool → Option Record → Outcome
+named_outcome json None = none_outcome json
+named_outcome json (Some v) = record { output = version_text json v; errors = []; status = 0 }
+
+-- the outcome of members: of their set, or with `===` of the version that they have in common
+abbrev pub set_outcome : Bool → List Spec → Outcome
+set_outcome json members = if has_exact members then named_outcome json (common_version members) else lines_outcome json (list_set members)
 
 -- the outcome of lists: the messages if there are any, and otherwise that of their members
-abbrev pub PrintsLists : RangeOptions → List ℕ → List Spec → Outcome → Type 0
-PrintsLists options [] members o = (list : List Spec) × ArrangesAll members list × (o ≡ range_outcome options.json (common options.cover list) (first_match members))
-PrintsLists options (b ∷ messages) members o = o ≡ message_outcome (b ∷ messages)
+abbrev pub PrintsLists : Bool → List ℕ → List Spec → Outcome → Type 0
+PrintsLists json [] members o = (list : List Spec) × ArrangesAll members list × (o ≡ set_outcome json list)
+PrintsLists json (b ∷ messages) members o = o ≡ message_outcome (b ∷ messages)
 
 -- the outcome of `range`
-abbrev pub FindsCommon : RangeOptions → List (List ℕ) → Outcome → Type 0
-FindsCommon options words o = (xs : List ListReading) × AllZip ReadsMembers words xs × PrintsLists options (messages_in xs) (members_in xs) o
+abbrev pub FindsCommon : Bool → List (List ℕ) → Outcome → Type 0
+FindsCommon json words o = (xs : List ListReading) × AllZip ReadsMembers words xs × PrintsLists json (messages_in xs) (members_in xs) o

@@ -1,7 +1,7 @@
 -- `filter SPECS [FILE..]`: the lines of the sources whose version the list allows, or the others.
 use Rattle.std.specs.Prelude.{◌≡◌, ℕ, List, ◌++◌, Bool, false, Option, codes, length, not, take, if◌then◌else◌}
 use Rattle.std.specs.List.{AllZip, concat, filter, flat_map}
-use Rattle.pep440_rs.specs.Prereleases.{list_allows}
+use Rattle.pep440_rs.specs.LiteralMatching.{list_allows_literally}
 use Rattle.pep440_rs.specs.Specifiers.{Spec}
 use Rattle.pyver_commands.specs.Sources.InputLines.{filled_lines}
 use Rattle.pyver_commands.specs.Sources.InvalidLines.{last_message, lines_status, message_limit}
@@ -31,7 +31,7 @@ is_wanted_header wanted.Newest first = false
 
 -- the version is printed: the list allows it, or, with `-v`, does not
 abbrev pub is_shown : FilterRule → Record → Bool
-is_shown rule r = is_wanted rule.wanted (list_allows rule.takes rule.list r)
+is_shown rule r = is_wanted rule.wanted (list_allows_literally rule.takes rule.list r)
 
 -- the line is printed: it is the header of the first source, or its version is printed
 abbrev pub is_printed : FilterRule → Bool → LineReading → Bool

@@ -3,7 +3,7 @@ use Rattle.std.specs.Prelude.{◌≡◌, ℕ, List, [], ◌++◌, Bool, codes, d
 use Rattle.std.specs.List.{AllZip}
 use Rattle.pep440_rs.specs.ListErrorTexts.{list_refusal_text}
 use Rattle.pep440_rs.specs.ListGrammar.{DerivesList, PieceRefusal, RefusesList}
-use Rattle.pep440_rs.specs.Prereleases.{list_allows}
+use Rattle.pep440_rs.specs.LiteralMatching.{list_allows_literally}
 use Rattle.pep440_rs.specs.Specifiers.{Spec}
 use Rattle.cli_io.specs.Escapes.{escaped, escaped_lines}
 use Rattle.cli_io.specs.Runs.{Outcome}
@@ -45,7 +45,7 @@ verdict quiet allowed word = record { output = if quiet then [] else verdict_lin
 
 -- the outcome of a word: its verdict, or its error
 abbrev pub word_outcome : Bool → Bool → List Spec → List ℕ → Reading → Outcome
-word_outcome quiet takes list word (Denotes r) = verdict quiet (list_allows takes list r) word
+word_outcome quiet takes list word (Denotes r) = verdict quiet (list_allows_literally takes list r) word
 word_outcome quiet takes list word (Fails reason) = fault word reason
 
 -- the outcome of one word

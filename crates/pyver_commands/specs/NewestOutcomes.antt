@@ -4,7 +4,7 @@ use Rattle.std.specs.List.{filter}
 use Rattle.std.specs.Option.{option_map}
 use Rattle.std.specs.Ordering.{on}
 use Rattle.pep440_pick.specs.Greatest.{Greatest}
-use Rattle.pep440_rs.specs.Prereleases.{list_allows}
+use Rattle.pep440_rs.specs.LiteralMatching.{list_allows_literally}
 use Rattle.pep440_rs.specs.Specifiers.{Spec}
 use Rattle.pep440_version.specs.Key.{record_cmp}
 use Rattle.pyver_commands.specs.Matches.{DenotesList, ListFails, ReadsSpecifiers, SpecifiersReading, list_fault}
@@ -19,7 +19,7 @@ use Rattle.pyver_commands.specs.declared.prerelease_rule.Prereleases.TheVariants
 
 -- the lines whose version the list allows
 abbrev pub allowed_lines : Bool → List Spec → List VersionLine → List VersionLine
-allowed_lines takes list lines = filter (λ (x : VersionLine). list_allows takes list x.version) lines
+allowed_lines takes list lines = filter (λ (x : VersionLine). list_allows_literally takes list x.version) lines
 
 -- these lines; or, where there are none and no option says which pre-releases are taken, the others
 abbrev pub or_else : Prereleases → List VersionLine → List VersionLine → List VersionLine

@@ -1,34 +1,31 @@
--- The segments of a range as a JSON array of objects (RFC 8259). Its strings need no escape: they hold letters, digits, `.`,
--- `+`, `!` and `~`.
-use Rattle.std.specs.Prelude.{ℕ, List, [], ◌∷◌, ◌++◌, codes}
+-- The intervals of a set as a JSON array of objects (RFC 8259). Its strings need no escape: they hold letters, digits, `.`, `+`, `!` and `*`.
+use Rattle.std.specs.Prelude.{ℕ, Bool, List, [], ◌∷◌, ◌++◌, codes, false, true}
 use Rattle.std.specs.List.{flat_map}
 use Rattle.std.specs.declared.ops.Bound.{Bound}
 use Rattle.std.specs.declared.ops.Bound.TheVariants.{Included, Excluded, Unbounded}
-use Rattle.pep440_version.specs.Sentinels.{print_with_sentinels}
 use Rattle.pep440_ranges.specs.RangeSegments.{Segment}
 use Rattle.pep440_rs.specs.Bounds.{Segments}
 use Rattle.pep440_version.specs.Record.{Record}
+use Rattle.pep440_sets.specs.SetLines.{bound_text, is_closed_end, is_closed_start}
 use Rattle.pyver_commands.specs.JsonObjects.{in_quotes}
 
--- the version of a bound as a string, or `null` if it is unbounded
+-- the boundary as a string, or `null` if there is none
 abbrev pub json_bound : Bound Record → List ℕ
-json_bound (Included v) = in_quotes (print_with_sentinels v)
-json_bound (Excluded v) = in_quotes (print_with_sentinels v)
+json_bound (Included v) = in_quotes (bound_text (Included v))
+json_bound (Excluded v) = in_quotes (bound_text (Excluded v))
 json_bound Unbounded = codes "null"
 
--- whether the bound itself is allowed
-abbrev pub json_included : Bound Record → List ℕ
-json_included (Included v) = codes "true"
-json_included (Excluded v) = codes "false"
-json_included Unbounded = codes "false"
+abbrev pub json_truth : Bool → List ℕ
+json_truth true = codes "true"
+json_truth false = codes "false"
 
 -- the members of the lower bound
 abbrev pub json_low : Bound Record → List ℕ
-json_low bound = codes "\"low\":" ++ (json_bound bound ++ (codes ",\"low_included\":" ++ json_included bound))
+json_low bound = codes "\"low\":" ++ (json_bound bound ++ (codes ",\"low_included\":" ++ json_truth (is_closed_start bound)))
 
 -- the members of the upper bound
 abbrev pub json_high : Bound Record → List ℕ
-json_high bound = codes "\"high\":" ++ (json_bound bound ++ (codes ",\"high_included\":" ++ json_included bound))
+json_high bound = codes "\"high\":" ++ (json_bound bound ++ (codes ",\"high_included\":" ++ json_truth (is_closed_end bound)))
 
 -- the segment as an object
 abbrev pub json_segment : Segment Record → List ℕ

@@ -51,7 +51,7 @@ fn push_reading(
 {
     match reading {
         Reading::Version(version) => {
-            let allowed = list.allows(alloc, takes, version)?;
+            let allowed = list.allows_literally(alloc, takes, version)?;
             push_verdict(answer, quiet, allowed, word)?;
             Ok(())
         }

@@ -1,28 +1,16 @@
-// The command `range`.
-ghost use Rattle.std.specs.Prelude.{◌≡◌, ◌++◌, [], IfOk, codes, map, string_bytes, if◌then◌else◌};
-ghost use Rattle.pep440_rs.specs.ErrorTexts.{range_error_text};
+//! The command `range`.
+ghost use Rattle.std.specs.Prelude.{◌≡◌, ◌++◌, [], IfOk, map, string_bytes};
 ghost use Rattle.pyver_commands.specs.AnswerViews.{outcome_of};
-ghost use Rattle.pyver_commands.specs.CommonRanges.{ArrangesAll, FindsCommon, PrintsLists, allowed_text, common, common_outcome, length_cmp, range_outcome, segments_text};
-ghost use Rattle.pyver_commands.specs.Outcomes.{message_outcome};
+ghost use Rattle.pyver_commands.specs.CommonRanges.{ArrangesAll, FindsCommon, PrintsLists, length_cmp, lines_outcome, named_outcome, none_outcome, set_outcome, set_text, version_text};
 
 use crate::answer::Answer;
 use crate::range_json::push_segments;
 use crate::specifiers::{SpecifiersReading, parse_specifiers, push_list_message};
 use crate::version_json::push_text;
-use pep440_rs::{
-    RangeError, RangeLines, Ranges, Version, VersionSpecifier, VersionSpecifiers,
-    specifiers_to_cover, specifiers_to_ranges,
-};
-use pep440_witness::find_version;
+use pep440_rs::{Ranges, Version, VersionSpecifier, VersionSpecifiers};
+use pep440_sets::{SetError, SetLines, find_version, specifiers_to_set};
 use std::alloc::{AllocError, Global};
 use std::cmp::Ordering;
-
-/// What is printed of the range that all lists allow.
-#[derive(Clone, Copy)]
-pub struct RangeOptions {
-    pub cover: bool,
-    pub json: bool,
-}
 
 // What is known after some of the words.
 #[derive(Drop)]
@@ -83,118 +71,112 @@ fn arrange_members(
     Ok(list)
 }
 
-fn push_range(
+fn push_set(
     alloc: Global,
     output: &mut Vec<u8>,
     json: bool,
-    range: &Ranges<Version>,
+    set: &Ranges<Version>,
 ) -> Result<(), AllocError>
-    ensures { IfOk result (λ _. output.new.items ≡ output.old.items ++ segments_text json range.now) }
+    ensures { IfOk result (λ _. output.new.items ≡ output.old.items ++ set_text json set.now) }
 {
     if json {
-        push_segments(alloc, output, range)?;
+        push_segments(alloc, output, set)?;
         return push_text(output, "\n");
     }
-    push_text(output, RangeLines(range).to_string(alloc)?.as_str())
+    push_text(output, SetLines(set).to_string(alloc)?.as_str())
 }
 
-// The sentence where there is no segment to print; as JSON no segments.
-fn push_sentence(output: &mut Vec<u8>, json: bool, sentence: &str) -> Result<(), AllocError>
-    ensures { IfOk result (λ _. output.new.items ≡ output.old.items ++ (if json then segments_text json [] else sentence.now)) }
+// The outcome where no version is allowed; as JSON no intervals.
+fn report_none(alloc: Global, json: bool) -> Result<Answer, AllocError>
+    ensures { IfOk result (λ a. outcome_of a ≡ none_outcome json) }
 {
-    push_text(output, if json { "[]\n" } else { sentence })
+    let mut answer = Answer::silent(alloc, 1);
+    push_text(
+        &mut answer.output,
+        if json { "[]\n" } else { "no version\n" },
+    )?;
+    Ok(answer)
 }
 
-// The sentence that only this version was found; as JSON no segments.
+fn print_set(alloc: Global, json: bool, set: &Ranges<Version>) -> Result<Answer, AllocError>
+    ensures { IfOk result (λ a. outcome_of a ≡ lines_outcome json set.now) }
+{
+    if set.is_empty() {
+        return report_none(alloc, json);
+    }
+    let mut answer = Answer::silent(alloc, 0);
+    push_set(alloc, &mut answer.output, json, set)?;
+    Ok(answer)
+}
+
+// The version as a line; as JSON the interval of it alone.
 fn push_version(
     alloc: Global,
     output: &mut Vec<u8>,
     json: bool,
-    version: &Version,
+    version: Version,
 ) -> Result<(), AllocError>
-    ensures { IfOk result (λ _. output.new.items ≡ output.old.items ++ allowed_text json version.now) }
+    ensures { IfOk result (λ _. output.new.items ≡ output.old.items ++ version_text json version) }
 {
-    let sentence = format!(in alloc; "no range, but {version} is allowed\n")?;
-    push_sentence(output, json, sentence.as_str())
+    if json {
+        let one = Ranges::singleton(alloc, version)?;
+        push_segments(alloc, output, &one)?;
+    } else {
+        push_text(output, version.to_string(alloc)?.as_str())?;
+    }
+    push_text(output, "\n")
 }
 
-// The outcome of a range, and of a version that is in all lists.
-fn print_common(
-    alloc: Global,
-    json: bool,
-    range: &Ranges<Version>,
-    found: Option<Version>,
-) -> Result<Answer, AllocError>
-    ensures { IfOk result (λ a. outcome_of a ≡ common_outcome json range.now found) }
+// The outcome of lists with `===`, which allow at most the version that it names.
+fn print_named(alloc: Global, json: bool, found: Option<Version>) -> Result<Answer, AllocError>
+    ensures { IfOk result (λ a. outcome_of a ≡ named_outcome json found) }
 {
-    let mut answer = Answer::silent(alloc, 0);
     let Some(version) = found else {
-        push_sentence(&mut answer.output, json, "no version\n")?;
-        answer.status = 1;
-        return Ok(answer);
+        return report_none(alloc, json);
     };
-    if range.is_empty() {
-        push_version(alloc, &mut answer.output, json, &version)?;
-    } else {
-        push_range(alloc, &mut answer.output, json, range)?;
-    }
+    let mut answer = Answer::silent(alloc, 0);
+    push_version(alloc, &mut answer.output, json, version)?;
     Ok(answer)
 }
 
-// The range of the list or its cover, and a version that is in all lists.
 fn print_arranged(
     alloc: Global,
-    options: RangeOptions,
-    list: VersionSpecifiers,
-    found: Option<Version>,
+    json: bool,
+    list: &VersionSpecifiers,
 ) -> Result<Answer, AllocError>
-    ensures { IfOk result (λ a. outcome_of a ≡ range_outcome options.json (common options.cover list) found) }
+    ensures { IfOk result (λ a. outcome_of a ≡ set_outcome json list.now) }
 {
-    let range = if options.cover {
-        specifiers_to_cover(alloc, list)
-    } else {
-        specifiers_to_ranges(alloc, list)
-    };
-    match range {
-        Ok(range) => print_common(alloc, options.json, &range, found),
-        Err(RangeError::OutOfMemory) => Err(AllocError),
-        Err(RangeError::NumberAtMax) => report_range_error(alloc, RangeError::NumberAtMax),
+    match specifiers_to_set(alloc, list.as_slice()) {
+        Ok(set) => print_set(alloc, json, &set),
+        Err(SetError::OutOfMemory) => Err(AllocError),
+        Err(SetError::ArbitraryEquality) => {
+            let found = find_version(alloc, list.as_slice())?;
+            print_named(alloc, json, found)
+        }
     }
-}
-
-// The message that the lists have no range.
-fn report_range_error(alloc: Global, error: RangeError) -> Result<Answer, AllocError>
-    ensures { IfOk result (λ a. outcome_of a ≡ message_outcome (codes "pyver: " ++ (range_error_text error ++ codes "\n"))) }
-{
-    let mut answer = Answer::silent(alloc, 2);
-    push_text(&mut answer.errors, "pyver: ")?;
-    push_text(&mut answer.errors, error.to_string(alloc)?.as_str())?;
-    push_text(&mut answer.errors, "\n")?;
-    Ok(answer)
 }
 
 fn print_members(
     alloc: Global,
-    options: RangeOptions,
+    json: bool,
     members: Vec<VersionSpecifier>,
 ) -> Result<Answer, AllocError>
-    ensures { IfOk result (λ a. PrintsLists options [] members.items (outcome_of a)) }
+    ensures { IfOk result (λ a. PrintsLists json [] members.items (outcome_of a)) }
 {
-    let version = find_version(alloc, members.as_slice())?;
     let list = arrange_members(alloc, members)?;
-    let answer = print_arranged(alloc, options, list, version)?;
+    let answer = print_arranged(alloc, json, &list)?;
     Ok(answer)
 }
 
 fn print_lists(
     alloc: Global,
-    options: RangeOptions,
+    json: bool,
     found: CommonLists,
 ) -> Result<Answer, AllocError>
-    ensures { IfOk result (λ a. PrintsLists options found.errors.items found.members.items (outcome_of a)) }
+    ensures { IfOk result (λ a. PrintsLists json found.errors.items found.members.items (outcome_of a)) }
 {
     if found.errors.is_empty() {
-        return print_members(alloc, options, found.members);
+        return print_members(alloc, json, found.members);
     }
     Ok(Answer {
         output: Vec::new(alloc),
@@ -203,13 +185,14 @@ fn print_lists(
     })
 }
 
-/// `range SPECS..`: the status is 0, 1 where no version is allowed by all lists, and 2 where one is invalid.
+/// `range SPECS..`: the versions that all lists match literally, as the intervals of a set or, with `json`, as JSON. The status is 0, 1 where
+/// there is no version, and 2 where a list is invalid.
 pub fn find_common(
     alloc: Global,
-    options: RangeOptions,
+    json: bool,
     words: &[String],
 ) -> Result<Answer, AllocError>
-    ensures { IfOk result (λ a. FindsCommon options (map string_bytes words.now) (outcome_of a)) }
+    ensures { IfOk result (λ a. FindsCommon json (map string_bytes words.now) (outcome_of a)) }
 {
     let mut found = CommonLists {
         errors: Vec::new(alloc),
@@ -218,6 +201,6 @@ pub fn find_common(
     for word in words {
         found.push_word(alloc, word.as_str())?;
     }
-    let answer = print_lists(alloc, options, found)?;
+    let answer = print_lists(alloc, json, found)?;
     Ok(answer)
 }

@@ -87,7 +87,7 @@ impl FilterRule {
     fn shows(&self, alloc: Global, version: &Version) -> Result<bool, AllocError>
         ensures { IfOk result (λ b. b ≡ is_shown self.now version.now) }
     {
-        let allowed = self.list.allows(alloc, self.takes, version)?;
+        let allowed = self.list.allows_literally(alloc, self.takes, version)?;
         Ok(self.wanted.shows(allowed))
     }
 }

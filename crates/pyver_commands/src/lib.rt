@@ -32,7 +32,7 @@ pub use allowed::{MatchOptions, match_versions};
 pub use answer::Answer;
 pub use bump::{BumpPart, bump_version, parse_bump_part};
 pub use bump_input::BumpRule;
-pub use common_range::{RangeOptions, find_common};
+pub use common_range::find_common;
 pub use comparison::{Comparison, compare, parse_comparison};
 pub use filter::{FilterOptions, FilterRule, Selection};
 pub use newest::{NewestOptions, NewestRule};

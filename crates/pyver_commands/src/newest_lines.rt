@@ -38,7 +38,7 @@ fn keep_newer(
 ) -> Result<(), AllocError>
     ensures { IfOk result (λ _. (lines : List VersionLine) → NewestLine (allowed_lines takes list.now lines) (option_map kept_line newest.old) → NewestLine (allowed_lines takes list.now (lines ++ record { text = text.now; version = version.now } ∷ [])) (option_map kept_line newest.new)) }
 {
-    if is_newer(newest, version) && list.allows(alloc, takes, version)? {
+    if is_newer(newest, version) && list.allows_literally(alloc, takes, version)? {
         let version = version.clone()?;
         let mut kept = Vec::new(alloc);
         kept.extend_from_slice(text)?;

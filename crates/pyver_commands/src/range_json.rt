@@ -1,10 +1,11 @@
 // The segments of a range as JSON.
 ghost use Rattle.std.specs.Prelude.{◌≡◌, ◌++◌, IfOk};
 ghost use Rattle.std.specs.List.{flat_map};
-ghost use Rattle.pyver_commands.specs.RangeObjects.{json_bound, json_high, json_included, json_low, json_segment, json_segments, next_segment};
+ghost use Rattle.pyver_commands.specs.RangeObjects.{json_bound, json_high, json_low, json_segment, json_segments, json_truth, next_segment};
 
 use crate::version_json::{push_quoted, push_text};
-use pep440_rs::{Ranges, Segments, Version, WithSentinels};
+use pep440_rs::{Ranges, Segments, Version};
+use pep440_sets::{BoundaryText, is_closed_end, is_closed_start};
 use std::alloc::{AllocError, Global};
 use std::ops::Bound;
 
@@ -12,23 +13,17 @@ fn push_bound(alloc: Global, bytes: &mut Vec<u8>, bound: &Bound<Version>) -> Res
     ensures { IfOk result (λ _. bytes.new.items ≡ bytes.old.items ++ json_bound bound.now) }
 {
     match bound {
-        Bound::Included(version) => {
-            push_quoted(bytes, WithSentinels(version).to_string(alloc)?.as_str())
-        }
-        Bound::Excluded(version) => {
-            push_quoted(bytes, WithSentinels(version).to_string(alloc)?.as_str())
+        Bound::Included(_) | Bound::Excluded(_) => {
+            push_quoted(bytes, BoundaryText(bound).to_string(alloc)?.as_str())
         }
         Bound::Unbounded => push_text(bytes, "null"),
     }
 }
 
-fn push_included(bytes: &mut Vec<u8>, bound: &Bound<Version>) -> Result<(), AllocError>
-    ensures { IfOk result (λ _. bytes.new.items ≡ bytes.old.items ++ json_included bound.now) }
+fn push_truth(bytes: &mut Vec<u8>, holds: bool) -> Result<(), AllocError>
+    ensures { IfOk result (λ _. bytes.new.items ≡ bytes.old.items ++ json_truth holds) }
 {
-    match bound {
-        Bound::Included(_) => push_text(bytes, "true"),
-        _ => push_text(bytes, "false"),
-    }
+    push_text(bytes, if holds { "true" } else { "false" })
 }
 
 fn push_low(alloc: Global, bytes: &mut Vec<u8>, bound: &Bound<Version>) -> Result<(), AllocError>
@@ -37,7 +32,7 @@ fn push_low(alloc: Global, bytes: &mut Vec<u8>, bound: &Bound<Version>) -> Resul
     push_text(bytes, "\"low\":")?;
     push_bound(alloc, bytes, bound)?;
     push_text(bytes, ",\"low_included\":")?;
-    push_included(bytes, bound)?;
+    push_truth(bytes, is_closed_start(bound))?;
     Ok(())
 }
 
@@ -47,7 +42,7 @@ fn push_high(alloc: Global, bytes: &mut Vec<u8>, bound: &Bound<Version>) -> Resu
     push_text(bytes, "\"high\":")?;
     push_bound(alloc, bytes, bound)?;
     push_text(bytes, ",\"high_included\":")?;
-    push_included(bytes, bound)?;
+    push_truth(bytes, is_closed_end(bound))?;
     Ok(())
 }
 

@@ -10,7 +10,7 @@ use Rattle.pep440_pick.specs.RequirementGrammar.{DerivesRequirement, Needed}
 use Rattle.pep440_rs.proofs.Agreement.Operands.{list_has_texts}
 use Rattle.pep440_rs.proofs.Covering.Lists.{is_coverable}
 use Rattle.pep440_rs.specs.Cover.{IsCoverable}
-use Rattle.pep440_rs.specs.Matching.{list_matches}
+use Rattle.pep440_rs.specs.LiteralMatching.{list_matches_literally}
 use Rattle.pep440_rs.specs.SpecifierGrammar.{HasText}
 use Rattle.pep440_version.specs.Record.{Record}
 use Rattle.pyver_findings.specs.Demands.{Demand, IsSound, is_pinned, line_demand}
@@ -43,11 +43,11 @@ derived_sound a (n, d, called, pinned, same) =
 
 -- the line allows what the list contains
 line_allows : (v : Record) (a : Demand) → IsDerived a → Allows v a → LineAllows v a.line
-line_allows v a (n, d, called, pinned, same) h = (n, d, subst (λ list. IsTrue (list_matches list v)) (sym same) h)
+line_allows v a (n, d, called, pinned, same) h = (n, d, subst (λ list. IsTrue (list_matches_literally list v)) (sym same) h)
 
 allows_line : (v : Record) (a : Demand) → IsDerived a → LineAllows v a.line → Allows v a
 allows_line v a (n, d, called, pinned, same) (m, dm, h) =
-    subst (λ list. IsTrue (list_matches list v)) (ap (λ (q : Needed). q.specifiers) (one_requirement (line_parts a.line.text).requirement m n dm d) ∙ same) h
+    subst (λ list. IsTrue (list_matches_literally list v)) (ap (λ (q : Needed). q.specifiers) (one_requirement (line_parts a.line.text).requirement m n dm d) ∙ same) h
 
 pub sound : (lines : List Demand) → All IsDerived lines → All IsSound lines
 sound lines k = All-weaker IsDerived IsSound derived_sound lines k

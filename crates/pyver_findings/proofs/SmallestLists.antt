@@ -8,12 +8,11 @@ use Rattle.std.proofs.lemmas.List.Folds.{list_all-append}
 use Rattle.std.specs.List.{All, flat_map}
 use Rattle.std.specs.Prelude.{⊤}
 use Rattle.pep440_rs.specs.Cover.{IsCoverable, IsDenoted}
-use Rattle.pep440_rs.specs.Matching.{list_matches, matches}
+use Rattle.pep440_rs.specs.LiteralMatching.{list_matches_literally, matches_literally}
 use Rattle.pep440_rs.specs.Specifiers.{Spec}
 use Rattle.pep440_version.specs.Record.{Record}
-use Rattle.pep440_witness.proofs.Finding.{first_contained, is_none as none_contained}
-use Rattle.pep440_witness.proofs.Fitting.{found_denoted}
-use Rattle.pep440_witness.specs.Probes.{first_match}
+use Rattle.pep440_sets.proofs.CommonVersions.{common_is_denoted, common_matches, none_in_common}
+use Rattle.pep440_sets.specs.Common.{common_version}
 use Rattle.pyver_findings.specs.Demands.{Demand, IsSound}
 use Rattle.pyver_findings.specs.Conflicts.{counts_under, first_mentions, has_same_marker, have_none, keep, of_all, of_name, smallest, specifiers_of, under}
 
@@ -25,7 +24,7 @@ is_nil (x ∷ xs) e = let none : length (x ∷ xs) ≡ 0 = eqb-true (length (x �
 
 -- the list of the line contains the version
 abbrev pub Allows : Record → Demand → Type 0
-Allows v a = IsTrue (list_matches a.specifiers v)
+Allows v a = IsTrue (list_matches_literally a.specifiers v)
 
 left_of : (a b : Bool) → (a && b) ≡ true → a ≡ true
 left_of true b e = refl
@@ -35,18 +34,18 @@ right_of : (a b : Bool) → (a && b) ≡ true → b ≡ true
 right_of true b e = e
 right_of false b e = absurd (true≢false (sym e))
 
-parts : (v : Record) (xs ys : List Spec) → list_matches (xs ++ ys) v ≡ list_matches xs v && list_matches ys v
-parts v xs ys = list_all-append (λ (m : Spec). matches m.operator m.version v) xs ys
+parts : (v : Record) (xs ys : List Spec) → list_matches_literally (xs ++ ys) v ≡ list_matches_literally xs v && list_matches_literally ys v
+parts v xs ys = list_all-append (λ (m : Spec). matches_literally m.operator m.version v) xs ys
 
-allowed : (v : Record) (lines : List Demand) → All (Allows v) lines → IsTrue (list_matches (specifiers_of lines) v)
+allowed : (v : Record) (lines : List Demand) → All (Allows v) lines → IsTrue (list_matches_literally (specifiers_of lines) v)
 allowed v [] k = refl
 allowed v (a ∷ lines) k = parts v a.specifiers (specifiers_of lines) ∙ (λ j. All-head (Allows v) a lines k j && allowed v lines (All-tail (Allows v) a lines k) j)
 
-allow : (v : Record) (lines : List Demand) → IsTrue (list_matches (specifiers_of lines) v) → All (Allows v) lines
+allow : (v : Record) (lines : List Demand) → IsTrue (list_matches_literally (specifiers_of lines) v) → All (Allows v) lines
 allow v [] h = All-nil (Allows v)
 allow v (a ∷ lines) h =
     let both = sym (parts v a.specifiers (specifiers_of lines)) ∙ h in
-    All-cons (Allows v) a lines (left_of (list_matches a.specifiers v) (list_matches (specifiers_of lines) v) both) (allow v lines (right_of (list_matches a.specifiers v) (list_matches (specifiers_of lines) v) both))
+    All-cons (Allows v) a lines (left_of (list_matches_literally a.specifiers v) (list_matches_literally (specifiers_of lines) v) both) (allow v lines (right_of (list_matches_literally a.specifiers v) (list_matches_literally (specifiers_of lines) v) both))
 
 sound_members : (lines : List Demand) → All IsSound lines → All IsCoverable (specifiers_of lines)
 sound_members [] k = All-nil IsCoverable
@@ -60,16 +59,16 @@ no_version (Some v) e = absurd (true≢false (sym e))
 
 pub none_allowed : (lines : List Demand) → All IsSound lines → have_none lines ≡ true → (v : Record) → IsDenoted v → All (Allows v) lines → ⊥
 none_allowed lines sound none v denoted all =
-    none_contained (specifiers_of lines) (sym (no_version (first_match (specifiers_of lines)) none)) (sound_members lines sound) v denoted (allowed v lines all)
+    none_in_common (specifiers_of lines) (sound_members lines sound) (no_version (common_version (specifiers_of lines)) none) v denoted (allowed v lines all)
 
 -- a version that a string denotes, and that all these lines allow
 abbrev pub HasShared : List Demand → Type 0
 HasShared lines = (v : Record) × IsDenoted v × All (Allows v) lines
 
 pub some_allowed : (lines : List Demand) → All IsSound lines → have_none lines ≡ false → HasShared lines
-some_allowed lines sound some = go (first_match (specifiers_of lines)) some (found_denoted (specifiers_of lines) (sound_members lines sound)) (first_contained (specifiers_of lines))
+some_allowed lines sound some = go (common_version (specifiers_of lines)) some (common_is_denoted (specifiers_of lines) (sound_members lines sound)) (common_matches (specifiers_of lines) (sound_members lines sound))
   where
-    go : (o : Option Record) → is_none o ≡ false → IfSome o IsDenoted → IfSome o (λ v. IsTrue (list_matches (specifiers_of lines) v)) → HasShared lines
+    go : (o : Option Record) → is_none o ≡ false → IfSome o IsDenoted → IfSome o (λ v. IsTrue (list_matches_literally (specifiers_of lines) v)) → HasShared lines
     go None e d h = absurd (true≢false e)
     go (Some v) e d h = (v, d, allow v lines h)
 

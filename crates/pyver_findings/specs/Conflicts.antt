@@ -3,7 +3,7 @@
 use Rattle.std.specs.Prelude.{ℕ, ◌&&◌, ◌||◌, List, [], ◌∷◌, ◌++◌, Bool, true, false, Option, Some, None, bytes_eq, is_none, map, reverse, if◌then◌else◌}
 use Rattle.std.specs.List.{filter, flat_map, list_any}
 use Rattle.pep440_rs.specs.Specifiers.{Spec}
-use Rattle.pep440_witness.specs.Probes.{first_match}
+use Rattle.pep440_sets.specs.Common.{common_version}
 use Rattle.pyver_findings.specs.Demands.{Demand}
 use Rattle.pyver_findings.specs.Findings.{Conflicting, Finding}
 use Rattle.pyver_findings.specs.declared.finding.Conflict.{Conflict}
@@ -43,7 +43,7 @@ specifiers_of lines = flat_map (λ (a : Demand). a.specifiers) lines
 
 -- no version is found that the lists of all these lines contain
 abbrev pub have_none : List Demand → Bool
-have_none lines = is_none (first_match (specifiers_of lines))
+have_none lines = is_none (common_version (specifiers_of lines))
 
 -- of lines from the last to the first those to keep: one is left out if without it those before it and those that are kept have no
 -- version in common

@@ -6,7 +6,7 @@ use Rattle.std.specs.List.{All, AllZip, Any, Contains, filter, flat_map}
 use Rattle.pep440_pick.specs.Names.{normal}
 use Rattle.pep440_pick.specs.RequirementGrammar.{DerivesRequirement, Needed}
 use Rattle.pep440_rs.specs.Cover.{IsDenoted}
-use Rattle.pep440_rs.specs.Matching.{list_matches}
+use Rattle.pep440_rs.specs.LiteralMatching.{list_matches_literally}
 use Rattle.pep440_version.specs.Record.{Record}
 use Rattle.pyver_findings.specs.Conflicts.{has_same_name, under}
 use Rattle.pyver_findings.specs.Demands.{Demand, is_pinned}
@@ -23,7 +23,7 @@ use Rattle.pyver_requirements.specs.declared.line_fault.LineFault.{LineFault}
 
 -- the line is a requirement whose list contains the version
 abbrev pub LineAllows : Record → FileLine → Type 0
-LineAllows v l = (n : Needed) × DerivesRequirement (line_parts l.text).requirement n × IsTrue (list_matches n.specifiers v)
+LineAllows v l = (n : Needed) × DerivesRequirement (line_parts l.text).requirement n × IsTrue (list_matches_literally n.specifiers v)
 
 -- after `;` this marker stands, in its normal form; or there is neither
 abbrev pub HasMarker : LineParts → Option (List ℕ) → Type 0
@@ -104,7 +104,7 @@ AreDemands files demands = (xs : List LineMeaning) × AllZip IsMeaning (all_line
 
 -- no version is contained in the lists of all these lines
 abbrev pub HaveNone : List Demand → Type 0
-HaveNone lines = (v : Record) → IsDenoted v → ¬ All (λ a. IsTrue (list_matches a.specifiers v)) lines
+HaveNone lines = (v : Record) → IsDenoted v → ¬ All (λ a. IsTrue (list_matches_literally a.specifiers v)) lines
 
 -- where the lines of a name that count under a marker have no version in common, some of these lines are reported together
 abbrev pub ConflictsHaveFindings : Type 0

@@ -7,7 +7,7 @@ ghost use Rattle.pyver_findings.specs.Views.{demand_of};
 
 use crate::demand::Demand;
 use pep440_rs::VersionSpecifier;
-use pep440_witness::find_version;
+use pep440_sets::find_version;
 use std::alloc::{AllocError, Global};
 
 fn push_copies(

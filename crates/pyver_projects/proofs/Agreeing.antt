@@ -5,7 +5,7 @@ use Rattle.pep440_pick.specs.Names.{same_name}
 use Rattle.pep440_pick.specs.RequirementGrammar.{Needed}
 use Rattle.pep440_rs.proofs.Reading.OneMeaning.{not_both_list, one_list}
 use Rattle.pep440_rs.specs.ListGrammar.{DerivesList}
-use Rattle.pep440_rs.specs.Matching.{list_matches}
+use Rattle.pep440_rs.specs.LiteralMatching.{list_matches_literally}
 use Rattle.pep440_rs.specs.Specifiers.{Spec}
 use Rattle.pep440_version.proofs.Reading.Agreement.{one_record}
 use Rattle.pep440_version.proofs.Refusals.ExactlyOne.{not_both}
@@ -53,13 +53,13 @@ by_match : (line : FileLine) (other : FileLine) (b : Bool) → (if b then [] els
 by_match line other true e = refl
 by_match line other false e = cc e
 
-by_name : (line : FileLine) (n : Needed) (p : LockedPackage) (v : Record) (other : FileLine) (a : Bool) → a ≡ true → (if a then (if list_matches n.specifiers v then [] else Conflicting PinOutside (line ∷ (other ∷ [])) ∷ []) else []) ≡ []
-    → list_matches n.specifiers v ≡ true
-by_name line n p v other true same e = by_match line other (list_matches n.specifiers v) e
+by_name : (line : FileLine) (n : Needed) (p : LockedPackage) (v : Record) (other : FileLine) (a : Bool) → a ≡ true → (if a then (if list_matches_literally n.specifiers v then [] else Conflicting PinOutside (line ∷ (other ∷ [])) ∷ []) else []) ≡ []
+    → list_matches_literally n.specifiers v ≡ true
+by_name line n p v other true same e = by_match line other (list_matches_literally n.specifiers v) e
 by_name line n p v other false same e = cc same
 
 not_excluded : (line : FileLine) (n : Needed) (lock : List ℕ) (p : LockedPackage) (y : LockedReading) (w : Option (List ℕ)) (text : List ℕ) (v : Record) → w ≡ Some text → Derives text v → same_name n.name p.name ≡ true
-    → IsVersionReading (package_line lock p) p.name w y → excluded (line_demand line None n) y ≡ [] → list_matches n.specifiers v ≡ true
+    → IsVersionReading (package_line lock p) p.name w y → excluded (line_demand line None n) y ≡ [] → list_matches_literally n.specifiers v ≡ true
 not_excluded line n lock p y None text v written d same is e = cc written
 not_excluded line n lock p y (Some t) text v written d same (inr (f, r, is)) e =
     let equal : t ≡ text = cc written in
@@ -67,7 +67,7 @@ not_excluded line n lock p y (Some t) text v written d same (inr (f, r, is)) e =
 not_excluded line n lock p y (Some t) text v written d same (inl (r, c, is)) e =
     let equal : t ≡ text = cc written in
     let one : r ≡ v = one_record t r v c (subst (λ (q : List ℕ). Derives q v) (sym equal) d) in
-    subst (λ (q : Record). list_matches n.specifiers q ≡ true) one
+    subst (λ (q : Record). list_matches_literally n.specifiers q ≡ true) one
     (by_name line n p r (package_line lock p) (same_name n.name p.name) same (ap (λ (z : LockedReading). excluded (line_demand line None n) z) (sym is) ∙ e))
 
 -- nothing is found of a string, which always asks for this

@@ -7,7 +7,7 @@ use Rattle.std.specs.List.{All, AllZip, Contains, flat_map, list_any}
 use Rattle.std.specs.Str.{IsUtf8}
 use Rattle.pep440_pick.specs.Names.{same_name}
 use Rattle.pep440_pick.specs.RequirementGrammar.{Needed}
-use Rattle.pep440_rs.specs.Matching.{list_matches}
+use Rattle.pep440_rs.specs.LiteralMatching.{list_matches_literally}
 use Rattle.pep440_version.specs.ErrorTexts.{refusal_text}
 use Rattle.pep440_version.specs.Grammar.{Derives}
 use Rattle.pep440_version.specs.Record.{Record}
@@ -62,8 +62,8 @@ module _ (documents : List Document) where
   -- ---- versions that a requirement excludes
 
   module _ (lock : List ℕ) (u : LockContents) (line : FileLine) (n : Needed)
-      (so : (p : LockedPackage) (text : List ℕ) (v : Record) → Contains u.packages p → p.version ≡ Some text → Derives text v → same_name n.name p.name ≡ true → list_matches n.specifiers v ≡ false → Right (Conflicting PinOutside (line ∷ (package_line lock p ∷ [])))) where
-    by_match : (p : LockedPackage) (text : List ℕ) (v : Record) → Contains u.packages p → p.version ≡ Some text → Derives text v → (a b : Bool) → same_name n.name p.name ≡ a → list_matches n.specifiers v ≡ b
+      (so : (p : LockedPackage) (text : List ℕ) (v : Record) → Contains u.packages p → p.version ≡ Some text → Derives text v → same_name n.name p.name ≡ true → list_matches_literally n.specifiers v ≡ false → Right (Conflicting PinOutside (line ∷ (package_line lock p ∷ [])))) where
+    by_match : (p : LockedPackage) (text : List ℕ) (v : Record) → Contains u.packages p → p.version ≡ Some text → Derives text v → (a b : Bool) → same_name n.name p.name ≡ a → list_matches_literally n.specifiers v ≡ b
         → All Right (if a then (if b then [] else Conflicting PinOutside (line ∷ (package_line lock p ∷ [])) ∷ []) else [])
     by_match p text v here written d true true e f = All-nil Right
     by_match p text v here written d false b e f = All-nil Right
@@ -76,7 +76,7 @@ module _ (documents : List Document) where
     excluded_right : (p : LockedPackage) (v : Option (List ℕ)) (y : LockedReading) → Contains u.packages p → p.version ≡ v → IsVersionReading (package_line lock p) p.name v y → All Right (excluded (line_demand line None n) y)
     excluded_right p None y here written is = subst (λ (z : LockedReading). All Right (excluded (line_demand line None n) z)) (sym is) (nothing (same_name n.name p.name))
     excluded_right p (Some text) y here written (inl (r, d, is)) =
-        subst (λ (z : LockedReading). All Right (excluded (line_demand line None n) z)) (sym is) (by_match p text r here written d (same_name n.name p.name) (list_matches n.specifiers r) refl refl)
+        subst (λ (z : LockedReading). All Right (excluded (line_demand line None n) z)) (sym is) (by_match p text r here written d (same_name n.name p.name) (list_matches_literally n.specifiers r) refl refl)
     excluded_right p (Some text) y here written (inr (f, r, is)) = subst (λ (z : LockedReading). All Right (excluded (line_demand line None n) z)) (sym is) (nothing (same_name n.name p.name))
 
     all_excluded : (ys : List LockedReading) → AllZip (IsLockedReading lock) u.packages ys → All Right (flat_map (excluded (line_demand line None n)) ys)
@@ -146,7 +146,7 @@ module _ (documents : List Document) where
         abbrev pub asked : Demand
         asked = line_demand (string_line file s) None n
 
-        excludes : (p : LockedPackage) (text : List ℕ) (v : Record) → Contains u.packages p → p.version ≡ Some text → Derives text v → same_name n.name p.name ≡ true → list_matches n.specifiers v ≡ false
+        excludes : (p : LockedPackage) (text : List ℕ) (v : Record) → Contains u.packages p → p.version ≡ Some text → Derives text v → same_name n.name p.name ≡ true → list_matches_literally n.specifiers v ≡ false
             → Right (Conflicting PinOutside (string_line file s ∷ (package_line lock.name p ∷ [])))
         excludes p text v here written d e f = inr (inr (inr (inr (inl (record {
           file = file;

@@ -1,7 +1,7 @@
 -- What is found in documents: in each by itself, and in each project beside each lock.
 use Rattle.std.specs.Prelude.{◌≡◌, List, [], ◌∷◌, ◌++◌, Bool, true, false, Option, Some, None, bytes_eq, codes, is_none, length, if◌then◌else◌}
 use Rattle.std.specs.List.{AllZip, flat_map, list_any}
-use Rattle.pep440_rs.specs.Matching.{list_matches}
+use Rattle.pep440_rs.specs.LiteralMatching.{list_matches_literally}
 use Rattle.pep440_version.specs.Record.{Record}
 use Rattle.pyver_findings.specs.Demands.{Demand}
 use Rattle.pyver_findings.specs.FileLines.{FileLine}
@@ -40,7 +40,7 @@ has_name a y = bytes_eq a.name y.name
 -- the version is contained in the list, or both lines are a finding
 abbrev pub excluded_by : Demand → FileLine → Option Record → List Finding
 excluded_by a line None = []
-excluded_by a line (Some v) = if list_matches a.specifiers v then [] else Conflicting PinOutside (a.line ∷ (line ∷ [])) ∷ []
+excluded_by a line (Some v) = if list_matches_literally a.specifiers v then [] else Conflicting PinOutside (a.line ∷ (line ∷ [])) ∷ []
 
 -- the list of the requirement does not contain the locked version of its name
 abbrev pub excluded : Demand → LockedReading → List Finding

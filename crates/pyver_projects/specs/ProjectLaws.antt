@@ -6,7 +6,7 @@ use Rattle.std.specs.Str.{IsUtf8}
 use Rattle.pep440_pick.specs.Names.{same_name}
 use Rattle.pep440_pick.specs.RequirementGrammar.{DerivesRequirement, Needed}
 use Rattle.pep440_rs.specs.ListGrammar.{DerivesList}
-use Rattle.pep440_rs.specs.Matching.{list_matches}
+use Rattle.pep440_rs.specs.LiteralMatching.{list_matches_literally}
 use Rattle.pep440_rs.specs.Specifiers.{Spec}
 use Rattle.pep440_version.specs.ErrorTexts.{refusal_text}
 use Rattle.pep440_version.specs.Grammar.{Derives}
@@ -153,7 +153,7 @@ pub record IsExcluded (documents : List Document) (f : Finding) : Type 0 where
   pub same : IsTrue (same_name needed.name locked_package.name)
   pub written : locked_package.version ≡ Some text
   pub derives : Derives text version
-  pub outside : ¬ IsTrue (list_matches needed.specifiers version)
+  pub outside : ¬ IsTrue (list_matches_literally needed.specifiers version)
   pub is : f ≡ Conflicting PinOutside (string_line file string ∷ (package_line lock.name locked_package ∷ []))
 
 -- the list of a requirement of a package does not contain the version of a package of its name in the same lock
@@ -169,7 +169,7 @@ pub record IsUnmet (documents : List Document) (f : Finding) : Type 0 where
   pub same : IsTrue (same_name requirement.name locked_package.name)
   pub written : locked_package.version ≡ Some text
   pub derives : Derives text version
-  pub outside : ¬ IsTrue (list_matches list version)
+  pub outside : ¬ IsTrue (list_matches_literally list version)
   pub is : f ≡ Conflicting PinOutside (requirement_line lock.name requirement ∷ (package_line lock.name locked_package ∷ []))
 
 -- the finding is right
@@ -186,12 +186,12 @@ DocumentFindingsHold = (documents : List Document) (r : Report) → IsDocumentsR
 -- each requirement of each project contains each version of its name in each lock
 abbrev pub AllContained : List Document → Type 0
 AllContained documents = (file lock : File) (s : ProjectString) (p : LockedPackage) (n : Needed) (text : List ℕ) (v : Record) → HasString documents file s → HasPackage documents lock p
-    → IsTrue (is_locked s.section) → AlwaysAsks s n → IsTrue (same_name n.name p.name) → p.version ≡ Some text → Derives text v → IsTrue (list_matches n.specifiers v)
+    → IsTrue (is_locked s.section) → AlwaysAsks s n → IsTrue (same_name n.name p.name) → p.version ≡ Some text → Derives text v → IsTrue (list_matches_literally n.specifiers v)
 
 -- each requirement of a package whose list is one contains each version of its name in the same lock
 abbrev pub AllMet : List Document → Type 0
 AllMet documents = (lock : File) (q : LockedRequirement) (p : LockedPackage) (list : List Spec) (text : List ℕ) (v : Record) → HasBoth documents lock q p
-    → DerivesList q.list list → IsTrue (same_name q.name p.name) → p.version ≡ Some text → Derives text v → IsTrue (list_matches list v)
+    → DerivesList q.list list → IsTrue (same_name q.name p.name) → p.version ≡ Some text → Derives text v → IsTrue (list_matches_literally list v)
 
 -- where nothing is found, they do
 abbrev pub NoFindingMeansContained : Type 0

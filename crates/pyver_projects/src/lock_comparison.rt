@@ -61,7 +61,7 @@ fn push_excluded_by(
     let Some(version) = version else {
         return Ok(());
     };
-    if demand.specifiers.contains(alloc, version)? {
+    if demand.specifiers.matches_literally(alloc, version)? {
         return Ok(());
     }
     push_pair(alloc, findings, demand, line)

@@ -45,7 +45,6 @@ use Rattle.pyver_commands.specs.declared.sources.invalid_lines.InvalidLines.{Inv
 use Rattle.pyver_commands.specs.declared.sources.line_options.LineOptions.{LineOptions}
 use Rattle.pyver_commands.specs.declared.newest.NewestOptions.{NewestOptions}
 use Rattle.pyver_commands.specs.declared.newest.NewestRule.{NewestRule}
-use Rattle.pyver_commands.specs.declared.common_range.RangeOptions.{RangeOptions}
 use Rattle.pyver_commands.specs.declared.show.ShowFormat.{ShowFormat}
 use Rattle.pyver_commands.specs.declared.sort.SortOptions.{SortOptions}
 
@@ -166,9 +165,9 @@ bump_once to parts word a b (x, hx, is) (u, hu, so) = is ∙ ap (bump_outcome to
 list_once : (word : List ℕ) (x y : ListReading) → ReadsMembers word x → ReadsMembers word y → x ≡ y
 list_once word x y (l, hl, is) (m, hm, so) = is ∙ ap (list_reading word) (specifiers_once word l m hl hm) ∙ sym so
 
-common_once : (options : RangeOptions) (words : List (List ℕ)) (a b : Outcome) → FindsCommon options words a → FindsCommon options words b → a ≡ b
-common_once options words a b (xs, h, is) (ys, k, so) =
-    one_printed options (messages_in xs) (members_in xs) a b is (subst (λ (l : List ListReading). PrintsLists options (messages_in l) (members_in l) b) (sym (all_once ReadsMembers list_once words xs ys h k)) so)
+common_once : (json : Bool) (words : List (List ℕ)) (a b : Outcome) → FindsCommon json words a → FindsCommon json words b → a ≡ b
+common_once json words a b (xs, h, is) (ys, k, so) =
+    one_printed json (messages_in xs) (members_in xs) a b is (subst (λ (l : List ListReading). PrintsLists json (messages_in l) (members_in l) b) (sym (all_once ReadsMembers list_once words xs ys h k)) so)
 
 pub outcomes_once : OutcomesOnce
 outcomes_once (Help topic) input a b h k = h ∙ sym k
@@ -181,7 +180,7 @@ outcomes_once (Newest options specifiers names) input a b h k = newest_once _ op
 outcomes_once (Show format words) input a b h k = show_once format words a b h k
 outcomes_once (Bump to parts None) input a b h k = of_versions_once bare_line_options (BumpsOnly to parts) (λ lines a b is so. is ∙ sym so) input a b h k
 outcomes_once (Bump to parts (Some word)) input a b h k = bump_once to parts word a b h k
-outcomes_once (Range options words) input a b h k = common_once options words a b h k
+outcomes_once (Range json words) input a b h k = common_once json words a b h k
 outcomes_once (Check options names) input a b h k = absurd h
 outcomes_once (Misused message) input a b h k = h ∙ sym k
 

@@ -49,14 +49,13 @@ with_option settings name value =
     else if bytes_eq name (codes "--json") then Some (record settings { format = format.Json })
     else if bytes_eq name (codes "--part") then option_map (λ part. record settings { format = format.Part part }) (part_of value)
     else if bytes_eq name (codes "--to") then option_map (λ n. record settings { to = Some n }) (word_number value)
-    else if bytes_eq name (codes "--cover") then Some (record settings { cover = true })
     else if bytes_eq name (codes "--each") then Some (record settings { each = true })
     else if bytes_eq name (codes "--format") then option_map (λ kind. record settings { kind = kind }) (file_kind_of value)
     else option_map (λ lines. record settings { lines = lines }) (with_line_option settings.lines name value)
 
 -- without an option
 abbrev pub no_settings : Settings
-no_settings = record { quiet = false; prereleases = prereleases.Listed; inverted = false; reversed = false; unique = false; last = None; lines = no_line_options; format = format.Normal; to = None; cover = false; each = false; kind = file_kind.Requirements }
+no_settings = record { quiet = false; prereleases = prereleases.Listed; inverted = false; reversed = false; unique = false; last = None; lines = no_line_options; format = format.Normal; to = None; each = false; kind = file_kind.Requirements }
 
 -- what options set, or the first of them with a wrong value
 pub data Effect : Type 0 where

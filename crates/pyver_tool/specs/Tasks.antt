@@ -30,7 +30,6 @@ use Rattle.pyver_tool.specs.declared.help.Topic.{Topic}
 use Rattle.pyver_tool.specs.declared.help.Topic.TheVariants as topic
 use Rattle.pyver_tool.specs.declared.help.TheConstants.{PROGRAM_HELP, COMPARE_HELP, MATCH_HELP, FILTER_HELP, SORT_HELP, NEWEST_HELP, SHOW_HELP, BUMP_HELP, RANGE_HELP, CHECK_HELP, COMPARE_USAGE, MATCH_USAGE, FILTER_USAGE, SORT_USAGE, NEWEST_USAGE, SHOW_USAGE, BUMP_USAGE, RANGE_USAGE, CHECK_USAGE, PROGRAM_USAGE, VERSION_LINE}
 use Rattle.pyver_commands.specs.declared.newest.NewestOptions.{NewestOptions}
-use Rattle.pyver_commands.specs.declared.common_range.RangeOptions.{RangeOptions}
 use Rattle.pyver_tool.specs.declared.misuse.TheConstants.{BUMP_PART_NAMES, COMMAND_NAMES, OPERATOR_NAMES}
 use Rattle.pyver_tool.specs.declared.settings.Settings.{Settings}
 use Rattle.pyver_commands.specs.declared.show.ShowFormat.{ShowFormat}
@@ -48,7 +47,7 @@ pub data Task : Type 0 where
   Newest : NewestOptions → List ℕ → List (List ℕ) → Task
   Show : ShowFormat → List (List ℕ) → Task
   Bump : Option ℕ → List BumpPart → Option (List ℕ) → Task
-  Range : RangeOptions → List (List ℕ) → Task
+  Range : Bool → List (List ℕ) → Task
   Check : CheckOptions → List (List ℕ) → Task
   Misused : List ℕ → Task
 
@@ -185,7 +184,7 @@ task_with settings topic.Sort names = Sort (record { reversed = settings.reverse
 task_with settings topic.Newest (specifiers ∷ names) = Newest (record { prereleases = settings.prereleases; lines = settings.lines }) specifiers names
 task_with settings topic.Show (word ∷ words) = Show settings.format (word ∷ words)
 task_with settings topic.Bump words = bump_operands settings.to words
-task_with settings topic.Range (word ∷ words) = Range (record { cover = settings.cover; json = is_json settings.format }) (word ∷ words)
+task_with settings topic.Range (word ∷ words) = Range (is_json settings.format) (word ∷ words)
 task_with settings topic.Check names = Check (record { json = is_json settings.format; each = settings.each; quiet = settings.quiet; kind = settings.kind }) names
 task_with settings topic _ = Misused (wrong_count topic)
 

@@ -17,7 +17,7 @@ use crate::split_words::{GivenOption, Split};
 use crate::words::Words;
 use pyver_commands::{
     Answer, BumpRule, Comparison, FilterOptions, FilterRule, LinesQuestion, MatchOptions,
-    NewestOptions, NewestRule, Question, RangeOptions, Selection, ShowFormat, SortOptions,
+    NewestOptions, NewestRule, Question, Selection, ShowFormat, SortOptions,
     SpecifiersReading, bump_version, compare, find_common, match_versions, parse_bump_part,
     parse_comparison, parse_specifiers, report_list_fault, show_versions, takes_prereleases,
 };
@@ -39,7 +39,7 @@ pub(crate) enum Command<'a> {
     Show(ShowFormat, &'a [String]),
     // The number of the last part, the names of the parts, and the version if it is among the words.
     Bump(Option<u64>, &'a [String], Option<&'a str>),
-    Range(RangeOptions, &'a [String]),
+    Range(bool, &'a [String]),
     // How, and the names of the files.
     Check(CheckOptions, &'a [String]),
     Misused(Misuse<'a>),
@@ -150,11 +150,7 @@ fn parse_range<'a>(settings: Settings, words: &'a [String]) -> Command<'a>
     if words.is_empty() {
         return Command::Misused(Misuse::Count(Topic::Range));
     }
-    let options = RangeOptions {
-        cover: settings.cover,
-        json: is_json(settings.format),
-    };
-    Command::Range(options, words)
+    Command::Range(is_json(settings.format), words)
 }
 
 // Parts, at least one, and then the version.
@@ -342,8 +338,8 @@ impl<'a> Command<'a> {
                 Ok(Work::Answer(show_versions(alloc, format, words)?))
             }
             Command::Bump(to, names, version) => start_bump(alloc, to, names, version),
-            Command::Range(options, words) => {
-                Ok(Work::Answer(find_common(alloc, options, words)?))
+            Command::Range(json, words) => {
+                Ok(Work::Answer(find_common(alloc, json, words)?))
             }
             Command::Check(options, names) => Ok(Work::Check(options, names)),
             Command::Misused(misuse) => Ok(Work::Answer(report_misuse(alloc, misuse)?)),

@@ -36,7 +36,7 @@ const SHOW_USAGE: &str = "pyver show [--part PART | --json] V..";
 
 const BUMP_USAGE: &str = "pyver bump [--to N] PART.. [V]";
 
-const RANGE_USAGE: &str = "pyver range [--cover] [--json] SPECS..";
+const RANGE_USAGE: &str = "pyver range [--json] SPECS..";
 
 const CHECK_USAGE: &str = "pyver check [-q] [--each] [--format KIND] [--json] [FILE..]";
 
@@ -233,24 +233,21 @@ examples:
   git describe --tags --abbrev=0 | pyver bump patch
 ";
 
-const RANGE_HELP: &str = "usage: pyver range [--cover] [--json] SPECS..
+const RANGE_HELP: &str = "usage: pyver range [--json] SPECS..
 
-Prints the range of versions that all lists allow, a line for each segment: [ and ] mark a bound
-that is in it, ( and ) one that is not, and * no bound. 2~min0 is below all versions of
-the release 2, and 2~max0 above them. The range of '' is (*, *). Pre-releases are not left out.
-Of equal versions, as 1.0 and 1.0.0, the bounds of the shorter one are printed.
+Prints the versions that all lists allow, a line for each interval of their order: [1.0, 2.0.dev0)
+begins with 1.0, and ends before the first developmental release of 2.0. An interval begins with (
+above the post-releases of a version, which are written 1.0.post*, or just above a version with a
+local part; it ends with ] after them. * is no bound: the set of '' is (*, *). Pre-releases and local
+versions are not left out. Of equal versions, as 1.0 and 1.0.0, the shorter one is printed.
 The exit status is 0, 1 if no version is in all lists, and 2 if one is not a list.
 
-A range says nothing of local versions and little of suffixes: 2.1.0+cu118 is in both ==2.1.0+cu118
-and <=2.1.0, but their ranges have nothing in common. If no version is in all lists, 'no version' is
-printed, and the exit status is 1. If only the range is empty, one version that is in all lists is
-named, as 'no range, but 2.1.0+cu118 is allowed', and the exit status is 0.
+A list with ===, which compares how versions are written, allows at most one version, and that is
+printed. If no version is in all lists, 'no version' is printed.
 
 options:
-  --cover  print the cover instead of the range
-  --json   print an array of segments; without a range it is [], and the exit status shows whether
-           a version is allowed
-  --       end of options
+  --json  print an array of intervals; without a version it is []
+  --      end of options
 
 examples:
   pyver range '>=1,<2' '>=1.5'

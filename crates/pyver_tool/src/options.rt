@@ -56,8 +56,6 @@ const JSON: OptionRow = ("", "--json", "", &[]);
 
 const TO: OptionRow = ("", "--to", "a whole number", &[]);
 
-const COVER: OptionRow = ("", "--cover", "", &[]);
-
 const EACH: OptionRow = ("", "--each", "", &[]);
 
 const FORMAT: OptionRow = (
@@ -99,7 +97,7 @@ const SHOW_OPTIONS: &[OptionRow] = &[HELP, PART, JSON];
 
 const BUMP_OPTIONS: &[OptionRow] = &[HELP, TO];
 
-const RANGE_OPTIONS: &[OptionRow] = &[HELP, COVER, JSON];
+const RANGE_OPTIONS: &[OptionRow] = &[HELP, JSON];
 
 const CHECK_OPTIONS: &[OptionRow] = &[HELP, QUIET, EACH, FORMAT, JSON];
 

@@ -19,7 +19,6 @@ pub(crate) struct Settings {
     pub(crate) lines: LineOptions,
     pub(crate) format: ShowFormat,
     pub(crate) to: Option<u64>,
-    pub(crate) cover: bool,
     pub(crate) each: bool,
     pub(crate) kind: FileKind,
 }
@@ -74,7 +73,6 @@ impl Settings {
             lines: LineOptions::none(),
             format: ShowFormat::Normal,
             to: None,
-            cover: false,
             each: false,
             kind: FileKind::Requirements,
         }
@@ -96,7 +94,6 @@ impl Settings {
             "--json" => settings.format = ShowFormat::Json,
             "--part" => settings.format = ShowFormat::Part(parse_part(value)?),
             "--to" => settings.to = Some(parse_number(value)?),
-            "--cover" => settings.cover = true,
             "--each" => settings.each = true,
             "--format" => settings.kind = parse_file_kind(value)?,
             _ => settings.lines = with_line_option(settings.lines, name, value)?,

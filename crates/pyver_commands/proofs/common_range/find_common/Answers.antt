@@ -8,4 +8,4 @@ loop-word-preserved c =
     found_more string_bytes c.args.words.now c.loop-word.word-index c.word-item.result k.0 _ _ _ _ c.loop-word-test.true c.word-item.is k.1 k.2 k.3 c.loop-word.invariant
 
 pub returns : goal.returns
-returns c = found_all string_bytes c.args.words.now c.loop-word.word-index _ _ c.args.options _ c.loop-word-test.false c.in_ok-answer.ensures c.loop-word.invariant
+returns c = found_all string_bytes c.args.words.now c.loop-word.word-index _ _ c.args.json _ c.loop-word-test.false c.in_ok-answer.ensures c.loop-word.invariant
