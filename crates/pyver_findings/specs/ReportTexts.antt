@@ -40,7 +40,7 @@ marked_line text column = codes "\n    " ++ (escaped text ++ (codes "\n    " ++ 
 
 abbrev pub conflict_text : Conflict → List ℕ
 conflict_text NoVersion = codes "no version satisfies:\n"
-conflict_text PinOutside = codes "a version is named and excluded:\n"
+conflict_text PinOutside = codes "pinned to a version that another line excludes:\n"
 conflict_text TwoPins = codes "two versions are named:\n"
 
 -- how many lines more there are, if any

@@ -183,7 +183,7 @@ fn conflict_text(conflict: Conflict) -> &'static str
 {
     match conflict {
         Conflict::NoVersion => "no version satisfies:\n",
-        Conflict::PinOutside => "a version is named and excluded:\n",
+        Conflict::PinOutside => "pinned to a version that another line excludes:\n",
         Conflict::TwoPins => "two versions are named:\n",
     }
 }
