@@ -377,11 +377,12 @@ def check_swept():
     """
     listed, heads = collections.defaultdict(dict), {}
     for line in (line.partition("#")[0].rstrip() for line in text_of("scripts/swept.txt").splitlines()):
-        name, *written = line.split() or [""]
-        if line.startswith(" "):
-            listed[crate].setdefault(name, []).extend(written)
-        elif line:
-            crate, heads[name] = name, " ".join(written[1:]).partition(" through ")
+        first, *others = line.split() or [""]
+        if not line.startswith(" "):
+            crate, heads[first] = first, " ".join(others[1:]).partition(" through ")
+            continue
+        for name in others:
+            listed[crate].setdefault(name, []).append(first.removesuffix(":"))
     for crate in libraries():
         calls, (by, _, above) = dict(allocating_calls(crate)), heads.get(crate, ("", "", ""))
         sweeps = {name: text for it in by.split() for name, text in sweeps_of(it).items()}

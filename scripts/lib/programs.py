@@ -8,6 +8,36 @@ import tempfile
 
 from lib.sources import TOP, name_of, text_of
 
+# ---- runs
+
+
+def built(name, file=None):
+    """The file of a program: this one, else the one that is built, with a proof or without."""
+    files = [pathlib.Path(file).resolve()] if file else [TOP / f"crates/{name}/out/{name}", TOP / f"out/unproved/{name}"]
+    if found := [it for it in files if it.exists()]:
+        return str(found[0])
+    raise SystemExit(f"{files[0]} is not there: `scripts/prove {name}` builds it, `scripts/unproved {name}` without a proof")
+
+
+class Tally:
+    """How many cases passed and failed; the first twenty that failed are printed with what is wrong."""
+
+    def __init__(self):
+        self.passed = self.failed = 0
+
+    def add(self, title, faults, count=1):
+        if not faults:
+            self.passed += count
+            return
+        self.failed += 1
+        if self.failed <= 20:
+            print(f"{title}:", *faults, sep="\n  ", flush=True)
+
+    def end(self):
+        print(f"{self.passed} passed, {self.failed} failed")
+        return 0 if self.passed and not self.failed else 1
+
+
 # ---- what the programs say of themselves
 
 
