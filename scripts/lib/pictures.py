@@ -1,4 +1,5 @@
 """The pictures in docs/pictures: three of what pep440 prints, by plain templates, and by Graphviz the crates."""
+import functools
 import html
 import itertools
 import re
@@ -28,6 +29,7 @@ class Contradiction(Exception):
     """Two outputs of the program contradict each other: nothing is drawn."""
 
 
+@functools.cache
 def ask(program, *words):
     ran = subprocess.run([program, *words], stdin=subprocess.DEVNULL, capture_output=True, text=True, check=False)
     if ran.returncode:
@@ -146,27 +148,11 @@ def runs_of(held):
     return [(group[0], group[-1]) for value, group in groups if value]
 
 
-def stands(program, bound, version, closed):
-    """Whether a printed bound is below the version, or closed and equal; None of a sentinel, to which no string parses."""
-    if "~" in bound:
-        return None
-    sign = ask(program, "compare", bound, version)
-    return sign == "<" or (closed and sign == "=")
-
-
-def hold_to_bounds(program, wanted, segments, runs):
-    """Each run of versions lies between the bounds of its printed segment, and its neighbours don't."""
-    if len(segments) != len(runs):
-        raise Contradiction(f"{wanted}: {len(segments)} segments hold {len(runs)} runs of versions")
-    for segment, (first, last) in zip(segments, runs):
-        start, end = re.fullmatch(r"[\[(](.*), (.*)[\])]", segment).groups()
-        starts, ends = segment[0] == "[", segment[-1] == "]"
-        good = [start == "*" or stands(program, start, LINE[first], starts) is not False]
-        good += [start != "*" and not stands(program, start, LINE[first - 1], starts)] if first else []
-        good += [end == "*" or stands(program, end, LINE[last], not ends) in (None, False)]
-        good += [end != "*" and stands(program, end, LINE[last + 1], not ends) is not False] if last + 1 < len(LINE) else []
-        if not all(good):
-            raise Contradiction(f"{wanted}: {segment} does not hold just {LINE[first]} to {LINE[last]}")
+def lies_in(program, segment, version):
+    """Whether a version lies in a segment as it is printed, which has no sentinel: no string parses to one."""
+    start, end = segment[1:-1].split(", ")
+    is_above = start == "*" or ask(program, "compare", start, version) in ("<=" if segment[0] == "[" else "<")
+    return is_above and (end == "*" or ask(program, "compare", version, end) in ("<=" if segment[-1] == "]" else "<"))
 
 
 def bracket(x, y, sign):
@@ -178,7 +164,9 @@ def range_row(program, wanted, at, y):
     """The range of a list as it is printed and drawn, and the versions that it holds, those that match, and where the two differ."""
     step, segments = at[1] - at[0], ask(program, "range", wanted).splitlines()
     held = [ask(program, "range", f"{wanted},=={it}") != "empty" for it in LINE]
-    hold_to_bounds(program, wanted, segments, runs_of(held))
+    is_shown = "~" in str(segments) or held == [any(lies_in(program, each, it) for each in segments) for it in LINE]
+    if not is_shown or len(segments) != len(runs_of(held)):
+        raise Contradiction(f"{wanted}: {segments} do not hold what the range holds of {LINE}: {held}")
     yield text(24, y + 4.5, wanted, "mono bold")
     for row, (segment, (first, last)) in enumerate(zip(segments, runs_of(held))):
         left, right = at[first] - step / 2 + 2, at[last] + step / 2 - 2
@@ -250,9 +238,9 @@ def boxes_and_arrows():
     boxes = {name: [promises.pop(name, "NO PROMISE")] for name in crates() if name not in tests}
     boxes |= {name: ["NO CRATE", promise] for name, promise in promises.items()}
     arrows = {(name, below) for name in crates() if name not in tests for below in direct(name)}
-    for name in boxes:
-        kind = "static library" if name in crates() and crates()[name].is_static else "" if name in crates() and crates()[name].is_library else "program"
-        boxes[name] = [f"({kind})"] * bool(kind) + boxes[name]
+    for name, it in crates().items():
+        if name in boxes and (it.is_static or not it.is_library):
+            boxes[name].insert(0, "(static library)" if it.is_static else "(program)")
     return boxes | {TESTS: [f"{name} on {', '.join(direct(name))}" for name in tests]}, arrows
 
 
