@@ -33,10 +33,6 @@ OF_A_FUNCTION = ("Answers.antt", "Invariants.antt", "Proof.antt")
 COMMENT = {".rt": re.compile(r"//!? \S"), ".antt": re.compile(r"-- ?\S")}
 
 
-def names_modules_alone(text):
-    return all(re.match(r"(pub )?mod \w+$", line) for line in text.splitlines() if line and not line.startswith("--"))
-
-
 def check_files():
     """The first line of each file says what it is about, CONTRIBUTING.md names each crate, and no other file than those known here stands at the top.
 
@@ -44,7 +40,7 @@ def check_files():
     """
     yield from (f"{it.name}: a file at the top that is not known" for it in sorted(TOP.iterdir()) if it.is_file() and it.name not in AT_THE_TOP)
     for path in (path for crate in crates() for folder in ("src", "specs", "proofs") for path in files(crate, folder)):
-        is_left_out = "proofs" in path.parts and path.name in OF_A_FUNCTION or path.suffix == ".antt" and names_modules_alone(text_of(path))
+        is_left_out = "proofs" in path.parts and path.name in OF_A_FUNCTION or path.suffix == ".antt" and re.fullmatch(r"(?:(?:--.*|(?:pub )?mod \w+)?\n)*", text_of(path))
         if not is_left_out and not COMMENT[path.suffix].match(text_of(path)):
             yield f"{name_of(path)}: its first line does not say what it is about"
     rows = "\n".join(line for line in text_of("CONTRIBUTING.md").splitlines() if line.startswith("| "))

@@ -132,13 +132,11 @@ def order_picture(program):
 LINE = "0.9 1.0.dev0 1.0a1 1.0b1 1.0b1.post1 1.0rc1 1.0 1.0.0 1.0+5 1.0.post1.dev0 1.0.post1 1.0.post2 1.0.1 1.1.dev0 1.1 2.dev0 2.0".split()
 OPERATORS = "==1.0 ==1.0.* !=1.0 !=1.0.* ~=1.0 <1.0 <=1.0 >1.0 >=1.0 ===1.0".split()
 SUFFIXES = "<1.0b1 >1.0b1 <1.0.post1 >1.0.post1 >1.0.dev0 ==1.0+5 !=1.0+5 ~=1.0.post1".split()
-OF_OPERATORS = (
+CAPTIONS = (
     "==1.0, !=1.0 and <=1.0 ignore the local part of 1.0+5, as PEP 440 says; a range follows the order, in which 1.0+5 is above 1.0. "
-    "===1.0 compares normalized forms, and 1.0.0 has another one."
-)
-OF_SUFFIXES = (
+    "===1.0 compares normalized forms, and 1.0.0 has another one.",
     ">1.0b1 and >1.0.dev0 match no post-release of their own release, but their ranges hold all above the bound. <1.0.post1 matches "
-    "1.0, but its range ends below all of the release."
+    "1.0, but its range ends below all of the release.",
 )
 
 
@@ -202,8 +200,8 @@ def check_pictures(programs, writes=False):
     try:
         drawn = {
             "order": order_picture(program),
-            "operators": ranges_picture(program, "The range of each operator, and which versions match", OPERATORS, OF_OPERATORS),
-            "suffixes": ranges_picture(program, "The ranges of versions with a suffix, and which versions match", SUFFIXES, OF_SUFFIXES),
+            "operators": ranges_picture(program, "The range of each operator, and which versions match", OPERATORS, CAPTIONS[0]),
+            "suffixes": ranges_picture(program, "The ranges of versions with a suffix, and which versions match", SUFFIXES, CAPTIONS[1]),
         }
     except Contradiction as why:
         yield str(why)
