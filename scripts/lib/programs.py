@@ -100,7 +100,7 @@ def faults_of_examples(examples, programs):
 def examples_of(place, shown):
     """The commands of lines that are shown, each after a dollar sign, with the lines up to the next one."""
     if not shown or not shown[0].startswith("$ "):
-        raise SystemExit(f"{place}: this does not begin with a command")
+        raise ValueError(f"{place}: this does not begin with a command")
     for at, text in enumerate(re.split(r"^\$ ", "".join(f"{line}\n" for line in shown), flags=re.M)[1:]):
         command, _, output = text.partition("\n")
         yield place, command, output, at == 0
@@ -143,7 +143,7 @@ def displays(page):
     """The lines of each literal display, with the number of the first. Some signs must be written by name, since a font may show others in their place."""
     for found in re.finditer(r"^\.Bd -literal.*\n((?:.*\n)*?)\.Ed$", text_of(page), re.M):
         if wrong := re.search(r"^.*(?:['`^~]|(?<!\\)-).*$", found[1], re.M):
-            raise SystemExit(f"{page}: ' ` ^ ~ and - are written by name in a display: {wrong[0]}")
+            raise ValueError(f"{page}: ' ` ^ ~ and - are written by name in a display: {wrong[0]}")
         shown = re.sub(r"\\(\(..|.)", lambda sign: SIGNS[sign[0]], found[1])
         yield text_of(page).count("\n", 0, found.start(1)) + 1, shown.splitlines()
 
@@ -154,7 +154,7 @@ def manual_examples(name):
         yield [it for number, shown in displays(page) for it in examples_of(f"{page}:{number}", shown)]
     blocks = [it.rstrip("\n").split("\n") for it in text_of(f"docs/examples/{name}.txt").split("\n\n")]
     if wrong := [title for title, *_ in blocks if not title.startswith("# ")]:
-        raise SystemExit(f"docs/examples/{name}.txt: a block without a title: {wrong[0]}")
+        raise ValueError(f"docs/examples/{name}.txt: a block without a title: {wrong[0]}")
     yield [it for title, *shown in blocks for it in examples_of(f"docs/examples/{name}.txt, {title}", shown)]
 
 
