@@ -1,4 +1,4 @@
-# Made by scripts/completions; completions of pyver for bash: `. pyver.bash`, or the file as `pyver` among bash-completion's.
+# Made by `scripts/check --write completions`; completions of pyver for bash: `. pyver.bash`, or the file as `pyver` among bash-completion's.
 _pyver() {
     local word=$2 before=$3 prefix= words=
     # bash takes `--part=x` for three words, or for one if COMP_WORDBREAKS has no equals sign

@@ -1,4 +1,4 @@
-# Made by scripts/completions; completions of pyver for fish: this file among fish's completions.
+# Made by `scripts/check --write completions`; completions of pyver for fish: this file among fish's completions.
 complete -c pyver -f
 complete -c pyver -n '__fish_use_subcommand' -s h -l help -d 'print this help'
 complete -c pyver -n '__fish_use_subcommand' -s V -l version -d 'print the version'

@@ -261,3 +261,10 @@ def build_sdist(sdist_directory, config_settings=None):
     with open(os.path.join(sdist_directory, name), "wb") as out, gzip.GzipFile(filename="", mode="wb", fileobj=out, mtime=0) as packed:
         packed.write(tar.getvalue())
     return name
+
+
+if __name__ == "__main__":
+    # the source archive and the wheel, into the folder that is named, else dist beside this
+    TO = pathlib.Path(sys.argv[1] if len(sys.argv) > 1 else HERE / "dist")
+    TO.mkdir(parents=True, exist_ok=True)
+    print(TO / build_sdist(TO), TO / build_wheel(TO), sep="\n")

@@ -1,0 +1,388 @@
+"""The checks that need no program: each yields a line for each fault."""
+import collections
+import itertools
+import math
+import os
+import pathlib
+import re
+import shutil
+import subprocess
+import tempfile
+
+from lib.sources import TOP, code_of, crates, exports, files, libraries, modules, name_of, pages, prose, sources, text_of, trusted
+
+QUOTED = re.compile(r"`([^`]+)`")
+
+
+# ---- formats, first lines, names
+
+
+def check_formats():
+    """`rt fmt` leaves each file of each crate as it is."""
+    with tempfile.TemporaryDirectory() as room:
+        shutil.copy(TOP / "crates.txt", room)
+        shutil.copytree(TOP / "crates", f"{room}/crates", ignore=shutil.ignore_patterns("out"))
+        for crate in sorted(os.listdir(f"{room}/crates")):
+            ran = subprocess.run(["rt", "fmt"], cwd=f"{room}/crates/{crate}", stdout=subprocess.PIPE, stderr=subprocess.STDOUT, text=True, check=False)
+            if ran.stdout or ran.returncode:
+                yield f"{crate}: {ran.stdout.strip()}"
+
+
+AT_THE_TOP = ".git .gitignore CHANGELOG.md CONTRIBUTING.md HANDLES LICENSE NOTICE README.md crates.txt pep440 pyproject.toml".split()
+OF_A_FUNCTION = ("Answers.antt", "Invariants.antt", "Proof.antt")
+COMMENT = {".rt": re.compile(r"//!? \S"), ".antt": re.compile(r"-- ?\S")}
+
+
+def check_files():
+    """The first line of each file says what it is about, CONTRIBUTING.md names each crate, and no other file than those known here stands at the top.
+
+    Left out is what only names modules (Lib.antt), and the proof of one function, which lies where its function's name says.
+    """
+    yield from (f"{it.name}: a file at the top that is not known" for it in sorted(TOP.iterdir()) if it.is_file() and it.name not in AT_THE_TOP)
+    for path in (path for crate in crates() for folder in ("src", "specs", "proofs") for path in files(crate, folder)):
+        is_left_out = "proofs" in path.parts and path.name in OF_A_FUNCTION or path.suffix == ".antt" and re.fullmatch(r"(?:(?:--.*|(?:pub )?mod \w+)?\n)*", text_of(path))
+        if not is_left_out and not COMMENT[path.suffix].match(text_of(path)):
+            yield f"{name_of(path)}: its first line does not say what it is about"
+    rows = "\n".join(line for line in text_of("CONTRIBUTING.md").splitlines() if line.startswith("| "))
+    for crate in crates():
+        if f"`{crate}`" not in rows and f"`.._{crate.rpartition('_')[2]}`" not in rows:
+            yield f"CONTRIBUTING.md: no row names the crate {crate}"
+
+
+def check_names():
+    """A name of specs/ is defined once in the whole repository."""
+    found = collections.defaultdict(list)
+    for module in modules().values():
+        for it in module.definitions:
+            found[it.name].append(f"{name_of(module.path)}:{it.number}")
+    yield from (f"{name} is defined {len(places)} times: {' '.join(places)}" for name, places in sorted(found.items()) if len(places) > 1)
+
+
+# ---- what pages name
+
+SOURCES = ("crates", "scripts", "bench", "callers", "docs/pictures", ".ci")
+# Names of other crates, of placeholders and of a command of the toolchain.
+ELSEWHERE = """
+    Arc Deref Deserialize FromIterator FromStr MIN_VERSION Serialize rkyv tidy tracing
+    Demo_pkg devN plant postN rcN X_again X_takes dac8208d650f15bf
+""".split()
+NAME = re.compile(r"[A-Za-z_][A-Za-z_0-9]*")
+
+
+def known_words(its_pages):
+    found = {*ELSEWHERE, *(page.stem for page in its_pages)}
+    for path in [*(path for folder in SOURCES for path in (TOP / folder).rglob("*")), *(it for it in TOP.iterdir() if it.suffix != ".md")]:
+        if path.is_file() and not {"out", "dist", "__pycache__"} & {*path.relative_to(TOP).parts}:
+            found.update(NAME.findall(name_of(path)))
+            # this file names words that stand nowhere, and the test plants some
+            if path.name not in ("checks.py", "scripts_test"):
+                found.update(NAME.findall(path.read_text(encoding="utf-8", errors="ignore")))
+    return found
+
+
+def check_words():
+    """What README.md, CONTRIBUTING.md and docs/*.md name in backquotes is there, and what a row of DEFINITIONS.md names is a trusted definition of its crate."""
+    its_pages = [TOP / "README.md", TOP / "CONTRIBUTING.md", *sorted((TOP / "docs").glob("*.md"))]
+    known = known_words(its_pages)
+    for page in its_pages:
+        for number, line in prose(page):
+            for word in sorted({it for text in QUOTED.findall(line) for it in NAME.findall(text)} - known):
+                if len(word) > 2 and not word.endswith("_"):
+                    yield f"{name_of(page)}:{number}: {word} is not there"
+    for number, line in prose("docs/DEFINITIONS.md"):
+        if row := re.match(r"\| \[`(\w+)`\]\(.*\) \| (.*) \|", line):
+            defined = {name for crate, _, name in trusted() if crate == row[1]}
+            yield from (f"docs/DEFINITIONS.md:{number}: {name} is no definition of {row[1]}" for name in QUOTED.findall(row[2]) if name not in defined)
+
+
+LINK = re.compile(r"!?\[[^\]]*\]\(([^)\s]+)\)")
+NAMED = re.compile(r"`((?:docs|scripts|crates|bench|callers|completions|\.ci)/[\w./-]+)`")
+PAGE = re.compile(r"`([\w./-]+\.md)`")
+
+
+def anchors(page):
+    """The anchors of the headings, as they are commonly made: lower case, blanks as dashes, other signs left out."""
+    headings = [line.lstrip("#").strip() for _, line in prose(page) if re.match(r"#+ ", line)]
+    return {re.sub(r"[^\w\- ]", "", it.lower()).replace(" ", "-") for it in headings}
+
+
+def link_fault(page, link):
+    """Why the link leads nowhere, or None."""
+    path, _, heading = link.partition("#")
+    there = (page.parent / path).resolve() if path else page
+    if re.match(r"[a-z]+:", link):
+        return None
+    if there != TOP and TOP not in there.parents:
+        return "leaves the repository"
+    if "out" in there.relative_to(TOP).parts and "out" not in page.relative_to(TOP).parts:
+        return "is made, and not in the repository"
+    if not there.exists():
+        return "no such file"
+    return "no such heading" if heading and (there.suffix != ".md" or heading not in anchors(there)) else None
+
+
+def check_links():
+    """The links of each page, and the files that it names in backquotes, lead somewhere; those with a scheme and those that the toolchain makes are left alone."""
+    count = 0
+    for page in pages():
+        for number, line in prose(page):
+            found = [(it, link_fault(page, it)) for it in LINK.findall(line)]
+            found += [(it, "no such file" * (not (TOP / it).exists() and "/out/" not in it)) for it in NAMED.findall(line)]
+            found += [(it, "no such page" * (not (TOP / it).exists() and not (page.parent / it).exists())) for it in PAGE.findall(line)]
+            count += len(found)
+            yield from (f"{name_of(page)}:{number}: {link}: {why}" for link, why in found if why)
+    if not count:
+        yield "no page has a link"
+
+
+# ---- figures
+
+PYTHON = "callers/python/README.md"
+# A table's head, with the name of its bench, and its rows.
+TABLE = re.compile(r"(\|[^|\n]*`bench/(\w+)`\) \| Instructions \|\n\|---\|---\|\n)((?:\|.*\n)*)")
+# What README.md says that a call takes or is.
+CLAIM = re.compile(r"`([^`]+)`,? (?:takes |is )?(\d[\d,.]*\d)")
+
+
+def counts():
+    """The rows of each bench: the figure, its count, and what it is called in the page."""
+    found = collections.defaultdict(list)
+    for line in text_of("bench/figures").splitlines():
+        if line and not line.startswith("#"):
+            bench, figure, count, *row = line.split("\t")
+            found[bench].append((figure, f"{int(count):,}", *row, f"`{figure}`"))
+    return found
+
+
+def table(page, column):
+    """The rows of the first table of the page that has this column, each by the names of its columns."""
+    lines = [[it.strip() for it in line.strip().strip("|").split("|")] if line.startswith("|") else None for line in text_of(page).splitlines()]
+    start = next(at for at, cells in enumerate(lines) if cells and column in cells)
+    return [dict(zip(lines[start], cells)) for cells in itertools.takewhile(bool, lines[start + 2 :])]
+
+
+def check_figures(writes=False):
+    """The tables of docs/SPEED.md that name a bench have the rows of bench/figures, and README.md what was measured; ratios are those of the counts beside them."""
+    page = text_of("docs/SPEED.md")
+    wanted = TABLE.sub(lambda table: table[1] + "".join(f"| {it[2]} | {it[1]} |\n" for it in counts()[table[2]]), page)
+    if writes:
+        (TOP / "docs/SPEED.md").write_text(wanted, encoding="utf-8")
+    elif page != wanted:
+        yield "docs/SPEED.md: its tables are not those of bench/figures; `scripts/check --write figures` makes them"
+    yield from (f"docs/SPEED.md has no table of {it}" for it in counts().keys() - {name for _, name, _ in TABLE.findall(page)})
+    measured = {row["Call"].strip("`"): row["Ratio"] for row in table(PYTHON, "Ratio")}
+    measured["pep440 filter"] = next(count for figure, count, *_ in counts()["filter"] if figure.startswith("a line of dev,"))
+    measured["pep440_rs"] = re.search(r"takes ([\d,]+) instructions a line of `dev`", page)[1]
+    claims = CLAIM.findall(text_of("README.md").partition("## Why")[2].partition("\n## ")[0])
+    yield from (f"README.md: {call}: {shown} is shown, {measured.get(call)} measured" for call, shown in claims if shown != measured.get(call))
+    if len(claims) < 4:
+        yield f"README.md: 4 figures under 'Why' are measured, {len(claims)} are shown"
+    for row in table(PYTHON, "Ratio"):
+        # both counts are rounded
+        other, here = (int(row[it].replace(",", "")) for it in ("`packaging`", "Here"))
+        if not (other - 0.5) / (here + 0.5) - 0.05 <= float(row["Ratio"]) <= (other + 0.5) / (here - 0.5) + 0.05:
+            yield f"{PYTHON}: {row['Call']}: {other} and {here} have not the ratio {row['Ratio']}"
+
+
+# ---- examples in code
+
+WITH_EXAMPLES = ["docs/CALLING.md", "crates/pep440_rs/src/lib.rt"]
+
+
+def stands(block, text):
+    """Whether the lines stand in the text one after the other, all indented alike."""
+    first, *rest = (re.escape(line) for line in block)
+    return re.search("\n".join([rf"^(?P<indent>[ ]*){first}$", *(rf"(?P=indent){line}$" if line else "$" for line in rest)]), text, re.M)
+
+
+def check_examples():
+    """Each block of `rust` and `antt` in docs/CALLING.md and at the head of the library stands word for word in the crate of examples, and not in its tests."""
+    code = collections.defaultdict(list)
+    for path in (path for folder in ("src", "specs", "proofs") for path in files("examples", folder) if path.parent.name != "tests"):
+        code[path.suffix].append(text_of(path))
+    found = 0
+    for page in WITH_EXAMPLES:
+        text = text_of(page)
+        if page.endswith(".rt"):
+            text = "\n".join(line[4:] if line.startswith("//! ") else "" for line in text.splitlines())
+        for language, block in re.findall(r"^```(rust|antt)\n(.*?)(?:^```$|\Z)", text, re.M | re.S):
+            found += 1
+            if not block or not any(stands(block.splitlines(), it) for it in code[".rt" if language == "rust" else ".antt"]):
+                yield f"{page}: a block stands in no file of examples: {block.partition(chr(10))[0]}"
+    if not found:
+        yield "no page has an example"
+
+
+# ---- english: marks of a dialect that reads as translated
+
+SUBJECT = r"(?:the|an?|its|their|all|each|every|some|those|these|one|two)"
+PLACED = r"(?:comes?|stands?|lies?|goes|follows?|belongs?)"
+# For each mark, how often it stands in 1,000 words of other manuals, and its pattern. Measured with `text_of_manual` over
+# /usr/share/man/man{1,5,7,8} on Debian 12: 1,948 pages, 2,579,693 words; links and the generated pages of gcloud are left out.
+MARKS = {
+    "where": (0.882, r"(?i)\bwhere\b"),
+    "alone": (0.03, r"(?i)\balone\b"),
+    "that of": (0.063, r"(?i)\b(?:that|those) of\b"),
+    "behind": (0.027, r"(?i)\bbehind\b"),
+    "in full": (0.009, r"(?i)\bin full\b"),
+    "of which": (0.06, r"(?i)\bof which\b"),
+    # "so is the ..", "First come the ..", "Beside it stands a ..", "Rejected are all .."
+    "verb before subject": (
+        0.006,
+        rf"\b(?:so|nor) (?:is|are|was|were|does|do|did|has|have|can|may|will|must) {SUBJECT}\b|(?:^|[.;:] +)(?:(?:First|Then) {PLACED}"
+        rf"|(?:Beside|Behind|Of|To|Among|Between|Under|Above|Below|After|Before)(?: (?!there\b)[\w'-]+){{1,5}} {PLACED}|[A-Z]\w+ed (?:is|are)) (?:{SUBJECT}\b|[A-Z])",
+    ),
+}
+LIMIT = 2
+ESCAPES = [(r"\\f(?:\(..|\[[^\]]*\]|.)|\\s[-+]?\d|\\&|\\c", ""), (r"\\\*?\(..|\\\[[^\]]*\]", " "), (r"\\(.)", r"\1")]
+
+
+def text_of_manual(text):
+    """The lines of a manual page that are text, without displays."""
+    lines, is_shown = [], True
+    for line in text.splitlines():
+        if re.match(r"\.(?:nf|EX|Bd -literal|ig|fi|EE|Ed|\.)(?:\s|$)", line):
+            is_shown = re.match(r"\.(?:nf|EX|Bd|ig)", line) is None
+        elif is_shown and line[:1] not in ("", ".", "'"):
+            for old, new in ESCAPES:
+                line = re.sub(old, new, line)
+            lines.append(line)
+    return " ".join(lines)
+
+
+def text_of_page(text):
+    """A page without code and without where its links lead."""
+    text = re.sub(r"^```.*?^```$", "", text, flags=re.M | re.S)
+    text = re.sub(r"\]\([^)\s]+\)", "]", re.sub(r"`[^`\n]*`", "X", text))
+    return re.sub(r"\s+", " ", re.sub(r"\n(?:\n|[|#*-])", "\n. ", text))
+
+
+def english_texts():
+    """Each text, by its kind and its name: pages, comments of code, help."""
+    kinds = collections.defaultdict(dict)
+    for pattern in ("*.md", "docs/*.md", "docs/archives/*.md", "docs/pictures/*.md", "callers/**/README.md", "docs/*.1", "callers/c/pep440.h"):
+        for path in sorted(TOP.glob(pattern)):
+            text = text_of(path)
+            if path.suffix == ".h":
+                text = "\n".join(re.sub(r"^ +", "", it, flags=re.M) + "\n" for it in re.findall(r"/\*(.*?)\*/", text, re.S))
+            kinds["pages"][name_of(path)] = (text_of_manual if path.suffix == ".1" else text_of_page)(text)
+    for crate in crates():
+        comments = [line for path in files(crate, "src") for line in [*re.findall(r"^\s*//[/!] ?(.*)$", text_of(path), re.M), ""]]
+        kinds["comments"][f"crates/{crate}"] = text_of_page("\n".join(comments))
+    help_texts = re.findall(r'_HELP: &str =\s+"(.*?)";', text_of("crates/pyver_tool/src/help.rt"), re.S)
+    return {**kinds, "help": {"pyver --help": re.sub(r"\s+", " ", ". ".join(help_texts))}}
+
+
+def check_english():
+    """No mark is more than twice as frequent as in other manuals, in the pages, in the comments of public items, or in the help texts."""
+    for kind, its in english_texts().items():
+        words = sum(len(re.findall(r"[A-Za-z][\w'-]*", text)) for text in its.values())
+        for mark, (rate, pattern) in MARKS.items():
+            places = [f"    {name}: {text[max(0, it.start() - 40) : it.end() + 30]}" for name, text in its.items() for it in re.finditer(pattern, text)]
+            most = math.ceil(LIMIT * rate * words / 1000)
+            if len(places) > most:
+                yield "\n".join([f"{kind}: `{mark}` {len(places)} times in {words:,} words, at most {most}:", *places])
+
+
+# ---- the list of swept calls
+
+
+def allocating_calls(crate):
+    """Each public call that is passed the allocator, and each `clone` of a public type that is not `Copy`, and whether it returns a `Result`."""
+    names, its_modules = exports(crate)
+    for source in sources(crate):
+        is_public = source.path.relative_to(TOP / "crates" / crate / "src").with_suffix("").parts[0] in its_modules
+        yield from ((f"{it.owner}::clone", True) for it in source.blocks if it.trait == "Clone" and it.owner in names)
+        for derived, kind in re.findall(r"^#\[derive\(([^)]*)\)\]\n(?:#.*\n)*pub (?:struct|enum) (\w+)", source.text, re.M):
+            if kind in names and "Clone" in derived.split(", ") and "Copy" not in derived.split(", "):
+                yield f"{kind}::clone", True
+        for it in source.functions:
+            signature = source.signature(it)
+            is_own = it.block and not it.block.trait and source.code.startswith("impl", it.block.start)
+            is_offered = is_own and it.block.owner in names if it.block else is_public or it.name in names
+            if it.is_public and is_offered and "alloc: Global" in signature:
+                yield f"{it.block.owner}::{it.name}" if it.block else it.name, "-> Result<" in signature
+
+
+def items_of(text):
+    """From each name of a function, a constant or a type to the texts that define it, methods of all types of one name together."""
+    found = collections.defaultdict(str)
+    head = r"^( *)(?:pub(?:\([a-z]+\))? )?"
+    for item in re.finditer(rf"{head}(?:const )?(?:fn|struct|enum) (\w+).*?^\1\}}|{head}const (\w+): .*?;$", text, re.M | re.S):
+        found[item[2] or item[4]] += item[0]
+    for block in re.finditer(r"^impl[^\n]*?(\w+)(?:<[^\n]*>)? \{\n(.*?)^\}", text, re.M | re.S):
+        found[block[1]] += block[2]
+    return found
+
+
+def reached(name, items):
+    """The text of an item with those of all that it names in turn."""
+    texts, left = {}, [name]
+    while left:
+        name = left.pop()
+        if name not in texts and name in items:
+            texts[name] = items[name]
+            left += re.findall(r"\w+", items[name])
+    return "".join(texts.values())
+
+
+def sweeps_of(crate):
+    """Each test `sweep_..` of the crate by its path, with its text and that of what it calls in its file and the modules that this one uses; and each
+    name of a case of the program by `case::NAME`, with the texts of the program and of what its like share."""
+    top, found = TOP / "crates" / crate / "src", {}
+    texts = {path.relative_to(top).with_suffix("").parts: text_of(path) for path in files(crate, "src")}
+    for module, text in texts.items():
+        used = set(re.findall(r"\w+", " ".join(re.findall(r"^use (?:crate|super)::([^;{]*)", text, re.M))))
+        items = items_of(text + "".join(it for name, it in texts.items() if name[-1] in used))
+        found.update((f"{'::'.join(module)}::{name}", reached(name, items)) for name in re.findall(r"^#\[test\]\nfn (sweep_\w+)", text, re.M))
+    stdin = TOP / "crates" / crate / "stdin"
+    if stdin.exists():
+        text = "".join([*texts.values(), *map(text_of, files("testing", "src"))])
+        names = {line.split("\t")[0] for line in text_of(stdin).splitlines() if "\t" in line and not line.startswith("#")}
+        found.update((f"case::{name}", text) for name in names if f'"{name}"' in text)
+    return found
+
+
+def callers(crate, above, word):
+    """The public calls of files of the crate that name this one, and all of the crate above if a file of it does."""
+    texts = [text_of(path) for path in files(crate, "src")]
+    found = [it for it in texts if re.search(rf"(?<!fn )\b{word}\(", it) and f"fn {word}" not in it]
+    others = [text_of(path) for path in files(above, "src")] if above else []
+    found += others * any(re.search(rf"\b{word}\(", it) for it in others)
+    return [call for text in found for call in re.findall(r"^pub fn (\w+)", text, re.M)]
+
+
+def sweep_faults(crate, above, name, tests, sweeps, returns_result):
+    """What is wrong with the tests that are written beside a call."""
+    if tests == ["none"]:
+        yield from ["is said to take none, and returns a Result"] * returns_result
+        return
+    word = name.split("::")[-1]
+    for test in tests:
+        words = [word, *(callers(crate, above, word) if test.startswith("case::") else [])]
+        if test not in sweeps:
+            yield f"is swept by {test}, which is no test"
+        elif not any(re.search(rf"\b{it}\b", sweeps[test]) for it in words):
+            yield f"is not called by {test}"
+
+
+def check_swept():
+    """Each public call that allocates has a test that makes its allocations fail: those that scripts/swept.txt lists, else the cases of its name.
+
+    Left out are crates of tests, programs, and the exports to C, each one call of a library: callers/c/tests/sweep.c sweeps them.
+    """
+    listed, heads = collections.defaultdict(dict), {}
+    for line in (line.partition("#")[0].rstrip() for line in text_of("scripts/swept.txt").splitlines()):
+        first, *others = line.split() or [""]
+        if not line.startswith(" "):
+            crate, heads[first] = first, " ".join(others[1:]).partition(" through ")
+            continue
+        for name in others:
+            listed[crate].setdefault(name, []).append(first.removesuffix(":"))
+    for crate in libraries():
+        calls, (by, _, above) = dict(allocating_calls(crate)), heads.get(crate, ("", "", ""))
+        sweeps = {name: text for it in by.split() for name, text in sweeps_of(it).items()}
+        yield from (f"{crate}: {name} is listed, and is not in the sources" for name in listed[crate] if name not in calls)
+        for name, returns_result in calls.items():
+            tests = listed[crate].get(name) or [f"case::{name}"]
+            yield from (f"{crate}: {name} {it}" for it in sweep_faults(crate, above, name, tests, sweeps, returns_result))

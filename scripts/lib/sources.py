@@ -1,0 +1,289 @@
+"""What stands in the repository: crates, source files with their functions and clauses, definitions, pages."""
+import functools
+import pathlib
+import re
+from typing import NamedTuple
+
+TOP = pathlib.Path(__file__).resolve().parent.parent.parent
+WORD = re.compile(r"[^\s(){}\[\],;:.λ∷]+")
+# Readings that are proved to agree with definitions: they need no trust, nor does what they cite alone.
+AGREEING = {("pep440_version", "Whole", "read_version"), ("pep440_version", "Whole", "read_pattern"), ("pyver_requirements", "MarkerReading", "read")}
+LEFT_OUT = re.compile(r"//[^\n]*|\"(?:\\.|[^\"\\])*\"|'(?:\\.|[^'\\\n])'")
+BLOCK = re.compile(r"^(pub trait|impl)\b(?:<[^>]*>)?([^{]*)\{", re.M)
+HEAD = re.compile(r"^ *(pub(?:\([a-z]+\))? )?(?:const )?(?:extern +)?fn (\w+)", re.M)
+CLAUSE = re.compile(r"\b(requires|ensures)\*?\s*(\w*)\s*\{")
+GHOST = re.compile(r"\b(ghost) (\w+) = \{")
+
+
+@functools.cache
+def text_of(path):
+    return pathlib.Path(TOP, path).read_text(encoding="utf-8")
+
+
+def name_of(path):
+    return str(path.relative_to(TOP))
+
+
+# ---- crates
+
+
+class Crate(NamedTuple):
+    """A crate of crates.txt: whether it is a static library, a library, of tests, and all that it depends on."""
+
+    is_static: bool
+    is_library: bool
+    is_of_tests: bool
+    uses: list
+
+
+@functools.cache
+def crates():
+    """Each crate by its name, in the order in which to read them."""
+    found = {}
+    for name, kind, uses in re.findall(r"^(\w+) *(\w*):(.*)$", text_of("crates.txt"), re.M):
+        is_library = (TOP / f"crates/{name}/src/lib.rt").exists()
+        found[name] = Crate(kind == "staticlib", is_library, bool(re.search("(^|_)(tests?|testing|vectors)$", name)), uses.split())
+    return found
+
+
+def libraries():
+    return sorted(name for name, it in crates().items() if it.is_library and not it.is_of_tests)
+
+
+def files(crate, folder):
+    """The sources of a crate in src/, specs/ or proofs/."""
+    return sorted(it for it in (TOP / "crates" / crate / folder).rglob("*") if it.suffix in (".rt", ".antt"))
+
+
+# ---- definitions
+
+
+class Definition:
+    """A definition or lemma of specs/: its name, its kind (None of a lemma), the comment above it, its lines, and the number of the first."""
+
+    def __init__(self, name, kind, comment, number):
+        self.name, self.kind, self.comment, self.number, self.lines = name, kind, comment, number, []
+
+
+class Module(NamedTuple):
+    """A file of specs/: its definitions in order, the same by name with constructors naming their data, and what it imports."""
+
+    path: pathlib.Path
+    definitions: list
+    names: dict
+    imports: dict
+
+
+def imports_of(text):
+    """From each name of another module that a text imports to where it stands: (crate, module, name)."""
+    found = {}
+    for crate, module, names in re.findall(r"use Rattle\.(\w+)\.specs\.(?!declared\b)([\w.]+)\.\{([^}]*)\}", text):
+        for item in names.split(","):
+            name, _, other = item.strip().partition(" as ")
+            found[(other or name).strip().replace("◌", "")] = (crate, module, name.strip().replace("◌", ""))
+    return found
+
+
+def without_strings(text):
+    return re.sub(r'"(\\.|[^"\\])*"', '""', text)
+
+
+def comments_after(above, line):
+    """The comment that stands above what follows, with one more line; a blank line or a heading ends it."""
+    is_comment = line.strip().startswith("--") and not line.strip().startswith("-- ----")
+    return [*above, line.strip().lstrip("-").strip()] if is_comment else []
+
+
+def read_module(path, text):
+    found, names, current, inside, above = [], {}, None, False, []
+    for number, line in enumerate(text.splitlines(), 1):
+        bare = without_strings(line).split("--")[0].rstrip()
+        if not bare or bare.startswith(("use ", "pub use ", "mod ", "pub mod ", "infix")):
+            above = comments_after(above, line)
+            continue
+        if not bare[0].isspace():
+            inside = bare.startswith("module ")
+            if inside:
+                continue
+        elif inside:
+            bare = bare[2:]
+        data = re.match(r"(?:abbrev |unfoldable |pub )*(data|record) (\S+)", bare)
+        head = re.match(r"(?:(abbrev|unfoldable) )?(?:pub )?([^\s:({]+) :(?=\s|$)", bare)
+        if data or head and not bare.startswith("unfolding"):
+            kind, name = (data or head).groups()
+            current = Definition(name, kind, " ".join(above), number)
+            found.append(current)
+            names[name.replace("◌", "")] = current
+        elif current and current.kind == "data" and (constructor := re.match(r"\s+(\S+) :", bare)):
+            names.setdefault(constructor[1], current)
+        above = []
+        if current:
+            current.lines.append(bare)
+    return Module(path, found, names, imports_of(text))
+
+
+@functools.cache
+def modules():
+    """The files of all specs/, by crate and module, as `Sources.InputLines`."""
+    paths = {(crate, path): path.relative_to(TOP / f"crates/{crate}/specs").with_suffix("") for crate in crates() for path in files(crate, "specs")}
+    return {(crate, ".".join(inner.parts)): read_module(path, text_of(path)) for (crate, path), inner in paths.items()}
+
+
+def cited_by(text, names, imports, crate, module):
+    """Where each name of definitions that a text has is defined."""
+    for word in set(WORD.findall(without_strings(text))):
+        if word in names:
+            yield crate, module, word
+        elif word in imports:
+            yield imports[word]
+
+
+@functools.cache
+def trusted():
+    """Each definition that a public clause cites, and what it cites in turn, by crate, module and name."""
+    wanted = set()
+    for crate in libraries():
+        types = types_of(crate)
+        for source in sources(crate):
+            public = [*(it for it in source.blocks if it.owner in types), *(it for it in source.functions if it.is_public)]
+            wanted.update(name for it in public for clause in it.clauses for name in source.cited(clause))
+    seen, todo = {}, list(wanted)
+    while todo:
+        crate, module, name = todo.pop()
+        if (crate, module) not in modules() or (crate, module, name) in AGREEING:
+            continue
+        here = modules()[crate, module]
+        definition = here.names.get(name)
+        if definition is None or definition.kind is None or definition in seen.values():
+            continue
+        seen[crate, module, definition.name.replace("◌", "")] = definition
+        todo.extend(cited_by("\n".join(definition.lines), here.names, here.imports, crate, module))
+    return seen
+
+
+# ---- code
+
+
+class Block(NamedTuple):
+    """A public trait or an impl: of which type or trait, the trait that is implemented or "", and the ghost members by name."""
+
+    start: int
+    end: int
+    owner: str
+    trait: str
+    clauses: list
+
+
+class Function(NamedTuple):
+    """A function: where its head begins and the next one's, its block or None, and its clauses: keyword, name and text."""
+
+    start: int
+    end: int
+    name: str
+    block: Block
+    clauses: list
+    is_public: bool
+
+
+def braced(text, start):
+    """What stands between the brace at start and the one that closes it."""
+    depth = 0
+    for at in range(start, len(text)):
+        depth += {"{": 1, "}": -1}.get(text[at], 0)
+        if depth == 0:
+            return text[start + 1 : at]
+    return text[start + 1 :]
+
+
+class Source:
+    """A file of code: its text, the same with blanks for comments and strings, its blocks and its functions."""
+
+    def __init__(self, path, types):
+        self.path, self.text = path, text_of(path)
+        self.imports = imports_of(self.text)
+        self.code = LEFT_OUT.sub(lambda it: re.sub(r"[^\n]", " ", it[0]), self.text)
+        self.blocks = [self.block(it) for it in BLOCK.finditer(self.code)]
+        heads = [*HEAD.finditer(self.code)]
+        ends = [*(it.start() for it in heads[1:]), len(self.code)]
+        self.functions = [self.function(head, end, types) for head, end in zip(heads, ends)]
+
+    def cited(self, clause):
+        """The definitions that a clause cites: crate, module and name of each."""
+        return set(cited_by(clause[2], {}, self.imports, None, None))
+
+    def clauses(self, pattern, start, end):
+        return [(*it.groups(), braced(self.code, it.end() - 1)) for it in pattern.finditer(self.code, start, end)]
+
+    def block(self, head):
+        trait, _, owner = head[2].rpartition(" for ")
+        end = head.end() + len(braced(self.code, head.end() - 1))
+        clauses = [it for it in self.clauses(GHOST, head.end(), end) if trait.strip() != "Model" or it[1] == "Value"]
+        return Block(head.start(), end, re.match(r"\w*", owner.strip())[0], trait.strip(), clauses)
+
+    def function(self, head, end, types):
+        block = next((it for it in self.blocks if it.start <= head.start() < it.end), None)
+        is_of_trait = block and (block.trait or self.code.startswith("pub trait", block.start))
+        is_public = (not block or block.owner in types) and (bool(is_of_trait) or head[1] == "pub ")
+        return Function(head.start(), end, head[2], block, self.clauses(CLAUSE, head.start(), end), is_public)
+
+    def signature(self, function):
+        """What stands before the clauses and the body."""
+        return re.split(r"\n\s*(?:requires|ensures)\b|\n?\s*\{\n|;\n", self.code[function.start : function.end], maxsplit=1)[0]
+
+
+def code_of(crate):
+    """The files of code of a crate without its tests."""
+    src = TOP / "crates" / crate / "src"
+    return [it for it in files(crate, "src") if "tests" not in it.relative_to(src).with_suffix("").parts]
+
+
+@functools.cache
+def types_of(crate):
+    """The names of the types and traits that are public in their files."""
+    return {name for path in code_of(crate) for name in re.findall(r"^pub (?:struct|enum|trait) (\w+)", text_of(path), re.M)}
+
+
+@functools.cache
+def sources(crate):
+    return [Source(path, types_of(crate)) for path in code_of(crate)]
+
+
+def exports(crate):
+    """The names that the root of a crate offers, and the modules that are public themselves."""
+    root = text_of(f"crates/{crate}/src/lib.rt")
+    used = " ".join(re.findall(r"^pub use ([^;]*);", root, re.M))
+    return {*re.findall(r"\w+", used)}, {*re.findall(r"^pub mod (\w+);", root, re.M)}
+
+
+# ---- pages
+
+
+def pages():
+    """Each page of the repository, and those that scripts wrote to out/docs."""
+    hidden = {".git", "out", "dist", "build", "target", "node_modules"}
+    return [it for it in sorted(TOP.rglob("*.md")) if not hidden & {*it.relative_to(TOP).parts}] + sorted((TOP / "out/docs").rglob("*.md"))
+
+
+def prose(page):
+    """Each line outside of code blocks, with its number."""
+    inside = False
+    for number, line in enumerate(text_of(page).splitlines(), 1):
+        if line.startswith("```"):
+            inside = not inside
+        elif not inside:
+            yield number, line
+
+
+def row(*cells):
+    return "| " + " | ".join(it.replace("|", "\\|") for it in cells) + " |"
+
+
+def write_pages(folder, written):
+    """Writes these pages, by the names of their crates, to a folder of out/docs, and removes all else there."""
+    folder = TOP / "out/docs" / folder
+    folder.mkdir(parents=True, exist_ok=True)
+    for path in folder.glob("*.md"):
+        if path.stem not in written:
+            path.unlink()
+    for crate, page in written.items():
+        (folder / f"{crate}.md").write_text(page, encoding="utf-8")
