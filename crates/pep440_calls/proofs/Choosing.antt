@@ -11,7 +11,7 @@ use Rattle.pep440_rs.specs.Specifiers.{Spec}
 use Rattle.pep440_version.specs.KeyLaws.{record_total}
 use Rattle.pep440_version.specs.Record.{Record}
 use Rattle.pep440_calls.specs.Meaning.{MeansBytes, RefusesBytes}
-use Rattle.pep440_calls.specs.NewestString.{IsContained, preference}
+use Rattle.pep440_calls.specs.NewestString.{IsContainedString, preference}
 use Rattle.pep440_calls.specs.Statuses.{flag}
 use Rattle.pep440_calls.proofs.Once.{never_both, one_version}
 
@@ -19,13 +19,13 @@ module _ (takes : Bool) (list : List Spec) where
   total : IsTotalOrder (preference takes)
   total = then_total (on_total (λ (r : Record). flag (takes || not (any_prerelease r))) nat_cmp_total) record_total
 
-  only : (t : List ℕ) (r q : Record) → IsContained list t r → IsContained list t q → r ≡ q
+  only : (t : List ℕ) (r q : Record) → IsContainedString list t r → IsContainedString list t q → r ≡ q
   only t r q h k = one_version t r q h.0 k.0
 
   abbrev NewestOf : List (List ℕ) → Option (ℕ × Record) → Type 0
-  NewestOf = Greatest (IsContained list) (preference takes)
+  NewestOf = Greatest (IsContainedString list) (preference takes)
 
-  pub out_of : (t : List ℕ) → RefusesBytes t ⊎ ((r : Record) × MeansBytes t r × (list_matches list r ≡ false)) → (r : Record) → ¬ (IsContained list t r)
+  pub out_of : (t : List ℕ) → RefusesBytes t ⊎ ((r : Record) × MeansBytes t r × (list_matches list r ≡ false)) → (r : Record) → ¬ (IsContainedString list t r)
   out_of t (inl why) r h = never_both t r h.0 why
   out_of t (inr (q, means, out)) r h = both_ways (list_matches list r) (ap (list_matches list) (one_version t r q h.0 means) ∙ out) h.1
 
@@ -36,15 +36,15 @@ module _ (takes : Bool) (list : List Spec) where
     seen : map now (take (i + 1) texts) ≡ map now (take i texts) ++ (get_or texts i x).now ∷ []
     seen = ap (map now) (take_more texts i x inside) ∙ map-append now (take i texts) (get_or texts i x ∷ [])
 
-    pub found_more : (v : Record) → IsContained list (get_or texts i x).now v → is_above (preference takes) newest v ≡ true → NewestOf (map now (take i texts)) newest → NewestOf (map now (take (i + 1) texts)) (Some (i, v))
+    pub found_more : (v : Record) → IsContainedString list (get_or texts i x).now v → is_above (preference takes) newest v ≡ true → NewestOf (map now (take i texts)) newest → NewestOf (map now (take (i + 1) texts)) (Some (i, v))
     found_more v has above n =
         let long : length (map now (take i texts)) ≡ i = length-map (take i texts) now ∙ length-take-le i texts (omega (arith, inside)) in
         subst (λ l. NewestOf l (Some (i, v))) (sym seen)
         (subst (λ k. NewestOf (map now (take i texts) ++ (get_or texts i x).now ∷ []) (Some (k, v))) long
-        (greatest.found_more (IsContained list) only (preference takes) total (map now (take i texts)) (get_or texts i x).now v newest n has above))
+        (greatest.found_more (IsContainedString list) only (preference takes) total (map now (take i texts)) (get_or texts i x).now v newest n has above))
 
-    pub kept_more : ((r : Record) → IsContained list (get_or texts i x).now r → is_above (preference takes) newest r ≡ false) → NewestOf (map now (take i texts)) newest → NewestOf (map now (take (i + 1) texts)) newest
-    kept_more out n = subst (λ l. NewestOf l newest) (sym seen) (greatest.kept_more (IsContained list) only (preference takes) total (map now (take i texts)) (get_or texts i x).now newest n out)
+    pub kept_more : ((r : Record) → IsContainedString list (get_or texts i x).now r → is_above (preference takes) newest r ≡ false) → NewestOf (map now (take i texts)) newest → NewestOf (map now (take (i + 1) texts)) newest
+    kept_more out n = subst (λ l. NewestOf l newest) (sym seen) (greatest.kept_more (IsContainedString list) only (preference takes) total (map now (take i texts)) (get_or texts i x).now newest n out)
 
-    pub below_more : (v : Record) → IsContained list (get_or texts i x).now v → is_above (preference takes) newest v ≡ false → NewestOf (map now (take i texts)) newest → NewestOf (map now (take (i + 1) texts)) newest
+    pub below_more : (v : Record) → IsContainedString list (get_or texts i x).now v → is_above (preference takes) newest v ≡ false → NewestOf (map now (take i texts)) newest → NewestOf (map now (take (i + 1) texts)) newest
     below_more v has below = kept_more (λ r h. ap (is_above (preference takes) newest) (only (get_or texts i x).now r v h has) ∙ below)

@@ -18,13 +18,13 @@ abbrev pub preference : Bool → Record → Record → Ordering
 preference takes = then_cmp (on (λ (r : Record). flag (takes || not (any_prerelease r))) nat_cmp) record_cmp
 
 -- the string denotes this version, which the list contains
-abbrev pub IsContained : List Spec → List ℕ → Record → Type 0
-IsContained list text version = MeansBytes text version × IsTrue (list_matches list version)
+abbrev pub IsContainedString : List Spec → List ℕ → Record → Type 0
+IsContainedString list text version = MeansBytes text version × IsTrue (list_matches list version)
 
 -- its index by the list, which takes pre-releases if it asks for them
 abbrev pub FindsNewestString : List ℕ → List (List ℕ) → Option ℕ → Type 0
 FindsNewestString list_text texts position =
-    (list : List Spec) × (newest : Option (ℕ × Record)) × MeansListBytes list_text list × Greatest (IsContained list) (preference (requests_prereleases list)) texts newest × (position ≡ option_map (λ (p : ℕ × Record). p.0) newest)
+    (list : List Spec) × (newest : Option (ℕ × Record)) × MeansListBytes list_text list × Greatest (IsContainedString list) (preference (requests_prereleases list)) texts newest × (position ≡ option_map (λ (p : ℕ × Record). p.0) newest)
 
 -- its index is written with status 0; otherwise nothing is written, and the status is 10 if there is none, or that of the failure
 abbrev pub NewestAnswer : List ℕ → List (List ℕ) → ℕ → ℕ → ℕ → Type 0

@@ -4,7 +4,7 @@ ghost use Rattle.pep440_pick.specs.Greatest.{Greatest, is_above};
 ghost use Rattle.pep440_rs.specs.Matching.{any_prerelease, list_matches};
 ghost use Rattle.pep440_version.specs.Record.{Record};
 ghost use Rattle.pep440_calls.specs.Meaning.{MeansBytes, RefusesBytes, RefusesListBytes};
-ghost use Rattle.pep440_calls.specs.NewestString.{FindsNewestString, IsContained, NewestAnswer, preference};
+ghost use Rattle.pep440_calls.specs.NewestString.{FindsNewestString, IsContainedString, NewestAnswer, preference};
 ghost use Rattle.pep440_calls.specs.Statuses.{Gives, flag};
 
 use crate::buffer::{OK, flag};
@@ -63,7 +63,7 @@ fn read_contained(
     list: &VersionSpecifiers,
     bytes: &[u8],
 ) -> Result<Option<Version>, AllocError>
-    ensures { IfOk result (λ found. MatchOption found (RefusesBytes bytes.now ⊎ ((r : Record) × MeansBytes bytes.now r × (list_matches list.now r ≡ false))) (IsContained list.now bytes.now)) }
+    ensures { IfOk result (λ found. MatchOption found (RefusesBytes bytes.now ⊎ ((r : Record) × MeansBytes bytes.now r × (list_matches list.now r ≡ false))) (IsContainedString list.now bytes.now)) }
 {
     let version = match read(alloc, bytes) {
         Ok(version) => version,
@@ -93,7 +93,7 @@ fn find_newest(
     list: &VersionSpecifiers,
     texts: &[&[u8]],
 ) -> Result<Option<(usize, Version)>, AllocError>
-    ensures { IfOk result (Greatest (IsContained list.now) (preference takes) (map (λ t. t.now) texts.now)) }
+    ensures { IfOk result (Greatest (IsContainedString list.now) (preference takes) (map (λ t. t.now) texts.now)) }
 {
     let mut newest: Option<(usize, Version)> = None;
     for (position, text) in texts.iter().enumerate() {

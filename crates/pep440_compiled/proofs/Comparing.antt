@@ -16,7 +16,7 @@ use Rattle.pep440_compiled.proofs.Suffixes.{no_local_left}
 use Rattle.pep440_compiled.proofs.Zeros.{prefix_by_bytes}
 use Rattle.pep440_compiled.specs.KeyParts.{base_bytes, continues_with_zeros, ending_zeros, public_bytes, suffix_bytes}
 use Rattle.pep440_compiled.specs.KeyViews.{HasKey, IsDecided}
-use Rattle.pep440_compiled.specs.Version.{IsParsed}
+use Rattle.pep440_version.specs.RoundTrip.{IsParsed}
 use Rattle.pep440_compiled.specs.declared.views.KeyView.{KeyView}
 use Rattle.pep440_keys.proofs.Order.{keys_in_order}
 use Rattle.pep440_keys.specs.SortKeys.{key_bytes, local_bytes}

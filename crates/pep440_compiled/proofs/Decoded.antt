@@ -9,12 +9,12 @@ use Rattle.std.specs.List.{AllByRecursion, flat_map, list_all}
 use Rattle.std.specs.Str.{IsUtf8}
 use Rattle.pep440_compiled.proofs.Zeros.{trim_pad}
 use Rattle.pep440_compiled.specs.KeyParts.{ending_zeros, suffix_bytes}
-use Rattle.pep440_compiled.specs.Version.{IsParsed, compiled_bytes, zero_bytes}
+use Rattle.pep440_compiled.specs.Version.{compiled_bytes, zero_bytes}
+use Rattle.pep440_version.specs.RoundTrip.{IsParsed, SegmentRereads, is_lower}
 use Rattle.pep440_keys.specs.SortKeys.{key_bytes, local_bytes, number_bytes, rank_bytes}
 use Rattle.pep440_version.proofs.Reading.Prefixes.{both_first, both_second}
 use Rattle.pep440_version.specs.Key.{dev_rank, key, post_rank, stage_rank}
 use Rattle.pep440_version.specs.Record.{Record, from_parts}
-use Rattle.pep440_version.specs.RoundTrip.{SegmentRereads, is_lower}
 use Rattle.pep440_version.specs.Segments.{segment}
 use Rattle.pep440_version.specs.Trim.{trim}
 use Rattle.pep440_version.specs.declared.segment.LocalSegment.{LocalSegment}

@@ -11,7 +11,8 @@ use Rattle.pep440_compiled.proofs.Fronts.{both_tie, itself, keyed, same_tests}
 use Rattle.pep440_compiled.proofs.Prefixes.{padded}
 use Rattle.pep440_compiled.proofs.Zeros.{trim_pad}
 use Rattle.pep440_compiled.specs.KeyParts.{BeginsOtherwise, ending_zeros}
-use Rattle.pep440_compiled.specs.Version.{DenotesVersion, IsParsed, version_bytes, zero_bytes}
+use Rattle.pep440_compiled.specs.Version.{DenotesVersion, version_bytes, zero_bytes}
+use Rattle.pep440_version.specs.RoundTrip.{IsParsed}
 use Rattle.pep440_keys.proofs.Order.{followed_in_order, keys_in_order}
 use Rattle.pep440_keys.specs.SortKeys.{key_bytes}
 use Rattle.pep440_version.proofs.Reading.Agreement.{one_record}

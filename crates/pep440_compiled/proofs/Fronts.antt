@@ -11,7 +11,7 @@ use Rattle.std.specs.Prelude.{drop}
 use Rattle.std.specs.declared.cmp.Ordering.{Ordering}
 use Rattle.std.specs.declared.cmp.Ordering.TheVariants.{Less, Equal, Greater}
 use Rattle.pep440_compiled.specs.KeyParts.{base_bytes, public_bytes, suffix_bytes}
-use Rattle.pep440_compiled.specs.Version.{IsParsed}
+use Rattle.pep440_version.specs.RoundTrip.{IsParsed}
 use Rattle.pep440_keys.proofs.Codes.{number_is_code, place_is_code, release_is_code}
 use Rattle.pep440_keys.proofs.Order.{dev_fits, no_zero, post_fits, release_fits, stage_fits}
 use Rattle.pep440_keys.specs.SortKeys.{IsKeyed, number_bytes, rank_bytes, release_bytes}

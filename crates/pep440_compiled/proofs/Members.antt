@@ -5,7 +5,7 @@ use Rattle.std.proofs.lemmas.List.Elements.{All-push}
 use Rattle.std.specs.List.{AllByRecursion, flat_map}
 use Rattle.pep440_compiled.specs.KeyParts.{BeginsOtherwise}
 use Rattle.pep440_compiled.specs.Lists.{IsParsedMember, member_bytes}
-use Rattle.pep440_compiled.specs.Version.{IsParsed}
+use Rattle.pep440_version.specs.RoundTrip.{IsParsed}
 use Rattle.pep440_rs.proofs.Arranging.Arranged.{arranged_again, one_arrangement}
 use Rattle.pep440_rs.specs.Arrangement.{Arranges, IsArranged}
 use Rattle.pep440_rs.specs.Specifiers.{Spec}

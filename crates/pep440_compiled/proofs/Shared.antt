@@ -9,7 +9,8 @@ use Rattle.std.specs.Prelude.{◌⊎◌, map}
 use Rattle.std.specs.declared.cmp.Ordering.{Ordering}
 use Rattle.std.specs.declared.cmp.Ordering.TheVariants.{Less, Equal, Greater}
 use Rattle.pep440_compiled.proofs.Fronts.{both_tie, itself, keyed, same_bytes}
-use Rattle.pep440_compiled.specs.Version.{IsParsed, version_bytes, zero_bytes}
+use Rattle.pep440_compiled.specs.Version.{version_bytes, zero_bytes}
+use Rattle.pep440_version.specs.RoundTrip.{IsParsed}
 use Rattle.pep440_keys.proofs.Order.{followed_in_order, keys_in_order}
 use Rattle.pep440_keys.specs.SortKeys.{key_bytes}
 use Rattle.pep440_version.specs.Key.{record_cmp}

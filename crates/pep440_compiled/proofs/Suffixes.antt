@@ -1,7 +1,7 @@
 -- What the ranks of stage, post and dev say of a version that a string parses to.
 use Rattle.std.proofs.Common.{◌≡◌, ◌∙◌, ◌==◌, ◌||◌, ◌+◌, ◌-◌, ◌*◌, ◌++◌, ◌∷◌, [], ℕ, ◌<◌, ◌≤◌, List, refl, sym, ap, arith, Bool, false, true, Option, Some, None, append_assoc, get_or, length, nat_lt, lit<, take, take_all}
 use Rattle.std.specs.Prelude.{drop, is_some}
-use Rattle.pep440_compiled.specs.Version.{IsParsed}
+use Rattle.pep440_version.specs.RoundTrip.{IsParsed}
 use Rattle.std.specs.List.{flat_map}
 use Rattle.std.specs.Slice.Scan.{big_endian}
 use Rattle.pep440_compiled.proofs.ByteOrder.{AreBytes}

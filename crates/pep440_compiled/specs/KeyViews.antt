@@ -1,7 +1,7 @@
 -- What the views of compiled versions say; no public clause cites it.
 use Rattle.std.specs.Prelude.{◌≡◌, ◌⊎◌, ◌++◌, ◌∷◌, [], Bool, true, false, is_some}
 use Rattle.pep440_compiled.specs.KeyParts.{ending_zeros, base_bytes, public_bytes}
-use Rattle.pep440_compiled.specs.Version.{IsParsed}
+use Rattle.pep440_version.specs.RoundTrip.{IsParsed}
 use Rattle.pep440_compiled.specs.declared.views.KeyView.{KeyView}
 use Rattle.pep440_compiled.specs.declared.views.PartsView.{PartsView}
 use Rattle.pep440_compiled.specs.declared.views.VersionView.{VersionView}

@@ -2,7 +2,8 @@
 -- byte 1 of the zeros after a key, so nothing stands between two members.
 use Rattle.std.specs.Prelude.{◌≡◌, ℕ, ◌+◌, List, ◌∷◌, Some, slice_get}
 use Rattle.std.specs.List.{All, flat_map}
-use Rattle.pep440_compiled.specs.Version.{IsParsed, version_bytes}
+use Rattle.pep440_compiled.specs.Version.{version_bytes}
+use Rattle.pep440_version.specs.RoundTrip.{IsParsed}
 use Rattle.pep440_rs.specs.Arrangement.{IsArranged}
 use Rattle.pep440_rs.specs.Operators.{operator_rank}
 use Rattle.pep440_rs.specs.Specifiers.{IsSpec, Spec}

@@ -4,14 +4,9 @@ use Rattle.std.specs.Char.{is_ascii_digit}
 use Rattle.std.specs.List.{All, list_all}
 use Rattle.pep440_keys.specs.SortKeys.{key_bytes}
 use Rattle.pep440_version.specs.Normal.{HasSmallParts}
-use Rattle.pep440_version.specs.Record.{IsRecord, LocalSegmentValue, Number, Record, Text}
-use Rattle.pep440_version.specs.RoundTrip.{RoundTrips}
+use Rattle.pep440_version.specs.Record.{LocalSegmentValue, Number, Record, Text}
+use Rattle.pep440_version.specs.RoundTrip.{IsParsed}
 use Rattle.pep440_version.specs.Trim.{trim}
-
--- the records that strings parse to
-pub record IsParsed (r : Record) : Type 0 where
-  pub valid : IsRecord r
-  pub round_trips : RoundTrips r
 
 -- a byte 1 for each zero that ends the release
 abbrev pub zero_bytes : List ℕ → List ℕ

@@ -3,12 +3,11 @@
 ghost use Rattle.std.specs.Prelude.{◌≡◌, ◌↔◌, ◌<◌, ◌≤◌, ◌++◌, ◌∷◌, [], ℕ, List, length, map, MatchOption, IfOk, replicate, IfSome, OnOk, Option, Some, None, true};
 ghost use Rattle.std.specs.List.{All, flat_map};
 ghost use Rattle.pep440_compiled.specs.KeyParts.{BeginsOtherwise, ending_zeros, suffix_bytes};
-ghost use Rattle.pep440_compiled.specs.Version.{IsParsed};
+ghost use Rattle.pep440_version.specs.RoundTrip.{IsParsed, SegmentRereads};
 ghost use Rattle.pep440_compiled.specs.KeyViews.{IsViewOf};
 ghost use Rattle.pep440_keys.specs.SortKeys.{HasNoZero, local_bytes, needed_bytes, number_bytes, rank_bytes, segment_bytes};
 ghost use Rattle.pep440_version.specs.Key.{dev_of, dev_rank, post_of, post_rank, stage_of, stage_rank};
 ghost use Rattle.pep440_version.specs.Record.{Fits, LocalSegmentValue, Record, SegmentFits, from_parts};
-ghost use Rattle.pep440_version.specs.RoundTrip.{SegmentRereads};
 ghost use Rattle.pep440_version.specs.Segments.{segment};
 ghost use Rattle.pep440_version.specs.Trim.{trim};
 ghost use Rattle.pep440_version.specs.declared.prerelease.Prerelease.{Prerelease};

@@ -1,7 +1,8 @@
 //! What holds of compiled bytes, as contracts of functions that do nothing.
 ghost use Rattle.std.specs.Prelude.{◌≡◌, ◌↔◌, ℕ, List};
 ghost use Rattle.pep440_compiled.specs.Lists.{DenotesList};
-ghost use Rattle.pep440_compiled.specs.Version.{DenotesVersion, IsParsed};
+ghost use Rattle.pep440_compiled.specs.Version.{DenotesVersion};
+ghost use Rattle.pep440_version.specs.RoundTrip.{IsParsed};
 ghost use Rattle.pep440_rs.specs.Specifiers.{Spec};
 ghost use Rattle.pep440_version.specs.Grammar.{Derives};
 ghost use Rattle.pep440_version.specs.Record.{Record};

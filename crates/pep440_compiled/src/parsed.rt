@@ -2,10 +2,9 @@
 ghost use Rattle.std.specs.Prelude.{◌≡◌, ◌↔◌, true, map};
 ghost use Rattle.std.specs.Char.{is_ascii_digit};
 ghost use Rattle.std.specs.List.{All, list_all};
-ghost use Rattle.pep440_compiled.specs.Version.{IsParsed};
+ghost use Rattle.pep440_version.specs.RoundTrip.{IsParsed, SegmentRereads, is_lower};
 ghost use Rattle.pep440_version.specs.Grammar.{is_numeral};
 ghost use Rattle.pep440_version.specs.Record.{Text};
-ghost use Rattle.pep440_version.specs.RoundTrip.{SegmentRereads, is_lower};
 ghost use Rattle.pep440_version.specs.Segments.{segment};
 
 use pep440_version::{LocalSegment, Version};

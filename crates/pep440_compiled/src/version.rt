@@ -1,6 +1,7 @@
 //! Compiled versions: made, read, compared.
 ghost use Rattle.std.specs.Prelude.{◌≡◌, ◌+◌, ◌++◌, ℕ, Ok, IfErr, IfOk, IsOk, MatchResult, OnOk, length, string_bytes};
-ghost use Rattle.pep440_compiled.specs.Version.{DenotesVersion, HasVersionFormat, IsParsed, compiled_bytes, version_bytes, zero_bytes};
+ghost use Rattle.pep440_compiled.specs.Version.{DenotesVersion, HasVersionFormat, compiled_bytes, version_bytes, zero_bytes};
+ghost use Rattle.pep440_version.specs.RoundTrip.{IsParsed};
 ghost use Rattle.pep440_compiled.specs.declared.error.CompileError.TheVariants.{NotParsed};
 ghost use Rattle.pep440_compiled.specs.declared.error.CompiledError.TheVariants as unread;
 ghost use Rattle.pep440_keys.specs.SortKeys.{key_bytes};

@@ -1,7 +1,8 @@
 //! Compiled versions as they lie: where their parts are.
 ghost use Rattle.std.specs.Prelude.{◌≡◌, ◌↔◌, ◌<◌, ◌++◌, ◌∷◌, [], List, ℕ, true, length, replicate, IfSome, MatchOption};
 ghost use Rattle.pep440_compiled.specs.KeyParts.{BeginsOtherwise, base_bytes, suffix_bytes};
-ghost use Rattle.pep440_compiled.specs.Version.{DenotesVersion, HasVersionFormat, IsParsed, version_bytes, zero_bytes};
+ghost use Rattle.pep440_compiled.specs.Version.{DenotesVersion, HasVersionFormat, version_bytes, zero_bytes};
+ghost use Rattle.pep440_version.specs.RoundTrip.{IsParsed};
 ghost use Rattle.pep440_keys.specs.SortKeys.{key_bytes, local_bytes};
 ghost use Rattle.pep440_compiled.specs.KeyViews.{HasKey, HasParts, IsFinal, IsViewOf};
 ghost use Rattle.pep440_version.specs.Record.{Record};

@@ -1,6 +1,6 @@
 //! Matching by the literal rule, and sets of versions.
 use crate::parsers::list_argument;
-use pep440_sets::{SetError, VersionSet, find_version};
+use pep440_sets::{SetError, SetLines, VersionSet, find_version, specifiers_to_set};
 use std::alloc::Global;
 use testing::{CaseError, print_value, version_argument};
 
@@ -23,13 +23,13 @@ pub fn allows_literally(alloc: Global, list: &str, version: &str) -> Result<Stri
     yes_or_no(alloc, list.allows_literally(alloc, takes, &version)?)
 }
 
-// The set of the list, or none where it has `===`.
-fn find_set(alloc: Global, text: &str) -> Result<Result<VersionSet, SetError>, CaseError> {
+// The set of a list that has one.
+fn set_argument(alloc: Global, text: &str) -> Result<VersionSet, CaseError> {
     let list = list_argument(alloc, text)?;
-    match VersionSet::from_specifiers(alloc, list.as_slice()) {
-        Err(SetError::OutOfMemory) => Err(CaseError::OutOfMemory),
-        set => Ok(set),
-    }
+    VersionSet::from_specifiers(alloc, list.as_slice()).map_err(|error| match error {
+        SetError::OutOfMemory => CaseError::OutOfMemory,
+        SetError::ArbitraryEquality => CaseError::Unreadable,
+    })
 }
 
 // The lines of the set.
@@ -42,17 +42,12 @@ fn lines(alloc: Global, set: &VersionSet) -> Result<String, CaseError> {
 
 /// The set of the list, a line for each interval, or the message of the error.
 pub fn set(alloc: Global, text: &str) -> Result<String, CaseError> {
-    match find_set(alloc, text)? {
-        Ok(set) => lines(alloc, &set),
+    let list = list_argument(alloc, text)?;
+    match specifiers_to_set(alloc, list.as_slice()) {
+        Ok(set) if set.is_empty() => Ok(String::from_str(alloc, "no version")?),
+        Ok(set) => Ok(print_value(alloc, &SetLines(&set))?),
+        Err(SetError::OutOfMemory) => Err(CaseError::OutOfMemory),
         Err(error) => Ok(print_value(alloc, &error)?),
-    }
-}
-
-// The set of a list that has one.
-fn set_argument(alloc: Global, text: &str) -> Result<VersionSet, CaseError> {
-    match find_set(alloc, text)? {
-        Ok(set) => Ok(set),
-        Err(_) => Err(CaseError::Unreadable),
     }
 }
 
@@ -63,7 +58,7 @@ pub fn set_contains(alloc: Global, list: &str, version: &str) -> Result<String, 
     yes_or_no(alloc, set.contains(&version))
 }
 
-/// All versions but those of the set.
+/// The versions that are not in the set of the list.
 pub fn complement(alloc: Global, text: &str) -> Result<String, CaseError> {
     lines(alloc, &set_argument(alloc, text)?.complement(alloc)?)
 }
@@ -86,12 +81,7 @@ pub fn literal_version(alloc: Global, text: &str) -> Result<String, CaseError> {
 }
 
 /// What the call gives of the sets of two lists; `Unreadable` where it is none of these.
-pub fn of_two_sets(
-    alloc: Global,
-    call: &str,
-    one: &str,
-    other: &str,
-) -> Result<String, CaseError> {
+pub fn of_two_sets(alloc: Global, call: &str, one: &str, other: &str) -> Result<String, CaseError> {
     let (one, other) = (set_argument(alloc, one)?, set_argument(alloc, other)?);
     match call {
         "set-intersection" => lines(alloc, &one.intersection(alloc, &other)?),

@@ -16,8 +16,8 @@ use crate::ranges::{
 };
 use crate::requirements::{is_name, requirement, requirement_position, same_names, specifiers_for};
 use crate::sets::{
-    allows_literally, complement, literal_version, matches_literally, of_two_sets, set, set_contains,
-    version_of_set,
+    allows_literally, complement, literal_version, matches_literally, of_two_sets, set,
+    set_contains, version_of_set,
 };
 use crate::witness::version_in;
 use std::alloc::Global;

@@ -14,7 +14,7 @@ use Rattle.pep440_version.specs.Record.{Fits, Record, from_parts}
 use Rattle.pep440_version.specs.declared.prerelease.Prerelease.{Prerelease}
 use Rattle.pep440_version.specs.declared.prerelease.PrereleaseKind.{PrereleaseKind}
 use Rattle.pep440_version.specs.declared.prerelease.PrereleaseKind.TheVariants.{Alpha, Beta, Rc}
-use Rattle.pep440_sets.specs.NextVersions.{after_devs, after_kind, after_parts, after_posts, pre_dev}
+use Rattle.pep440_sets.specs.NextVersions.{after_dev_releases, after_kind, after_parts, after_posts, pre_dev}
 
 -- ---- numbers
 
@@ -180,7 +180,7 @@ last_dev ord.Equal ord.Equal (Some d) f = go d f
     go : (d : ℕ) → d < 2 ^ 64 → false ≡ is_gt (ordering_then (nat_cmp d 18446744073709551615) ord.Equal)
     go d f = grind (arith, nat_tests)
 
-after_last_dev : (e : ℕ) (r : List ℕ) (pre : Option Prerelease) (post : Option ℕ) (v : Record) → HasSuffixesThatFit v → IsAfter (parts e r pre post (Some 18446744073709551615)) v (after_devs e r pre post)
+after_last_dev : (e : ℕ) (r : List ℕ) (pre : Option Prerelease) (post : Option ℕ) (v : Record) → HasSuffixesThatFit v → IsAfter (parts e r pre post (Some 18446744073709551615)) v (after_dev_releases e r pre post)
 after_last_dev e r (Some p) post v f = last_dev (stage_cmp (stage v) (Pre p.kind p.number)) (post_cmp (post_of None v.post) (post_of None post)) v.dev f.dev
 after_last_dev e r None (Some w) v f = last_dev (stage_cmp (stage v) Final) (post_cmp (post_of None v.post) (PostAt w)) v.dev f.dev
 after_last_dev e r None None v f = go v.pre v.post v.dev f.dev
@@ -257,7 +257,7 @@ pub after_suffixes : (e : ℕ) (r : List ℕ) (pre : Option Prerelease) (post de
 after_suffixes e r pre post (Some d) v f =
     by_next (IsAfter (parts e r pre post (Some d)) v) d _ _
     (λ n h. above_dev (parts e r pre post None) v d n h)
-    (λ h. subst (λ m. IsAfter (parts e r pre post (Some m)) v (after_devs e r pre post)) (sym h) (after_last_dev e r pre post v f))
+    (λ h. subst (λ m. IsAfter (parts e r pre post (Some m)) v (after_dev_releases e r pre post)) (sym h) (after_last_dev e r pre post v f))
 after_suffixes e r pre (Some w) None v f =
     by_next (IsAfter (parts e r pre (Some w) None) v) w _ _
     (λ n h. above_post (parts e r pre None None) v w n h)

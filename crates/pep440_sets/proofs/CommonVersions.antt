@@ -20,7 +20,7 @@ use Rattle.pep440_version.specs.Print.{print}
 use Rattle.pep440_version.specs.Record.{Record}
 use Rattle.pep440_sets.proofs.Lists.{found_is_in, list_holds, list_is_set}
 use Rattle.pep440_sets.specs.Common.{common_version, named_version}
-use Rattle.pep440_sets.specs.Emptiness.{IsUnsatisfiable, IsVersionIn}
+use Rattle.pep440_sets.specs.Emptiness.{IsUnsatisfiable, IsVersionOf}
 use Rattle.pep440_sets.specs.Sets.{has_exact, is_exact, list_set}
 use Rattle.pep440_sets.specs.Witnesses.{version_between, version_in}
 
@@ -94,7 +94,7 @@ named_matches members v P f = go (list_matches_literally members v) refl
     go false e = tt
 
 -- what is found in the set of a list without `===`
-in_set : (members : List Spec) (P : Record → Type 0) → All IsCoverable members → ((v : Record) → IsVersionIn (list_set members) v → P v) → IfSome (version_in (list_set members)) P
+in_set : (members : List Spec) (P : Record → Type 0) → All IsCoverable members → ((v : Record) → IsVersionOf (list_set members) v → P v) → IfSome (version_in (list_set members)) P
 in_set members P all f = go (list_set members) refl
   where
     go : (set : Segments) → list_set members ≡ set → IfSome (version_in set) P
@@ -103,7 +103,7 @@ in_set members P all f = go (list_set members) refl
 
 by_found : (members : List Spec) (P : Record → Type 0) → All IsCoverable members →
     ((m : Spec) → IsFoundExact members m → list_matches_literally members m.version ≡ true → P m.version) →
-    (has_exact members ≡ false → (v : Record) → IsVersionIn (list_set members) v → P v) → IfSome (common_version members) P
+    (has_exact members ≡ false → (v : Record) → IsVersionOf (list_set members) v → P v) → IfSome (common_version members) P
 by_found members P all named other = go (find exact_member members) refl
   where
     go : (o : Option Spec) → find exact_member members ≡ o → IfSome (option_map_or (λ (m : Spec). named_version members m.version) o (version_in (list_set members))) P

@@ -22,8 +22,8 @@ use Rattle.pep440_version.specs.declared.prerelease.Prerelease.{Prerelease}
 use Rattle.pep440_version.specs.declared.prerelease.PrereleaseKind.{PrereleaseKind}
 use Rattle.pep440_version.specs.declared.prerelease.PrereleaseKind.TheVariants.{Alpha, Beta, Rc}
 use Rattle.pep440_sets.proofs.AfterParts.{HasSuffixesThatFit, after_suffixes, by_next}
-use Rattle.pep440_sets.specs.NextVersions.{after_devs, after_kind, after_parts, after_posts, least, pre_dev}
-use Rattle.pep440_sets.specs.Sets.{between, from_version}
+use Rattle.pep440_sets.specs.NextVersions.{after_dev_releases, after_kind, after_parts, after_posts, least, pre_dev}
+use Rattle.pep440_sets.specs.Sets.{between, from_version_on}
 
 -- ---- the least version
 
@@ -71,14 +71,14 @@ is_equal ord.Greater h = absurd (true≢false (sym h))
 pub same_right : (v a b : Record) → record_cmp a b ≡ ord.Equal → record_cmp v a ≡ record_cmp v b
 same_right v a b e = record_total.antisymm v a ∙ ap ordering_reverse (record_total.congr a b v e) ∙ sym (record_total.antisymm v b)
 
-pub from_holds : (x v : Record) → contains record_cmp (from_version x) (unmarked v) ≡ not (is_lt (record_cmp (unmarked v) x))
+pub from_holds : (x v : Record) → contains record_cmp (from_version_on x) (unmarked v) ≡ not (is_lt (record_cmp (unmarked v) x))
 from_holds x v = go (is_eq (record_cmp x least)) refl
   where
     go : (b : Bool) → is_eq (record_cmp x least) ≡ b → contains record_cmp (cond b full ((Included x, Unbounded) ∷ [])) (unmarked v) ≡ not (is_lt (record_cmp (unmarked v) x))
     go true e = ap not (sym (not_below_least v)) ∙ ap (λ o. not (is_lt o)) (sym (same_right (unmarked v) x least (is_equal _ e)))
     go false e = only_start (is_le (record_cmp x (unmarked v))) ∙ turn_le x (unmarked v)
 
-pub from_is_range : (x : Record) → IsRange record_cmp (from_version x)
+pub from_is_range : (x : Record) → IsRange record_cmp (from_version_on x)
 from_is_range x = go (is_eq (record_cmp x least))
   where
     go : (b : Bool) → IsRange record_cmp (cond b full ((Included x, Unbounded) ∷ []))
@@ -89,11 +89,11 @@ not_not : (b : Bool) → not (not b) ≡ b
 not_not true = refl
 not_not false = refl
 
-pub below_holds : (x v : Record) → contains record_cmp (gaps (from_version x)) (unmarked v) ≡ is_lt (record_cmp (unmarked v) x)
-below_holds x v = gaps_hold_the_rest record_total (from_version x) (unmarked v) (from_is_range x) ∙ ap not (from_holds x v) ∙ not_not (is_lt (record_cmp (unmarked v) x))
+pub below_holds : (x v : Record) → contains record_cmp (gaps (from_version_on x)) (unmarked v) ≡ is_lt (record_cmp (unmarked v) x)
+below_holds x v = gaps_hold_the_rest record_total (from_version_on x) (unmarked v) (from_is_range x) ∙ ap not (from_holds x v) ∙ not_not (is_lt (record_cmp (unmarked v) x))
 
-pub below_is_range : (x : Record) → IsRange record_cmp (gaps (from_version x))
-below_is_range x = gaps_are_range record_total (from_version x) (from_is_range x)
+pub below_is_range : (x : Record) → IsRange record_cmp (gaps (from_version_on x))
+below_is_range x = gaps_are_range record_total (from_version_on x) (from_is_range x)
 
 and_true : (b : Bool) → b ≡ b && true
 and_true true = refl
@@ -103,11 +103,11 @@ pub between_holds : (start : Record) (end : Option Record) (v : Record) →
     contains record_cmp (between start end) (unmarked v) ≡ not (is_lt (record_cmp (unmarked v) start)) && option_map_or (λ e. is_lt (record_cmp (unmarked v) e)) end true
 between_holds start None v = from_holds start v ∙ and_true (not (is_lt (record_cmp (unmarked v) start)))
 between_holds start (Some e) v =
-    overlaps_hold_both record_total (from_version start) (gaps (from_version e)) (unmarked v) ∙ (λ i. from_holds start v i && below_holds e v i)
+    overlaps_hold_both record_total (from_version_on start) (gaps (from_version_on e)) (unmarked v) ∙ (λ i. from_holds start v i && below_holds e v i)
 
 pub between_is_range : (start : Record) (end : Option Record) → IsRange record_cmp (between start end)
 between_is_range start None = from_is_range start
-between_is_range start (Some e) = overlaps_are_range record_total (from_version start) (gaps (from_version e)) (from_is_range start) (below_is_range e)
+between_is_range start (Some e) = overlaps_are_range record_total (from_version_on start) (gaps (from_version_on e)) (from_is_range start) (below_is_range e)
 
 pub alone_is_range : (s : Record) → IsRange record_cmp (alone s)
 alone_is_range s = (ap is_le (tied_itself record_total s), tt)
@@ -131,7 +131,7 @@ posts_base e r (Some p) = by_next (HasBase e r) p.number (pre_dev e r p.kind) (a
     go Beta = parts_base e r _ _ _
     go Rc = parts_base e r _ _ _
 
-devs_base : (e : ℕ) (r : List ℕ) (pre : Option Prerelease) (post : Option ℕ) → HasBase e r (after_devs e r pre post)
+devs_base : (e : ℕ) (r : List ℕ) (pre : Option Prerelease) (post : Option ℕ) → HasBase e r (after_dev_releases e r pre post)
 devs_base e r None None = parts_base e r _ _ _
 devs_base e r (Some p) post = parts_base e r _ _ _
 devs_base e r None (Some w) = parts_base e r _ _ _

@@ -22,13 +22,14 @@ use Rattle.pep440_version.specs.Record.{Record}
 use Rattle.pep440_sets.proofs.Matches.{holds_matches, set_is_range}
 use Rattle.pep440_sets.proofs.SetBoundaries.{full_set, overlaps_set, set_of_set}
 use Rattle.pep440_sets.proofs.VersionsBetween.{found_in}
-use Rattle.pep440_sets.specs.Boundaries.{IsParsed, IsVersionSet}
-use Rattle.pep440_sets.specs.Emptiness.{HasNoVersion, IsVersionIn}
-use Rattle.pep440_sets.specs.Sets.{HoldsListMatches, has_exact, is_exact, list_set, set_of}
+use Rattle.pep440_sets.specs.Boundaries.{IsVersionSet}
+use Rattle.pep440_version.specs.RoundTrip.{IsParsed}
+use Rattle.pep440_sets.specs.Emptiness.{HasNoVersion, IsVersionOf}
+use Rattle.pep440_sets.specs.Sets.{HoldsListMatches, has_exact, is_exact, list_set, specifier_set}
 use Rattle.pep440_sets.specs.Witnesses.{version_between, version_in}
 
 abbrev set_of_member : Spec → Segments
-set_of_member m = set_of m.operator m.version
+set_of_member m = specifier_set m.operator m.version
 
 -- ---- lists
 
@@ -81,7 +82,7 @@ list_holds members all none v d = fold_holds full members v all none d
 pub parsed_denoted : (v : Record) → IsParsed v → IsDenoted v
 parsed_denoted v p = (print v, reread v p.valid p.round_trips)
 
-pub found_is_in : (set : Segments) → IsVersionSet set → (s : _) (rest : Segments) → set ≡ s ∷ rest → IsVersionIn set (version_between s.0 s.1)
+pub found_is_in : (set : Segments) → IsVersionSet set → (s : _) (rest : Segments) → set ≡ s ∷ rest → IsVersionOf set (version_between s.0 s.1)
 found_is_in set h s rest e =
     let found = found_in s rest (subst IsVersionSet e h) in
     (parsed_denoted _ found.0, ap (λ l. contains record_cmp l (version_between s.0 s.1)) e ∙ found.1)
@@ -96,7 +97,7 @@ none_is_empty (s ∷ rest) h none =
     absurd (true≢false (sym found.1 ∙ none (version_between s.0 s.1) (parsed_denoted (version_between s.0 s.1) found.0)))
 
 -- a version of the set, if it has intervals
-pub first_is_in : (set : Segments) → IsVersionSet set → IfSome (version_in set) (IsVersionIn set)
+pub first_is_in : (set : Segments) → IsVersionSet set → IfSome (version_in set) (IsVersionOf set)
 first_is_in [] h = tt
 first_is_in (s ∷ rest) h = found_is_in (s ∷ rest) h s rest refl
 

@@ -28,7 +28,7 @@ use Rattle.pep440_sets.proofs.Exclusive.{greater_holds}
 use Rattle.pep440_sets.proofs.Intervals.{posts_base}
 use Rattle.pep440_sets.proofs.Matches.{has_fits}
 use Rattle.pep440_sets.specs.LiteralLaws.{AgreesElsewhere, IsWider, RangeAgreesLiterally, is_below_post, may_differ}
-use Rattle.pep440_sets.specs.NextVersions.{after_devs, after_posts}
+use Rattle.pep440_sets.specs.NextVersions.{after_dev_releases, after_posts}
 use Rattle.pep440_sets.specs.Sets.{above_start}
 
 -- ---- what `contains` has, the literal rule matches
@@ -213,11 +213,11 @@ greater_range : (e : ℕ) (r : List ℕ) (pre : Option Prerelease) (post dev : O
 greater_range e r pre (Some w) (Some d) v range f h =
     let m = mapped _ (next_number d) range h in
     ap (λ q. contains record_cmp q (plain v)) m.2 ∙ from_holds (from_parts e r pre (Some w) (Some m.0) []) (plain v)
-    ∙ ap (λ o. not (is_lt (record_cmp (plain v) (option_map_or (λ n. from_parts e r pre (Some w) (Some n) []) o (after_devs e r pre (Some w)))))) (sym m.1)
+    ∙ ap (λ o. not (is_lt (record_cmp (plain v) (option_map_or (λ n. from_parts e r pre (Some w) (Some n) []) o (after_dev_releases e r pre (Some w)))))) (sym m.1)
 greater_range e r pre None (Some d) v range f h =
     let m = mapped _ (next_number d) range h in
     ap (λ q. contains record_cmp q (plain v)) m.2 ∙ from_holds (from_parts e r pre None (Some m.0) []) (plain v)
-    ∙ ap (λ o. not (is_lt (record_cmp (plain v) (option_map_or (λ n. from_parts e r pre None (Some n) []) o (after_devs e r pre None))))) (sym m.1)
+    ∙ ap (λ o. not (is_lt (record_cmp (plain v) (option_map_or (λ n. from_parts e r pre None (Some n) []) o (after_dev_releases e r pre None))))) (sym m.1)
 greater_range e r pre (Some w) None v range f h =
     let m = mapped _ (next_number w) range h in
     ap (λ q. contains record_cmp q (plain v)) m.2 ∙ from_holds (from_parts e r pre (Some m.0) (Some 0) []) (plain v)

@@ -18,8 +18,7 @@ use Rattle.pep440_version.specs.Grammar.{is_numeral}
 use Rattle.pep440_version.specs.Key.{local_cmp, segment_cmp}
 use Rattle.pep440_version.specs.KeyLaws.{segment_total}
 use Rattle.pep440_version.specs.Record.{LocalSegmentValue, Number, Record, SegmentFits, Text}
-use Rattle.pep440_version.specs.RoundTrip.{SegmentRereads, is_lower}
-use Rattle.pep440_sets.specs.Boundaries.{IsParsed}
+use Rattle.pep440_version.specs.RoundTrip.{IsParsed, SegmentRereads, is_lower}
 use Rattle.pep440_sets.specs.Witnesses.{low_string, string_after, with_low_segment}
 
 -- ---- strings

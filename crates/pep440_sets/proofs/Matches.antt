@@ -28,8 +28,8 @@ use Rattle.pep440_sets.proofs.Exclusive.{greater_holds, less_holds}
 use Rattle.pep440_sets.proofs.Intervals.{after_holds, alone_is_range, below_holds, below_is_range, between_holds, between_is_range, from_holds, from_is_range}
 use Rattle.pep440_sets.proofs.Prefixes.{below_dev, is_below_end, star_holds as prefix_holds, tilde_holds}
 use Rattle.pep440_rs.specs.LiteralMatching.{matches_literally}
-use Rattle.pep440_sets.specs.NextVersions.{after_prefix, after_public, first_dev}
-use Rattle.pep440_sets.specs.Sets.{HoldsMatches, above_start, below_end, between, equal_to, set_of, star}
+use Rattle.pep440_sets.specs.NextVersions.{after_release_prefix, after_public, first_dev}
+use Rattle.pep440_sets.specs.Sets.{HoldsMatches, above_start, below_end, between, equal_to, specifier_set, prefix_set}
 
 -- the numbers of a version fit
 pub record HasFits (v : Record) : Type 0 where
@@ -42,7 +42,7 @@ has_fits v h = record { epoch = h.epoch; release = recursion_from_All Fits v.rel
 
 -- what is to be shown
 abbrev For : Operator → Record → Record → Type 0
-For o s v = contains record_cmp (set_of o s) (unmarked v) ≡ matches_literally o s (unmarked v)
+For o s v = contains record_cmp (specifier_set o s) (unmarked v) ≡ matches_literally o s (unmarked v)
 
 not_not : (b : Bool) → not (not b) ≡ b
 not_not true = refl
@@ -97,14 +97,14 @@ equal_is_range s = go (has_local s)
 
 -- ---- stars
 
-star_holds : (e : ℕ) (r : List ℕ) (v : Record) → HasFits v → contains record_cmp (star (epoch_and_release e r)) (unmarked v) ≡ matches EqualStar (epoch_and_release e r) (unmarked v)
+star_holds : (e : ℕ) (r : List ℕ) (v : Record) → HasFits v → contains record_cmp (prefix_set (epoch_and_release e r)) (unmarked v) ≡ matches EqualStar (epoch_and_release e r) (unmarked v)
 star_holds e r v f =
-    between_holds (first_dev e r) (after_prefix e r) v
-    ∙ ap (λ b. not b && is_below_end (after_prefix e r) v) (below_dev e r v)
+    between_holds (first_dev e r) (after_release_prefix e r) v
+    ∙ ap (λ b. not b && is_below_end (after_release_prefix e r) v) (below_dev e r v)
     ∙ prefix_holds e r v f.epoch f.release
 
-star_is_range : (s : Record) → IsRange record_cmp (star s)
-star_is_range s = between_is_range (first_dev s.epoch s.release) (after_prefix s.epoch s.release)
+star_is_range : (s : Record) → IsRange record_cmp (prefix_set s)
+star_is_range s = between_is_range (first_dev s.epoch s.release) (after_release_prefix s.epoch s.release)
 
 -- ---- all operators
 
@@ -117,8 +117,8 @@ each NotEqual s v p u n f = gaps_hold_the_rest record_total (equal_to s) (unmark
 each EqualStar s v p u n f = taken EqualStar s (epoch_and_release s.epoch s.release) v (p.star refl) (star_holds s.epoch s.release v f)
 each NotEqualStar s v p u n f =
     taken NotEqualStar s (epoch_and_release s.epoch s.release) v (p.star refl)
-    (gaps_hold_the_rest record_total (star (epoch_and_release s.epoch s.release)) (unmarked v) (star_is_range (epoch_and_release s.epoch s.release)) ∙ ap not (star_holds s.epoch s.release v f))
-each TildeEqual s v p u n f = taken TildeEqual s (plain s) v (is_plain s (p.plain refl)) (between_holds (plain s) (after_prefix s.epoch (without_last s.release)) v ∙ tilde_holds s v f.epoch f.release)
+    (gaps_hold_the_rest record_total (prefix_set (epoch_and_release s.epoch s.release)) (unmarked v) (star_is_range (epoch_and_release s.epoch s.release)) ∙ ap not (star_holds s.epoch s.release v f))
+each TildeEqual s v p u n f = taken TildeEqual s (plain s) v (is_plain s (p.plain refl)) (between_holds (plain s) (after_release_prefix s.epoch (without_last s.release)) v ∙ tilde_holds s v f.epoch f.release)
 each LessThan s v p u n f = taken LessThan s (plain s) v (is_plain s (p.plain refl)) (below_holds (below_end (plain s)) v ∙ less_holds s v)
 each LessThanEqual s v p u n f = taken LessThanEqual s (plain s) v (is_plain s (p.plain refl)) (below_holds (after_public (plain s)) v ∙ up_to_version s v f)
 each GreaterThan s v p u n f = taken GreaterThan s (plain s) v (is_plain s (p.plain refl)) (from_holds (above_start (plain s)) v ∙ greater_holds s v f.suffixes)
@@ -128,17 +128,17 @@ each ExactEqual s v p u n f = absurd (n refl)
 pub holds_matches : (s : Spec) → IsCoverable s → s.operator ≢ ExactEqual → HoldsMatches s
 holds_matches s (operand, (text, derives)) n v (vtext, vderives) =
     let v_is = is_unmarked vtext v vderives in
-    subst (λ w. contains record_cmp (set_of s.operator s.version) w ≡ matches_literally s.operator s.version w) (sym v_is)
+    subst (λ w. contains record_cmp (specifier_set s.operator s.version) w ≡ matches_literally s.operator s.version w) (sym v_is)
     (each s.operator s.version v operand (is_unmarked text s.version derives) n (has_fits v (derived_record vtext v vderives)))
 
 -- ---- each set is a range
 
-pub set_is_range : (o : Operator) (s : Record) → IsRange record_cmp (set_of o s)
+pub set_is_range : (o : Operator) (s : Record) → IsRange record_cmp (specifier_set o s)
 set_is_range Equal s = equal_is_range s
 set_is_range NotEqual s = gaps_are_range record_total (equal_to s) (equal_is_range s)
 set_is_range EqualStar s = star_is_range s
-set_is_range NotEqualStar s = gaps_are_range record_total (star s) (star_is_range s)
-set_is_range TildeEqual s = between_is_range s (after_prefix s.epoch (without_last s.release))
+set_is_range NotEqualStar s = gaps_are_range record_total (prefix_set s) (star_is_range s)
+set_is_range TildeEqual s = between_is_range s (after_release_prefix s.epoch (without_last s.release))
 set_is_range LessThan s = below_is_range (below_end s)
 set_is_range LessThanEqual s = below_is_range (after_public s)
 set_is_range GreaterThan s = from_is_range (above_start s)

@@ -9,12 +9,12 @@ use Rattle.pep440_rs.proofs.Agreement.Prefix.{some_is}
 use Rattle.pep440_rs.specs.Bounds.{next_number}
 use Rattle.pep440_version.proofs.RoundTrip.PrintIsRead.{none_all}
 use Rattle.pep440_version.specs.Record.{Fits, Record, SegmentFits, from_parts}
-use Rattle.pep440_version.specs.RoundTrip.{SegmentRereads}
+use Rattle.pep440_version.specs.RoundTrip.{IsParsed, SegmentRereads}
 use Rattle.pep440_version.specs.declared.prerelease.Prerelease.{Prerelease}
 use Rattle.pep440_version.specs.declared.prerelease.PrereleaseKind.{PrereleaseKind}
 use Rattle.pep440_version.specs.declared.prerelease.PrereleaseKind.TheVariants.{Alpha, Beta, Rc}
-use Rattle.pep440_sets.specs.Boundaries.{IsAbovePosts, IsParsed}
-use Rattle.pep440_sets.specs.NextVersions.{after_devs, after_epoch, after_kind, after_parts, after_posts, after_prefix, first_dev, pre_dev, raised}
+use Rattle.pep440_sets.specs.Boundaries.{IsAbovePosts}
+use Rattle.pep440_sets.specs.NextVersions.{after_dev_releases, after_epoch, after_kind, after_parts, after_posts, after_release_prefix, first_dev, pre_dev, raised_release}
 
 -- ---- numbers
 
@@ -81,7 +81,7 @@ posts_place e r None h f = inr (above_posts_is e r h)
 posts_place e r (Some p) h f =
     by_next_fit IsPlace p.number (pre_dev e r p.kind) (after_kind e r p.kind) f (λ n g. inl (parts_parsed e r (Some (record { kind = p.kind; number = n })) None (Some 0) h g tt zero_fits)) (kind_place e r p.kind h)
 
-devs_place : (e : ℕ) (r : List ℕ) (pre : Option Prerelease) (post : Option ℕ) → HasParts e r → IfSome pre (λ p. Fits p.number) → IfSome post Fits → IsPlace (after_devs e r pre post)
+devs_place : (e : ℕ) (r : List ℕ) (pre : Option Prerelease) (post : Option ℕ) → HasParts e r → IfSome pre (λ p. Fits p.number) → IfSome post Fits → IsPlace (after_dev_releases e r pre post)
 devs_place e r None None h p q = inl (parts_parsed e r (Some (record { kind = Alpha; number = 0 })) None (Some 0) h zero_fits tt zero_fits)
 devs_place e r (Some k) post h p q = inl (parts_parsed e r (Some k) post None h p q tt)
 devs_place e r None (Some w) h p q = inl (parts_parsed e r None (Some w) None h tt q tt)
@@ -96,27 +96,27 @@ after_place e r pre None None h p q f = inl (parts_parsed e r pre (Some 0) (Some
 one_more : (n : ℕ) (rest : List ℕ) → Fits n → All Fits rest → All Fits (n ∷ rest)
 one_more n rest f g = All-from_recursion Fits (n ∷ rest) (f, recursion_from_All Fits rest g)
 
-raised_fit : (xs qs : List ℕ) → All Fits xs → raised xs ≡ Some qs → (0 < length qs) × All Fits qs
+raised_fit : (xs qs : List ℕ) → All Fits xs → raised_release xs ≡ Some qs → (0 < length qs) × All Fits qs
 raised_fit [] qs f e = absurd (cc)
-raised_fit (x ∷ xs) qs f e = go (λ rest h. raised_fit xs rest (All-tail Fits x xs f) h) (raised xs) refl e
+raised_fit (x ∷ xs) qs f e = go (λ rest h. raised_fit xs rest (All-tail Fits x xs f) h) (raised_release xs) refl e
   where
     here : (o : Option ℕ) → next_number x ≡ o → option_map (λ m. m ∷ []) o ≡ Some qs → (0 < length qs) × All Fits qs
     here None h k = absurd (cc)
     here (Some m) h k = subst (λ q. (0 < length q) × All Fits q) (sym (some_is (m ∷ []) qs k)) (omega arith, one_more m [] (next_fits x m (All-head Fits x xs f) h) (none_all Fits))
 
-    go : ((rest : List ℕ) → raised xs ≡ Some rest → (0 < length rest) × All Fits rest) →
-        (o : Option (List ℕ)) → raised xs ≡ o → option_map_or (λ rest. Some (x ∷ rest)) o (option_map (λ m. m ∷ []) (next_number x)) ≡ Some qs → (0 < length qs) × All Fits qs
+    go : ((rest : List ℕ) → raised_release xs ≡ Some rest → (0 < length rest) × All Fits rest) →
+        (o : Option (List ℕ)) → raised_release xs ≡ o → option_map_or (λ rest. Some (x ∷ rest)) o (option_map (λ m. m ∷ []) (next_number x)) ≡ Some qs → (0 < length qs) × All Fits qs
     go more (Some rest) h k = subst (λ q. (0 < length q) × All Fits q) (sym (some_is (x ∷ rest) qs k)) (omega arith, one_more x rest (All-head Fits x xs f) (more rest h).1)
     go more None h k = here (next_number x) refl k
 
-pub prefix_parsed : (e : ℕ) (xs : List ℕ) (n : Record) → Fits e → All Fits xs → after_prefix e xs ≡ Some n → IsParsed n
-prefix_parsed e xs n fe f h = go (raised xs) refl h
+pub prefix_parsed : (e : ℕ) (xs : List ℕ) (n : Record) → Fits e → All Fits xs → after_release_prefix e xs ≡ Some n → IsParsed n
+prefix_parsed e xs n fe f h = go (raised_release xs) refl h
   where
     here : (o : Option ℕ) → next_number e ≡ o → option_map (λ m. first_dev m (0 ∷ [])) o ≡ Some n → IsParsed n
     here None g k = absurd (cc)
     here (Some m) g k = subst IsParsed (sym (some_is (first_dev m (0 ∷ [])) n k)) (first_dev_parsed m (0 ∷ []) (record { epoch = next_fits e m fe g; some = omega arith; release = one_more 0 [] zero_fits (none_all Fits) }))
 
-    go : (o : Option (List ℕ)) → raised xs ≡ o → option_map_or (λ release. Some (first_dev e release)) o (after_epoch e) ≡ Some n → IsParsed n
+    go : (o : Option (List ℕ)) → raised_release xs ≡ o → option_map_or (λ release. Some (first_dev e release)) o (after_epoch e) ≡ Some n → IsParsed n
     go None g k = here (next_number e) refl k
     go (Some q) g k =
         let q_fits = raised_fit xs q f g in

@@ -17,7 +17,7 @@ use Rattle.pep440_version.specs.Key.{record_cmp, release_cmp}
 use Rattle.pep440_version.specs.Record.{Fits, Record}
 use Rattle.pep440_sets.proofs.AfterParts.{none_is}
 use Rattle.pep440_sets.proofs.Intervals.{never_below_zero}
-use Rattle.pep440_sets.specs.NextVersions.{after_epoch, after_prefix, first_dev, raised}
+use Rattle.pep440_sets.specs.NextVersions.{after_epoch, after_release_prefix, first_dev, raised_release}
 
 -- ---- releases
 
@@ -39,17 +39,17 @@ at_most : (y : ℕ) (t : Ordering) (b : Bool) → y < 2 ^ 64 → not (is_lt t) &
 at_most y t b f k = grind (arith, nat_tests)
 
 -- one number more, y of the version and x of the prefix
-raise_step : (y x : ℕ) (ys xs : List ℕ) → Fits y → not (is_lt (release_cmp ys xs)) && below_raised (raised xs) ys ≡ begins_with ys xs →
-    not (is_lt (ordering_then (nat_cmp y x) (release_cmp ys xs))) && option_map_or (λ qs. is_lt (ordering_then (nat_cmp y x) (release_cmp ys qs))) (raised xs) (option_map_or (λ m. is_lt (ordering_then (nat_cmp y m) (release_cmp ys []))) (next_number x) true)
+raise_step : (y x : ℕ) (ys xs : List ℕ) → Fits y → not (is_lt (release_cmp ys xs)) && below_raised (raised_release xs) ys ≡ begins_with ys xs →
+    not (is_lt (ordering_then (nat_cmp y x) (release_cmp ys xs))) && option_map_or (λ qs. is_lt (ordering_then (nat_cmp y x) (release_cmp ys qs))) (raised_release xs) (option_map_or (λ m. is_lt (ordering_then (nat_cmp y m) (release_cmp ys []))) (next_number x) true)
     ≡ (y == x) && begins_with ys xs
-raise_step y x ys xs f h = go (raised xs) refl h
+raise_step y x ys xs f h = go (raised_release xs) refl h
   where
     here : (o : Option ℕ) → next_number x ≡ o → not (is_lt (release_cmp ys xs)) && true ≡ begins_with ys xs →
         not (is_lt (ordering_then (nat_cmp y x) (release_cmp ys xs))) && option_map_or (λ m. is_lt (ordering_then (nat_cmp y m) (release_cmp ys []))) o true ≡ (y == x) && begins_with ys xs
     here (Some m) e k = raise_here y x m (release_cmp ys xs) (release_cmp ys []) (begins_with ys xs) (next_is x m e) (never_less ys) k
     here None e k = subst (λ n. not (is_lt (ordering_then (nat_cmp y n) (release_cmp ys xs))) && true ≡ (y == n) && begins_with ys xs) (sym (none_is x e)) (at_most y (release_cmp ys xs) (begins_with ys xs) f k)
 
-    go : (o : Option (List ℕ)) → raised xs ≡ o → not (is_lt (release_cmp ys xs)) && below_raised o ys ≡ begins_with ys xs →
+    go : (o : Option (List ℕ)) → raised_release xs ≡ o → not (is_lt (release_cmp ys xs)) && below_raised o ys ≡ begins_with ys xs →
         not (is_lt (ordering_then (nat_cmp y x) (release_cmp ys xs))) && option_map_or (λ qs. is_lt (ordering_then (nat_cmp y x) (release_cmp ys qs))) o (option_map_or (λ m. is_lt (ordering_then (nat_cmp y m) (release_cmp ys []))) (next_number x) true)
         ≡ (y == x) && begins_with ys xs
     go (Some qs) e k = step_more y x (release_cmp ys xs) (release_cmp ys qs) ∙ ap (λ b. (y == x) && b) k
@@ -66,13 +66,13 @@ split_raised P x None None = refl
 zero_fits : Fits 0
 zero_fits = grind arith
 
-pub prefix_holds : (xs rs : List ℕ) → AllByRecursion Fits rs → not (is_lt (release_cmp rs xs)) && below_raised (raised xs) rs ≡ begins_with rs xs
+pub prefix_holds : (xs rs : List ℕ) → AllByRecursion Fits rs → not (is_lt (release_cmp rs xs)) && below_raised (raised_release xs) rs ≡ begins_with rs xs
 prefix_holds [] rs f = ap (λ b. not b && true) (never_less rs)
 prefix_holds (x ∷ xs) [] f =
-    ap (λ b. not (is_lt (ordering_then (nat_cmp 0 x) (release_cmp [] xs))) && b) (split_raised (λ qs. is_lt (release_cmp [] qs)) x (raised xs) (next_number x))
+    ap (λ b. not (is_lt (ordering_then (nat_cmp 0 x) (release_cmp [] xs))) && b) (split_raised (λ qs. is_lt (release_cmp [] qs)) x (raised_release xs) (next_number x))
     ∙ raise_step 0 x [] xs zero_fits (prefix_holds xs [] tt)
 prefix_holds (x ∷ xs) (r ∷ rs) f =
-    ap (λ b. not (is_lt (ordering_then (nat_cmp r x) (release_cmp rs xs))) && b) (split_raised (λ qs. is_lt (release_cmp (r ∷ rs) qs)) x (raised xs) (next_number x))
+    ap (λ b. not (is_lt (ordering_then (nat_cmp r x) (release_cmp rs xs))) && b) (split_raised (λ qs. is_lt (release_cmp (r ∷ rs) qs)) x (raised_release xs) (next_number x))
     ∙ raise_step r x rs xs f.0 (prefix_holds xs rs f.1)
 
 -- ---- versions
@@ -88,8 +88,8 @@ in_epoch : (y e n : ℕ) (t u : Ordering) (b : Bool) → n ≡ e + 1 → is_lt u
 in_epoch y e n t u b h k l = grind (arith, nat_tests)
 
 pub star_holds : (e : ℕ) (r : List ℕ) (v : Record) → Fits v.epoch → AllByRecursion Fits v.release →
-    not (is_lt (ordering_then (nat_cmp v.epoch e) (release_cmp v.release r))) && is_below_end (after_prefix e r) v ≡ (v.epoch == e) && begins_with v.release r
-star_holds e r v fe fr = go (raised r) refl (prefix_holds r v.release fr)
+    not (is_lt (ordering_then (nat_cmp v.epoch e) (release_cmp v.release r))) && is_below_end (after_release_prefix e r) v ≡ (v.epoch == e) && begins_with v.release r
+star_holds e r v fe fr = go (raised_release r) refl (prefix_holds r v.release fr)
   where
     here : (o : Option ℕ) → next_number e ≡ o → not (is_lt (release_cmp v.release r)) && true ≡ begins_with v.release r →
         not (is_lt (ordering_then (nat_cmp v.epoch e) (release_cmp v.release r))) && is_below_end (option_map (λ n. first_dev n (0 ∷ [])) o) v ≡ (v.epoch == e) && begins_with v.release r
@@ -98,7 +98,7 @@ star_holds e r v fe fr = go (raised r) refl (prefix_holds r v.release fr)
         ∙ in_epoch v.epoch e n (release_cmp v.release r) (release_cmp v.release (0 ∷ [])) (begins_with v.release r) (next_is e n h) (never_below_zero v.release) k
     here None h k = subst (λ n. not (is_lt (ordering_then (nat_cmp v.epoch n) (release_cmp v.release r))) && true ≡ (v.epoch == n) && begins_with v.release r) (sym (none_is e h)) (at_most v.epoch (release_cmp v.release r) (begins_with v.release r) fe k)
 
-    go : (o : Option (List ℕ)) → raised r ≡ o → not (is_lt (release_cmp v.release r)) && below_raised o v.release ≡ begins_with v.release r →
+    go : (o : Option (List ℕ)) → raised_release r ≡ o → not (is_lt (release_cmp v.release r)) && below_raised o v.release ≡ begins_with v.release r →
         not (is_lt (ordering_then (nat_cmp v.epoch e) (release_cmp v.release r))) && is_below_end (option_map_or (λ release. Some (first_dev e release)) o (after_epoch e)) v ≡ (v.epoch == e) && begins_with v.release r
     go (Some q) h k =
         ap (λ b. not (is_lt (ordering_then (nat_cmp v.epoch e) (release_cmp v.release r))) && b) (below_dev e q v)
@@ -133,7 +133,7 @@ base_below ord.Equal X h = absurd (cc)
 base_below ord.Greater X h = absurd (cc)
 
 pub tilde_holds : (s v : Record) → Fits v.epoch → AllByRecursion Fits v.release →
-    not (is_lt (record_cmp (unmarked v) (plain s))) && is_below_end (after_prefix s.epoch (without_last s.release)) v
+    not (is_lt (record_cmp (unmarked v) (plain s))) && is_below_end (after_release_prefix s.epoch (without_last s.release)) v
     ≡ has_prefix (plain s) (without_last s.release) (unmarked v) && is_ge (record_cmp (plain v) (plain s))
 tilde_holds s v fe fr =
     tilde_table (is_lt (record_cmp (unmarked v) (plain s))) (is_lt (ordering_then (nat_cmp v.epoch s.epoch) (release_cmp v.release (without_last s.release)))) _ _ from (star_holds s.epoch (without_last s.release) v fe fr)

@@ -29,9 +29,10 @@ use Rattle.pep440_version.specs.KeyLaws.{record_total}
 use Rattle.pep440_version.specs.Record.{Fits, IsRecord, LocalSegmentValue, Record}
 use Rattle.pep440_sets.proofs.Intervals.{alone_is_range, from_is_range, not_below_least}
 use Rattle.pep440_sets.proofs.Parsed.{HasParts, IsPlace, after_place, parts_parsed, posts_place, prefix_parsed}
-use Rattle.pep440_sets.specs.Boundaries.{IsBelowVersion, IsEnd, IsInterval, IsParsed, IsStart, IsVersionSet}
-use Rattle.pep440_sets.specs.NextVersions.{after_posts, after_prefix, after_public, first_dev, least}
-use Rattle.pep440_sets.specs.Sets.{above_start, below_end, between, equal_to, from_version, set_of, star}
+use Rattle.pep440_sets.specs.Boundaries.{IsBelowVersion, IsEnd, IsInterval, IsStart, IsVersionSet}
+use Rattle.pep440_version.specs.RoundTrip.{IsParsed}
+use Rattle.pep440_sets.specs.NextVersions.{after_posts, after_release_prefix, after_public, first_dev, least}
+use Rattle.pep440_sets.specs.Sets.{above_start, below_end, between, equal_to, from_version_on, specifier_set, prefix_set}
 
 -- ---- complement
 
@@ -121,8 +122,8 @@ place_below : (v : Record) → IsPlace v → is_eq (record_cmp v least) ≡ fals
 place_below v (inr top) e = inr top
 place_below v (inl parsed) e = inl (record { parsed = parsed; above = above_other v e (ap (λ w. is_lt (record_cmp w least)) (parsed_unmarked v parsed) ∙ not_below_least v) })
 
-pub from_set : (v : Record) → IsPlace v → IsVersionSet (from_version v)
-from_set v place = record { apart = from_is_range v; intervals = All-from_recursion IsInterval (from_version v) (go (is_eq (record_cmp v least)) refl) }
+pub from_set : (v : Record) → IsPlace v → IsVersionSet (from_version_on v)
+from_set v place = record { apart = from_is_range v; intervals = All-from_recursion IsInterval (from_version_on v) (go (is_eq (record_cmp v least)) refl) }
   where
     go : (b : Bool) → is_eq (record_cmp v least) ≡ b → Each (cond b full ((Included v, Unbounded) ∷ []))
     go true e = ((tt, tt), tt)
@@ -130,7 +131,7 @@ from_set v place = record { apart = from_is_range v; intervals = All-from_recurs
 
 pub between_set : (start : Record) (end : Option Record) → IsPlace start → ((e : Record) → end ≡ Some e → IsPlace e) → IsVersionSet (between start end)
 between_set start None h k = from_set start h
-between_set start (Some e) h k = overlaps_set (from_version start) (gaps (from_version e)) (from_set start h) (gaps_set (from_version e) (from_set e (k e refl)))
+between_set start (Some e) h k = overlaps_set (from_version_on start) (gaps (from_version_on e)) (from_set start h) (gaps_set (from_version_on e) (from_set e (k e refl)))
 
 -- ---- operators
 
@@ -168,21 +169,21 @@ equal_set s p = go (has_local s) refl
 dev_place : (s : Record) → IsRecord s → IsPlace (first_dev s.epoch s.release)
 dev_place s h = inl (parts_parsed s.epoch s.release None None (Some 0) (parts_of s h) tt tt (grind arith))
 
-star_set : (s : Record) → IsRecord s → IsVersionSet (star s)
-star_set s h = between_set (first_dev s.epoch s.release) (after_prefix s.epoch s.release) (dev_place s h) (λ n e. inl (prefix_parsed s.epoch s.release n h.epoch h.release e))
+star_set : (s : Record) → IsRecord s → IsVersionSet (prefix_set s)
+star_set s h = between_set (first_dev s.epoch s.release) (after_release_prefix s.epoch s.release) (dev_place s h) (λ n e. inl (prefix_parsed s.epoch s.release n h.epoch h.release e))
 
 shorter : (r : List ℕ) → AllByRecursion Fits r → AllByRecursion Fits (without_last r)
 shorter [] h = tt
 shorter (x ∷ []) h = tt
 shorter (x ∷ y ∷ r) h = (h.0, shorter (y ∷ r) h.1)
 
-tilde_set : (s : Record) → IsParsed s → IsVersionSet (between s (after_prefix s.epoch (without_last s.release)))
+tilde_set : (s : Record) → IsParsed s → IsVersionSet (between s (after_release_prefix s.epoch (without_last s.release)))
 tilde_set s p =
-    between_set s (after_prefix s.epoch (without_last s.release)) (inl p)
+    between_set s (after_release_prefix s.epoch (without_last s.release)) (inl p)
     (λ n e. inl (prefix_parsed s.epoch (without_last s.release) n p.valid.epoch (All-from_recursion Fits (without_last s.release) (shorter s.release (recursion_from_All Fits s.release p.valid.release))) e))
 
-less_set : (s : Record) → IsParsed s → s ≡ plain s → IsVersionSet (gaps (from_version (below_end s)))
-less_set s p e = gaps_set (from_version (below_end s)) (from_set (below_end s) (go (any_prerelease s) (is_some s.post)))
+less_set : (s : Record) → IsParsed s → s ≡ plain s → IsVersionSet (gaps (from_version_on (below_end s)))
+less_set s p e = gaps_set (from_version_on (below_end s)) (from_set (below_end s) (go (any_prerelease s) (is_some s.post)))
   where
     dev_of_post : IsPlace (record s { dev = Some 0 })
     dev_of_post = inl (record {
@@ -205,7 +206,7 @@ less_set s p e = gaps_set (from_version (below_end s)) (from_set (below_end s) (
     go false true = dev_of_post
     go false false = dev_place s p.valid
 
-greater_set : (s : Record) → IsParsed s → IsVersionSet (from_version (above_start s))
+greater_set : (s : Record) → IsParsed s → IsVersionSet (from_version_on (above_start s))
 greater_set s p = from_set (above_start s) (go (is_some s.post) (is_some s.dev))
   where
     go : (a b : Bool) → IsPlace (cond a (after_public s) (cond b (after_public s) (after_posts s.epoch s.release s.pre)))
@@ -213,14 +214,14 @@ greater_set s p = from_set (above_start s) (go (is_some s.post) (is_some s.dev))
     go false true = after_public_place s p.valid
     go false false = posts_place s.epoch s.release s.pre (parts_of s p.valid) p.valid.pre
 
-each_set : (o : Operator) (s : Record) → IsParsed s → HasOperand (record { operator = o; version = s }) → IsVersionSet (set_of o s)
+each_set : (o : Operator) (s : Record) → IsParsed s → HasOperand (record { operator = o; version = s }) → IsVersionSet (specifier_set o s)
 each_set Equal s p h = equal_set s p
 each_set NotEqual s p h = gaps_set (equal_to s) (equal_set s p)
 each_set EqualStar s p h = star_set s p.valid
-each_set NotEqualStar s p h = gaps_set (star s) (star_set s p.valid)
+each_set NotEqualStar s p h = gaps_set (prefix_set s) (star_set s p.valid)
 each_set TildeEqual s p h = tilde_set s p
 each_set LessThan s p h = less_set s p (is_plain s (h.plain refl))
-each_set LessThanEqual s p h = gaps_set (from_version (after_public s)) (from_set (after_public s) (after_public_place s p.valid))
+each_set LessThanEqual s p h = gaps_set (from_version_on (after_public s)) (from_set (after_public s) (after_public_place s p.valid))
 each_set GreaterThan s p h = greater_set s p
 each_set GreaterThanEqual s p h = from_set s (inl p)
 each_set ExactEqual s p h = full_set
@@ -228,5 +229,5 @@ each_set ExactEqual s p h = full_set
 pub denoted_parsed : (v : Record) → IsDenoted v → IsParsed v
 denoted_parsed v (text, h) = record { valid = derived_record text v h; round_trips = derived_rereads text v h }
 
-pub set_of_set : (s : Spec) → IsCoverable s → IsVersionSet (set_of s.operator s.version)
+pub set_of_set : (s : Spec) → IsCoverable s → IsVersionSet (specifier_set s.operator s.version)
 set_of_set s (operand, denoted) = each_set s.operator s.version (denoted_parsed s.version denoted) operand

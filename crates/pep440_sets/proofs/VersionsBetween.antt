@@ -19,7 +19,7 @@ use Rattle.pep440_rs.specs.Bounds.{Segments}
 use Rattle.pep440_version.specs.Key.{Final, NoDev, PostTop, Pre, base_cmp, dev_cmp, dev_of, dev_rank, key, local_cmp, post_cmp, post_of, post_rank, rank_cmp, record_cmp, release_cmp, stage_cmp, stage_of, stage_rank, suffix_cmp}
 use Rattle.pep440_version.specs.KeyLaws.{record_total, release_total}
 use Rattle.pep440_version.specs.Record.{Fits, Record, Text, epoch_and_release, from_parts}
-use Rattle.pep440_version.specs.RoundTrip.{SegmentRereads}
+use Rattle.pep440_version.specs.RoundTrip.{IsParsed, SegmentRereads}
 use Rattle.pep440_version.specs.declared.prerelease.Prerelease.{Prerelease}
 use Rattle.pep440_version.specs.declared.prerelease.PrereleaseKind.{PrereleaseKind}
 use Rattle.pep440_version.specs.declared.prerelease.PrereleaseKind.TheVariants.{Alpha, Beta, Rc}
@@ -27,9 +27,9 @@ use Rattle.pep440_sets.proofs.Intervals.{never_below_zero, not_below_least}
 use Rattle.pep440_sets.proofs.LowStrings.{longer_above, low_local, low_parsed}
 use Rattle.pep440_sets.proofs.Parsed.{parts_parsed}
 use Rattle.pep440_sets.proofs.SetBoundaries.{parsed_unmarked}
-use Rattle.pep440_sets.specs.Boundaries.{IsAboveLocal, IsAbovePosts, IsBelowVersion, IsEnd, IsInterval, IsParsed, IsStart, IsVersionSet}
+use Rattle.pep440_sets.specs.Boundaries.{IsAboveLocal, IsAbovePosts, IsBelowVersion, IsEnd, IsInterval, IsStart, IsVersionSet}
 use Rattle.pep440_sets.specs.NextVersions.{after_posts, first_dev, least}
-use Rattle.pep440_sets.specs.Witnesses.{above_posts, just_above, low_string, string_after, version_between, with_low_segment}
+use Rattle.pep440_sets.specs.Witnesses.{above_posts, release_above, low_string, string_after, version_between, with_low_segment}
 
 -- ---- releases
 
@@ -41,7 +41,7 @@ then_less Greater x y h f = absurd (cc)
 same_number : (n : ℕ) (o : Ordering) → o ≡ Less → ordering_then (nat_cmp n n) o ≡ Less
 same_number n o h = ap (λ c. ordering_then c o) (tied_itself nat_cmp_total n) ∙ h
 
-above_release : (d : ℕ) (vs : List ℕ) → length vs ≤ d → release_cmp vs (just_above d vs) ≡ Less
+above_release : (d : ℕ) (vs : List ℕ) → length vs ≤ d → release_cmp vs (release_above d vs) ≡ Less
 above_release zero [] h = refl
 above_release zero (n ∷ vs) h = absurd (omega arith)
 above_release (suc d) [] h = above_release d [] (omega arith)
@@ -63,13 +63,13 @@ not_below_none (r ∷ rs) h = go r (release_cmp rs []) h (not_below_none rs)
     go : (r : ℕ) (p : Ordering) → ordering_then (nat_cmp r 0) p ≡ Less → (p ≡ Less → ⊥) → ⊥
     go r p h f = at_zero (nat_cmp r 0) p (zero_least r) h f
 
-below_release : (d : ℕ) (vs ws : List ℕ) → length vs ≤ d → length ws ≤ d → release_cmp vs ws ≡ Less → release_cmp (just_above d vs) ws ≡ Less
+below_release : (d : ℕ) (vs ws : List ℕ) → length vs ≤ d → length ws ≤ d → release_cmp vs ws ≡ Less → release_cmp (release_above d vs) ws ≡ Less
 below_release d [] [] a b h = absurd (cc)
 below_release d (n ∷ vs) [] a b h = absurd (not_below_none (n ∷ vs) h)
 below_release zero [] (w ∷ ws) a b h = absurd (omega arith)
 below_release zero (n ∷ vs) (w ∷ ws) a b h = absurd (omega arith)
-below_release (suc d) [] (w ∷ ws) a b h = then_less (nat_cmp 0 w) (release_cmp [] ws) (release_cmp (just_above d []) ws) h (below_release d [] ws (omega arith) (omega arith))
-below_release (suc d) (n ∷ vs) (w ∷ ws) a b h = then_less (nat_cmp n w) (release_cmp vs ws) (release_cmp (just_above d vs) ws) h (below_release d vs ws (omega arith) (omega arith))
+below_release (suc d) [] (w ∷ ws) a b h = then_less (nat_cmp 0 w) (release_cmp [] ws) (release_cmp (release_above d []) ws) h (below_release d [] ws (omega arith) (omega arith))
+below_release (suc d) (n ∷ vs) (w ∷ ws) a b h = then_less (nat_cmp n w) (release_cmp vs ws) (release_cmp (release_above d vs) ws) h (below_release d vs ws (omega arith) (omega arith))
 
 zero_fits : Fits 0
 zero_fits = grind arith
@@ -77,12 +77,12 @@ zero_fits = grind arith
 one_fits : Fits 1
 one_fits = grind arith
 
-above_fits : (d : ℕ) (vs : List ℕ) → AllByRecursion Fits vs → AllByRecursion Fits (just_above d vs)
+above_fits : (d : ℕ) (vs : List ℕ) → AllByRecursion Fits vs → AllByRecursion Fits (release_above d vs)
 above_fits zero vs h = (one_fits, tt)
 above_fits (suc d) [] h = (zero_fits, above_fits d [] tt)
 above_fits (suc d) (n ∷ vs) h = (h.0, above_fits d vs h.1)
 
-pub above_some : (d : ℕ) (vs : List ℕ) → 0 < length (just_above d vs)
+pub above_some : (d : ℕ) (vs : List ℕ) → 0 < length (release_above d vs)
 above_some zero vs = omega arith
 above_some (suc d) [] = omega arith
 above_some (suc d) (n ∷ vs) = omega arith
@@ -182,19 +182,19 @@ from_version_on v end p h = record { parsed = p; inside = both_true _ _ (itself 
 -- ---- above post-releases
 
 abbrev next_dev : ℕ → List ℕ → ℕ → Record
-next_dev e r d = first_dev e (just_above d r)
+next_dev e r d = first_dev e (release_above d r)
 
 next_parsed : (e : ℕ) (r : List ℕ) (d : ℕ) → Fits e → All Fits r → IsParsed (next_dev e r d)
 next_parsed e r d f g =
-    parts_parsed e (just_above d r) None None (Some 0)
-    (record { epoch = f; some = above_some d r; release = All-from_recursion Fits (just_above d r) (above_fits d r (recursion_from_All Fits r g)) }) tt tt zero_fits
+    parts_parsed e (release_above d r) None None (Some 0)
+    (record { epoch = f; some = above_some d r; release = All-from_recursion Fits (release_above d r) (above_fits d r (recursion_from_All Fits r g)) }) tt tt zero_fits
 
 next_above : (e : ℕ) (r : List ℕ) (d : ℕ) → length r ≤ d → is_le (record_cmp (top e r) (next_dev e r d)) ≡ true
 next_above e r d h = ap is_le (lesser_base (top e r) (next_dev e r d) (same_number e _ (above_release d r h)))
 
 next_below : (e : ℕ) (r : List ℕ) (w : Record) (d : ℕ) → length r ≤ d → length w.release ≤ d → base_cmp (top e r) w ≡ Less → is_lt (record_cmp (next_dev e r d) w) ≡ true
 next_below e r w d h k below =
-    ap is_lt (lesser_base (next_dev e r d) w (then_less (nat_cmp e w.epoch) (release_cmp r w.release) (release_cmp (just_above d r) w.release) below (below_release d r w.release h k)))
+    ap is_lt (lesser_base (next_dev e r d) w (then_less (nat_cmp e w.epoch) (release_cmp r w.release) (release_cmp (release_above d r) w.release) below (below_release d r w.release h k)))
 
 abbrev between_max : List ℕ → List ℕ → ℕ
 between_max r q = max (length r) (length q)

@@ -10,13 +10,8 @@ use Rattle.pep440_rs.specs.Bounds.{Segments}
 use Rattle.pep440_rs.specs.Matching.{has_local}
 use Rattle.pep440_version.specs.Key.{record_cmp}
 use Rattle.pep440_version.specs.Record.{IsRecord, Record}
-use Rattle.pep440_version.specs.RoundTrip.{RoundTrips}
+use Rattle.pep440_version.specs.RoundTrip.{IsParsed}
 use Rattle.pep440_sets.specs.NextVersions.{after_posts, least}
-
--- the records that strings parse to
-pub record IsParsed (r : Record) : Type 0 where
-  pub valid : IsRecord r
-  pub round_trips : RoundTrips r
 
 -- above all post-releases of a final release
 pub record IsAbovePosts (v : Record) : Type 0 where

@@ -13,8 +13,8 @@ abbrev pub HasNoVersion : Segments → Type 0
 HasNoVersion set = (v : Record) → IsDenoted v → contains record_cmp set v ≡ false
 
 -- the version is in the set
-abbrev pub IsVersionIn : Segments → Record → Type 0
-IsVersionIn set v = IsDenoted v × (contains record_cmp set v ≡ true)
+abbrev pub IsVersionOf : Segments → Record → Type 0
+IsVersionOf set v = IsDenoted v × (contains record_cmp set v ≡ true)
 
 -- each version of the first set is in the second
 abbrev pub IsSubset : Segments → Segments → Type 0

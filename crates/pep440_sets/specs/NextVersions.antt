@@ -1,5 +1,5 @@
--- The least version above others, or the place above them where there is none that is least: above all post-releases of a release, for
--- which the sentinel max stands (PEP 440, "Summary of permitted suffixes and relative ordering").
+-- The least version above others; where there is none that is least, above all post-releases of a release, the sentinel max stands for
+-- it (PEP 440, "Summary of permitted suffixes and relative ordering").
 use Rattle.std.specs.Prelude.{ℕ, List, [], ◌∷◌, Option, Some, None, option_map}
 use Rattle.std.specs.Option.{option_map_or}
 use Rattle.pep440_rs.specs.Bounds.{next_number}
@@ -38,13 +38,13 @@ abbrev pub after_post : ℕ → List ℕ → Option Prerelease → ℕ → Recor
 after_post epoch release pre post = option_map_or (λ n. from_parts epoch release pre (Some n) (Some 0) []) (next_number post) (after_posts epoch release pre)
 
 -- after all dev releases of a version; those that have nothing else come before the first alpha
-abbrev pub after_devs : ℕ → List ℕ → Option Prerelease → Option ℕ → Record
-after_devs epoch release None None = pre_dev epoch release Alpha 0
-after_devs epoch release pre post = from_parts epoch release pre post None []
+abbrev pub after_dev_releases : ℕ → List ℕ → Option Prerelease → Option ℕ → Record
+after_dev_releases epoch release None None = pre_dev epoch release Alpha 0
+after_dev_releases epoch release pre post = from_parts epoch release pre post None []
 
 -- after the public version of these parts and its local versions
 abbrev pub after_parts : ℕ → List ℕ → Option Prerelease → Option ℕ → Option ℕ → Record
-after_parts epoch release pre post (Some dev) = option_map_or (λ n. from_parts epoch release pre post (Some n) []) (next_number dev) (after_devs epoch release pre post)
+after_parts epoch release pre post (Some dev) = option_map_or (λ n. from_parts epoch release pre post (Some n) []) (next_number dev) (after_dev_releases epoch release pre post)
 after_parts epoch release pre (Some post) None = after_post epoch release pre post
 after_parts epoch release pre None None = from_parts epoch release pre (Some 0) (Some 0) []
 
@@ -56,14 +56,14 @@ after_public s = after_parts s.epoch s.release s.pre s.post s.dev
 
 -- the least release above all that begin with these numbers: the last number that is not the greatest is raised, and what follows it
 -- is left out; none where each is the greatest
-abbrev pub raised : List ℕ → Option (List ℕ)
-raised [] = None
-raised (n ∷ numbers) = option_map_or (λ rest. Some (n ∷ rest)) (raised numbers) (option_map (λ m. m ∷ []) (next_number n))
+abbrev pub raised_release : List ℕ → Option (List ℕ)
+raised_release [] = None
+raised_release (n ∷ numbers) = option_map_or (λ rest. Some (n ∷ rest)) (raised_release numbers) (option_map (λ m. m ∷ []) (next_number n))
 
 -- after all versions of an epoch; none after the last epoch
 abbrev pub after_epoch : ℕ → Option Record
 after_epoch epoch = option_map (λ e. first_dev e (0 ∷ [])) (next_number epoch)
 
 -- after all versions of an epoch whose release begins with these numbers
-abbrev pub after_prefix : ℕ → List ℕ → Option Record
-after_prefix epoch numbers = option_map_or (λ release. Some (first_dev epoch release)) (raised numbers) (after_epoch epoch)
+abbrev pub after_release_prefix : ℕ → List ℕ → Option Record
+after_release_prefix epoch numbers = option_map_or (λ release. Some (first_dev epoch release)) (raised_release numbers) (after_epoch epoch)

@@ -32,16 +32,16 @@ bound_text (Excluded v) = boundary_text v
 bound_text Unbounded = codes "*"
 
 -- how an interval begins
-abbrev pub start_text : Bound Record → List ℕ
-start_text start = (if is_closed_start start then codes "[" else codes "(") ++ bound_text start
+abbrev pub interval_start : Bound Record → List ℕ
+interval_start start = (if is_closed_start start then codes "[" else codes "(") ++ bound_text start
 
 -- how an interval ends
-abbrev pub end_text : Bound Record → List ℕ
-end_text end = bound_text end ++ (if is_closed_end end then codes "]" else codes ")")
+abbrev pub interval_end : Bound Record → List ℕ
+interval_end end = bound_text end ++ (if is_closed_end end then codes "]" else codes ")")
 
 -- an interval as a line, as `[1.0, 2.0.dev0)` and a newline
 abbrev pub interval_line : Segment Record → List ℕ
-interval_line s = start_text s.0 ++ (codes ", " ++ (end_text s.1 ++ codes "\n"))
+interval_line s = interval_start s.0 ++ (codes ", " ++ (interval_end s.1 ++ codes "\n"))
 
 -- the lines of the intervals
 abbrev pub set_lines : Segments → List ℕ

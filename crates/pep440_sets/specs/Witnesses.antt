@@ -10,16 +10,16 @@ use Rattle.pep440_sets.specs.NextVersions.{first_dev, least}
 -- ---- above post-releases
 
 -- the numbers of a release, padded with zeros where it has fewer than these, then 1
-abbrev pub just_above : ℕ → List ℕ → List ℕ
-just_above zero release = 1 ∷ []
-just_above (suc depth) [] = 0 ∷ just_above depth []
-just_above (suc depth) (n ∷ release) = n ∷ just_above depth release
+abbrev pub release_above : ℕ → List ℕ → List ℕ
+release_above zero release = 1 ∷ []
+release_above (suc depth) [] = 0 ∷ release_above depth []
+release_above (suc depth) (n ∷ release) = n ∷ release_above depth release
 
 -- a version above the post-releases of the release of v, and up to this end
 abbrev pub above_posts : Record → Bound Record → Record
 above_posts v (Included w) = w
-above_posts v (Excluded w) = if is_some w.max then epoch_and_release w.epoch w.release else first_dev v.epoch (just_above (max (length v.release) (length w.release)) v.release)
-above_posts v Unbounded = first_dev v.epoch (just_above (length v.release) v.release)
+above_posts v (Excluded w) = if is_some w.max then epoch_and_release w.epoch w.release else first_dev v.epoch (release_above (max (length v.release) (length w.release)) v.release)
+above_posts v Unbounded = first_dev v.epoch (release_above (length v.release) v.release)
 
 -- ---- above local versions
 

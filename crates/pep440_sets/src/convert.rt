@@ -3,17 +3,19 @@ ghost use Rattle.std.specs.Prelude.{◌≡◌, ◌<◌, ◌↔◌, IfOk, IsErrOf
 ghost use Rattle.pep440_ranges.specs.Complement.{gaps};
 ghost use Rattle.pep440_rs.specs.Matching.{without_last};
 ghost use Rattle.pep440_rs.specs.Specifiers.{Spec};
-ghost use Rattle.pep440_sets.specs.Sets.{above_start, below_end, between, equal_to, from_version, has_exact, is_exact, list_set, set_of, star};
+ghost use Rattle.pep440_sets.specs.Sets.{above_start, below_end, between, equal_to, from_version_on, has_exact, is_exact, list_set, specifier_set, prefix_set};
 
 use crate::error::SetError;
-use crate::next_versions::{after_posts, after_prefix, after_public, first_dev, least_version};
+use crate::next_versions::{
+    after_posts, after_public, after_release_prefix, first_dev, least_version,
+};
 use pep440_rs::{Operator, Ranges, VersionSpecifier, intersect_all};
 use pep440_version::Version;
 use std::alloc::{AllocError, Global};
 
 // From a version on.
-fn from_version(alloc: Global, version: Version) -> Result<Ranges<Version>, AllocError>
-    ensures { IfOk result (λ r. r ≡ from_version version) }
+fn from_version_on(alloc: Global, version: Version) -> Result<Ranges<Version>, AllocError>
+    ensures { IfOk result (λ r. r ≡ from_version_on version) }
 {
     let least = least_version(alloc)?;
     if version.cmp(&least).is_eq() {
@@ -24,9 +26,9 @@ fn from_version(alloc: Global, version: Version) -> Result<Ranges<Version>, Allo
 
 // Below a version.
 fn below_version(alloc: Global, version: Version) -> Result<Ranges<Version>, AllocError>
-    ensures { IfOk result (λ r. r ≡ gaps (from_version version)) }
+    ensures { IfOk result (λ r. r ≡ gaps (from_version_on version)) }
 {
-    let from = from_version(alloc, version)?;
+    let from = from_version_on(alloc, version)?;
     from.complement(alloc)
 }
 
@@ -38,7 +40,7 @@ fn between(
 ) -> Result<Ranges<Version>, AllocError>
     ensures { IfOk result (λ r. r ≡ between start end) }
 {
-    let from = from_version(alloc, start)?;
+    let from = from_version_on(alloc, start)?;
     match end {
         Some(end) => from.intersection(alloc, &below_version(alloc, end)?),
         None => Ok(from),
@@ -57,11 +59,11 @@ fn equal_to(alloc: Global, version: &Version) -> Result<Ranges<Version>, AllocEr
 }
 
 // `==` with a star.
-fn star(alloc: Global, version: &Version) -> Result<Ranges<Version>, AllocError>
-    ensures { IfOk result (λ r. r ≡ star version.now) }
+fn prefix_set(alloc: Global, version: &Version) -> Result<Ranges<Version>, AllocError>
+    ensures { IfOk result (λ r. r ≡ prefix_set version.now) }
 {
     let start = first_dev(alloc, version.epoch(), version.release())?;
-    let end = after_prefix(alloc, version.epoch(), version.release())?;
+    let end = after_release_prefix(alloc, version.epoch(), version.release())?;
     between(alloc, start, end)
 }
 
@@ -75,9 +77,9 @@ fn without_last(release: &[u64]) -> &[u64]
 
 // `~=`
 fn compatible(alloc: Global, version: &Version) -> Result<Ranges<Version>, AllocError>
-    ensures { IfOk result (λ r. r ≡ set_of Operator.TildeEqual version.now) }
+    ensures { IfOk result (λ r. r ≡ specifier_set Operator.TildeEqual version.now) }
 {
-    let end = after_prefix(alloc, version.epoch(), without_last(version.release()))?;
+    let end = after_release_prefix(alloc, version.epoch(), without_last(version.release()))?;
     between(alloc, version.clone()?, end)
 }
 
@@ -106,23 +108,23 @@ fn above_start(alloc: Global, version: &Version) -> Result<Version, AllocError>
 }
 
 // The set of a specifier; of `===` all versions.
-pub(crate) fn set_of(
+pub(crate) fn specifier_set(
     alloc: Global,
     specifier: &VersionSpecifier,
 ) -> Result<Ranges<Version>, AllocError>
-    ensures { IfOk result (λ r. r ≡ set_of specifier.now.operator specifier.now.version) }
+    ensures { IfOk result (λ r. r ≡ specifier_set specifier.now.operator specifier.now.version) }
 {
     let version = specifier.version();
     match specifier.operator() {
         Operator::Equal => equal_to(alloc, version),
         Operator::NotEqual => equal_to(alloc, version)?.complement(alloc),
-        Operator::EqualStar => star(alloc, version),
-        Operator::NotEqualStar => star(alloc, version)?.complement(alloc),
+        Operator::EqualStar => prefix_set(alloc, version),
+        Operator::NotEqualStar => prefix_set(alloc, version)?.complement(alloc),
         Operator::TildeEqual => compatible(alloc, version),
         Operator::LessThan => below_version(alloc, below_end(alloc, version)?),
         Operator::LessThanEqual => below_version(alloc, after_public(alloc, version)?),
-        Operator::GreaterThan => from_version(alloc, above_start(alloc, version)?),
-        Operator::GreaterThanEqual => from_version(alloc, version.clone()?),
+        Operator::GreaterThan => from_version_on(alloc, above_start(alloc, version)?),
+        Operator::GreaterThanEqual => from_version_on(alloc, version.clone()?),
         Operator::ExactEqual => Ranges::full(alloc),
     }
 }
@@ -132,11 +134,11 @@ fn member_sets(
     alloc: Global,
     members: &[VersionSpecifier],
 ) -> Result<Vec<Ranges<Version>>, AllocError>
-    ensures { IfOk result (λ sets. sets.items ≡ map (λ (m : Spec). set_of m.operator m.version) members.now) }
+    ensures { IfOk result (λ sets. sets.items ≡ map (λ (m : Spec). specifier_set m.operator m.version) members.now) }
 {
     let mut sets = Vec::new(alloc);
     for member in members {
-        sets.push(set_of(alloc, member)?)?;
+        sets.push(specifier_set(alloc, member)?)?;
     }
     Ok(sets)
 }

@@ -20,5 +20,4 @@ pub use convert::specifiers_to_set;
 pub use error::SetError;
 pub use find::find_version;
 pub use lines::{BoundaryText, SetLines, is_closed_end, is_closed_start};
-pub use next_versions::least_version;
 pub use set::VersionSet;

@@ -2,7 +2,7 @@
 ghost use Rattle.std.specs.Prelude.{◌≡◌, Some, codes, if◌then◌else◌};
 ghost use Rattle.std.specs.Fmt.{WritesStyledOnOk};
 ghost use Rattle.std.specs.List.{flat_map};
-ghost use Rattle.pep440_sets.specs.SetLines.{bound_text, boundary_text, end_text, interval_line, is_closed_end, is_closed_start, set_lines, start_text};
+ghost use Rattle.pep440_sets.specs.SetLines.{bound_text, boundary_text, interval_end, interval_line, is_closed_end, is_closed_start, set_lines, interval_start};
 
 use crate::set::VersionSet;
 use pep440_rs::Ranges;
@@ -10,7 +10,7 @@ use pep440_version::Version;
 use std::fmt;
 use std::ops::Bound;
 
-/// Whether an interval that begins so has its first version. Never allocates.
+/// Whether the start of an interval is its least version. Never allocates.
 pub fn is_closed_start(start: &Bound<Version>) -> bool
     ensures { result ≡ is_closed_start start.now }
 {
@@ -20,7 +20,7 @@ pub fn is_closed_start(start: &Bound<Version>) -> bool
     }
 }
 
-/// Whether an interval that ends so has the last versions that its end names. Never allocates.
+/// Whether the end of an interval names versions that it has. Never allocates.
 pub fn is_closed_end(end: &Bound<Version>) -> bool
     ensures { result ≡ is_closed_end end.now }
 {
@@ -81,7 +81,7 @@ fn close_bracket(end: &Bound<Version>) -> &'static str
 
 #[tactic(auto, using(pep440_version::proofs::RoundTrip::Writing::two_writes))]
 fn write_start<W: fmt::Write>(f: &mut fmt::Formatter<W>, start: &Bound<Version>) -> fmt::Result
-    ensures { WritesStyledOnOk W.write_str_gives f.old result (start_text start.now) f.new }
+    ensures { WritesStyledOnOk W.write_str_gives f.old result (interval_start start.now) f.new }
 {
     let bracket = open_bracket(start);
     f.write_str(bracket)?;
@@ -90,7 +90,7 @@ fn write_start<W: fmt::Write>(f: &mut fmt::Formatter<W>, start: &Bound<Version>)
 
 #[tactic(auto, using(pep440_version::proofs::RoundTrip::Writing::two_writes))]
 fn write_end<W: fmt::Write>(f: &mut fmt::Formatter<W>, end: &Bound<Version>) -> fmt::Result
-    ensures { WritesStyledOnOk W.write_str_gives f.old result (end_text end.now) f.new }
+    ensures { WritesStyledOnOk W.write_str_gives f.old result (interval_end end.now) f.new }
 {
     let bracket = close_bracket(end);
     write_bound(f, end)?;

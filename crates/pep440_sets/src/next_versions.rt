@@ -1,7 +1,7 @@
 //! The least version above others.
 ghost use Rattle.std.specs.Prelude.{◌≡◌, ◌<◌, ◌∷◌, [], IfOk, IfSome, length, option_map};
 ghost use Rattle.pep440_rs.specs.Bounds.{next_number};
-ghost use Rattle.pep440_sets.specs.NextVersions.{after_devs, after_epoch, after_kind, after_post, after_posts, after_prefix, after_public, first_dev, least, pre_dev, raised};
+ghost use Rattle.pep440_sets.specs.NextVersions.{after_dev_releases, after_epoch, after_kind, after_post, after_posts, after_release_prefix, after_public, first_dev, least, pre_dev, raised_release};
 ghost use Rattle.pep440_version.specs.Record.{from_parts};
 
 use pep440_version::{Prerelease, PrereleaseKind, Version};
@@ -26,10 +26,8 @@ pub(crate) fn assemble(
         .with_epoch(alloc, epoch)
 }
 
-/// The least of all versions, `0.dev0` (PEP 440, "Summary of permitted suffixes and relative ordering").
-///
-/// Allocates.
-pub fn least_version(alloc: Global) -> Result<Version, AllocError>
+// The least of all versions, `0.dev0`.
+pub(crate) fn least_version(alloc: Global) -> Result<Version, AllocError>
     ensures { IfOk result (λ v. v ≡ least) }
 {
     Version::new(alloc, &[0])?.with_dev(alloc, Some(0))
@@ -105,8 +103,8 @@ fn after_post(alloc: Global, version: &Version, post: u64) -> Result<Version, Al
     )
 }
 
-fn after_devs(alloc: Global, version: &Version) -> Result<Version, AllocError>
-    ensures { IfOk result (λ v. v ≡ after_devs version.now.epoch version.now.release version.now.pre version.now.post) }
+fn after_dev_releases(alloc: Global, version: &Version) -> Result<Version, AllocError>
+    ensures { IfOk result (λ v. v ≡ after_dev_releases version.now.epoch version.now.release version.now.pre version.now.post) }
 {
     if version.pre().is_none() && version.post().is_none() {
         return pre_dev(alloc, version, PrereleaseKind::Alpha, 0);
@@ -129,7 +127,7 @@ pub(crate) fn after_public(alloc: Global, version: &Version) -> Result<Version, 
     match (version.dev(), version.post()) {
         (Some(dev), post) => match dev.checked_add(1) {
             Some(number) => assemble(alloc, epoch, release, pre, post, Some(number)),
-            None => after_devs(alloc, version),
+            None => after_dev_releases(alloc, version),
         },
         (None, Some(post)) => after_post(alloc, version, post),
         (None, None) => assemble(alloc, epoch, release, pre, Some(0), Some(0)),
@@ -146,7 +144,7 @@ fn next_number(number: u64) -> Option<u64>
 // The least release above all that begin with these numbers, if there is one.
 #[tactic(auto, using(crate::proofs::Raised::greatest_at, crate::proofs::Raised::raised_at))]
 fn raise_numbers(alloc: Global, numbers: &[u64]) -> Result<Option<Vec<u64>>, AllocError>
-    ensures value { IfOk result (λ o. option_map (λ v. v.items) o ≡ raised numbers.now) }
+    ensures value { IfOk result (λ o. option_map (λ v. v.items) o ≡ raised_release numbers.now) }
     ensures some { IfOk result (λ o. IfSome o (λ v. 0 < length v.items)) }
 {
     for place in (0..numbers.len()).rev() {
@@ -169,12 +167,12 @@ fn after_epoch(alloc: Global, epoch: u64) -> Result<Option<Version>, AllocError>
 }
 
 // After all versions of the epoch whose release begins with these numbers.
-pub(crate) fn after_prefix(
+pub(crate) fn after_release_prefix(
     alloc: Global,
     epoch: u64,
     numbers: &[u64],
 ) -> Result<Option<Version>, AllocError>
-    ensures { IfOk result (λ v. v ≡ after_prefix epoch numbers.now) }
+    ensures { IfOk result (λ v. v ≡ after_release_prefix epoch numbers.now) }
 {
     match raise_numbers(alloc, numbers)? {
         Some(release) => Ok(Some(first_dev(alloc, epoch, &release)?)),

@@ -2,10 +2,9 @@
 ghost use Rattle.std.specs.Prelude.{◌≡◌, ◌↔◌, ◌&&◌, ◌||◌, [], IfOk, IfSome, IsErrOf, IsTrue, None, false, not, true};
 ghost use Rattle.std.specs.List.{All};
 ghost use Rattle.pep440_ranges.specs.RangeSegments.{contains};
-ghost use Rattle.pep440_rs.specs.Bounds.{full};
 ghost use Rattle.pep440_rs.specs.Cover.{IsCoverable, IsDenoted};
 ghost use Rattle.pep440_sets.specs.Sets.{HoldsListMatches, has_exact, list_set};
-ghost use Rattle.pep440_sets.specs.Emptiness.{HasNoVersion, IsDisjoint, IsSubset, IsVersionIn};
+ghost use Rattle.pep440_sets.specs.Emptiness.{HasNoVersion, IsDisjoint, IsSubset, IsVersionOf};
 ghost use Rattle.pep440_sets.specs.Witnesses.{version_in};
 ghost use Rattle.pep440_version.specs.Key.{record_cmp};
 ghost use Rattle.pep440_version.specs.Record.{Record};
@@ -53,16 +52,6 @@ impl VersionSet {
         ensures exact { IsErrOf result SetError.ArbitraryEquality ↔ (has_exact specifiers.now ≡ true) }
     {
         let intervals = specifiers_to_set(alloc, specifiers)?;
-        Ok(VersionSet { intervals })
-    }
-
-    /// All versions.
-    ///
-    /// Allocates.
-    pub fn full(alloc: Global) -> Result<VersionSet, AllocError>
-        ensures { IfOk result (λ set. set ≡ full) }
-    {
-        let intervals = Ranges::full(alloc)?;
         Ok(VersionSet { intervals })
     }
 
@@ -158,7 +147,7 @@ impl VersionSet {
     /// Allocates.
     pub fn find_version(&self, alloc: Global) -> Result<Option<Version>, AllocError>
         ensures value { IfOk result (λ found. found ≡ version_in self.now) }
-        ensures inside { IfOk result (λ found. IfSome found (IsVersionIn self.now)) }
+        ensures inside { IfOk result (λ found. IfSome found (IsVersionOf self.now)) }
         ensures none { IfOk result (λ found. (found ≡ None) ↔ HasNoVersion self.now) }
     {
         let found = first_version(alloc, &self.intervals)?;

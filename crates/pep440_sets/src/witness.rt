@@ -1,7 +1,7 @@
 //! A version between the boundaries of an interval.
 ghost use Rattle.std.specs.Prelude.{◌≡◌, ◌++◌, ◌∷◌, ◌-◌, [], IfOk, List, OnOk, drop, length, map, replicate, slice_index_or, string_bytes};
 ghost use Rattle.pep440_sets.specs.NextVersions.{first_dev};
-ghost use Rattle.pep440_sets.specs.Witnesses.{above_posts, just_above, low_string, string_after, version_between, version_in, with_low_segment};
+ghost use Rattle.pep440_sets.specs.Witnesses.{above_posts, release_above, low_string, string_after, version_between, version_in, with_low_segment};
 ghost use Rattle.pep440_version.specs.Segments.{segment};
 
 use crate::next_versions::{assemble, first_dev, least_version};
@@ -23,8 +23,8 @@ fn number_at(release: &[u64], place: usize) -> u64
 
 // The numbers of a release, padded with zeros where there are fewer than these, then 1.
 #[tactic(auto, using(crate::proofs::Raised::pushed))]
-fn just_above(alloc: Global, depth: usize, release: &[u64]) -> Result<Vec<u64>, AllocError>
-    ensures { IfOk result (λ v. v.items ≡ just_above depth release.now) }
+fn release_above(alloc: Global, depth: usize, release: &[u64]) -> Result<Vec<u64>, AllocError>
+    ensures { IfOk result (λ v. v.items ≡ release_above depth release.now) }
 {
     let mut numbers = Vec::new(alloc);
     for place in 0..depth {
@@ -37,9 +37,9 @@ fn just_above(alloc: Global, depth: usize, release: &[u64]) -> Result<Vec<u64>, 
 // The first dev release of a release above that of the version, with as many numbers and one more.
 #[tactic(auto, using(crate::proofs::VersionsBetween::above_some))]
 fn next_dev(alloc: Global, version: &Version, depth: usize) -> Result<Version, AllocError>
-    ensures { IfOk result (λ v. v ≡ first_dev version.now.epoch (just_above depth version.now.release)) }
+    ensures { IfOk result (λ v. v ≡ first_dev version.now.epoch (release_above depth version.now.release)) }
 {
-    let release = just_above(alloc, depth, version.release())?;
+    let release = release_above(alloc, depth, version.release())?;
     first_dev(alloc, version.epoch(), &release)
 }
 

@@ -4,7 +4,7 @@ use Rattle.std.specs.Prelude.{◌≡◌, ℕ, ◌<◌, ◌||◌, Bool, true, fal
 use Rattle.std.specs.Char.{is_ascii_digit, is_ascii_lowercase}
 use Rattle.std.specs.List.{All, list_all}
 use Rattle.pep440_version.specs.Grammar.{is_numeral}
-use Rattle.pep440_version.specs.Record.{Record, LocalSegmentValue, Text, Number}
+use Rattle.pep440_version.specs.Record.{IsRecord, LocalSegmentValue, Number, Record, Text}
 
 -- a digit or a lower-case letter
 abbrev pub is_lower : ℕ → Bool
@@ -20,3 +20,8 @@ pub record RoundTrips (r : Record) : Type 0 where
   pub no_min : r.min ≡ None
   pub no_max : r.max ≡ None
   pub local : All SegmentRereads r.local
+
+-- the records that strings parse to
+pub record IsParsed (r : Record) : Type 0 where
+  pub valid : IsRecord r
+  pub round_trips : RoundTrips r

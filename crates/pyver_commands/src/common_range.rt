@@ -1,7 +1,7 @@
 //! The command `range`.
 ghost use Rattle.std.specs.Prelude.{◌≡◌, ◌++◌, [], IfOk, map, string_bytes};
 ghost use Rattle.pyver_commands.specs.AnswerViews.{outcome_of};
-ghost use Rattle.pyver_commands.specs.CommonRanges.{ArrangesAll, FindsCommon, PrintsLists, length_cmp, lines_outcome, named_outcome, none_outcome, set_outcome, set_text, version_text};
+ghost use Rattle.pyver_commands.specs.CommonRanges.{ArrangesAll, FindsCommon, PrintsLists, length_cmp, lines_outcome, named_outcome, none_outcome, set_outcome, set_text, named_version_text};
 
 use crate::answer::Answer;
 use crate::range_json::push_segments;
@@ -116,7 +116,7 @@ fn push_version(
     json: bool,
     version: Version,
 ) -> Result<(), AllocError>
-    ensures { IfOk result (λ _. output.new.items ≡ output.old.items ++ version_text json version) }
+    ensures { IfOk result (λ _. output.new.items ≡ output.old.items ++ named_version_text json version) }
 {
     if json {
         let one = Ranges::singleton(alloc, version)?;
@@ -139,11 +139,7 @@ fn print_named(alloc: Global, json: bool, found: Option<Version>) -> Result<Answ
     Ok(answer)
 }
 
-fn print_arranged(
-    alloc: Global,
-    json: bool,
-    list: &VersionSpecifiers,
-) -> Result<Answer, AllocError>
+fn print_arranged(alloc: Global, json: bool, list: &VersionSpecifiers) -> Result<Answer, AllocError>
     ensures { IfOk result (λ a. outcome_of a ≡ set_outcome json list.now) }
 {
     match specifiers_to_set(alloc, list.as_slice()) {
@@ -168,11 +164,7 @@ fn print_members(
     Ok(answer)
 }
 
-fn print_lists(
-    alloc: Global,
-    json: bool,
-    found: CommonLists,
-) -> Result<Answer, AllocError>
+fn print_lists(alloc: Global, json: bool, found: CommonLists) -> Result<Answer, AllocError>
     ensures { IfOk result (λ a. PrintsLists json found.errors.items found.members.items (outcome_of a)) }
 {
     if found.errors.is_empty() {
@@ -187,11 +179,7 @@ fn print_lists(
 
 /// `range SPECS..`: the versions that all lists match literally, as the intervals of a set or, with `json`, as JSON. The status is 0, 1 where
 /// there is no version, and 2 where a list is invalid.
-pub fn find_common(
-    alloc: Global,
-    json: bool,
-    words: &[String],
-) -> Result<Answer, AllocError>
+pub fn find_common(alloc: Global, json: bool, words: &[String]) -> Result<Answer, AllocError>
     ensures { IfOk result (λ a. FindsCommon json (map string_bytes words.now) (outcome_of a)) }
 {
     let mut found = CommonLists {

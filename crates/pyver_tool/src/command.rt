@@ -17,9 +17,9 @@ use crate::split_words::{GivenOption, Split};
 use crate::words::Words;
 use pyver_commands::{
     Answer, BumpRule, Comparison, FilterOptions, FilterRule, LinesQuestion, MatchOptions,
-    NewestOptions, NewestRule, Question, Selection, ShowFormat, SortOptions,
-    SpecifiersReading, bump_version, compare, find_common, match_versions, parse_bump_part,
-    parse_comparison, parse_specifiers, report_list_fault, show_versions, takes_prereleases,
+    NewestOptions, NewestRule, Question, Selection, ShowFormat, SortOptions, SpecifiersReading,
+    bump_version, compare, find_common, match_versions, parse_bump_part, parse_comparison,
+    parse_specifiers, report_list_fault, show_versions, takes_prereleases,
 };
 use std::alloc::{AllocError, Global};
 
@@ -338,9 +338,7 @@ impl<'a> Command<'a> {
                 Ok(Work::Answer(show_versions(alloc, format, words)?))
             }
             Command::Bump(to, names, version) => start_bump(alloc, to, names, version),
-            Command::Range(json, words) => {
-                Ok(Work::Answer(find_common(alloc, json, words)?))
-            }
+            Command::Range(json, words) => { Ok(Work::Answer(find_common(alloc, json, words)?)) }
             Command::Check(options, names) => Ok(Work::Check(options, names)),
             Command::Misused(misuse) => Ok(Work::Answer(report_misuse(alloc, misuse)?)),
         }

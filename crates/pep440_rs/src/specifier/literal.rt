@@ -48,8 +48,8 @@ fn is_postrelease_of(specifier: &Version, version: &Version) -> bool
 
 impl VersionSpecifier {
     /// Whether the specifier matches the version, with the exclusions of `<` and `>` read literally, as pip 26 and `packaging` 26 read them
-    /// (PEP 440, "Exclusive ordered comparison"): `<V` leaves out the pre-releases of V, and `>V` its post-releases. `contains` leaves out those
-    /// of every version that has V's release: `>1.0rc1` matches 1.0.post1 literally, and does not contain it.
+    /// (PEP 440, "Exclusive ordered comparison"): `<V` leaves out the pre-releases of V, and `>V` its post-releases. `contains` leaves out the
+    /// pre-releases and post-releases of every version that has V's release: `>1.0rc1` matches 1.0.post1 literally, and does not contain it.
     ///
     /// Allocates only for `===`, which compares normalized forms; with any other operator it always succeeds.
     pub fn matches_literally(&self, alloc: Global, version: &Version) -> Result<bool, AllocError>

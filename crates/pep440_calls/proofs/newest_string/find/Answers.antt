@@ -1,6 +1,6 @@
 use Rattle.std.proofs.Common.{Bool, map, rules, subst}
 use Rattle.pep440_calls.proofs.newest_string.find.Goals as goal
-use Rattle.pep440_calls.specs.NewestString.{IsContained, preference}
+use Rattle.pep440_calls.specs.NewestString.{IsContainedString, preference}
 use Rattle.pep440_pick.specs.Greatest.{Greatest}
 
 pub returns : goal.returns
@@ -8,6 +8,6 @@ returns c = (
   c.in_ok-specifiers.specifiers,
   c.in_ok-newest.newest,
   c.in_ok-specifiers.ensures,
-  subst (λ (takes : Bool). Greatest (IsContained c.in_ok-specifiers.specifiers) (preference takes) (map (λ t. t.now) c.args.texts.now) c.in_ok-newest.newest) c.requests_prereleases-takes.ensures c.in_ok-newest.ensures,
+  subst (λ (takes : Bool). Greatest (IsContainedString c.in_ok-specifiers.specifiers) (preference takes) (map (λ t. t.now) c.args.texts.now) c.in_ok-newest.newest) c.requests_prereleases-takes.ensures c.in_ok-newest.ensures,
   search rules,
 )

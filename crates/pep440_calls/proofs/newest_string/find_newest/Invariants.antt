@@ -1,7 +1,7 @@
 use Rattle.std.proofs.Common.{map, take}
 use Rattle.pep440_pick.specs.Greatest.{Greatest}
-use Rattle.pep440_calls.specs.NewestString.{IsContained, preference}
+use Rattle.pep440_calls.specs.NewestString.{IsContainedString, preference}
 use Rattle.pep440_calls.proofs.newest_string.find_newest.Given as goal
 
 abbrev pub invariant-loop-position : goal.invariant-loop-position
-invariant-loop-position l = Greatest (IsContained l.list) (preference l.takes) (map (λ t. t.now) (take l.position l.texts)) l.newest
+invariant-loop-position l = Greatest (IsContainedString l.list) (preference l.takes) (map (λ t. t.now) (take l.position l.texts)) l.newest

@@ -5,7 +5,7 @@ use Rattle.pep440_compiled.proofs.Rewritten.{denoted, version_again}
 use Rattle.pep440_compiled.proofs.checked_version.check_version.Goals as goal
 use Rattle.pep440_keys.proofs.Order.{release_fits}
 use Rattle.pep440_keys.specs.SortKeys.{local_bytes}
-use Rattle.pep440_compiled.specs.Version.{IsParsed}
+use Rattle.pep440_version.specs.RoundTrip.{IsParsed}
 use Rattle.pep440_version.specs.Record.{from_parts}
 
 pub returns-in_err-view-clause-found : goal.returns-in_err-view-clause-found

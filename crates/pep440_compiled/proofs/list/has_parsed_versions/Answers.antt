@@ -3,7 +3,7 @@ use Rattle.std.specs.List.{All}
 use Rattle.pep440_compiled.proofs.Members.{more_holds}
 use Rattle.pep440_compiled.proofs.list.has_parsed_versions.Goals as goal
 use Rattle.pep440_compiled.specs.Lists.{IsParsedMember}
-use Rattle.pep440_compiled.specs.Version.{IsParsed}
+use Rattle.pep440_version.specs.RoundTrip.{IsParsed}
 use Rattle.pep440_rs.specs.Specifiers.{Spec}
 
 pub loop-member-preserved : goal.loop-member-preserved

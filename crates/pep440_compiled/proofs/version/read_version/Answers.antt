@@ -1,7 +1,7 @@
 use Rattle.std.proofs.Common.{◌≡◌, ◌∙◌, subst, sym, true≢false}
 use Rattle.pep440_compiled.proofs.Rewritten.{denoted}
 use Rattle.pep440_compiled.proofs.version.read_version.Goals as goal
-use Rattle.pep440_compiled.specs.Version.{IsParsed}
+use Rattle.pep440_version.specs.RoundTrip.{IsParsed}
 
 pub returns-then-not-is_parsed-clause-err : goal.returns-then-not-is_parsed-clause-err
 returns-then-not-is_parsed-clause-err c is r d =
