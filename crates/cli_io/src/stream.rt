@@ -38,7 +38,8 @@ pub fn read_whole<R: Read>(
 ) -> Result<Vec<u8>, ReadFailure>
     ensures read { IfOk result (λ input. Consumes (R.remaining reader.old) (R.remaining reader.new) input.items) }
     ensures end { OnOk result (IsAtEnd (R.remaining reader.new)) }
-    ensures limits { IfOk result (λ input. (length input.items + 8192 * read_count.old < 8192 * read_count.new) × (read_count.new ≤ most_reads)) }
+    ensures limits { IfOk result (λ input. (length input.items + 8192 * read_count.old < 8192 * read_count.new)
+        × (read_count.new ≤ most_reads)) }
     ensures part { IfErr result (λ _. (read : List ℕ) × Consumes (R.remaining reader.old) (R.remaining reader.new) read) }
 {
     let mut input = Vec::new(alloc);

@@ -24,7 +24,8 @@ pub fn add(
     version: Version,
     times: u64,
 ) -> Result<(), AllocError>
-    ensures ok { OnOk result (Updates record_cmp downloads.old downloads.new version (Some (min (unwrap_or (get record_cmp downloads.old version) 0 + times) (2 ^ 64 - 1)))) }
+    ensures ok { OnOk result (Updates record_cmp downloads.old downloads.new version
+        (Some (min (unwrap_or (get record_cmp downloads.old version) 0 + times) (2 ^ 64 - 1)))) }
     ensures err { OnErr result (IsUnchanged downloads.old downloads.new) }
 {
     let sum = count_loads(downloads, &version).saturating_add(times);

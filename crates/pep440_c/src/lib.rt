@@ -80,7 +80,8 @@ pub extern "C" fn pep440_specifiers_of(
     written: &mut usize,
     count: &mut usize,
 ) -> u8
-    ensures { PutsJoined ⊥ (RefusesListBytes list.now) ⊥ (TellsMembers list.now) out.old out.new ends.old ends.new written.old written.new count.old count.new result }
+    ensures { PutsJoined ⊥ (RefusesListBytes list.now) ⊥ (TellsMembers list.now)
+        out.old out.new ends.old ends.new written.old written.new count.old count.new result }
 {
     write_members(alloc, list, out, ends, written, count)
 }
@@ -94,7 +95,8 @@ pub extern "C" fn pep440_specifier(
     out: &mut [u8],
     written: &mut usize,
 ) -> u8
-    ensures { PutsBytes (RefusesOperand operator.now version.now) (RefusesOperator operator.now version.now) ⊥ (IsSpecifier operator.now version.now) out.old out.new written.old written.new result }
+    ensures { PutsBytes (RefusesOperand operator.now version.now) (RefusesOperator operator.now version.now) ⊥
+        (IsSpecifier operator.now version.now) out.old out.new written.old written.new result }
 {
     write_specifier(alloc, operator, version, out, written)
 }
@@ -248,7 +250,8 @@ pub extern "C" fn pep440_ranges(
     out: &mut [u8],
     written: &mut usize,
 ) -> u8
-    ensures { PutsBytes ⊥ (RefusesListBytes list.now) (LacksRange range_of list.now) (IsRangeText list.now) out.old out.new written.old written.new result }
+    ensures { PutsBytes ⊥ (RefusesListBytes list.now) (LacksRange range_of list.now) (IsRangeText list.now)
+        out.old out.new written.old written.new result }
 {
     write_range(alloc, list, out, written)
 }
@@ -263,7 +266,8 @@ pub extern "C" fn pep440_range_keys(
     written: &mut usize,
     count: &mut usize,
 ) -> u8
-    ensures { PutsJoined ⊥ (RefusesListBytes list.now) (LacksRange range_of list.now) (TellsIntervals range_of list.now) out.old out.new ends.old ends.new written.old written.new count.old count.new result }
+    ensures { PutsJoined ⊥ (RefusesListBytes list.now) (LacksRange range_of list.now)
+        (TellsIntervals range_of list.now) out.old out.new ends.old ends.new written.old written.new count.old count.new result }
 {
     write_range_keys(alloc, list, out, ends, written, count)
 }
@@ -278,7 +282,8 @@ pub extern "C" fn pep440_cover_keys(
     written: &mut usize,
     count: &mut usize,
 ) -> u8
-    ensures { PutsJoined ⊥ (RefusesListBytes list.now) (LacksRange cover_of list.now) (TellsIntervals cover_of list.now) out.old out.new ends.old ends.new written.old written.new count.old count.new result }
+    ensures { PutsJoined ⊥ (RefusesListBytes list.now) (LacksRange cover_of list.now)
+        (TellsIntervals cover_of list.now) out.old out.new ends.old ends.new written.old written.new count.old count.new result }
 {
     write_cover_keys(alloc, list, out, ends, written, count)
 }
@@ -293,7 +298,8 @@ pub extern "C" fn pep440_range_bounds(
     written: &mut usize,
     count: &mut usize,
 ) -> u8
-    ensures { PutsJoined ⊥ (RefusesListBytes list.now) (LacksRange range_of list.now) (TellsBounds range_of list.now) out.old out.new ends.old ends.new written.old written.new count.old count.new result }
+    ensures { PutsJoined ⊥ (RefusesListBytes list.now) (LacksRange range_of list.now) (TellsBounds range_of list.now)
+        out.old out.new ends.old ends.new written.old written.new count.old count.new result }
 {
     write_range_bounds(alloc, list, out, ends, written, count)
 }
@@ -308,7 +314,8 @@ pub extern "C" fn pep440_release_range_bounds(
     written: &mut usize,
     count: &mut usize,
 ) -> u8
-    ensures { PutsJoined ⊥ (RefusesListBytes list.now) (LacksRange release_range_of list.now) (TellsBounds release_range_of list.now) out.old out.new ends.old ends.new written.old written.new count.old count.new result }
+    ensures { PutsJoined ⊥ (RefusesListBytes list.now) (LacksRange release_range_of list.now)
+        (TellsBounds release_range_of list.now) out.old out.new ends.old ends.new written.old written.new count.old count.new result }
 {
     write_release_range_bounds(alloc, list, out, ends, written, count)
 }
@@ -347,7 +354,8 @@ pub extern "C" fn pep440_compile_specifier(
     out: &mut [u8],
     written: &mut usize,
 ) -> u8
-    ensures { PutsBytes ⊥ (RefusesSpecifierBytes specifier.now) ⊥ (IsCompiledSpecifier specifier.now) out.old out.new written.old written.new result }
+    ensures { PutsBytes ⊥ (RefusesSpecifierBytes specifier.now) ⊥ (IsCompiledSpecifier specifier.now)
+        out.old out.new written.old written.new result }
 {
     write_compiled_specifier(alloc, specifier, out, written)
 }
@@ -362,7 +370,8 @@ pub extern "C" fn pep440_build_error(
     out: &mut [u8],
     written: &mut usize,
 ) -> u8
-    ensures { PutsBytes (RefusesNumbered operator text.now) (IsNoOperator operator) ⊥ (IsBuildError operator text.now (not (star == 0))) out.old out.new written.old written.new result }
+    ensures { PutsBytes (RefusesNumbered operator text.now) (IsNoOperator operator) ⊥
+        (IsBuildError operator text.now (not (star == 0))) out.old out.new written.old written.new result }
 {
     write_build_error(alloc, operator, text, star, out, written)
 }

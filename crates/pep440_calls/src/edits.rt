@@ -103,7 +103,9 @@ fn read_change(alloc: Global, word: &[u8]) -> Result<Change, ChangeWordError>
 
 // The changes that the words ask for; of a version, so that an error is one of both.
 fn read_changes(alloc: Global, words: &[&[u8]]) -> Result<Vec<Change>, EditError>
-    ensures { (text : List ℕ) (r : Record) → MeansBytes text r → GivesEdited text (map (λ t. t.now) words.now) (λ changes. AllZip MeansChange (map (λ t. t.now) words.now) (map edit changes.items)) result }
+    ensures { (text : List ℕ) (r : Record) → MeansBytes text r
+        → GivesEdited text (map (λ t. t.now) words.now)
+        (λ changes. AllZip MeansChange (map (λ t. t.now) words.now) (map edit changes.items)) result }
 {
     let mut changes = Vec::with_capacity(alloc, words.len())?;
     for (position, word) in words.iter().enumerate() {
@@ -118,7 +120,9 @@ fn read_changes(alloc: Global, words: &[&[u8]]) -> Result<Vec<Change>, EditError
 
 // The version after the changes.
 fn apply_changes(alloc: Global, version: Version, words: &[&[u8]]) -> Result<Version, EditError>
-    ensures { (text : List ℕ) → MeansBytes text version → GivesEdited text (map (λ t. t.now) words.now) (λ q. (r : Record) × MeansBytes text r × ChangesTo r (map (λ t. t.now) words.now) (Ok q)) result }
+    ensures { (text : List ℕ) → MeansBytes text version
+        → GivesEdited text (map (λ t. t.now) words.now)
+        (λ q. (r : Record) × MeansBytes text r × ChangesTo r (map (λ t. t.now) words.now) (Ok q)) result }
 {
     let changes = read_changes(alloc, words)?;
     match version.with_changes(alloc, changes.as_slice()) {
@@ -130,7 +134,8 @@ fn apply_changes(alloc: Global, version: Version, words: &[&[u8]]) -> Result<Ver
 
 // The version that the bytes denote, after the changes. The version is read first, then all words, and then the changes are made.
 fn change(alloc: Global, bytes: &[u8], words: &[&[u8]]) -> Result<Version, EditError>
-    ensures { GivesEdited bytes.now (map (λ t. t.now) words.now) (λ q. (r : Record) × MeansBytes bytes.now r × ChangesTo r (map (λ t. t.now) words.now) (Ok q)) result }
+    ensures { GivesEdited bytes.now (map (λ t. t.now) words.now)
+        (λ q. (r : Record) × MeansBytes bytes.now r × ChangesTo r (map (λ t. t.now) words.now) (Ok q)) result }
 {
     match read(alloc, bytes) {
         Ok(version) => apply_changes(alloc, version, words),
@@ -141,7 +146,8 @@ fn change(alloc: Global, bytes: &[u8], words: &[&[u8]]) -> Result<Version, EditE
 
 // The version after the changes, with its sentinels.
 fn edit_version(alloc: Global, bytes: &[u8], words: &[&[u8]]) -> Result<String, EditError>
-    ensures { GivesEdited bytes.now (map (λ t. t.now) words.now) (λ text. IsEdited bytes.now (map (λ t. t.now) words.now) (string_bytes text)) result }
+    ensures { GivesEdited bytes.now (map (λ t. t.now) words.now)
+        (λ text. IsEdited bytes.now (map (λ t. t.now) words.now) (string_bytes text)) result }
 {
     let version = change(alloc, bytes, words)?;
     Ok(WithSentinels(&version).to_string(alloc)?)

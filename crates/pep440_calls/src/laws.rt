@@ -51,7 +51,8 @@ pub fn one_specifier_once()
 /// and 5 a call on a string has one.
 pub fn ranges_once()
     ensures one { (bytes words others : List ℕ) → IsRangeText bytes words → IsRangeText bytes others → words ≡ others }
-    ensures either { (bytes : List ℕ) → (¬ HasListFormat bytes) → ((words : List ℕ) × IsRangeText bytes words) ⊎ (RefusesListBytes bytes ⊎ LacksRange range_of bytes) }
+    ensures either { (bytes : List ℕ) → (¬ HasListFormat bytes)
+        → ((words : List ℕ) × IsRangeText bytes words) ⊎ (RefusesListBytes bytes ⊎ LacksRange range_of bytes) }
     ensures never_both { (bytes words : List ℕ) → IsRangeText bytes words → RefusesListBytes bytes → ⊥ }
     ensures never_at_max { (bytes words : List ℕ) → IsRangeText bytes words → LacksRange range_of bytes → ⊥ }
     ensures one_error { (bytes : List ℕ) → LacksRange range_of bytes → RefusesListBytes bytes → ⊥ }
@@ -60,21 +61,27 @@ pub fn ranges_once()
 /// What `pep440_version_in` writes is nothing or a version that the list contains; of a list of a string it writes nothing only if
 /// the list contains no version that a string denotes.
 pub fn versions_in_lists()
-    ensures contained { (bytes words : List ℕ) (l : List Spec) → IsVersionIn bytes words → MeansListBytes bytes l → (words ≡ []) ⊎ ((v : Record) × (words ≡ print v) × IsTrue (list_matches l v)) }
-    ensures none { (bytes : List ℕ) (l : List Spec) → MeansListString bytes l → first_match l ≡ None → (v : Record) → IsDenoted v → IsTrue (list_matches l v) → ⊥ }
+    ensures contained { (bytes words : List ℕ) (l : List Spec) → IsVersionIn bytes words → MeansListBytes bytes l
+        → (words ≡ []) ⊎ ((v : Record) × (words ≡ print v) × IsTrue (list_matches l v)) }
+    ensures none { (bytes : List ℕ) (l : List Spec) → MeansListString bytes l → first_match l ≡ None → (v : Record)
+        → IsDenoted v → IsTrue (list_matches l v) → ⊥ }
 {}
 
 /// The words of strings, as numbers, are in the order of the versions, and equal exactly if these are; a string has at most one word.
 pub fn words_are_ordered()
     ensures one { (bytes : List ℕ) (m n : ℕ) → TellsWord bytes (Some m) → TellsWord bytes (Some n) → m ≡ n }
-    ensures ordered { (a b : List ℕ) (m n : ℕ) (r q : Record) → TellsWord a (Some m) → TellsWord b (Some n) → MeansBytes a r → MeansBytes b q → nat_cmp m n ≡ record_cmp r q }
+    ensures ordered { (a b : List ℕ) (m n : ℕ) (r q : Record) → TellsWord a (Some m) → TellsWord b (Some n)
+        → MeansBytes a r → MeansBytes b q → nat_cmp m n ≡ record_cmp r q }
 {}
 
 /// The sort key of a version lies in one of the intervals of a list's range exactly where the range has the version; and
 /// in an interval of its cover if the list, as a string denotes it, contains the version.
 pub fn keys_tell_membership()
-    ensures range { (list text : List ℕ) (range : Segments) (r : Record) → HasRange range_of list range → MeansBytes text r → list_any (λ s. is_within (segment_interval s) (key_bytes r)) range ≡ contains record_cmp range r }
-    ensures cover { (list text : List ℕ) (members : List Spec) (cover : Segments) (r : Record) → (¬ HasListFormat list) → MeansListString list members → list_range cover_of members ≡ Some cover → MeansBytes text r → list_matches members r ≡ true → list_any (λ s. is_within (segment_interval s) (key_bytes r)) cover ≡ true }
+    ensures range { (list text : List ℕ) (range : Segments) (r : Record) → HasRange range_of list range
+        → MeansBytes text r → list_any (λ s. is_within (segment_interval s) (key_bytes r)) range ≡ contains record_cmp range r }
+    ensures cover { (list text : List ℕ) (members : List Spec) (cover : Segments) (r : Record)
+        → (¬ HasListFormat list) → MeansListString list members → list_range cover_of members ≡ Some cover
+        → MeansBytes text r → list_matches members r ≡ true → list_any (λ s. is_within (segment_interval s) (key_bytes r)) cover ≡ true }
 {}
 
 /// Bytes denote one pattern, or are invalid, and never both.
@@ -87,7 +94,8 @@ pub fn patterns_once()
 /// An operator and a pattern make one specifier, or the operator is rejected, or the pattern is, and never two of these.
 pub fn specifiers_once()
     ensures one { (operator version a b : List ℕ) → IsSpecifier operator version a → IsSpecifier operator version b → a ≡ b }
-    ensures either { (operator version : List ℕ) → ((bytes : List ℕ) × IsSpecifier operator version bytes) ⊎ (RefusesOperator operator version ⊎ RefusesOperand operator version) }
+    ensures either { (operator version : List ℕ) → ((bytes : List ℕ) × IsSpecifier operator version bytes)
+        ⊎ (RefusesOperator operator version ⊎ RefusesOperand operator version) }
     ensures never_both { (operator version bytes : List ℕ) → IsSpecifier operator version bytes → RefusesOperator operator version → ⊥ }
     ensures never_without { (operator version bytes : List ℕ) → IsSpecifier operator version bytes → RefusesOperand operator version → ⊥ }
     ensures one_error { (operator version : List ℕ) → RefusesOperator operator version → RefusesOperand operator version → ⊥ }
@@ -97,11 +105,14 @@ pub fn specifiers_once()
 /// parts, or the same list. So each call returns of a compiled form what it returns of the string.
 pub fn compiled_once()
     ensures one { (text a b : List ℕ) → IsCompiled text a → IsCompiled text b → a ≡ b }
-    ensures same { (s t a b : List ℕ) (r q : Record) → IsCompiled s a → IsCompiled t b → MeansBytes s r → MeansBytes t q → (a ≡ b) ↔ (r ≡ q) }
+    ensures same { (s t a b : List ℕ) (r q : Record) → IsCompiled s a → IsCompiled t b → MeansBytes s r
+        → MeansBytes t q → (a ≡ b) ↔ (r ≡ q) }
     ensures version { (text compiled : List ℕ) (r : Record) → IsCompiled text compiled → MeansBytes text r ↔ MeansBytes compiled r }
     ensures one_list { (text a b : List ℕ) → IsCompiledList text a → IsCompiledList text b → a ≡ b }
-    ensures same_list { (s t a b : List ℕ) (l m : List Spec) → IsCompiledList s a → IsCompiledList t b → MeansListBytes s l → MeansListBytes t m → (a ≡ b) ↔ (l ≡ m) }
-    ensures list { (text compiled : List ℕ) (l : List Spec) → IsCompiledList text compiled → MeansListBytes text l ↔ MeansListBytes compiled l }
+    ensures same_list { (s t a b : List ℕ) (l m : List Spec) → IsCompiledList s a → IsCompiledList t b
+        → MeansListBytes s l → MeansListBytes t m → (a ≡ b) ↔ (l ≡ m) }
+    ensures list { (text compiled : List ℕ) (l : List Spec) → IsCompiledList text compiled
+        → MeansListBytes text l ↔ MeansListBytes compiled l }
 {}
 
 /// How many bytes suffice for the forms of a version or a list, by the length of a string that denotes it: the bounds of

@@ -25,7 +25,8 @@ use std::ops::Bound;
 
 /// Writes the range of the list, a segment a line. Status 5 if a bound of it would need a number above the greatest.
 pub fn write_range(alloc: Global, list: &[u8], out: &mut [u8], written: &mut usize) -> u8
-    ensures { PutsBytes ⊥ (RefusesListBytes list.now) (LacksRange range_of list.now) (IsRangeText list.now) out.old out.new written.old written.new result }
+    ensures { PutsBytes ⊥ (RefusesListBytes list.now) (LacksRange range_of list.now) (IsRangeText list.now)
+        out.old out.new written.old written.new result }
 {
     put_text(to_range_lines(alloc, list), out, written)
 }
@@ -41,7 +42,8 @@ pub fn write_range_keys(
     written: &mut usize,
     count: &mut usize,
 ) -> u8
-    ensures { PutsJoined ⊥ (RefusesListBytes list.now) (LacksRange range_of list.now) (TellsIntervals range_of list.now) out.old out.new ends.old ends.new written.old written.new count.old count.new result }
+    ensures { PutsJoined ⊥ (RefusesListBytes list.now) (LacksRange range_of list.now)
+        (TellsIntervals range_of list.now) out.old out.new ends.old ends.new written.old written.new count.old count.new result }
 {
     put_joined(to_range_keys(alloc, list), out, ends, written, count)
 }
@@ -55,7 +57,8 @@ pub fn write_cover_keys(
     written: &mut usize,
     count: &mut usize,
 ) -> u8
-    ensures { PutsJoined ⊥ (RefusesListBytes list.now) (LacksRange cover_of list.now) (TellsIntervals cover_of list.now) out.old out.new ends.old ends.new written.old written.new count.old count.new result }
+    ensures { PutsJoined ⊥ (RefusesListBytes list.now) (LacksRange cover_of list.now)
+        (TellsIntervals cover_of list.now) out.old out.new ends.old ends.new written.old written.new count.old count.new result }
 {
     put_joined(to_cover_keys(alloc, list), out, ends, written, count)
 }
@@ -71,7 +74,8 @@ pub fn write_range_bounds(
     written: &mut usize,
     count: &mut usize,
 ) -> u8
-    ensures { PutsJoined ⊥ (RefusesListBytes list.now) (LacksRange range_of list.now) (TellsBounds range_of list.now) out.old out.new ends.old ends.new written.old written.new count.old count.new result }
+    ensures { PutsJoined ⊥ (RefusesListBytes list.now) (LacksRange range_of list.now) (TellsBounds range_of list.now)
+        out.old out.new ends.old ends.new written.old written.new count.old count.new result }
 {
     put_joined(to_bounds(alloc, list), out, ends, written, count)
 }
@@ -85,7 +89,8 @@ pub fn write_release_range_bounds(
     written: &mut usize,
     count: &mut usize,
 ) -> u8
-    ensures { PutsJoined ⊥ (RefusesListBytes list.now) (LacksRange release_range_of list.now) (TellsBounds release_range_of list.now) out.old out.new ends.old ends.new written.old written.new count.old count.new result }
+    ensures { PutsJoined ⊥ (RefusesListBytes list.now) (LacksRange release_range_of list.now)
+        (TellsBounds release_range_of list.now) out.old out.new ends.old ends.new written.old written.new count.old count.new result }
 {
     put_joined(to_release_bounds(alloc, list), out, ends, written, count)
 }
@@ -116,7 +121,8 @@ fn unwrap_or_empty(key: Option<&[u8]>) -> &[u8]
 }
 
 fn push_interval(found: &mut JoinedStrings, interval: &KeyInterval) -> Result<(), AllocError>
-    ensures { (strings : List (List ℕ)) → Joins strings found.old.bytes.items found.old.ends.items → OnOk result (Joins (strings ++ interval_keys interval.now) found.new.bytes.items found.new.ends.items) }
+    ensures { (strings : List (List ℕ)) → Joins strings found.old.bytes.items found.old.ends.items
+        → OnOk result (Joins (strings ++ interval_keys interval.now) found.new.bytes.items found.new.ends.items) }
 {
     found.push(unwrap_or_empty(interval.low()))?;
     found.push(unwrap_or_empty(interval.high()))?;
@@ -136,7 +142,8 @@ fn join_intervals(alloc: Global, intervals: &[KeyInterval]) -> Result<JoinedStri
 
 // The keys of the segments, in their order.
 fn join_range(alloc: Global, range: &Ranges<Version>) -> Result<JoinedStrings, AllocError>
-    ensures { IfOk result (λ found. Joins (flat_map (λ s. interval_keys (segment_interval s)) range.now) found.bytes.items found.ends.items) }
+    ensures { IfOk result (λ found. Joins (flat_map (λ s. interval_keys (segment_interval s)) range.now)
+        found.bytes.items found.ends.items) }
 {
     let intervals = range_keys(alloc, range)?;
     join_intervals(alloc, intervals.as_slice())
@@ -144,7 +151,8 @@ fn join_range(alloc: Global, range: &Ranges<Version>) -> Result<JoinedStrings, A
 
 // The keys of the segments of the list's range.
 fn to_range_keys(alloc: Global, list: &[u8]) -> Result<JoinedStrings, Fault>
-    ensures { Gives ⊥ (RefusesListBytes list.now) (LacksRange range_of list.now) (λ found. TellsIntervals range_of list.now found.bytes.items found.ends.items) result }
+    ensures { Gives ⊥ (RefusesListBytes list.now) (LacksRange range_of list.now)
+        (λ found. TellsIntervals range_of list.now found.bytes.items found.ends.items) result }
 {
     let range = to_range(alloc, list)?;
     Ok(join_range(alloc, &range)?)
@@ -152,7 +160,8 @@ fn to_range_keys(alloc: Global, list: &[u8]) -> Result<JoinedStrings, Fault>
 
 // The keys of the segments of the list's cover.
 fn to_cover_keys(alloc: Global, list: &[u8]) -> Result<JoinedStrings, Fault>
-    ensures { Gives ⊥ (RefusesListBytes list.now) (LacksRange cover_of list.now) (λ found. TellsIntervals cover_of list.now found.bytes.items found.ends.items) result }
+    ensures { Gives ⊥ (RefusesListBytes list.now) (LacksRange cover_of list.now)
+        (λ found. TellsIntervals cover_of list.now found.bytes.items found.ends.items) result }
 {
     let specifiers = read_list(alloc, list)?;
     let cover = specifiers_to_cover(alloc, specifiers)?;
@@ -193,7 +202,8 @@ fn push_segment(
     low: &Bound<Version>,
     high: &Bound<Version>,
 ) -> Result<(), AllocError>
-    ensures { (range : Segments) → JoinsBounds range found.old.bytes.items found.old.ends.items → OnOk result (JoinsBounds (range ++ (low.now, high.now) ∷ []) found.new.bytes.items found.new.ends.items) }
+    ensures { (range : Segments) → JoinsBounds range found.old.bytes.items found.old.ends.items
+        → OnOk result (JoinsBounds (range ++ (low.now, high.now) ∷ []) found.new.bytes.items found.new.ends.items) }
 {
     let low = compile_bound(alloc, low)?;
     let high = compile_bound(alloc, high)?;
@@ -214,14 +224,16 @@ fn join_bounds(alloc: Global, range: &Ranges<Version>) -> Result<JoinedStrings, 
 }
 
 fn to_bounds(alloc: Global, list: &[u8]) -> Result<JoinedStrings, Fault>
-    ensures { Gives ⊥ (RefusesListBytes list.now) (LacksRange range_of list.now) (λ found. TellsBounds range_of list.now found.bytes.items found.ends.items) result }
+    ensures { Gives ⊥ (RefusesListBytes list.now) (LacksRange range_of list.now)
+        (λ found. TellsBounds range_of list.now found.bytes.items found.ends.items) result }
 {
     let range = to_range(alloc, list)?;
     Ok(join_bounds(alloc, &range)?)
 }
 
 fn to_release_bounds(alloc: Global, list: &[u8]) -> Result<JoinedStrings, Fault>
-    ensures { Gives ⊥ (RefusesListBytes list.now) (LacksRange release_range_of list.now) (λ found. TellsBounds release_range_of list.now found.bytes.items found.ends.items) result }
+    ensures { Gives ⊥ (RefusesListBytes list.now) (LacksRange release_range_of list.now)
+        (λ found. TellsBounds release_range_of list.now found.bytes.items found.ends.items) result }
 {
     let specifiers = read_list(alloc, list)?;
     let range = release_specifiers_to_ranges(alloc, specifiers)?;

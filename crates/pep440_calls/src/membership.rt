@@ -15,7 +15,9 @@ use std::alloc::Global;
 // Writes whether a list contains a version, and whether this is a pre-release or a developmental release.
 #[inline(always)]
 fn put_match(given: Result<(bool, bool), Fault>, contained: &mut u8, prerelease: &mut u8) -> u8
-    ensures { (list version : List ℕ) → Gives (RefusesSecond list version) (RefusesListBytes list) ⊥ (λ found. Contains list version found.0 × IsPrerelease version found.1) given → ContainsAnswer list version contained.old contained.new prerelease.old prerelease.new result }
+    ensures { (list version : List ℕ) → Gives (RefusesSecond list version) (RefusesListBytes list) ⊥
+        (λ found. Contains list version found.0 × IsPrerelease version found.1) given
+        → ContainsAnswer list version contained.old contained.new prerelease.old prerelease.new result }
 {
     match given {
         Ok((found, is_early)) => {
@@ -32,7 +34,8 @@ fn put_match(given: Result<(bool, bool), Fault>, contained: &mut u8, prerelease:
 fn contains_compiled(list: &[u8], version: &[u8]) -> Result<(bool, bool), Fault>
     requires list { HasListFormat list.now }
     requires version { HasVersionFormat version.now }
-    ensures { Gives (RefusesSecond list.now version.now) (RefusesListBytes list.now) ⊥ (λ found. Contains list.now version.now found.0 × IsPrerelease version.now found.1) result }
+    ensures { Gives (RefusesSecond list.now version.now) (RefusesListBytes list.now) ⊥
+        (λ found. Contains list.now version.now found.0 × IsPrerelease version.now found.1) result }
 {
     match pep440_compiled::contains(list, version) {
         Ok(found) => Ok(found),
@@ -43,7 +46,8 @@ fn contains_compiled(list: &[u8], version: &[u8]) -> Result<(bool, bool), Fault>
 
 // Whether the list contains the version, and whether this is a pre-release or a developmental release; of any bytes.
 fn contains(alloc: Global, list: &[u8], bytes: &[u8]) -> Result<(bool, bool), Fault>
-    ensures { Gives (RefusesSecond list.now bytes.now) (RefusesListBytes list.now) ⊥ (λ found. Contains list.now bytes.now found.0 × IsPrerelease bytes.now found.1) result }
+    ensures { Gives (RefusesSecond list.now bytes.now) (RefusesListBytes list.now) ⊥
+        (λ found. Contains list.now bytes.now found.0 × IsPrerelease bytes.now found.1) result }
 {
     let specifiers = read_list(alloc, list)?;
     let version = read(alloc, bytes)?;

@@ -85,7 +85,8 @@ pub fn write_build_error(
     out: &mut [u8],
     written: &mut usize,
 ) -> u8
-    ensures { PutsBytes (RefusesNumbered operator text.now) (IsNoOperator operator) ⊥ (IsBuildError operator text.now (not (star == 0))) out.old out.new written.old written.new result }
+    ensures { PutsBytes (RefusesNumbered operator text.now) (IsNoOperator operator) ⊥
+        (IsBuildError operator text.now (not (star == 0))) out.old out.new written.old written.new result }
 {
     put_text(
         explain_build(alloc, operator, text, star != 0),
@@ -101,7 +102,8 @@ fn explain_build(
     text: &[u8],
     is_wildcard: bool,
 ) -> Result<String, Fault>
-    ensures { Gives (RefusesNumbered operator text.now) (IsNoOperator operator) ⊥ (λ words. IsBuildError operator text.now is_wildcard (string_bytes words)) result }
+    ensures { Gives (RefusesNumbered operator text.now) (IsNoOperator operator) ⊥
+        (λ words. IsBuildError operator text.now is_wildcard (string_bytes words)) result }
 {
     let Some(operator) = Operator::from_number(operator) else {
         return Err(Fault::InvalidList);
@@ -119,7 +121,8 @@ fn explain_build(
 }
 
 fn explain_string(alloc: Global, bytes: &[u8]) -> Result<String, Fault>
-    ensures { Gives ⊥ ⊥ ⊥ (λ words. ((r : Record) × MeansString bytes.now r × (string_bytes words ≡ [])) ⊎ TellsWhyNoString bytes.now (string_bytes words)) result }
+    ensures { Gives ⊥ ⊥ ⊥ (λ words. ((r : Record) × MeansString bytes.now r × (string_bytes words ≡ []))
+        ⊎ TellsWhyNoString bytes.now (string_bytes words)) result }
 {
     let Ok(text) = std::str::from_utf8(bytes) else {
         return Ok(String::from_str(alloc, NOT_UTF8)?);
@@ -136,7 +139,8 @@ fn explain_string(alloc: Global, bytes: &[u8]) -> Result<String, Fault>
 }
 
 fn explain_compiled(alloc: Global, bytes: &[u8]) -> Result<String, Fault>
-    ensures { Gives ⊥ ⊥ ⊥ (λ words. ((r : Record) × DenotesVersion bytes.now r × (string_bytes words ≡ [])) ⊎ (IsNoCompiledVersion bytes.now × (string_bytes words ≡ codes "not a compiled version"))) result }
+    ensures { Gives ⊥ ⊥ ⊥ (λ words. ((r : Record) × DenotesVersion bytes.now r × (string_bytes words ≡ []))
+        ⊎ (IsNoCompiledVersion bytes.now × (string_bytes words ≡ codes "not a compiled version"))) result }
 {
     match read_version(alloc, bytes) {
         Ok(_) => Ok(String::new(alloc)),
@@ -156,7 +160,8 @@ pub(crate) fn explain_version(alloc: Global, bytes: &[u8]) -> Result<String, Fau
 }
 
 fn explain_list_string(alloc: Global, bytes: &[u8]) -> Result<String, Fault>
-    ensures { Gives ⊥ ⊥ ⊥ (λ words. ((list : List Spec) × MeansListString bytes.now list × (string_bytes words ≡ [])) ⊎ TellsWhyNoListString bytes.now (string_bytes words)) result }
+    ensures { Gives ⊥ ⊥ ⊥ (λ words. ((list : List Spec) × MeansListString bytes.now list × (string_bytes words ≡ []))
+        ⊎ TellsWhyNoListString bytes.now (string_bytes words)) result }
 {
     let Ok(text) = std::str::from_utf8(bytes) else {
         return Ok(String::from_str(alloc, NOT_UTF8)?);
@@ -173,7 +178,8 @@ fn explain_list_string(alloc: Global, bytes: &[u8]) -> Result<String, Fault>
 }
 
 fn explain_compiled_list(alloc: Global, bytes: &[u8]) -> Result<String, Fault>
-    ensures { Gives ⊥ ⊥ ⊥ (λ words. ((list : List Spec) × DenotesList bytes.now list × (string_bytes words ≡ [])) ⊎ (IsNoCompiledList bytes.now × (string_bytes words ≡ codes "not a compiled list"))) result }
+    ensures { Gives ⊥ ⊥ ⊥ (λ words. ((list : List Spec) × DenotesList bytes.now list × (string_bytes words ≡ []))
+        ⊎ (IsNoCompiledList bytes.now × (string_bytes words ≡ codes "not a compiled list"))) result }
 {
     match read_list(alloc, bytes) {
         Ok(_) => Ok(String::new(alloc)),

@@ -63,7 +63,9 @@ fn read_contained(
     list: &VersionSpecifiers,
     bytes: &[u8],
 ) -> Result<Option<Version>, AllocError>
-    ensures { IfOk result (λ found. MatchOption found (RefusesBytes bytes.now ⊎ ((r : Record) × MeansBytes bytes.now r × (list_matches list.now r ≡ false))) (IsContainedString list.now bytes.now)) }
+    ensures { IfOk result (λ found. MatchOption found
+        (RefusesBytes bytes.now ⊎ ((r : Record) × MeansBytes bytes.now r × (list_matches list.now r ≡ false)))
+        (IsContainedString list.now bytes.now)) }
 {
     let version = match read(alloc, bytes) {
         Ok(version) => version,

@@ -113,7 +113,8 @@ pub fn write_members(
     written: &mut usize,
     count: &mut usize,
 ) -> u8
-    ensures { PutsJoined ⊥ (RefusesListBytes list.now) ⊥ (TellsMembers list.now) out.old out.new ends.old ends.new written.old written.new count.old count.new result }
+    ensures { PutsJoined ⊥ (RefusesListBytes list.now) ⊥ (TellsMembers list.now)
+        out.old out.new ends.old ends.new written.old written.new count.old count.new result }
 {
     put_joined(to_members(alloc, list), out, ends, written, count)
 }
@@ -139,7 +140,8 @@ fn push_member(
     found: &mut JoinedStrings,
     member: &VersionSpecifier,
 ) -> Result<(), AllocError>
-    ensures { (strings : List (List ℕ)) → Joins strings found.old.bytes.items found.old.ends.items → OnOk result (Joins (strings ++ member_texts member.now) found.new.bytes.items found.new.ends.items) }
+    ensures { (strings : List (List ℕ)) → Joins strings found.old.bytes.items found.old.ends.items
+        → OnOk result (Joins (strings ++ member_texts member.now) found.new.bytes.items found.new.ends.items) }
 {
     let operator = print_operator(alloc, member)?;
     let version = print_version(alloc, member)?;

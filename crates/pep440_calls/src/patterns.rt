@@ -41,7 +41,8 @@ pub fn write_specifier(
     out: &mut [u8],
     written: &mut usize,
 ) -> u8
-    ensures { PutsBytes (RefusesOperand operator.now version.now) (RefusesOperator operator.now version.now) ⊥ (IsSpecifier operator.now version.now) out.old out.new written.old written.new result }
+    ensures { PutsBytes (RefusesOperand operator.now version.now) (RefusesOperator operator.now version.now) ⊥
+        (IsSpecifier operator.now version.now) out.old out.new written.old written.new result }
 {
     put_text(to_specifier(alloc, operator, version), out, written)
 }
@@ -54,7 +55,8 @@ pub fn write_compiled_specifier(
     out: &mut [u8],
     written: &mut usize,
 ) -> u8
-    ensures { PutsBytes ⊥ (RefusesSpecifierBytes specifier.now) ⊥ (IsCompiledSpecifier specifier.now) out.old out.new written.old written.new result }
+    ensures { PutsBytes ⊥ (RefusesSpecifierBytes specifier.now) ⊥ (IsCompiledSpecifier specifier.now)
+        out.old out.new written.old written.new result }
 {
     put_bytes(compile_specifier(alloc, specifier), out, written)
 }
@@ -106,7 +108,8 @@ fn normalize_pattern(alloc: Global, bytes: &[u8]) -> Result<(String, bool), Faul
 
 // The specifier of an operator and a pattern, as it prints.
 fn to_specifier(alloc: Global, operator: &[u8], version: &[u8]) -> Result<String, Fault>
-    ensures { Gives (RefusesOperand operator.now version.now) (RefusesOperator operator.now version.now) ⊥ (λ text. IsSpecifier operator.now version.now (string_bytes text)) result }
+    ensures { Gives (RefusesOperand operator.now version.now) (RefusesOperator operator.now version.now) ⊥
+        (λ text. IsSpecifier operator.now version.now (string_bytes text)) result }
 {
     let operator = read_operator(alloc, operator)?;
     let pattern = read_pattern(alloc, version)?;

@@ -33,8 +33,11 @@ fn prove_pre_fits(pre: Option<Prerelease>)
 // What follows the release, which ends in so many zeros that the key leaves out. Another zero may not end its numbers, and one number
 // or zero there must be.
 fn check_release(bytes: &[u8], zeros: usize) -> Option<&[u8]>
-    ensures found { (release rest : List ℕ) → All Fits (trim release) → 0 < length release → zeros ≡ ending_zeros release → bytes.now ≡ flat_map (number_bytes 1) (trim release) ++ 0 ∷ rest → MatchOption result ⊥ (λ r. r.now ≡ rest) }
-    ensures exact { IfSome result (λ r. (release : List ℕ) × All Fits release × (0 < length release) × (zeros ≡ ending_zeros release) × (bytes.now ≡ flat_map (number_bytes 1) (trim release) ++ 0 ∷ r.now)) }
+    ensures found { (release rest : List ℕ) → All Fits (trim release) → 0 < length release
+        → zeros ≡ ending_zeros release → bytes.now ≡ flat_map (number_bytes 1) (trim release) ++ 0 ∷ rest
+        → MatchOption result ⊥ (λ r. r.now ≡ rest) }
+    ensures exact { IfSome result (λ r. (release : List ℕ) × All Fits release × (0 < length release)
+        × (zeros ≡ ending_zeros release) × (bytes.now ≡ flat_map (number_bytes 1) (trim release) ++ 0 ∷ r.now)) }
 {
     let mut may_end = zeros > 0;
     let mut left = bytes;
@@ -56,8 +59,10 @@ fn check_release(bytes: &[u8], zeros: usize) -> Option<&[u8]>
 // What follows a local segment, whose first byte this is.
 fn check_segment(first: u8, bytes: &[u8]) -> Option<&[u8]>
     requires { 0 < first }
-    ensures found { (s : LocalSegmentValue) (rest : List ℕ) → SegmentFits s → SegmentRereads s → first ∷ bytes.now ≡ segment_bytes s ++ rest → MatchOption result ⊥ (λ r. r.now ≡ rest) }
-    ensures exact { IfSome result (λ r. (s : LocalSegmentValue) × SegmentFits s × SegmentRereads s × (first ∷ bytes.now ≡ segment_bytes s ++ r.now)) }
+    ensures found { (s : LocalSegmentValue) (rest : List ℕ) → SegmentFits s → SegmentRereads s
+        → first ∷ bytes.now ≡ segment_bytes s ++ rest → MatchOption result ⊥ (λ r. r.now ≡ rest) }
+    ensures exact { IfSome result (λ r. (s : LocalSegmentValue) × SegmentFits s × SegmentRereads s
+        × (first ∷ bytes.now ≡ segment_bytes s ++ r.now)) }
     ensures shorter { IfSome result (λ r. length r.now ≤ length bytes.now) }
 {
     if first > 1 {
@@ -77,8 +82,10 @@ fn check_segment(first: u8, bytes: &[u8]) -> Option<&[u8]>
 
 // Whether the bytes are a local part, after which nothing follows.
 fn is_local_part(bytes: &[u8]) -> bool
-    ensures found { (local : List LocalSegmentValue) → All SegmentFits local → All SegmentRereads local → bytes.now ≡ local_bytes local → result ≡ true }
-    ensures exact { result ≡ true → (local : List LocalSegmentValue) × All SegmentFits local × All SegmentRereads local × (bytes.now ≡ local_bytes local) }
+    ensures found { (local : List LocalSegmentValue) → All SegmentFits local → All SegmentRereads local
+        → bytes.now ≡ local_bytes local → result ≡ true }
+    ensures exact { result ≡ true → (local : List LocalSegmentValue) × All SegmentFits local
+        × All SegmentRereads local × (bytes.now ≡ local_bytes local) }
 {
     let mut left = bytes;
     while let Some((first, later)) = left.split_first() {

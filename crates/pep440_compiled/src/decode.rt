@@ -50,7 +50,8 @@ fn to_number(bytes: &[u8]) -> Option<u64>
 
 // A number of so many bytes, and the rest.
 pub(crate) fn read_number(count: u8, bytes: &[u8]) -> Option<(u64, &[u8])>
-    ensures found { (n : ℕ) (rest : List ℕ) → Fits n → count ≡ length (needed_bytes n) → bytes.now ≡ needed_bytes n ++ rest → MatchOption result ⊥ (λ p. (p.0 ≡ n) × (p.1.now ≡ rest)) }
+    ensures found { (n : ℕ) (rest : List ℕ) → Fits n → count ≡ length (needed_bytes n)
+        → bytes.now ≡ needed_bytes n ++ rest → MatchOption result ⊥ (λ p. (p.0 ≡ n) × (p.1.now ≡ rest)) }
     ensures exact { IfSome result (λ p. (count ≡ length (needed_bytes p.0)) × (bytes.now ≡ needed_bytes p.0 ++ p.1.now)) }
     ensures shorter { IfSome result (λ p. length p.1.now ≤ length bytes.now) }
 {
@@ -60,7 +61,8 @@ pub(crate) fn read_number(count: u8, bytes: &[u8]) -> Option<(u64, &[u8])>
 
 // The epoch, and the rest.
 pub(crate) fn read_epoch(bytes: &[u8]) -> Option<(u64, &[u8])>
-    ensures found { (n : ℕ) (rest : List ℕ) → Fits n → bytes.now ≡ number_bytes 0 n ++ rest → MatchOption result ⊥ (λ p. (p.0 ≡ n) × (p.1.now ≡ rest)) }
+    ensures found { (n : ℕ) (rest : List ℕ) → Fits n → bytes.now ≡ number_bytes 0 n ++ rest
+        → MatchOption result ⊥ (λ p. (p.0 ≡ n) × (p.1.now ≡ rest)) }
     ensures exact { IfSome result (λ p. bytes.now ≡ number_bytes 0 p.0 ++ p.1.now) }
 {
     let (first, rest) = bytes.split_first()?;
@@ -77,7 +79,8 @@ struct RankAndNumber {
 
 // A rank and its number, and the rest.
 fn read_ranked_number(bytes: &[u8]) -> Option<(RankAndNumber, &[u8])>
-    ensures found { (rank n : ℕ) (rest : List ℕ) → rank < 16 → Fits n → bytes.now ≡ rank_bytes (rank, n) ++ rest → MatchOption result ⊥ (λ p. (p.0.rank ≡ rank) × (p.0.number ≡ n) × (p.1.now ≡ rest)) }
+    ensures found { (rank n : ℕ) (rest : List ℕ) → rank < 16 → Fits n → bytes.now ≡ rank_bytes (rank, n) ++ rest
+        → MatchOption result ⊥ (λ p. (p.0.rank ≡ rank) × (p.0.number ≡ n) × (p.1.now ≡ rest)) }
     ensures exact { IfSome result (λ p. bytes.now ≡ rank_bytes (p.0.rank, p.0.number) ++ p.1.now) }
 {
     let (first, rest) = bytes.split_first()?;
@@ -91,7 +94,9 @@ fn read_numbers(
     alloc: Global,
     bytes: &[u8],
 ) -> Result<Option<(SmallVec<u64, 4>, &[u8])>, AllocError>
-    ensures found { (numbers rest : List ℕ) → All Fits numbers → bytes.now ≡ flat_map (number_bytes 1) numbers ++ 0 ∷ rest → IfOk result (λ o. MatchOption o ⊥ (λ p. (p.0.items ≡ numbers) × (p.1.now ≡ rest))) }
+    ensures found { (numbers rest : List ℕ) → All Fits numbers
+        → bytes.now ≡ flat_map (number_bytes 1) numbers ++ 0 ∷ rest
+        → IfOk result (λ o. MatchOption o ⊥ (λ p. (p.0.items ≡ numbers) × (p.1.now ≡ rest))) }
     ensures exact { IfOk result (λ o. IfSome o (λ p. bytes.now ≡ flat_map (number_bytes 1) p.0.items ++ 0 ∷ p.1.now)) }
 {
     let mut numbers = SmallVec::new(alloc);
@@ -132,8 +137,11 @@ fn read_release(
     bytes: &[u8],
     zeros: usize,
 ) -> Result<Option<(SmallVec<u64, 4>, &[u8])>, AllocError>
-    ensures found { (release rest : List ℕ) → All Fits (trim release) → 0 < length release → zeros ≡ ending_zeros release → bytes.now ≡ flat_map (number_bytes 1) (trim release) ++ 0 ∷ rest → IfOk result (λ o. MatchOption o ⊥ (λ p. (p.0.items ≡ release) × (p.1.now ≡ rest))) }
-    ensures exact { IfOk result (λ o. IfSome o (λ p. (zeros ≡ ending_zeros p.0.items) × (bytes.now ≡ flat_map (number_bytes 1) (trim p.0.items) ++ 0 ∷ p.1.now))) }
+    ensures found { (release rest : List ℕ) → All Fits (trim release) → 0 < length release
+        → zeros ≡ ending_zeros release → bytes.now ≡ flat_map (number_bytes 1) (trim release) ++ 0 ∷ rest
+        → IfOk result (λ o. MatchOption o ⊥ (λ p. (p.0.items ≡ release) × (p.1.now ≡ rest))) }
+    ensures exact { IfOk result (λ o. IfSome o (λ p. (zeros ≡ ending_zeros p.0.items)
+        × (bytes.now ≡ flat_map (number_bytes 1) (trim p.0.items) ++ 0 ∷ p.1.now))) }
     ensures some { IfOk result (λ o. IfSome o (λ p. 0 < length p.0.items)) }
 {
     let Some((mut numbers, rest)) = read_numbers(alloc, bytes)? else {
@@ -151,7 +159,8 @@ fn read_release(
 
 // Up to the first 0, and what follows it.
 pub(crate) fn split_text(bytes: &[u8]) -> Option<(&[u8], &[u8])>
-    ensures found { (text rest : List ℕ) → All (λ b. 0 < b) text → bytes.now ≡ text ++ 0 ∷ rest → MatchOption result ⊥ (λ p. (p.0.now ≡ text) × (p.1.now ≡ rest)) }
+    ensures found { (text rest : List ℕ) → All (λ b. 0 < b) text → bytes.now ≡ text ++ 0 ∷ rest
+        → MatchOption result ⊥ (λ p. (p.0.now ≡ text) × (p.1.now ≡ rest)) }
     ensures exact { IfSome result (λ p. bytes.now ≡ p.0.now ++ 0 ∷ p.1.now) }
     ensures shorter { IfSome result (λ p. length p.1.now < length bytes.now) }
 {
@@ -166,7 +175,8 @@ fn read_segment(
     bytes: &[u8],
 ) -> Result<Option<(LocalSegment, &[u8])>, AllocError>
     requires { 0 < first }
-    ensures found { (s : LocalSegmentValue) (rest : List ℕ) → SegmentFits s → SegmentRereads s → first ∷ bytes.now ≡ segment_bytes s ++ rest → IfOk result (λ o. MatchOption o ⊥ (λ p. (segment p.0 ≡ s) × (p.1.now ≡ rest))) }
+    ensures found { (s : LocalSegmentValue) (rest : List ℕ) → SegmentFits s → SegmentRereads s
+        → first ∷ bytes.now ≡ segment_bytes s ++ rest → IfOk result (λ o. MatchOption o ⊥ (λ p. (segment p.0 ≡ s) × (p.1.now ≡ rest))) }
     ensures exact { IfOk result (λ o. IfSome o (λ p. first ∷ bytes.now ≡ segment_bytes (segment p.0) ++ p.1.now)) }
     ensures shorter { IfOk result (λ o. IfSome o (λ p. length p.1.now ≤ length bytes.now)) }
 {
@@ -187,7 +197,8 @@ fn read_segment(
 
 // A local part, after which nothing follows.
 fn read_local(alloc: Global, bytes: &[u8]) -> Result<Option<Vec<LocalSegment>>, AllocError>
-    ensures found { (local : List LocalSegmentValue) → All SegmentFits local → All SegmentRereads local → bytes.now ≡ local_bytes local → IfOk result (λ o. MatchOption o ⊥ (λ segments. map segment segments.items ≡ local)) }
+    ensures found { (local : List LocalSegmentValue) → All SegmentFits local → All SegmentRereads local
+        → bytes.now ≡ local_bytes local → IfOk result (λ o. MatchOption o ⊥ (λ segments. map segment segments.items ≡ local)) }
     ensures exact { IfOk result (λ o. IfSome o (λ segments. bytes.now ≡ local_bytes (map segment segments.items))) }
 {
     let mut segments = Vec::new(alloc);
@@ -225,7 +236,8 @@ fn pre_of_stage(
     post: Option<u64>,
     dev: Option<u64>,
 ) -> Option<Option<Prerelease>>
-    ensures found { (pre : Option Prerelease) → (stage.rank, stage.number) ≡ stage_rank (stage_of None pre dev post None) → MatchOption result ⊥ (λ found. found ≡ pre) }
+    ensures found { (pre : Option Prerelease) → (stage.rank, stage.number)
+        ≡ stage_rank (stage_of None pre dev post None) → MatchOption result ⊥ (λ found. found ≡ pre) }
     ensures exact { IfSome result (λ pre. (stage.rank, stage.number) ≡ stage_rank (stage_of None pre dev post None)) }
 {
     let number = stage.number;
@@ -242,7 +254,8 @@ fn pre_of_stage(
 }
 
 fn post_number(post: RankAndNumber) -> Option<Option<u64>>
-    ensures found { (number : Option ℕ) → (post.rank, post.number) ≡ post_rank (post_of None number) → MatchOption result ⊥ (λ found. found ≡ number) }
+    ensures found { (number : Option ℕ) → (post.rank, post.number) ≡ post_rank (post_of None number)
+        → MatchOption result ⊥ (λ found. found ≡ number) }
     ensures exact { IfSome result (λ number. (post.rank, post.number) ≡ post_rank (post_of None number)) }
 {
     match (post.rank, post.number) {
@@ -253,7 +266,8 @@ fn post_number(post: RankAndNumber) -> Option<Option<u64>>
 }
 
 fn dev_number(dev: RankAndNumber) -> Option<Option<u64>>
-    ensures found { (number : Option ℕ) → (dev.rank, dev.number) ≡ dev_rank (dev_of None number) → MatchOption result ⊥ (λ found. found ≡ number) }
+    ensures found { (number : Option ℕ) → (dev.rank, dev.number) ≡ dev_rank (dev_of None number)
+        → MatchOption result ⊥ (λ found. found ≡ number) }
     ensures exact { IfSome result (λ number. (dev.rank, dev.number) ≡ dev_rank (dev_of None number)) }
 {
     match (dev.rank, dev.number) {
@@ -272,7 +286,8 @@ pub(crate) struct SuffixParts {
 }
 
 pub(crate) fn read_suffix(bytes: &[u8]) -> Option<(SuffixParts, &[u8])>
-    ensures found { (r : Record) (rest : List ℕ) → IsParsed r → bytes.now ≡ suffix_bytes r ++ rest → MatchOption result ⊥ (λ p. (p.0.pre ≡ r.pre) × (p.0.post ≡ r.post) × (p.0.dev ≡ r.dev) × (p.1.now ≡ rest)) }
+    ensures found { (r : Record) (rest : List ℕ) → IsParsed r → bytes.now ≡ suffix_bytes r ++ rest
+        → MatchOption result ⊥ (λ p. (p.0.pre ≡ r.pre) × (p.0.post ≡ r.post) × (p.0.dev ≡ r.dev) × (p.1.now ≡ rest)) }
     ensures exact { IfSome result (λ p. bytes.now ≡ suffix_bytes (from_parts 0 [] p.0.pre p.0.post p.0.dev []) ++ p.1.now) }
 {
     let (stage, rest) = read_ranked_number(bytes)?;

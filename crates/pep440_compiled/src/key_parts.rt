@@ -10,7 +10,8 @@ ghost use Rattle.pep440_version.specs.Record.{LocalSegmentValue, Record};
 // The rank of a ranked number, and the rest. The epoch is one of rank 0.
 #[inline(always)]
 pub(crate) fn skip_ranked_number(bytes: &[u8]) -> Option<(u8, &[u8])>
-    ensures found { (rank n : ℕ) (rest : List ℕ) → rank < 16 → bytes.now ≡ rank_bytes (rank, n) ++ rest → MatchOption result ⊥ (λ p. (p.0 ≡ rank) × (p.1.now ≡ rest)) }
+    ensures found { (rank n : ℕ) (rest : List ℕ) → rank < 16 → bytes.now ≡ rank_bytes (rank, n) ++ rest
+        → MatchOption result ⊥ (λ p. (p.0 ≡ rank) × (p.1.now ≡ rest)) }
     ensures shorter { IfSome result (λ p. length p.1.now < length bytes.now) }
 {
     let (first, rest) = bytes.split_first()?;
@@ -21,7 +22,8 @@ pub(crate) fn skip_ranked_number(bytes: &[u8]) -> Option<(u8, &[u8])>
 // What follows release numbers and the 0 that ends them.
 #[inline(always)]
 fn skip_numbers(bytes: &[u8]) -> Option<&[u8]>
-    ensures found { (numbers rest : List ℕ) → bytes.now ≡ flat_map (number_bytes 1) numbers ++ 0 ∷ rest → MatchOption result ⊥ (λ r. r.now ≡ rest) }
+    ensures found { (numbers rest : List ℕ) → bytes.now ≡ flat_map (number_bytes 1) numbers ++ 0 ∷ rest
+        → MatchOption result ⊥ (λ r. r.now ≡ rest) }
     ensures shorter { IfSome result (λ r. length r.now < length bytes.now) }
 {
     let mut left = bytes;
@@ -39,7 +41,8 @@ fn skip_numbers(bytes: &[u8]) -> Option<&[u8]>
 // The epoch, the release and the 0 that ends it; and the rest.
 #[inline(always)]
 pub(crate) fn split_release(bytes: &[u8]) -> Option<(&[u8], &[u8])>
-    ensures found { (epoch : ℕ) (numbers rest : List ℕ) → bytes.now ≡ base_bytes epoch numbers ++ 0 ∷ rest → MatchOption result ⊥ (λ p. (p.0.now ≡ base_bytes epoch numbers ++ 0 ∷ []) × (p.1.now ≡ rest)) }
+    ensures found { (epoch : ℕ) (numbers rest : List ℕ) → bytes.now ≡ base_bytes epoch numbers ++ 0 ∷ rest
+        → MatchOption result ⊥ (λ p. (p.0.now ≡ base_bytes epoch numbers ++ 0 ∷ []) × (p.1.now ≡ rest)) }
     ensures shorter { IfSome result (λ p. length p.1.now < length bytes.now) }
 {
     let (_, numbers) = skip_ranked_number(bytes)?;
@@ -57,7 +60,8 @@ pub(crate) struct Suffix {
 // Stage, post and dev; and the rest. A stage below that of a final release, 5, is a pre-release or a dev release.
 #[inline(always)]
 pub(crate) fn split_suffix(bytes: &[u8]) -> Option<(Suffix, &[u8])>
-    ensures found { (r : Record) (rest : List ℕ) → IsParsed r → bytes.now ≡ suffix_bytes r ++ rest → MatchOption result ⊥ (λ p. (p.0.is_prerelease ≡ any_prerelease r) × (p.0.is_post ≡ is_some r.post) × (p.1.now ≡ rest)) }
+    ensures found { (r : Record) (rest : List ℕ) → IsParsed r → bytes.now ≡ suffix_bytes r ++ rest
+        → MatchOption result ⊥ (λ p. (p.0.is_prerelease ≡ any_prerelease r) × (p.0.is_post ≡ is_some r.post) × (p.1.now ≡ rest)) }
     ensures shorter { IfSome result (λ p. length p.1.now < length bytes.now) }
 {
     // A final release, as most versions are.
@@ -98,7 +102,8 @@ pub(crate) fn skip_text(bytes: &[u8]) -> Option<&[u8]>
 #[inline(always)]
 fn skip_segment(first: u8, bytes: &[u8]) -> Option<&[u8]>
     requires { 0 < first }
-    ensures found { (s : LocalSegmentValue) (rest : List ℕ) → HasNoZero s → first ∷ bytes.now ≡ segment_bytes s ++ rest → MatchOption result ⊥ (λ r. r.now ≡ rest) }
+    ensures found { (s : LocalSegmentValue) (rest : List ℕ) → HasNoZero s
+        → first ∷ bytes.now ≡ segment_bytes s ++ rest → MatchOption result ⊥ (λ r. r.now ≡ rest) }
     ensures shorter { IfSome result (λ r. length r.now ≤ length bytes.now) }
 {
     if first == 1 {
@@ -111,7 +116,8 @@ fn skip_segment(first: u8, bytes: &[u8]) -> Option<&[u8]>
 // What follows a local part.
 #[inline(always)]
 pub(crate) fn skip_local(bytes: &[u8]) -> Option<&[u8]>
-    ensures found { (local : List LocalSegmentValue) (rest : List ℕ) → All HasNoZero local → bytes.now ≡ local_bytes local ++ rest → MatchOption result ⊥ (λ r. r.now ≡ rest) }
+    ensures found { (local : List LocalSegmentValue) (rest : List ℕ) → All HasNoZero local
+        → bytes.now ≡ local_bytes local ++ rest → MatchOption result ⊥ (λ r. r.now ≡ rest) }
     ensures shorter { IfSome result (λ r. length r.now < length bytes.now) }
 {
     let mut left = bytes;

@@ -108,7 +108,9 @@ fn read_operator(first: u8) -> Option<Operator>
 // The leading member, and the rest.
 #[inline(always)]
 fn view_member(bytes: &[u8]) -> Option<(MemberView<'_>, &[u8])>
-    ensures found { (s : Spec) (rest : List ℕ) → IsParsedMember s → BeginsOtherwise 1 rest → bytes.now ≡ member_bytes s ++ rest → MatchOption result ⊥ (λ p. (p.0.operator ≡ s.operator) × HasParts p.0.parts s.version × (p.1.now ≡ rest)) }
+    ensures found { (s : Spec) (rest : List ℕ) → IsParsedMember s → BeginsOtherwise 1 rest
+        → bytes.now ≡ member_bytes s ++ rest → MatchOption result ⊥
+        (λ p. (p.0.operator ≡ s.operator) × HasParts p.0.parts s.version × (p.1.now ≡ rest)) }
     ensures shorter { IfSome result (λ p. length p.1.now < length bytes.now) }
 {
     let (first, rest) = bytes.split_first()?;
@@ -131,7 +133,8 @@ fn view_members(bytes: &[u8]) -> Option<&[u8]>
 // What follows the sort key of a member, and the order decides; `None` if more than the order counts.
 #[inline(always)]
 fn skip_key<'a>(member: &'a [u8], order: Ordering, version: &KeyView<'_>) -> Option<&'a [u8]>
-    ensures found { (s v : Record) (rest : List ℕ) → IsParsed s → HasKey version.now v → order ≡ record_cmp v s → member.now ≡ key_bytes s ++ rest → IfSome result (λ r. (r.now ≡ rest) × IsDecided order s v) }
+    ensures found { (s v : Record) (rest : List ℕ) → IsParsed s → HasKey version.now v → order ≡ record_cmp v s
+        → member.now ≡ key_bytes s ++ rest → IfSome result (λ r. (r.now ≡ rest) × IsDecided order s v) }
     ensures shorter { IfSome result (λ r. length r.now ≤ length member.now) }
 {
     if order.is_eq() {
@@ -152,7 +155,11 @@ fn compare_member<'a>(
     member: &'a [u8],
     version: &KeyView<'_>,
 ) -> Option<Option<&'a [u8]>>
-    ensures found { (s : Spec) (v : Record) (rest : List ℕ) → first ≡ 16 + operator_rank s.operator → IsParsed s.version → HasKey version.now v → BeginsOtherwise 1 rest → member.now ≡ version_bytes s.version ++ rest → IfSome result (λ o. MatchOption o (matches s.operator s.version v ≡ false) (λ r. (matches s.operator s.version v ≡ true) × (r.now ≡ rest))) }
+    ensures found { (s : Spec) (v : Record) (rest : List ℕ) → first ≡ 16 + operator_rank s.operator
+        → IsParsed s.version → HasKey version.now v → BeginsOtherwise 1 rest
+        → member.now ≡ version_bytes s.version ++ rest
+        → IfSome result (λ o. MatchOption o (matches s.operator s.version v ≡ false)
+        (λ r. (matches s.operator s.version v ≡ true) × (r.now ≡ rest))) }
     ensures shorter { IfSome result (λ o. IfSome o (λ r. length r.now ≤ length member.now)) }
 {
     let order = cmp_common(version.key, member);
@@ -173,7 +180,10 @@ fn match_star<'a>(
     member: &'a [u8],
     version: &KeyView<'_>,
 ) -> Option<Option<&'a [u8]>>
-    ensures found { (s v : Record) (rest : List ℕ) → IsParsed s → HasKey version.now v → BeginsOtherwise 1 rest → member.now ≡ version_bytes s ++ rest → let found = (if is_exclusion then not (has_prefix s s.release v) else has_prefix s s.release v) in IfSome result (λ o. MatchOption o (found ≡ false) (λ r. (found ≡ true) × (r.now ≡ rest))) }
+    ensures found { (s v : Record) (rest : List ℕ) → IsParsed s → HasKey version.now v → BeginsOtherwise 1 rest
+        → member.now ≡ version_bytes s ++ rest → let found =
+        (if is_exclusion then not (has_prefix s s.release v) else has_prefix s s.release v) in IfSome result
+        (λ o. MatchOption o (found ≡ false) (λ r. (found ≡ true) × (r.now ≡ rest))) }
     ensures shorter { IfSome result (λ o. IfSome o (λ r. length r.now ≤ length member.now)) }
 {
     let (release, after) = split_final(member)?;
@@ -190,7 +200,11 @@ fn match_star<'a>(
 // What follows a member, whose first byte this is, if the version meets it; `None` if more than the order or a prefix decides.
 #[inline(always)]
 fn meet_member<'a>(first: u8, member: &'a [u8], version: &KeyView<'_>) -> Option<Option<&'a [u8]>>
-    ensures found { (s : Spec) (v : Record) (rest : List ℕ) → first ≡ 16 + operator_rank s.operator → IsParsed s.version → HasKey version.now v → BeginsOtherwise 1 rest → member.now ≡ version_bytes s.version ++ rest → IfSome result (λ o. MatchOption o (matches s.operator s.version v ≡ false) (λ r. (matches s.operator s.version v ≡ true) × (r.now ≡ rest))) }
+    ensures found { (s : Spec) (v : Record) (rest : List ℕ) → first ≡ 16 + operator_rank s.operator
+        → IsParsed s.version → HasKey version.now v → BeginsOtherwise 1 rest
+        → member.now ≡ version_bytes s.version ++ rest
+        → IfSome result (λ o. MatchOption o (matches s.operator s.version v ≡ false)
+        (λ r. (matches s.operator s.version v ≡ true) × (r.now ≡ rest))) }
     ensures shorter { IfSome result (λ o. IfSome o (λ r. length r.now ≤ length member.now)) }
 {
     if first == EQUAL_STAR {
@@ -206,7 +220,8 @@ fn meet_member<'a>(first: u8, member: &'a [u8], version: &KeyView<'_>) -> Option
 // pre-release or a developmental release.
 #[inline(always)]
 fn contains_final(list: &[u8], version: &[u8]) -> Option<bool>
-    ensures found { (l : List Spec) (r : Record) → DenotesList list.now l → DenotesVersion version.now r → IfSome result (λ b. b ≡ list_matches l r) }
+    ensures found { (l : List Spec) (r : Record) → DenotesList list.now l → DenotesVersion version.now r
+        → IfSome result (λ b. b ≡ list_matches l r) }
     ensures prerelease { (r : Record) → DenotesVersion version.now r → IfSome result (λ _. any_prerelease r ≡ false) }
     ensures format { IfSome result (λ _. HasListFormat list.now × HasVersionFormat version.now) }
 {
@@ -224,7 +239,8 @@ fn contains_final(list: &[u8], version: &[u8]) -> Option<bool>
 // As `contains`, by the parts of the version. A call of its own, so that what is soon found pays nothing for it.
 #[inline(never)]
 fn contains_any(list: &[u8], version: &[u8]) -> Result<(bool, bool), ContainsError>
-    ensures found { (l : List Spec) (r : Record) → DenotesList list.now l → DenotesVersion version.now r → result ≡ Ok (list_matches l r, any_prerelease r) }
+    ensures found { (l : List Spec) (r : Record) → DenotesList list.now l → DenotesVersion version.now r
+        → result ≡ Ok (list_matches l r, any_prerelease r) }
     ensures prerelease { (r : Record) → DenotesVersion version.now r → IfOk result (λ found. found.1 ≡ any_prerelease r) }
     ensures format { IfOk result (λ _. HasListFormat list.now × HasVersionFormat version.now) }
     ensures version { IfErr result (λ e. e ≡ NoVersion → (r : Record) → DenotesVersion version.now r → ⊥) }
@@ -256,7 +272,8 @@ fn contains_any(list: &[u8], version: &[u8]) -> Result<(bool, bool), ContainsErr
 /// Does not allocate.
 #[inline(always)]
 pub fn contains(list: &[u8], version: &[u8]) -> Result<(bool, bool), ContainsError>
-    ensures found { (l : List Spec) (r : Record) → DenotesList list.now l → DenotesVersion version.now r → result ≡ Ok (list_matches l r, any_prerelease r) }
+    ensures found { (l : List Spec) (r : Record) → DenotesList list.now l → DenotesVersion version.now r
+        → result ≡ Ok (list_matches l r, any_prerelease r) }
     ensures prerelease { (r : Record) → DenotesVersion version.now r → IfOk result (λ found. found.1 ≡ any_prerelease r) }
     ensures format { IfOk result (λ _. HasListFormat list.now × HasVersionFormat version.now) }
     ensures version { IfErr result (λ e. e ≡ NoVersion → (r : Record) → DenotesVersion version.now r → ⊥) }
@@ -305,7 +322,8 @@ fn decode_member(
     alloc: Global,
     member: MemberView<'_>,
 ) -> Result<Option<VersionSpecifier>, AllocError>
-    ensures { (s : Spec) → IsParsedMember s → member.entry.operator ≡ s.operator → HasParts member.entry.parts s.version → IfOk result (λ o. o ≡ Some s) }
+    ensures { (s : Spec) → IsParsedMember s → member.entry.operator ≡ s.operator
+        → HasParts member.entry.parts s.version → IfOk result (λ o. o ≡ Some s) }
 {
     let Some(version) = decode_version(alloc, member.parts.version)? else {
         return Ok(None);
@@ -318,7 +336,8 @@ fn decode_member(
 
 // The specifiers of the members.
 fn decode_members(alloc: Global, bytes: &[u8]) -> Result<Option<Vec<VersionSpecifier>>, AllocError>
-    ensures { (list : List Spec) → All IsParsedMember list → bytes.now ≡ flat_map member_bytes list → IfOk result (λ o. MatchOption o ⊥ (λ members. members.items ≡ list)) }
+    ensures { (list : List Spec) → All IsParsedMember list → bytes.now ≡ flat_map member_bytes list
+        → IfOk result (λ o. MatchOption o ⊥ (λ members. members.items ≡ list)) }
 {
     let mut members = Vec::new(alloc);
     let mut left = bytes;

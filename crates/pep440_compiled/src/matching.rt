@@ -80,7 +80,9 @@ fn continues_with_zeros(bytes: &[u8], zeros: usize) -> bool
 
 // The version has the epoch of the base, and its release begins with the numbers of the base, and then so many zeros.
 fn has_prefix(base: &[u8], zeros: usize, version: &[u8]) -> bool
-    ensures { (epoch : ℕ) (numbers : List ℕ) (v : Record) → Fits epoch → All Fits numbers → IsParsed v → base.now ≡ base_bytes epoch numbers → zeros ≡ ending_zeros numbers → version.now ≡ key_bytes v → result ≡ ((v.epoch == epoch) && begins_with v.release numbers) }
+    ensures { (epoch : ℕ) (numbers : List ℕ) (v : Record) → Fits epoch → All Fits numbers → IsParsed v
+        → base.now ≡ base_bytes epoch numbers → zeros ≡ ending_zeros numbers → version.now ≡ key_bytes v
+        → result ≡ ((v.epoch == epoch) && begins_with v.release numbers) }
 {
     match strip_base(version, base) {
         Some(rest) => continues_with_zeros(rest, zeros),
@@ -110,7 +112,9 @@ fn has_release(specifier: &PartsView<'_>, version: &[u8]) -> bool
 // The base without its last number, and how many zeros then end its numbers.
 #[inline(never)]
 fn without_last(base: &[u8]) -> Option<(&[u8], usize)>
-    ensures { (epoch : ℕ) (numbers : List ℕ) → 0 < length numbers → All Fits numbers → ending_zeros numbers ≡ 0 → base.now ≡ base_bytes epoch numbers → MatchOption result ⊥ (λ p. (p.0.now ≡ base_bytes epoch (without_last numbers)) × (p.1 ≡ ending_zeros (without_last numbers))) }
+    ensures { (epoch : ℕ) (numbers : List ℕ) → 0 < length numbers → All Fits numbers → ending_zeros numbers ≡ 0
+        → base.now ≡ base_bytes epoch numbers → MatchOption result ⊥
+        (λ p. (p.0.now ≡ base_bytes epoch (without_last numbers)) × (p.1 ≡ ending_zeros (without_last numbers))) }
 {
     let (_, numbers) = skip_ranked_number(base)?;
     let mut left = numbers;
@@ -135,7 +139,8 @@ fn without_last(base: &[u8]) -> Option<(&[u8], usize)>
 // The release of the version begins with that of the specifier, but for its last number.
 #[inline(always)]
 fn is_compatible(specifier: &PartsView<'_>, version: &[u8]) -> bool
-    ensures { (s v : Record) → HasParts specifier.now s → 1 < length s.release → IsParsed v → version.now ≡ key_bytes v → result ≡ has_prefix s (without_last s.release) v }
+    ensures { (s v : Record) → HasParts specifier.now s → 1 < length s.release → IsParsed v
+        → version.now ≡ key_bytes v → result ≡ has_prefix s (without_last s.release) v }
 {
     let zeros = specifier.version.zeros;
     if zeros > 0 {
@@ -151,7 +156,8 @@ fn is_compatible(specifier: &PartsView<'_>, version: &[u8]) -> bool
 // there for the other operators.
 fn matches_other(operator: Operator, specifier: PartsView<'_>, version: PartsView<'_>) -> bool
     requires { is_compared operator ≡ false }
-    ensures { (s v : Record) → HasParts specifier.entry s → HasParts version.entry v → IsSpec (record { operator = operator; version = s }) → result ≡ matches operator s v }
+    ensures { (s v : Record) → HasParts specifier.entry s → HasParts version.entry v
+        → IsSpec (record { operator = operator; version = s }) → result ≡ matches operator s v }
 {
     let key = version.version.key;
     match operator {
@@ -174,7 +180,8 @@ pub(crate) fn matches_bytes(
     specifier: &PartsView<'_>,
     version: &PartsView<'_>,
 ) -> bool
-    ensures { (s v : Record) → HasParts specifier.now s → HasParts version.now v → IsSpec (record { operator = operator; version = s }) → result ≡ matches operator s v }
+    ensures { (s v : Record) → HasParts specifier.now s → HasParts version.now v
+        → IsSpec (record { operator = operator; version = s }) → result ≡ matches operator s v }
 {
     match operator {
         Operator::Equal => cmp_candidate(specifier, version).is_eq(),
@@ -194,7 +201,8 @@ pub(crate) fn matches_bytes(
 // The release of the version begins with this one, which no zeros end.
 #[inline(always)]
 pub(crate) fn begins_with_release(key: &[u8], release: &[u8]) -> bool
-    ensures { (s v : Record) → IsParsed s → IsParsed v → ending_zeros s.release ≡ 0 → key.now ≡ key_bytes v → release.now ≡ base_bytes s.epoch s.release ++ 0 ∷ [] → result ≡ has_prefix s s.release v }
+    ensures { (s v : Record) → IsParsed s → IsParsed v → ending_zeros s.release ≡ 0 → key.now ≡ key_bytes v
+        → release.now ≡ base_bytes s.epoch s.release ++ 0 ∷ [] → result ≡ has_prefix s s.release v }
 {
     key.starts_with(base(release))
 }

@@ -56,8 +56,11 @@ fn push_digit(form: &mut ArrayVec<u8, 64>, digit: u8) -> Result<(), AllocError>
 #[inline(always)]
 fn push_segment(form: &mut ArrayVec<u8, 64>, text: &[u8]) -> Result<bool, AllocError>
     requires { list_all is_lower text.now ≡ true }
-    ensures appended { IfOk result (λ done. done ≡ true → (s : LocalSegmentValue) × IsSegment text.now s × (form.new.items ≡ form.old.items ++ segment_bytes s)) }
-    ensures fits { (s : LocalSegmentValue) → SegmentRereads s → IsShortSegment s → text.now ≡ segment_print s → length form.old.items + length (segment_bytes s) ≤ 64 → (result ≡ Ok true) × (form.new.items ≡ form.old.items ++ segment_bytes s) }
+    ensures appended { IfOk result (λ done. done ≡ true
+        → (s : LocalSegmentValue) × IsSegment text.now s × (form.new.items ≡ form.old.items ++ segment_bytes s)) }
+    ensures fits { (s : LocalSegmentValue) → SegmentRereads s → IsShortSegment s → text.now ≡ segment_print s
+        → length form.old.items + length (segment_bytes s) ≤ 64
+        → (result ≡ Ok true) × (form.new.items ≡ form.old.items ++ segment_bytes s) }
 {
     if !is_digits(text) {
         form.append(&[1])?;
@@ -75,8 +78,13 @@ fn push_segment(form: &mut ArrayVec<u8, 64>, text: &[u8]) -> Result<bool, AllocE
 // Appends the bytes of segments with dots between them; `false` if one of them is none of the above.
 #[inline(always)]
 fn push_segments(form: &mut ArrayVec<u8, 64>, text: &[u8]) -> Result<bool, AllocError>
-    ensures appended { IfOk result (λ done. done ≡ true → (segments : List LocalSegmentValue) × AreSegments text.now segments × (form.new.items ≡ form.old.items ++ flat_map segment_bytes segments)) }
-    ensures fits { (segments : List LocalSegmentValue) → 0 < length segments → All SegmentRereads segments → All IsShortSegment segments → text.now ≡ dotted segment_print segments → length form.old.items + length (flat_map segment_bytes segments) ≤ 64 → (result ≡ Ok true) × (form.new.items ≡ form.old.items ++ flat_map segment_bytes segments) }
+    ensures appended { IfOk result (λ done. done ≡ true
+        → (segments : List LocalSegmentValue) × AreSegments text.now segments
+        × (form.new.items ≡ form.old.items ++ flat_map segment_bytes segments)) }
+    ensures fits { (segments : List LocalSegmentValue) → 0 < length segments → All SegmentRereads segments
+        → All IsShortSegment segments → text.now ≡ dotted segment_print segments
+        → length form.old.items + length (flat_map segment_bytes segments) ≤ 64
+        → (result ≡ Ok true) × (form.new.items ≡ form.old.items ++ flat_map segment_bytes segments) }
 {
     let mut rest = text;
     for _ in 0..text.len() {
@@ -96,8 +104,11 @@ fn push_segments(form: &mut ArrayVec<u8, 64>, text: &[u8]) -> Result<bool, Alloc
 // Appends the bytes of a local part; `false` of one with other segments.
 #[inline(always)]
 fn push_local(form: &mut ArrayVec<u8, 64>, text: &[u8]) -> Result<bool, AllocError>
-    ensures appended { IfOk result (λ done. done ≡ true → (local : List LocalSegmentValue) × IsLocal text.now local × (form.new.items ≡ form.old.items ++ local_bytes local)) }
-    ensures fits { (local : List LocalSegmentValue) → All SegmentRereads local → All IsShortSegment local → text.now ≡ local_text local → length form.old.items + length (local_bytes local) ≤ 64 → (result ≡ Ok true) × (form.new.items ≡ form.old.items ++ local_bytes local) }
+    ensures appended { IfOk result (λ done. done ≡ true
+        → (local : List LocalSegmentValue) × IsLocal text.now local × (form.new.items ≡ form.old.items ++ local_bytes local)) }
+    ensures fits { (local : List LocalSegmentValue) → All SegmentRereads local → All IsShortSegment local
+        → text.now ≡ local_text local → length form.old.items + length (local_bytes local) ≤ 64
+        → (result ≡ Ok true) × (form.new.items ≡ form.old.items ++ local_bytes local) }
 {
     match text {
         [] => (),
@@ -120,8 +131,13 @@ fn push_form(
     parts: NormalParts,
     local: &[u8],
 ) -> Result<bool, AllocError>
-    ensures appended { IfOk result (λ done. done ≡ true → (segments : List LocalSegmentValue) × IsLocal local.now segments × (form.new.items ≡ form.old.items ++ compiled_bytes (from_parts parts.epoch parts.release parts.pre parts.post parts.dev segments))) }
-    ensures fits { (segments : List LocalSegmentValue) → All SegmentRereads segments → All IsShortSegment segments → local.now ≡ local_text segments → length form.old.items + length (compiled_bytes (from_parts parts.epoch parts.release parts.pre parts.post parts.dev segments)) ≤ 64 → result ≡ Ok true }
+    ensures appended { IfOk result (λ done. done ≡ true
+        → (segments : List LocalSegmentValue) × IsLocal local.now segments
+        × (form.new.items ≡ form.old.items ++ compiled_bytes
+        (from_parts parts.epoch parts.release parts.pre parts.post parts.dev segments))) }
+    ensures fits { (segments : List LocalSegmentValue) → All SegmentRereads segments → All IsShortSegment segments
+        → local.now ≡ local_text segments → length form.old.items + length
+        (compiled_bytes (from_parts parts.epoch parts.release parts.pre parts.post parts.dev segments)) ≤ 64 → result ≡ Ok true }
 {
     let NormalParts {
         epoch,

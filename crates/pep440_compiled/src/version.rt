@@ -26,7 +26,8 @@ use std::cmp::Ordering;
 #[inline(always)]
 pub(crate) fn push_zeros<K: KeySink>(bytes: &mut K, release: &[u64]) -> Result<(), AllocError>
     ensures appended { OnOk result (K.written bytes.new ≡ K.written bytes.old ++ zero_bytes release.now) }
-    ensures fits { (more : ℕ) → K.has_capacity bytes.old (length (zero_bytes release.now) + more) → IsOk result × K.has_capacity bytes.new more }
+    ensures fits { (more : ℕ) → K.has_capacity bytes.old (length (zero_bytes release.now) + more)
+        → IsOk result × K.has_capacity bytes.new more }
 {
     let kept = trim_trailing_zeros(release).len();
     for _ in kept..release.len() {
@@ -130,7 +131,8 @@ pub fn read_sort_key(bytes: &[u8]) -> Result<&[u8], NotCompiled>
 /// Does not allocate.
 pub fn compare(a: &[u8], b: &[u8]) -> Result<Ordering, NotCompiled>
     ensures found { (r q : Record) → DenotesVersion a.now r → DenotesVersion b.now q → result ≡ Ok (record_cmp r q) }
-    ensures format { MatchResult result (λ _. HasVersionFormat a.now × HasVersionFormat b.now) (λ _. HasVersionFormat a.now → HasVersionFormat b.now → ⊥) }
+    ensures format { MatchResult result (λ _. HasVersionFormat a.now × HasVersionFormat b.now)
+        (λ _. HasVersionFormat a.now → HasVersionFormat b.now → ⊥) }
 {
     if !has_version_format(a) || !has_version_format(b) {
         return Err(NotCompiled);

@@ -79,7 +79,10 @@ fn view_suffix<'a>(
     rest: &'a [u8],
 ) -> Option<(PartsView<'a>, &'a [u8])>
     requires { length rest.now < length bytes.now }
-    ensures found { (r : Record) (more : List ℕ) → IsParsed r → BeginsOtherwise 1 more → bytes.now ≡ version_bytes r ++ more → release.now ≡ base_bytes r.epoch r.release ++ 0 ∷ [] → rest.now ≡ suffix_bytes r ++ (local_bytes r.local ++ (zero_bytes r.release ++ more)) → MatchOption result ⊥ (λ p. HasParts p.0 r × (p.1.now ≡ more)) }
+    ensures found { (r : Record) (more : List ℕ) → IsParsed r → BeginsOtherwise 1 more
+        → bytes.now ≡ version_bytes r ++ more → release.now ≡ base_bytes r.epoch r.release ++ 0 ∷ []
+        → rest.now ≡ suffix_bytes r ++ (local_bytes r.local ++ (zero_bytes r.release ++ more))
+        → MatchOption result ⊥ (λ p. HasParts p.0 r × (p.1.now ≡ more)) }
     ensures shorter { IfSome result (λ p. length p.1.now < length bytes.now) }
 {
     let (suffix, local) = split_suffix(rest)?;
@@ -101,7 +104,8 @@ fn view_suffix<'a>(
 // The leading version and its parts, and the rest.
 #[inline(always)]
 pub(crate) fn view_parts(bytes: &[u8]) -> Option<(PartsView<'_>, &[u8])>
-    ensures found { (r : Record) (rest : List ℕ) → IsParsed r → BeginsOtherwise 1 rest → bytes.now ≡ version_bytes r ++ rest → MatchOption result ⊥ (λ p. HasParts p.0 r × (p.1.now ≡ rest)) }
+    ensures found { (r : Record) (rest : List ℕ) → IsParsed r → BeginsOtherwise 1 rest
+        → bytes.now ≡ version_bytes r ++ rest → MatchOption result ⊥ (λ p. HasParts p.0 r × (p.1.now ≡ rest)) }
     ensures shorter { IfSome result (λ p. length p.1.now < length bytes.now) }
 {
     let (release, rest) = split_release(bytes)?;
@@ -126,7 +130,8 @@ fn strip_final_suffix(bytes: &[u8]) -> Option<&[u8]>
 // without a local part, as most are.
 #[inline(always)]
 pub(crate) fn split_final(bytes: &[u8]) -> Option<(&[u8], &[u8])>
-    ensures found { (r : Record) (rest : List ℕ) → IsParsed r → bytes.now ≡ key_bytes r ++ rest → IfSome result (λ p. IsFinal r × (p.0.now ≡ base_bytes r.epoch r.release ++ 0 ∷ []) × (p.1.now ≡ rest)) }
+    ensures found { (r : Record) (rest : List ℕ) → IsParsed r → bytes.now ≡ key_bytes r ++ rest
+        → IfSome result (λ p. IsFinal r × (p.0.now ≡ base_bytes r.epoch r.release ++ 0 ∷ []) × (p.1.now ≡ rest)) }
     ensures shorter { IfSome result (λ p. length p.1.now < length bytes.now) }
 {
     let (release, suffix) = split_release(bytes)?;

@@ -15,7 +15,8 @@ use std::alloc::{AllocError, Global};
 #[inline(always)]
 pub(crate) fn push_numbers<K: KeySink>(key: &mut K, release: &[u64]) -> Result<(), AllocError>
     ensures appended { OnOk result (K.written key.new ≡ K.written key.old ++ flat_map (number_bytes 1) (trim release.now)) }
-    ensures fits { (more : ℕ) → K.has_capacity key.old (length (flat_map (number_bytes 1) (trim release.now)) + more) → IsOk result × K.has_capacity key.new more }
+    ensures fits { (more : ℕ) → K.has_capacity key.old (length (flat_map (number_bytes 1) (trim release.now)) + more)
+        → IsOk result × K.has_capacity key.new more }
 {
     for number in trim_trailing_zeros(release) {
         push_number(key, 1, *number)?;
@@ -25,7 +26,8 @@ pub(crate) fn push_numbers<K: KeySink>(key: &mut K, release: &[u64]) -> Result<(
 
 fn push_ranked<K: KeySink>(key: &mut K, ranked: RankedNumber) -> Result<(), AllocError>
     ensures appended { OnOk result (K.written key.new ≡ K.written key.old ++ rank_bytes (ranked.rank, ranked.number)) }
-    ensures fits { (more : ℕ) → K.has_capacity key.old (length (rank_bytes (ranked.rank, ranked.number)) + more) → IsOk result × K.has_capacity key.new more }
+    ensures fits { (more : ℕ) → K.has_capacity key.old (length (rank_bytes (ranked.rank, ranked.number)) + more)
+        → IsOk result × K.has_capacity key.new more }
 {
     push_number(key, 16 * ranked.rank, ranked.number)
 }
@@ -37,8 +39,12 @@ pub(crate) fn push_suffix<K: KeySink>(
     post: RankedNumber,
     dev: RankedNumber,
 ) -> Result<(), AllocError>
-    ensures appended { OnOk result (K.written key.new ≡ K.written key.old ++ (rank_bytes (stage.rank, stage.number) ++ rank_bytes (post.rank, post.number) ++ rank_bytes (dev.rank, dev.number))) }
-    ensures fits { (more : ℕ) → K.has_capacity key.old (length (rank_bytes (stage.rank, stage.number) ++ rank_bytes (post.rank, post.number) ++ rank_bytes (dev.rank, dev.number)) + more) → IsOk result × K.has_capacity key.new more }
+    ensures appended { OnOk result (K.written key.new
+        ≡ K.written key.old ++ (rank_bytes (stage.rank, stage.number) ++ rank_bytes (post.rank, post.number)
+        ++ rank_bytes (dev.rank, dev.number))) }
+    ensures fits { (more : ℕ) → K.has_capacity key.old
+        (length (rank_bytes (stage.rank, stage.number) ++ rank_bytes (post.rank, post.number)
+        ++ rank_bytes (dev.rank, dev.number)) + more) → IsOk result × K.has_capacity key.new more }
 {
     if stage.number == 0 && post.number == 0 && dev.number == 0 {
         return key.append(&[16 * stage.rank, 16 * post.rank, 16 * dev.rank]);

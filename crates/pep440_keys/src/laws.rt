@@ -17,7 +17,8 @@ ghost use Rattle.pep440_keys.specs.SortKeys.{IsKeyed, key_bytes};
 pub fn keys_are_ordered()
     ensures ordered { (r q : Record) → IsKeyed r → IsKeyed q → slice_cmp nat_cmp (key_bytes r) (key_bytes q) ≡ record_cmp r q }
     ensures same { (r q : Record) → IsKeyed r → IsKeyed q → (key_bytes r ≡ key_bytes q) ↔ (record_cmp r q ≡ Equal) }
-    ensures followed { (r q : Record) → IsKeyed r → IsKeyed q → (u v : List ℕ) → slice_cmp nat_cmp (key_bytes r ++ u) (key_bytes q ++ v) ≡ ordering_then (record_cmp r q) (slice_cmp nat_cmp u v) }
+    ensures followed { (r q : Record) → IsKeyed r → IsKeyed q → (u v : List ℕ)
+        → slice_cmp nat_cmp (key_bytes r ++ u) (key_bytes q ++ v) ≡ ordering_then (record_cmp r q) (slice_cmp nat_cmp u v) }
 {}
 
 /// Each version that a string parses to, as a version or as a pattern, has local segments without a zero byte: so the
@@ -25,12 +26,14 @@ pub fn keys_are_ordered()
 pub fn texts_are_ordered()
     ensures keyed { (text : List ℕ) (r : Record) → Derives text r → IsKeyed r }
     ensures keyed_pattern { (text : List ℕ) (r : Record) (star : Bool) → DerivesPattern text r star → IsKeyed r }
-    ensures ordered { (s t : List ℕ) (r q : Record) → Derives s r → Derives t q → slice_cmp nat_cmp (key_bytes r) (key_bytes q) ≡ record_cmp r q }
+    ensures ordered { (s t : List ℕ) (r q : Record) → Derives s r → Derives t q
+        → slice_cmp nat_cmp (key_bytes r) (key_bytes q) ≡ record_cmp r q }
 {}
 
 /// A version lies in a segment exactly if its sort key lies in the segment's interval; the same holds for a list of segments. The
 /// local segments of the versions must have no zero byte, and no parsed version has one (`texts_are_ordered`).
 pub fn keys_tell_membership()
-    ensures segment { (s : Segment Record) (v : Record) → IsKeyedSegment s → IsKeyed v → is_within (segment_interval s) (key_bytes v) ≡ lies_in record_cmp s v }
+    ensures segment { (s : Segment Record) (v : Record) → IsKeyedSegment s → IsKeyed v
+        → is_within (segment_interval s) (key_bytes v) ≡ lies_in record_cmp s v }
     ensures range { (range : List (Segment Record)) → HasKeys range → HoldsKeys range (map segment_interval range) }
 {}

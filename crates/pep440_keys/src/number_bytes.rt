@@ -23,7 +23,8 @@ fn skip_leading_zeros(bytes: &[u8]) -> &[u8]
 fn push_any_number<K: KeySink>(key: &mut K, base: u8, number: u64) -> Result<(), AllocError>
     requires { base ≤ 80 }
     ensures appended { OnOk result (K.written key.new ≡ K.written key.old ++ number_bytes base number) }
-    ensures fits { (more : ℕ) → K.has_capacity key.old (length (number_bytes base number) + more) → IsOk result × K.has_capacity key.new more }
+    ensures fits { (more : ℕ) → K.has_capacity key.old (length (number_bytes base number) + more)
+        → IsOk result × K.has_capacity key.new more }
 {
     let padded = number.to_be_bytes();
     let bytes = skip_leading_zeros(&padded);
@@ -36,7 +37,8 @@ fn push_any_number<K: KeySink>(key: &mut K, base: u8, number: u64) -> Result<(),
 pub(crate) fn push_number<K: KeySink>(key: &mut K, base: u8, number: u64) -> Result<(), AllocError>
     requires { base ≤ 80 }
     ensures appended { OnOk result (K.written key.new ≡ K.written key.old ++ number_bytes base number) }
-    ensures fits { (more : ℕ) → K.has_capacity key.old (length (number_bytes base number) + more) → IsOk result × K.has_capacity key.new more }
+    ensures fits { (more : ℕ) → K.has_capacity key.old (length (number_bytes base number) + more)
+        → IsOk result × K.has_capacity key.new more }
 {
     match number {
         0 => key.append(&[base]),

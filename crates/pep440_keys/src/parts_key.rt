@@ -66,8 +66,13 @@ fn push_suffix_of<K: KeySink>(
     post: Option<u64>,
     dev: Option<u64>,
 ) -> Result<(), AllocError>
-    ensures appended { OnOk result (K.written key.new ≡ K.written key.old ++ 0 ∷ (rank_bytes (stage_rank (stage_of None pre dev post None)) ++ rank_bytes (post_rank (post_of None post)) ++ rank_bytes (dev_rank (dev_of None dev)))) }
-    ensures fits { (more : ℕ) → K.has_capacity key.old (length (0 ∷ (rank_bytes (stage_rank (stage_of None pre dev post None)) ++ rank_bytes (post_rank (post_of None post)) ++ rank_bytes (dev_rank (dev_of None dev)))) + more) → IsOk result × K.has_capacity key.new more }
+    ensures appended { OnOk result (K.written key.new
+        ≡ K.written key.old ++ 0 ∷ (rank_bytes (stage_rank (stage_of None pre dev post None))
+        ++ rank_bytes (post_rank (post_of None post)) ++ rank_bytes (dev_rank (dev_of None dev)))) }
+    ensures fits { (more : ℕ) → K.has_capacity key.old
+        (length (0 ∷ (rank_bytes (stage_rank (stage_of None pre dev post None))
+        ++ rank_bytes (post_rank (post_of None post)) ++ rank_bytes (dev_rank (dev_of None dev)))) + more)
+        → IsOk result × K.has_capacity key.new more }
 {
     if let (None, None, None) = (pre, post, dev) {
         return key.append(&[0, 80, 0, 16]);
@@ -92,8 +97,12 @@ pub fn push_parts_key<K: KeySink>(
     post: Option<u64>,
     dev: Option<u64>,
 ) -> Result<(), AllocError>
-    ensures appended { (local : List LocalSegmentValue) → OnOk result (K.written key.new ++ local_bytes local ≡ K.written key.old ++ key_bytes (from_parts epoch release.now pre post dev local)) }
-    ensures fits { (local : List LocalSegmentValue) (more : ℕ) → K.has_capacity key.old (length (key_bytes (from_parts epoch release.now pre post dev local)) + more) → IsOk result × K.has_capacity key.new (length (local_bytes local) + more) }
+    ensures appended { (local : List LocalSegmentValue)
+        → OnOk result (K.written key.new ++ local_bytes local
+        ≡ K.written key.old ++ key_bytes (from_parts epoch release.now pre post dev local)) }
+    ensures fits { (local : List LocalSegmentValue) (more : ℕ)
+        → K.has_capacity key.old (length (key_bytes (from_parts epoch release.now pre post dev local)) + more)
+        → IsOk result × K.has_capacity key.new (length (local_bytes local) + more) }
 {
     push_number(key, 0, epoch)?;
     push_numbers(key, release)?;

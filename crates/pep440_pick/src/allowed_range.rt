@@ -55,7 +55,8 @@ pub fn allowed(
 ) -> Result<Ranges<Version>, RangeError>
     ensures set { IfOk result (HoldsAllowed (lists_of name.now (map needed requirements.now))) }
     // `NumberAtMax` exactly if some requirement of that name has no range, unless an allocation fails.
-    ensures at_max { TellsMax (list_any (λ list. is_none (list_range range_of list)) (lists_of name.now (map needed requirements.now))) result }
+    ensures at_max { TellsMax (list_any (λ list. is_none (list_range range_of list))
+        (lists_of name.now (map needed requirements.now))) result }
     ensures all { lists_of name.now (map needed requirements.now) ≡ [] → IfOk result (λ range. range ≡ full) }
 {
     let members = collect_members(alloc, requirements, name)?;

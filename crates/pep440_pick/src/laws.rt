@@ -19,5 +19,6 @@ pub fn refused_once()
 
 /// There is exactly one newest candidate, or there is none.
 pub fn newest_once()
-    ensures { (lists : List (List Spec)) (candidates : List Record) (a b : Option ℕ) → Newest lists candidates a → Newest lists candidates b → a ≡ b }
+    ensures { (lists : List (List Spec)) (candidates : List Record) (a b : Option ℕ) → Newest lists candidates a
+        → Newest lists candidates b → a ≡ b }
 {}

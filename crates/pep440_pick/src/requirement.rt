@@ -43,7 +43,8 @@ impl Requirement {
         // The error of the string is returned, unless an allocation fails.
         ensures decided { (f : RequirementRefusal) → RefusesRequirement text.now f → RequirementAnswers result (Err f) }
         // The error's message is the stated one.
-        ensures message { IfErr result (λ e. IfSome (requirement_refusal_of e) (λ f. requirement_text_of e ≡ Some (requirement_refusal_text f))) }
+        ensures message { IfErr result (λ e. IfSome (requirement_refusal_of e)
+            (λ f. requirement_text_of e ≡ Some (requirement_refusal_text f))) }
         // `OutOfMemory` is a kind of its own, and is inside no other.
         ensures lifted { IfErr result IsRequirementLifted }
         // The version of each member is one that a string can have beside the operator, as the agreement of ranges requires.
@@ -63,7 +64,8 @@ impl Requirement {
         // The position is that at which the string is invalid.
         ensures position { IfErr result (IsPositioned text.now) }
         // The error's message is the stated one.
-        ensures message { IfErr result (λ e. IfSome (requirement_refusal_of e.kind) (λ f. requirement_text_of e.kind ≡ Some (requirement_refusal_text f))) }
+        ensures message { IfErr result (λ e. IfSome (requirement_refusal_of e.kind)
+            (λ f. requirement_text_of e.kind ≡ Some (requirement_refusal_text f))) }
         // `OutOfMemory` is a kind of its own, and is inside no other.
         ensures lifted { IfErr result (λ e. IsRequirementLifted e.kind) }
         // The version of each member is one that a string can have beside the operator, as the agreement of ranges requires.
@@ -94,7 +96,8 @@ impl Requirement {
         // The error is that of the string.
         ensures refused { IfErr result (λ e. IfSome (requirement_refusal_of e) (RefusesRequirement text.now)) }
         // The error's message is the stated one.
-        ensures message { IfErr result (λ e. IfSome (requirement_refusal_of e) (λ f. requirement_text_of e ≡ Some (requirement_refusal_text f))) }
+        ensures message { IfErr result (λ e. IfSome (requirement_refusal_of e)
+            (λ f. requirement_text_of e ≡ Some (requirement_refusal_text f))) }
         // `OutOfMemory` is a kind of its own, and is inside no other.
         ensures lifted { IfErr result IsRequirementLifted }
     {

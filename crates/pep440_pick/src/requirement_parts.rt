@@ -130,7 +130,8 @@ fn parse_after_name<'a>(
     requires rest { rest.now ≡ behind_name text.now }
     ensures value { FrontGives result (prefix_after_name name.now rest.now) }
     ensures lifted { IfErr result (λ e. IsRequirementLifted e.kind) }
-    ensures message { IfErr result (λ e. IfSome (requirement_refusal_of e.kind) (λ f. requirement_text_of e.kind ≡ Some (requirement_refusal_text f))) }
+    ensures message { IfErr result (λ e. IfSome (requirement_refusal_of e.kind)
+        (λ f. requirement_text_of e.kind ≡ Some (requirement_refusal_text f))) }
     ensures position { IfErr result (IsPositioned text.now) }
     ensures list { IfOk result (λ p. p.list_position ≡ list_position text.now) }
 {
@@ -156,7 +157,8 @@ fn parse_after_name<'a>(
 pub(crate) fn parse_parts(text: &str) -> Result<SplitRequirement<'_>, RequirementParseError>
     ensures value { FrontGives result (read_prefix text.now) }
     ensures lifted { IfErr result (λ e. IsRequirementLifted e.kind) }
-    ensures message { IfErr result (λ e. IfSome (requirement_refusal_of e.kind) (λ f. requirement_text_of e.kind ≡ Some (requirement_refusal_text f))) }
+    ensures message { IfErr result (λ e. IfSome (requirement_refusal_of e.kind)
+        (λ f. requirement_text_of e.kind ≡ Some (requirement_refusal_text f))) }
     ensures position { IfErr result (IsPositioned text.now) }
     ensures list { IfOk result (λ p. p.list_position ≡ list_position text.now) }
 {
@@ -173,7 +175,8 @@ pub(crate) fn parse_parts(text: &str) -> Result<SplitRequirement<'_>, Requiremen
 // The error of a requirement whose list has this error.
 fn from_list_error(error: VersionSpecifiersParseError) -> RequirementError
     requires { IsListLifted (list_kind_of error) }
-    ensures refusal { requirement_refusal_of result ≡ option_map (λ f. Specifiers (line_of error) f) (list_refusal_of (list_kind_of error)) }
+    ensures refusal { requirement_refusal_of result
+        ≡ option_map (λ f. Specifiers (line_of error) f) (list_refusal_of (list_kind_of error)) }
     ensures message { requirement_text_of result ≡ list_text_of (list_kind_of error) (line_of error) }
     ensures lifted { IsRequirementLifted result }
 {
@@ -191,7 +194,8 @@ pub(crate) fn parse_list(
     ensures found { IfOk result (λ list. DerivesList parts.entry.list.now list) }
     ensures operand { IfOk result (λ list. All HasOperand list) }
     ensures refused { IfErr result (λ e. IfSome (requirement_refusal_of e.kind) (IsOfList parts.entry.list.now)) }
-    ensures message { IfErr result (λ e. IfSome (requirement_refusal_of e.kind) (λ f. requirement_text_of e.kind ≡ Some (requirement_refusal_text f))) }
+    ensures message { IfErr result (λ e. IfSome (requirement_refusal_of e.kind)
+        (λ f. requirement_text_of e.kind ≡ Some (requirement_refusal_text f))) }
     ensures lifted { IfErr result (λ e. IsRequirementLifted e.kind) }
     ensures position { IfErr result (λ e. e.position ≡ parts.entry.list_position) }
 {

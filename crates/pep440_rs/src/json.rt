@@ -89,17 +89,23 @@ pub fn version_from_json(
     // What is returned is what the string denotes.
     ensures found { IfOk result (λ v. (t : List ℕ) × IsString value.now t × Derives t v) }
     // What the string denotes is returned, unless an allocation fails.
-    ensures only { (t : List ℕ) (r : Record) → IsString value.now t → Derives t r → JsonAnswers (λ e. refusal_of (kind_of e)) result (Ok r) }
+    ensures only { (t : List ℕ) (r : Record) → IsString value.now t → Derives t r
+        → JsonAnswers (λ e. refusal_of (kind_of e)) result (Ok r) }
     // The error of the string is one that its prefixes decide, and not out of memory.
-    ensures refused { IfErr result (λ e. IfText e (λ inner. IsSomeAnd (refusal_of (kind_of inner)) (λ f. (t : List ℕ) × IsString value.now t × Refuses t f))) }
+    ensures refused { IfErr result (λ e. IfText e
+        (λ inner. IsSomeAnd (refusal_of (kind_of inner)) (λ f. (t : List ℕ) × IsString value.now t × Refuses t f))) }
     // The error's message is the stated one.
-    ensures message { IfErr result (λ e. IfText e (λ inner. IfSome (refusal_of (kind_of inner)) (λ f. error_text (refusal_of (kind_of inner)) ≡ Some (refusal_text f)))) }
+    ensures message { IfErr result (λ e. IfText e
+        (λ inner. IfSome (refusal_of (kind_of inner)) (λ f. error_text (refusal_of (kind_of inner)) ≡ Some (refusal_text f)))) }
     // The error that the prefixes of the string decide is returned, unless an allocation fails.
-    ensures decided { (t : List ℕ) (f : Refusal) → IsString value.now t → Refuses t f → JsonAnswers (λ e. refusal_of (kind_of e)) result (Err f) }
+    ensures decided { (t : List ℕ) (f : Refusal) → IsString value.now t → Refuses t f
+        → JsonAnswers (λ e. refusal_of (kind_of e)) result (Err f) }
     // The JSON form of a record round-trips, unless an allocation fails.
-    ensures round_trips { (r : Record) → IsRecord r → RoundTrips r → IsString value.now (print r) → JsonAnswers (λ e. refusal_of (kind_of e)) result (Ok r) }
+    ensures round_trips { (r : Record) → IsRecord r → RoundTrips r → IsString value.now (print r)
+        → JsonAnswers (λ e. refusal_of (kind_of e)) result (Ok r) }
     // So does that of what some string denotes.
-    ensures again { (t : List ℕ) (r : Record) → Derives t r → IsString value.now (print r) → JsonAnswers (λ e. refusal_of (kind_of e)) result (Ok r) }
+    ensures again { (t : List ℕ) (r : Record) → Derives t r → IsString value.now (print r)
+        → JsonAnswers (λ e. refusal_of (kind_of e)) result (Ok r) }
 {
     let text = expect_string::<VersionParseError>(value)?;
     Version::from_str(alloc, text).map_err(from_version_error)

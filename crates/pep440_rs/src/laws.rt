@@ -59,7 +59,8 @@ pub fn texts_give_operands()
 /// contains, as far as the two can be compared; whatever the suffixes, the range of `<` holds only what matches, and
 /// the range of `>` all that matches. Each specifier that some string denotes is of this kind (`texts_give_operands`).
 pub fn range_agrees()
-    ensures agrees { (s : Spec) (range : Segments) → range_of s.operator s.version ≡ Some range → HasOperand s → Agrees IsCandidate s range }
+    ensures agrees { (s : Spec) (range : Segments) → range_of s.operator s.version ≡ Some range → HasOperand s
+        → Agrees IsCandidate s range }
     ensures within { (s : Spec) (range : Segments) → range_of s.operator s.version ≡ Some range → HasOperand s → HoldsOnlyMatches s range }
     ensures around { (s : Spec) (range : Segments) → range_of s.operator s.version ≡ Some range → HasOperand s → HoldsAllMatches s range }
 {}
@@ -67,7 +68,8 @@ pub fn range_agrees()
 /// What `range_agrees` and `list_agrees` state, of specifiers that strings denote, alone or as members of any list, in one step.
 pub fn range_of_text_agrees()
     ensures single { (s : Spec) (range : Segments) → range_of s.operator s.version ≡ Some range → HasText s → Agrees IsCandidate s range }
-    ensures list { (members : List Spec) (range : Segments) → list_range range_of members ≡ Some range → All HasText members → ListAgrees IsCandidate members range }
+    ensures list { (members : List Spec) (range : Segments) → list_range range_of members ≡ Some range
+        → All HasText members → ListAgrees IsCandidate members range }
     ensures within { (s : Spec) (range : Segments) → range_of s.operator s.version ≡ Some range → HasText s → HoldsOnlyMatches s range }
     ensures around { (s : Spec) (range : Segments) → range_of s.operator s.version ≡ Some range → HasText s → HoldsAllMatches s range }
 {}
@@ -79,15 +81,19 @@ pub fn release_range_agrees()
 
 /// The range of a list, by either conversion, holds exactly what the list contains, as far as the two can be compared.
 pub fn list_agrees()
-    ensures whole { (members : List Spec) (range : Segments) → list_range range_of members ≡ Some range → All HasOperand members → ListAgrees IsCandidate members range }
-    ensures release { (members : List Spec) (range : Segments) → list_range release_range_of members ≡ Some range → ListAgrees IsReleaseComparable members range }
+    ensures whole { (members : List Spec) (range : Segments) → list_range range_of members ≡ Some range
+        → All HasOperand members → ListAgrees IsCandidate members range }
+    ensures release { (members : List Spec) (range : Segments) → list_range release_range_of members ≡ Some range
+        → ListAgrees IsReleaseComparable members range }
 {}
 
 /// The range of a list is the intersection of its members' ranges, and there is none exactly if one of them has
 /// none.
 pub fn list_is_intersection()
-    ensures whole { (members : List Spec) (range : Segments) → list_range range_of members ≡ Some range → HoldsInEach range_of members range }
-    ensures release { (members : List Spec) (range : Segments) → list_range release_range_of members ≡ Some range → HoldsInEach release_range_of members range }
+    ensures whole { (members : List Spec) (range : Segments) → list_range range_of members ≡ Some range
+        → HoldsInEach range_of members range }
+    ensures release { (members : List Spec) (range : Segments) → list_range release_range_of members ≡ Some range
+        → HoldsInEach release_range_of members range }
     ensures refused { (members : List Spec) → RefusedByAMember range_of members }
     ensures release_refused { (members : List Spec) → RefusedByAMember release_range_of members }
 {}
@@ -99,13 +105,15 @@ pub fn ranges_stay_small()
     ensures release_apart { GivesRanges release_range_of }
     ensures release_few { GivesFew release_range_of }
     ensures whole { (members : List Spec) (range : Segments) → list_range range_of members ≡ Some range → HasFewSegments members range }
-    ensures release { (members : List Spec) (range : Segments) → list_range release_range_of members ≡ Some range → HasFewSegments members range }
+    ensures release { (members : List Spec) (range : Segments) → list_range release_range_of members ≡ Some range
+        → HasFewSegments members range }
 {}
 
 /// The cover holds every version that the specifier or the list contains, of all that strings give.
 pub fn cover_holds()
     ensures single { (s : Spec) (cover : Segments) → cover_of s.operator s.version ≡ Some cover → HasText s → Covers s cover }
-    ensures list { (members : List Spec) (cover : Segments) → list_range cover_of members ≡ Some cover → All HasText members → ListCovers members cover }
+    ensures list { (members : List Spec) (cover : Segments) → list_range cover_of members ≡ Some cover
+        → All HasText members → ListCovers members cover }
     ensures given { (s : Spec) → HasText s → IsCoverable s }
     ensures apart { GivesRanges cover_of }
 {}
@@ -122,6 +130,8 @@ pub fn refused_at_max()
 pub fn bounds_agree()
     ensures pair { (p : Segment Record) → IsReleasePair p → MatchesWithin p (pair_members p.0 p.1) }
     // Of a list of pairs, however its members are arranged.
-    ensures all { (pairs : List (Segment Record)) (members : List Spec) → IsOrdered pairs → All IsReleasePair pairs → IsPermutation (list_members pairs) members → HoldsWithin pairs members }
-    ensures only { (pairs : List (Segment Record)) (members : List Spec) → IsOrdered pairs → All IsReleasePair pairs → KnowsGaps pairs → IsPermutation (list_members pairs) members → HoldsOnlyWithin pairs members }
+    ensures all { (pairs : List (Segment Record)) (members : List Spec) → IsOrdered pairs → All IsReleasePair pairs
+        → IsPermutation (list_members pairs) members → HoldsWithin pairs members }
+    ensures only { (pairs : List (Segment Record)) (members : List Spec) → IsOrdered pairs → All IsReleasePair pairs
+        → KnowsGaps pairs → IsPermutation (list_members pairs) members → HoldsOnlyWithin pairs members }
 {}

@@ -198,7 +198,8 @@ impl VersionSpecifiers {
         // The error of the string is returned, unless an allocation fails.
         ensures decided { (f : PieceRefusal) → RefusesList text.now f → ListAnswers result (Err f) }
         // The error's message is the stated one, with the whole string and a line that marks the piece.
-        ensures message { IfErr result (λ e. IfSome (list_refusal_of (list_kind_of e)) (λ f. list_text_of (list_kind_of e) (line_of e) ≡ Some (list_refusal_text f text.now))) }
+        ensures message { IfErr result (λ e. IfSome (list_refusal_of (list_kind_of e))
+            (λ f. list_text_of (list_kind_of e) (line_of e) ≡ Some (list_refusal_text f text.now))) }
         // The error holds the whole string, and nothing when out of memory.
         ensures line { IfErr result (λ e. line_of e ≡ line_for text.now (list_kind_of e)) }
         // Out of memory is the last kind, and stands in no other.
@@ -206,7 +207,8 @@ impl VersionSpecifiers {
         // The printed form of what some string denotes round-trips, unless an allocation fails.
         ensures again { (t : List ℕ) (list : List Spec) → DerivesList t list → text.now ≡ list_print list → ListAnswers result (Ok list) }
         // So does its form with only commas between the members.
-        ensures joined { (t : List ℕ) (list : List Spec) → DerivesList t list → text.now ≡ joined (codes ",") list → ListAnswers result (Ok list) }
+        ensures joined { (t : List ℕ) (list : List Spec) → DerivesList t list → text.now ≡ joined (codes ",") list
+            → ListAnswers result (Ok list) }
     {
         VersionSpecifiers::read(alloc, text)
     }
@@ -252,7 +254,8 @@ impl VersionSpecifiers {
         ensures value { IfOk result (λ b. b ≡ list_matches self.now version.now) }
         ensures answered { All (λ m. m.operator ≢ ExactEqual) self.now → IsOk result }
         // So it does where a member before the first `===` does not contain the version.
-        ensures in_order { (before after : List Spec) → self.now ≡ before ++ after → All (λ m. m.operator ≢ ExactEqual) before → IsTrue (not (list_matches before version.now)) → IsOk result }
+        ensures in_order { (before after : List Spec) → self.now ≡ before ++ after
+            → All (λ m. m.operator ≢ ExactEqual) before → IsTrue (not (list_matches before version.now)) → IsOk result }
     {
         for member in self.as_slice() {
             if !member.contains(alloc, version)? {
@@ -285,17 +288,23 @@ impl VersionSpecifiers {
         // What is returned is what the string denotes.
         ensures found { IfOk result (λ list. (t : List ℕ) × IsString value.now t × DerivesList t list) }
         // What the string denotes is returned, unless an allocation fails.
-        ensures only { (t : List ℕ) (list : List Spec) → IsString value.now t → DerivesList t list → JsonAnswers (λ e. list_refusal_of (list_kind_of e)) result (Ok list) }
+        ensures only { (t : List ℕ) (list : List Spec) → IsString value.now t → DerivesList t list
+            → JsonAnswers (λ e. list_refusal_of (list_kind_of e)) result (Ok list) }
         // The error of the string is that of its first invalid piece, and not out of memory.
-        ensures refused { IfErr result (λ e. IfText e (λ inner. IsSomeAnd (list_refusal_of (list_kind_of inner)) (λ f. (t : List ℕ) × IsString value.now t × RefusesList t f))) }
+        ensures refused { IfErr result (λ e. IfText e
+            (λ inner. IsSomeAnd (list_refusal_of (list_kind_of inner)) (λ f. (t : List ℕ) × IsString value.now t × RefusesList t f))) }
         // The error's message is the stated one, with the whole string and a line that marks the piece.
-        ensures message { IfErr result (λ e. IfText e (λ inner. IfSome (list_refusal_of (list_kind_of inner)) (λ f. list_text_of (list_kind_of inner) (line_of inner) ≡ Some (list_refusal_text f (line_of inner))))) }
+        ensures message { IfErr result (λ e. IfText e
+            (λ inner. IfSome (list_refusal_of (list_kind_of inner))
+            (λ f. list_text_of (list_kind_of inner) (line_of inner) ≡ Some (list_refusal_text f (line_of inner))))) }
         // The error of the string holds the whole string.
         ensures line { IfErr result (λ e. IfText e (λ inner. IsString value.now (line_of inner))) }
         // The error of the string is returned, unless an allocation fails.
-        ensures decided { (t : List ℕ) (f : PieceRefusal) → IsString value.now t → RefusesList t f → JsonAnswers (λ e. list_refusal_of (list_kind_of e)) result (Err f) }
+        ensures decided { (t : List ℕ) (f : PieceRefusal) → IsString value.now t → RefusesList t f
+            → JsonAnswers (λ e. list_refusal_of (list_kind_of e)) result (Err f) }
         // The JSON form of what some string denotes round-trips, unless an allocation fails.
-        ensures again { (t : List ℕ) (list : List Spec) → DerivesList t list → IsString value.now (joined (codes ",") list) → JsonAnswers (λ e. list_refusal_of (list_kind_of e)) result (Ok list) }
+        ensures again { (t : List ℕ) (list : List Spec) → DerivesList t list
+            → IsString value.now (joined (codes ",") list) → JsonAnswers (λ e. list_refusal_of (list_kind_of e)) result (Ok list) }
     {
         let text = expect_string::<VersionSpecifiersParseError>(value)?;
         VersionSpecifiers::from_str(alloc, text).map_err(from_list_error)

@@ -310,7 +310,8 @@ impl VersionSpecifier {
         // The error of the string is returned, unless an allocation fails.
         ensures decided { (f : SpecifierRefusal) → RefusesSpecifier text.now f → SpecifierAnswers result (Err f) }
         // The error's message is the stated one.
-        ensures message { IfErr result (λ e. IfSome (specifier_refusal_of (parse_kind_of e)) (λ f. specifier_error_text (specifier_refusal_of (parse_kind_of e)) ≡ Some (specifier_refusal_text f))) }
+        ensures message { IfErr result (λ e. IfSome (specifier_refusal_of (parse_kind_of e))
+            (λ f. specifier_error_text (specifier_refusal_of (parse_kind_of e)) ≡ Some (specifier_refusal_text f))) }
         // Out of memory is the last kind, and stands in no other.
         ensures lifted { IfErr result (λ e. IsLifted (parse_kind_of e)) }
         // The printed form of what some string denotes round-trips, unless an allocation fails.
@@ -328,7 +329,8 @@ impl VersionSpecifier {
         ensures answered { self.now.operator ≢ ExactEqual → IsOk result }
         // `!=` contains exactly what `==` does not, and `!=` star exactly what `==` star does not.
         ensures excluded { self.now.operator ≡ NotEqual → IfOk result (λ b. b ≡ not (matches Equal self.now.version version.now)) }
-        ensures excluded_star { self.now.operator ≡ NotEqualStar → IfOk result (λ b. b ≡ not (matches EqualStar self.now.version version.now)) }
+        ensures excluded_star { self.now.operator ≡ NotEqualStar
+            → IfOk result (λ b. b ≡ not (matches EqualStar self.now.version version.now)) }
     {
         let specifier = self.version();
         Ok(match self.operator() {
@@ -375,15 +377,22 @@ impl VersionSpecifier {
         // What is returned is what the string denotes.
         ensures found { IfOk result (λ s. (t : List ℕ) × IsString value.now t × DerivesSpecifier t s) }
         // What the string denotes is returned, unless an allocation fails.
-        ensures only { (t : List ℕ) (s : Spec) → IsString value.now t → DerivesSpecifier t s → JsonAnswers (λ e. specifier_refusal_of (parse_kind_of e)) result (Ok s) }
+        ensures only { (t : List ℕ) (s : Spec) → IsString value.now t → DerivesSpecifier t s
+            → JsonAnswers (λ e. specifier_refusal_of (parse_kind_of e)) result (Ok s) }
         // The error of the string is its one error, and not out of memory.
-        ensures refused { IfErr result (λ e. IfText e (λ inner. IsSomeAnd (specifier_refusal_of (parse_kind_of inner)) (λ f. (t : List ℕ) × IsString value.now t × RefusesSpecifier t f))) }
+        ensures refused { IfErr result (λ e. IfText e
+            (λ inner. IsSomeAnd (specifier_refusal_of (parse_kind_of inner))
+            (λ f. (t : List ℕ) × IsString value.now t × RefusesSpecifier t f))) }
         // The error's message is the stated one.
-        ensures message { IfErr result (λ e. IfText e (λ inner. IfSome (specifier_refusal_of (parse_kind_of inner)) (λ f. specifier_error_text (specifier_refusal_of (parse_kind_of inner)) ≡ Some (specifier_refusal_text f)))) }
+        ensures message { IfErr result (λ e. IfText e
+            (λ inner. IfSome (specifier_refusal_of (parse_kind_of inner))
+            (λ f. specifier_error_text (specifier_refusal_of (parse_kind_of inner)) ≡ Some (specifier_refusal_text f)))) }
         // The error of the string is returned, unless an allocation fails.
-        ensures decided { (t : List ℕ) (f : SpecifierRefusal) → IsString value.now t → RefusesSpecifier t f → JsonAnswers (λ e. specifier_refusal_of (parse_kind_of e)) result (Err f) }
+        ensures decided { (t : List ℕ) (f : SpecifierRefusal) → IsString value.now t → RefusesSpecifier t f
+            → JsonAnswers (λ e. specifier_refusal_of (parse_kind_of e)) result (Err f) }
         // The JSON form of what some string denotes round-trips, unless an allocation fails.
-        ensures again { (t : List ℕ) (s : Spec) → DerivesSpecifier t s → IsString value.now (spec_print s) → JsonAnswers (λ e. specifier_refusal_of (parse_kind_of e)) result (Ok s) }
+        ensures again { (t : List ℕ) (s : Spec) → DerivesSpecifier t s → IsString value.now (spec_print s)
+            → JsonAnswers (λ e. specifier_refusal_of (parse_kind_of e)) result (Ok s) }
     {
         let text = expect_string::<VersionSpecifierParseError>(value)?;
         VersionSpecifier::from_str(alloc, text).map_err(from_specifier_error)

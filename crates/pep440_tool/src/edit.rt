@@ -15,7 +15,8 @@ use std::alloc::Global;
 
 // The changes that the words ask for.
 fn parse_changes(alloc: Global, words: &[String]) -> Result<Vec<Change>, CommandError>
-    ensures { HoldsOrStops (λ v. AllZip AsksChange (enumerate_from 1 (map string_bytes words.now)) (map edit v.items)) (RejectsFirst AsksChange RejectsChange (enumerate_from 1 (map string_bytes words.now))) result }
+    ensures { HoldsOrStops (λ v. AllZip AsksChange (enumerate_from 1 (map string_bytes words.now)) (map edit v.items))
+        (RejectsFirst AsksChange RejectsChange (enumerate_from 1 (map string_bytes words.now))) result }
 {
     let mut changes = Vec::new(alloc);
     for (at, word) in words.iter().enumerate() {

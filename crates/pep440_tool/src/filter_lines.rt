@@ -23,7 +23,8 @@ use std::fmt;
 
 // The version that the line denotes.
 fn parse_line(alloc: Global, line: Line<'_>) -> Result<Version, CommandError>
-    ensures { HoldsOrStops (LineMeans Derives (line.entry.number, line.entry.bytes.now)) (RejectsLine Refuses refused_version (line.entry.number, line.entry.bytes.now)) result }
+    ensures { HoldsOrStops (LineMeans Derives (line.entry.number, line.entry.bytes.now))
+        (RejectsLine Refuses refused_version (line.entry.number, line.entry.bytes.now)) result }
 {
     match Version::from_str(alloc, line.text()?) {
         Ok(version) => Ok(version),
@@ -52,7 +53,10 @@ fn parse_matches(
     list: &VersionSpecifiers,
     input: &[u8],
 ) -> Result<Vec<Version>, CommandError>
-    ensures { HoldsOrStops (λ versions. (found : List Record) × AllZip (LineMeans Derives) (numbered_lines input.now) found × (versions.items ≡ filter (list_matches list.now) found)) (RejectsFirst (LineMeans Derives) (RejectsLine Refuses refused_version) (numbered_lines input.now)) result }
+    ensures { HoldsOrStops (λ versions. (found : List Record)
+        × AllZip (LineMeans Derives) (numbered_lines input.now) found
+        × (versions.items ≡ filter (list_matches list.now) found))
+        (RejectsFirst (LineMeans Derives) (RejectsLine Refuses refused_version) (numbered_lines input.now)) result }
 {
     let mut versions = Vec::new(alloc);
     let mut lines = Lines::new(input);

@@ -27,7 +27,8 @@ pub(crate) struct Line<'a> {
 impl<'a> Line<'a> {
     // The line as a string.
     pub(crate) fn text(self) -> Result<&'a str, CommandError>
-        ensures { MatchResult result (λ text. (text.now ≡ self.entry.bytes.now) × IsUtf8 self.entry.bytes.now) (λ e. (¬ IsUtf8 self.entry.bytes.now) × (e ≡ NotUtf8 self.entry.number)) }
+        ensures { MatchResult result (λ text. (text.now ≡ self.entry.bytes.now) × IsUtf8 self.entry.bytes.now)
+            (λ e. (¬ IsUtf8 self.entry.bytes.now) × (e ≡ NotUtf8 self.entry.number)) }
     {
         match std::str::from_utf8(self.bytes) {
             Ok(text) => Ok(text),

@@ -41,7 +41,8 @@ impl Answer {
     pub(crate) fn from_error(alloc: Global, error: &CommandError) -> Result<Answer, AllocError>
         ensures memory { IfOk result (λ _. lacks_memory error.now ≡ false) }
         ensures status { IfOk result (λ a. a.status ≡ 1) }
-        ensures printed { IfOk result (λ a. IfSome (error_text_of error.now) (λ text. answer_value a ≡ error_answer (ends_lines error.now) text)) }
+        ensures printed { IfOk result (λ a. IfSome (error_text_of error.now)
+            (λ text. answer_value a ≡ error_answer (ends_lines error.now) text)) }
     {
         if error.is_out_of_memory() {
             return Err(AllocError);

@@ -28,7 +28,8 @@ fn parse_candidate(alloc: Global, number: usize, word: &str) -> Result<Version, 
 
 // The versions that the candidates denote.
 fn parse_candidates(alloc: Global, words: &[String]) -> Result<Vec<Version>, CommandError>
-    ensures { HoldsOrStops (λ v. AllZip CandidateMeans (enumerate_from 1 (map string_bytes words.now)) v.items) (RejectsFirst CandidateMeans RejectsCandidate (enumerate_from 1 (map string_bytes words.now))) result }
+    ensures { HoldsOrStops (λ v. AllZip CandidateMeans (enumerate_from 1 (map string_bytes words.now)) v.items)
+        (RejectsFirst CandidateMeans RejectsCandidate (enumerate_from 1 (map string_bytes words.now))) result }
 {
     let mut versions = Vec::new(alloc);
     for (at, word) in words.iter().enumerate() {
@@ -44,7 +45,9 @@ fn parse_specifiers(
     name: &str,
     line: Line<'_>,
 ) -> Result<Option<VersionSpecifiers>, CommandError>
-    ensures { HoldsOrStops (λ o. (n : Needed) × LineMeans DerivesRequirement (line.entry.number, line.entry.bytes.now) n × (option_to_list o ≡ lists_of name.now (n ∷ []))) (RejectsLine RefusesRequirement refused_requirement (line.entry.number, line.entry.bytes.now)) result }
+    ensures { HoldsOrStops (λ o. (n : Needed) × LineMeans DerivesRequirement (line.entry.number, line.entry.bytes.now)
+        n × (option_to_list o ≡ lists_of name.now (n ∷ [])))
+        (RejectsLine RefusesRequirement refused_requirement (line.entry.number, line.entry.bytes.now)) result }
 {
     match Requirement::specifiers_for(alloc, name, line.text()?) {
         Ok(specifiers) => Ok(specifiers),
@@ -71,7 +74,10 @@ fn parse_lists(
     name: &str,
     input: &[u8],
 ) -> Result<Vec<VersionSpecifiers>, CommandError>
-    ensures { HoldsOrStops (λ lists. (found : List Needed) × AllZip (LineMeans DerivesRequirement) (numbered_lines input.now) found × (lists.items ≡ lists_of name.now found)) (RejectsFirst (LineMeans DerivesRequirement) (RejectsLine RefusesRequirement refused_requirement) (numbered_lines input.now)) result }
+    ensures { HoldsOrStops (λ lists. (found : List Needed)
+        × AllZip (LineMeans DerivesRequirement) (numbered_lines input.now) found
+        × (lists.items ≡ lists_of name.now found)) (RejectsFirst (LineMeans DerivesRequirement)
+        (RejectsLine RefusesRequirement refused_requirement) (numbered_lines input.now)) result }
 {
     let mut lists = Vec::new(alloc);
     let mut lines = Lines::new(input);

@@ -48,8 +48,10 @@ pub fn refused_once()
     ensures either { (text : List ℕ) → ((r : Record) × Derives text r) ⊎ ((f : Refusal) × Refuses text f) }
     ensures derived { (text : List ℕ) (r : Record) (f : Refusal) → Derives text r → Refuses text f → ⊥ }
     ensures pattern { (text : List ℕ) (f g : PatternRefusal) → RefusesPattern text f → RefusesPattern text g → f ≡ g }
-    ensures either_pattern { (text : List ℕ) → ((r : Record) × (s : Bool) × DerivesPattern text r s) ⊎ ((f : PatternRefusal) × RefusesPattern text f) }
-    ensures derived_pattern { (text : List ℕ) (r : Record) (s : Bool) (f : PatternRefusal) → DerivesPattern text r s → RefusesPattern text f → ⊥ }
+    ensures either_pattern { (text : List ℕ) → ((r : Record) × (s : Bool) × DerivesPattern text r s)
+        ⊎ ((f : PatternRefusal) × RefusesPattern text f) }
+    ensures derived_pattern { (text : List ℕ) (r : Record) (s : Bool) (f : PatternRefusal) → DerivesPattern text r s
+        → RefusesPattern text f → ⊥ }
 {}
 
 /// The version that a string denotes is a record of the crate, and its normalized form parses back to it.

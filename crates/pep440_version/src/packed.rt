@@ -192,7 +192,8 @@ impl Packed {
     // The version packed, if it can be.
     pub(crate) fn pack(unpacked: &Unpacked) -> Option<Packed>
         ensures none { IfNone result (is_packed (unpacked_record unpacked.now) ≡ false) }
-        ensures some { IfSome result (λ p. IsWord p.count p.word p.numbers × (packed_record p.count p.word p.numbers ≡ unpacked_record unpacked.now)) }
+        ensures some { IfSome result (λ p. IsWord p.count p.word p.numbers
+            × (packed_record p.count p.word p.numbers ≡ unpacked_record unpacked.now)) }
     {
         let release = unpacked.release.as_slice();
         if release.len() > 4 {
@@ -219,7 +220,8 @@ impl Packed {
         requires known { IsKnown class number }
         requires small { number ≤ 2097151 }
         ensures none { IfNone result (is_short (take count numbers) ≡ false) }
-        ensures some { IfSome result (λ p. IsWord p.count p.word p.numbers × (packed_record p.count p.word p.numbers ≡ record_in (take count numbers) class number)) }
+        ensures some { IfSome result (λ p. IsWord p.count p.word p.numbers
+            × (packed_record p.count p.word p.numbers ≡ record_in (take count numbers) class number)) }
     {
         if !are_small(numbers) {
             return None;

@@ -107,7 +107,8 @@ impl VersionPattern {
         // The error that the prefixes of the string determine is returned, unless out of memory.
         ensures decided { (f : PatternRefusal) → RefusesPattern text.now f → Answers pattern_error_refusal result (Err f) }
         // The message is that of the error's kind.
-        ensures message { IfErr result (λ e. IfSome (pattern_error_refusal e) (λ f. pattern_error_text (pattern_error_refusal e) ≡ Some (pattern_refusal_text f))) }
+        ensures message { IfErr result (λ e. IfSome (pattern_error_refusal e)
+            (λ f. pattern_error_text (pattern_error_refusal e) ≡ Some (pattern_refusal_text f))) }
         // A string that denotes a packed record is parsed without allocating, with a star or without.
         ensures memory { (r : Record) (star : Bool) → DerivesPattern text.now r star → is_packed r ≡ true → IsOk result }
     {

@@ -62,7 +62,8 @@ pub(crate) fn number_in(word: u64) -> u64
 
 // Whether the numbers fit into their bits.
 pub(crate) fn are_small(numbers: [u64; 4]) -> bool
-    ensures { result ≡ (nat_le (slice_index numbers 0) 65535 && (nat_le (slice_index numbers 1) 255 && (nat_le (slice_index numbers 2) 255 && nat_le (slice_index numbers 3) 255))) }
+    ensures { result ≡ (nat_le (slice_index numbers 0) 65535
+        && (nat_le (slice_index numbers 1) 255 && (nat_le (slice_index numbers 2) 255 && nat_le (slice_index numbers 3) 255))) }
 {
     let [first, second, third, fourth] = numbers;
     first <= MAX_FIRST_NUMBER

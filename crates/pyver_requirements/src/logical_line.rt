@@ -40,7 +40,8 @@ impl LineJoiner {
 
     // The line that has begun is whole.
     fn complete(&mut self, alloc: Global) -> Result<(), AllocError>
-        ensures lines { IfOk result (λ _. map logical_line_of self.new.lines.items ≡ map logical_line_of self.old.lines.items ++ filled (record { number = self.old.first; text = self.old.text.items } ∷ [])) }
+        ensures lines { IfOk result (λ _. map logical_line_of self.new.lines.items
+            ≡ map logical_line_of self.old.lines.items ++ filled (record { number = self.old.first; text = self.old.text.items } ∷ [])) }
         ensures text { IfOk result (λ _. self.new.text.items ≡ []) }
         ensures first { IfOk result (λ _. self.new.first ≡ self.old.next) }
         ensures next { IfOk result (λ _. self.new.next ≡ self.old.next) }

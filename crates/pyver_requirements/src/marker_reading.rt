@@ -125,7 +125,8 @@ impl Levels {
     }
 
     fn with_comparison(self, alloc: Global, text: Vec<u8>) -> Result<Levels, MarkerError>
-        ensures levels { IfOk result (λ s. followed (levels_of self) (levels_of self).inner (levels_of self).outer (All (text.items ∷ [])) ≡ Ok (levels_of s)) }
+        ensures levels { IfOk result (λ s. followed (levels_of self) (levels_of self).inner (levels_of self).outer
+            (All (text.items ∷ [])) ≡ Ok (levels_of s)) }
         ensures fault { IfErr result (λ e. e ≡ MarkerError.OutOfMemory) }
     {
         let operand = Terms::one(alloc, text)?;

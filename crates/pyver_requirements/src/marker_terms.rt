@@ -24,7 +24,8 @@ fn quote_around(text: &[u8]) -> u8
 }
 
 fn push_quoted(text: &mut Vec<u8>, inside: &[u8]) -> Result<(), AllocError>
-    ensures { IfOk result (λ _. text.new.items ≡ text.old.items ++ (quote_around inside.now ∷ (inside.now ++ quote_around inside.now ∷ []))) }
+    ensures { IfOk result (λ _. text.new.items ≡ text.old.items
+        ++ (quote_around inside.now ∷ (inside.now ++ quote_around inside.now ∷ []))) }
 {
     let quote = quote_around(inside);
     text.push(quote)?;

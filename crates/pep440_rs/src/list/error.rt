@@ -181,7 +181,8 @@ fn write_line<W: fmt::Write>(
     requires in_order { start ≤ stop }
     requires starts { IsCharBoundary line.now start }
     requires stops { IsCharBoundary line.now stop }
-    ensures { WritesStyledOnOk W.write_str_gives f.old result (codes ":\n" ++ (line.now ++ (codes "\n" ++ caret_line line.now start stop))) f.new }
+    ensures { WritesStyledOnOk W.write_str_gives f.old result
+        (codes ":\n" ++ (line.now ++ (codes "\n" ++ caret_line line.now start stop))) f.new }
 {
     f.write_str(":\n")?;
     f.write_str(line)?;
@@ -199,7 +200,9 @@ fn write_piece<W: fmt::Write>(
     requires in_order { start ≤ stop }
     requires starts { IsCharBoundary line.now start }
     requires stops { IsCharBoundary line.now stop }
-    ensures { DisplaysStyledOnOk W.write_str_gives f.old result (option_map (λ inner. piece_text inner line.now start stop) (specifier_error_text (specifier_refusal_of (parse_kind_of error.now)))) f.new }
+    ensures { DisplaysStyledOnOk W.write_str_gives f.old result
+        (option_map (λ inner. piece_text inner line.now start stop)
+        (specifier_error_text (specifier_refusal_of (parse_kind_of error.now)))) f.new }
 {
     f.write_str("Failed to parse version: ")?;
     write_parse_kind(f, error.kind())?;

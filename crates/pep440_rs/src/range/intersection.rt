@@ -15,7 +15,8 @@ fn intersect_pairs(
     alloc: Global,
     ranges: &[Ranges<Version>],
 ) -> Result<Vec<Ranges<Version>>, AllocError>
-    ensures same { IfOk result (λ v. (now : Segments) → fold (overlaps record_cmp) now v.items ≡ fold (overlaps record_cmp) now ranges.now) }
+    ensures same { IfOk result (λ v. (now : Segments)
+        → fold (overlaps record_cmp) now v.items ≡ fold (overlaps record_cmp) now ranges.now) }
     ensures fewer { 1 < length ranges.now → IfOk result (λ v. length v.items < length ranges.now) }
     ensures kept { All IsKept ranges.now → IfOk result (λ v. All IsKept v.items) }
 {

@@ -211,7 +211,9 @@ fn write_incompatible<W: fmt::Write>(
     f: &mut fmt::Formatter<W>,
     local: &[LocalSegment],
 ) -> fmt::Result
-    ensures { WritesStyledOnOk W.write_str_gives f.old result (codes " is incompatible with versions containing non-empty local segments (`+" ++ (dotted segment_print (map segment local.now) ++ codes "`)")) f.new }
+    ensures { WritesStyledOnOk W.write_str_gives f.old result
+        (codes " is incompatible with versions containing non-empty local segments (`+"
+        ++ (dotted segment_print (map segment local.now) ++ codes "`)")) f.new }
 {
     f.write_str(" is incompatible with versions containing non-empty local segments (`+")?;
     write_local_segments(f, local)?;
@@ -225,7 +227,10 @@ fn write_local_combo<W: fmt::Write>(
     operator: Operator,
     local: &[LocalSegment],
 ) -> fmt::Result
-    ensures { WritesStyledOnOk W.write_str_gives f.old result (codes "Operator " ++ (operator_text operator ++ (codes " is incompatible with versions containing non-empty local segments (`+" ++ (dotted segment_print (map segment local.now) ++ codes "`)")))) f.new }
+    ensures { WritesStyledOnOk W.write_str_gives f.old result
+        (codes "Operator " ++ (operator_text operator
+        ++ (codes " is incompatible with versions containing non-empty local segments (`+"
+        ++ (dotted segment_print (map segment local.now) ++ codes "`)")))) f.new }
 {
     f.write_str("Operator ")?;
     f.write_str(operator.as_str())?;

@@ -44,7 +44,8 @@ fn parse_version(
     version: &str,
     rest: &str,
 ) -> Result<VersionSpecifier, ParseErrorKind>
-    ensures { SpecifierGives result (if length version.now == 0 then Err MissingVersion else with_pattern operator (read_pattern version.now) rest.now) }
+    ensures { SpecifierGives result (if length version.now == 0 then Err MissingVersion else with_pattern operator
+        (read_pattern version.now) rest.now) }
 {
     if version.is_empty() {
         return Err(ParseErrorKind::MissingVersion);

@@ -22,7 +22,8 @@ const MAX_SMALL_NUMBER: u64 = 2147483647;
 pub(crate) fn parse_small_number(text: &[u8]) -> Option<(u64, &[u8])>
     ensures number { IfSome result (λ x. (digits : List ℕ) × IsNumber digits x.0 × (x.0 ≤ 2147483647) × (text.now ≡ digits ++ x.1.now)) }
     ensures ended { IfSome result (λ x. starts is_ascii_digit x.1.now ≡ false) }
-    ensures printed { (n : ℕ) (rest : List ℕ) → IsSmall n → starts is_ascii_digit rest ≡ false → text.now ≡ decimal n ++ rest → MatchOption result ⊥ (λ x. (x.0 ≡ n) × (x.1.now ≡ rest)) }
+    ensures printed { (n : ℕ) (rest : List ℕ) → IsSmall n → starts is_ascii_digit rest ≡ false
+        → text.now ≡ decimal n ++ rest → MatchOption result ⊥ (λ x. (x.0 ≡ n) × (x.1.now ≡ rest)) }
 {
     let (first, rest) = text.split_first()?;
     if !first.is_ascii_digit() {
@@ -44,8 +45,10 @@ pub(crate) fn parse_small_number(text: &[u8]) -> Option<(u64, &[u8])>
 // The small number after a dot, and the rest.
 #[inline(always)]
 fn parse_next_number(text: &[u8]) -> Option<(u64, &[u8])>
-    ensures number { IfSome result (λ x. (digits : List ℕ) × IsNumber digits x.0 × (x.0 ≤ 2147483647) × (text.now ≡ 46 ∷ (digits ++ x.1.now))) }
-    ensures printed { (n : ℕ) (rest : List ℕ) → IsSmall n → starts is_ascii_digit rest ≡ false → text.now ≡ 46 ∷ (decimal n ++ rest) → MatchOption result ⊥ (λ x. (x.0 ≡ n) × (x.1.now ≡ rest)) }
+    ensures number { IfSome result (λ x. (digits : List ℕ) × IsNumber digits x.0 × (x.0 ≤ 2147483647)
+        × (text.now ≡ 46 ∷ (digits ++ x.1.now))) }
+    ensures printed { (n : ℕ) (rest : List ℕ) → IsSmall n → starts is_ascii_digit rest ≡ false
+        → text.now ≡ 46 ∷ (decimal n ++ rest) → MatchOption result ⊥ (λ x. (x.0 ≡ n) × (x.1.now ≡ rest)) }
 {
     match text {
         [b'.', rest @ ..] => parse_small_number(rest),
@@ -56,8 +59,11 @@ fn parse_next_number(text: &[u8]) -> Option<(u64, &[u8])>
 // Up to four small numbers with dots between them, how many there are, and the rest.
 #[inline(always)]
 pub(crate) fn parse_small_release(text: &[u8]) -> Option<([u64; 4], usize, &[u8])>
-    ensures release { IfSome result (λ x. IsPadded x.1 x.0 × ((release : List ℕ) × IsRelease release (take x.1 x.0) × (text.now ≡ release ++ x.2.now))) }
-    ensures printed { (release rest : List ℕ) → 0 < length release → length release ≤ 4 → All IsSmall release → EndsRelease rest → text.now ≡ dotted decimal release ++ rest → MatchOption result ⊥ (λ x. (take x.1 x.0 ≡ release) × (x.2.now ≡ rest)) }
+    ensures release { IfSome result (λ x. IsPadded x.1 x.0
+        × ((release : List ℕ) × IsRelease release (take x.1 x.0) × (text.now ≡ release ++ x.2.now))) }
+    ensures printed { (release rest : List ℕ) → 0 < length release → length release ≤ 4 → All IsSmall release
+        → EndsRelease rest → text.now ≡ dotted decimal release ++ rest
+        → MatchOption result ⊥ (λ x. (take x.1 x.0 ≡ release) × (x.2.now ≡ rest)) }
 {
     let (first, mut rest) = parse_small_number(text)?;
     let mut numbers = [first, 0, 0, 0];
@@ -75,7 +81,8 @@ pub(crate) fn parse_small_release(text: &[u8]) -> Option<([u64; 4], usize, &[u8]
 #[inline(always)]
 pub(crate) fn parse_class(text: &[u8]) -> Option<(u64, &[u8])>
     ensures class { IfSome result (λ x. IsClass x.0 × (text.now ≡ spelling x.0 ++ x.1.now)) }
-    ensures spelled { (class : ℕ) (rest : List ℕ) → IsClass class → text.now ≡ spelling class ++ rest → MatchOption result ⊥ (λ x. (x.0 ≡ class) × (x.1.now ≡ rest)) }
+    ensures spelled { (class : ℕ) (rest : List ℕ) → IsClass class → text.now ≡ spelling class ++ rest
+        → MatchOption result ⊥ (λ x. (x.0 ≡ class) × (x.1.now ≡ rest)) }
 {
     match text {
         [b'a', rest @ ..] => Some((ALPHA, rest)),

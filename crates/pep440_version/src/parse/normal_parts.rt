@@ -42,7 +42,10 @@ fn skip_letter(text: &[u8]) -> &[u8]
 #[inline(always)]
 fn parse_normal_epoch(text: &[u8]) -> Option<(u64, &[u8])>
     ensures epoch { IfSome result (λ x. (e : List ℕ) × IsEpoch e x.0 × (text.now ≡ e ++ x.1.now)) }
-    ensures printed { (epoch first : ℕ) (rest : List ℕ) → IsSmall epoch → IsSmall first → starts is_ascii_digit rest ≡ false → starts (λ b. b == 33) rest ≡ false → text.now ≡ epoch_text epoch ++ (decimal first ++ rest) → MatchOption result ⊥ (λ x. (x.0 ≡ epoch) × (x.1.now ≡ decimal first ++ rest)) }
+    ensures printed { (epoch first : ℕ) (rest : List ℕ) → IsSmall epoch → IsSmall first
+        → starts is_ascii_digit rest ≡ false → starts (λ b. b == 33) rest ≡ false
+        → text.now ≡ epoch_text epoch ++ (decimal first ++ rest)
+        → MatchOption result ⊥ (λ x. (x.0 ≡ epoch) × (x.1.now ≡ decimal first ++ rest)) }
 {
     let (number, after) = parse_small_number(text)?;
     match after {
@@ -72,7 +75,8 @@ fn find_kind(class: u64) -> Option<PrereleaseKind>
 #[inline(always)]
 fn parse_normal_pre(text: &[u8]) -> Option<(Option<Prerelease>, &[u8])>
     ensures pre { IfSome result (λ x. (p : List ℕ) × IsPre p x.1.now x.0 × (text.now ≡ p ++ x.1.now)) }
-    ensures printed { (pre : Option Prerelease) (rest : List ℕ) → IfSome pre (λ p. IsSmall p.number) → is_at_mark rest ≡ true → text.now ≡ pre_text pre ++ rest → MatchOption result ⊥ (λ x. (x.0 ≡ pre) × (x.1.now ≡ rest)) }
+    ensures printed { (pre : Option Prerelease) (rest : List ℕ) → IfSome pre (λ p. IsSmall p.number)
+        → is_at_mark rest ≡ true → text.now ≡ pre_text pre ++ rest → MatchOption result ⊥ (λ x. (x.0 ≡ pre) × (x.1.now ≡ rest)) }
 {
     let Some((class, digits)) = parse_class(text) else {
         return Some((None, text));
@@ -88,7 +92,9 @@ fn parse_normal_pre(text: &[u8]) -> Option<(Option<Prerelease>, &[u8])>
 #[inline(always)]
 fn parse_suffix_of(class: u64, text: &[u8]) -> Option<(Option<u64>, &[u8])>
     ensures suffix { IfSome result (λ x. HasSuffix class text.now x.0 x.1.now) }
-    ensures printed { (number : Option ℕ) (rest : List ℕ) → IsClass class → IfSome number IsSmall → is_at_mark rest ≡ true → ((after : List ℕ) → rest ≡ spelling class ++ after → ⊥) → text.now ≡ labelled (spelling class) number ++ rest → MatchOption result ⊥ (λ x. (x.0 ≡ number) × (x.1.now ≡ rest)) }
+    ensures printed { (number : Option ℕ) (rest : List ℕ) → IsClass class → IfSome number IsSmall
+        → is_at_mark rest ≡ true → ((after : List ℕ) → rest ≡ spelling class ++ after → ⊥)
+        → text.now ≡ labelled (spelling class) number ++ rest → MatchOption result ⊥ (λ x. (x.0 ≡ number) × (x.1.now ≡ rest)) }
 {
     let Some((found, digits)) = parse_class(text) else {
         return Some((None, text));
@@ -108,8 +114,11 @@ fn parse_suffix_of(class: u64, text: &[u8]) -> Option<(Option<u64>, &[u8])>
 /// Does not allocate.
 #[inline(always)]
 pub fn parse_leading_parts(text: &[u8]) -> Option<(NormalParts, &[u8])>
-    ensures derives { IfSome result (λ x. (local : List LocalSegmentValue) → IsLocal x.1.now local → Derives text.now (from_parts x.0.epoch x.0.release x.0.pre x.0.post x.0.dev local)) }
-    ensures printed { (r : Record) → HasSmallParts r → text.now ≡ print r → MatchOption result ⊥ (λ x. (from_parts x.0.epoch x.0.release x.0.pre x.0.post x.0.dev r.local ≡ r) × (x.1.now ≡ local_text r.local)) }
+    ensures derives { IfSome result (λ x. (local : List LocalSegmentValue) → IsLocal x.1.now local
+        → Derives text.now (from_parts x.0.epoch x.0.release x.0.pre x.0.post x.0.dev local)) }
+    ensures printed { (r : Record) → HasSmallParts r → text.now ≡ print r
+        → MatchOption result ⊥ (λ x. (from_parts x.0.epoch x.0.release x.0.pre x.0.post x.0.dev r.local ≡ r)
+        × (x.1.now ≡ local_text r.local)) }
 {
     let (epoch, after_epoch) = parse_normal_epoch(skip_letter(text))?;
     let (numbers, count, after_release) = parse_small_release(after_epoch)?;

@@ -98,7 +98,8 @@ fn starts_with_word(text: &[u8], word: &[u8]) -> bool
 // The string without the word, if it begins with it, ignoring case.
 pub(crate) fn strip_word<'a>(text: &'a str, word: &str) -> Option<&'a str>
     requires { list_all (λ b. nat_lt b 128) word.now ≡ true }
-    ensures { option_map (λ s. s.now) result ≡ (if starts_with_word word.now text.now then Some (drop (length word.now) text.now) else None) }
+    ensures { option_map (λ s. s.now) result ≡ (if starts_with_word word.now text.now then Some
+        (drop (length word.now) text.now) else None) }
 {
     if starts_with_word(text.as_bytes(), word.as_bytes()) {
         Some(split_at_ascii(text, word.len()).1)

@@ -34,7 +34,9 @@ const DEV_SPELLINGS: [(&str, ()); 1] = [("dev", ())];
 // The value of the first word of the table that the string begins with, and the rest.
 fn parse_spelling<'a, A: Copy>(text: &'a str, table: &[(&str, A)]) -> Option<(A, &'a str)>
     requires { list_all (λ e. list_all (λ b. nat_lt b 128) e.0.now) table.now ≡ true }
-    ensures { option_map {U = A × List ℕ} (λ x. (x.0, x.1.now)) result ≡ option_map {U = A × List ℕ} (λ x. (x.0, drop x.1 text.now)) (spelled (map {B = List ℕ × A} (λ e. (e.0.now, e.1)) table.now) text.now) }
+    ensures { option_map {U = A × List ℕ} (λ x. (x.0, x.1.now)) result
+        ≡ option_map {U = A × List ℕ} (λ x. (x.0, drop x.1 text.now))
+        (spelled (map {B = List ℕ × A} (λ e. (e.0.now, e.1)) table.now) text.now) }
 {
     for entry in table {
         if let Some(rest) = scan::strip_word(text, entry.0) {
