@@ -11,10 +11,10 @@ pub record Outcome : Type 0 where
   pub status : ℕ
 
 -- what was begun to be written when a run stopped: nothing, an outcome at once, or an outcome part by part, as its input is read
-pub data Begun : Type 0 where
-  Nothing : Begun
-  AtOnce : Outcome → Begun
-  InParts : Outcome → Begun
+pub data OutputProgress : Type 0 where
+  Nothing : OutputProgress
+  AtOnce : Outcome → OutputProgress
+  InParts : Outcome → OutputProgress
 
 -- a prefix of `text` was written, and then a prefix of `message`
 pub record WroteThen (old new : Option (List ℕ)) (text message : List ℕ) : Type 0 where
@@ -26,14 +26,14 @@ pub record WroteThen (old new : Option (List ℕ)) (text message : List ℕ) : T
 module _ {W E : Type 0} (contents : W → Option (List ℕ)) (error_contents : E → Option (List ℕ)) where
   -- A beginning was written, and then a prefix of the message. At once: a prefix of the output and then of the message, or all output
   -- and then a prefix of the errors. In parts: a prefix of the output, and one of the errors and then of the message.
-  abbrev pub Begins : Begun → List ℕ → W → W → E → E → Type 0
+  abbrev pub Begins : OutputProgress → List ℕ → W → W → E → E → Type 0
   Begins Nothing message out out' err err' = (out' ≡ out) × WroteBeginning (error_contents err) (error_contents err') message
   Begins (AtOnce o) message out out' err err' = (WroteBeginning (contents out) (contents out') o.output × WroteBeginning (error_contents err) (error_contents err') message)
       ⊎ (Appends (contents out) (contents out') o.output × WroteBeginning (error_contents err) (error_contents err') o.errors)
   Begins (InParts o) message out out' err err' = WroteBeginning (contents out) (contents out') o.output × WroteThen (error_contents err) (error_contents err') o.errors message
 
   -- a run finished: an outcome was written, and its status is the one of the run
-  pub record Finished (Finishes : Outcome → Type 0) (out out' : W) (err err' : E) (status : ℕ) : Type 0 where
+  pub record EndsComplete (Finishes : Outcome → Type 0) (out out' : W) (err err' : E) (status : ℕ) : Type 0 where
     pub outcome : Outcome
     pub is : Finishes outcome
     pub output : Appends (contents out) (contents out') outcome.output
@@ -42,12 +42,12 @@ module _ {W E : Type 0} (contents : W → Option (List ℕ)) (error_contents : E
     pub low : status ≤ 2
 
   -- a run stopped: a beginning was written, and then the message of why
-  pub record Stopped (Stops : Begun → ℕ → List ℕ → Type 0) (out out' : W) (err err' : E) (status : ℕ) : Type 0 where
-    pub begun : Begun
+  pub record EndsEarly (Fails : OutputProgress → ℕ → List ℕ → Type 0) (out out' : W) (err err' : E) (status : ℕ) : Type 0 where
+    pub begun : OutputProgress
     pub message : List ℕ
-    pub why : Stops begun status message
+    pub why : Fails begun status message
     pub begins : Begins begun message out out' err err'
 
-  -- how a run may end, where `Finishes` says with which outcomes it may finish, and `Stops` where and with which status and message it may stop
-  abbrev pub Ends : (Outcome → Type 0) → (Begun → ℕ → List ℕ → Type 0) → W → W → E → E → ℕ → Type 0
-  Ends Finishes Stops out out' err err' status = Finished Finishes out out' err err' status ⊎ Stopped Stops out out' err err' status
+  -- how a run may end, where `Finishes` says with which outcomes it may finish, and `Fails` where and with which status and message it may stop
+  abbrev pub Ends : (Outcome → Type 0) → (OutputProgress → ℕ → List ℕ → Type 0) → W → W → E → E → ℕ → Type 0
+  Ends Finishes Fails out out' err err' status = EndsComplete Finishes out out' err err' status ⊎ EndsEarly Fails out out' err err' status

@@ -1,4 +1,4 @@
-// Text of others in messages: what is not printable ASCII is escaped, so that no control character reaches a terminal.
+//! Text of others in messages: what is not printable ASCII is escaped, so that no control character reaches a terminal.
 ghost use Rattle.std.specs.Prelude.{◌≡◌, ◌++◌, ◌<◌, IfOk};
 ghost use Rattle.cli_io.specs.Escapes.{escaped, escaped_byte, escaped_line_byte, escaped_lines, hex_digit, hex_digits, is_printable};
 

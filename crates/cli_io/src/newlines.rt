@@ -1,4 +1,4 @@
-// Splitting at newlines.
+//! Splitting at newlines.
 ghost use Rattle.std.specs.Prelude.{◌≡◌, ◌<◌, ◌∷◌, [], length, IfSome};
 ghost use Rattle.std.specs.Option.{option_map_or};
 ghost use Rattle.cli_io.specs.Newlines.{input_lines};

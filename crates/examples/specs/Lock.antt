@@ -1,10 +1,10 @@
 -- What a line of a lock file holds, `NAME; LIST; VERSION`, and which lines are broken.
 use Rattle.std.specs.Prelude.{ℕ, List, Bool, filter, map, not, string_bytes, IfSome}
-use Rattle.pep440_version.specs.Errors.{error_refusal}
-use Rattle.pep440_version.specs.Refusals.{Refuses}
-use Rattle.pep440_rs.specs.ListAnswers.{list_kind_of}
-use Rattle.pep440_rs.specs.ListErrors.{list_refusal_of}
-use Rattle.pep440_rs.specs.ListGrammar.{DerivesList, RefusesList}
+use Rattle.pep440_version.specs.Errors.{error_rejection}
+use Rattle.pep440_version.specs.Rejections.{Rejects}
+use Rattle.pep440_rs.specs.Lists.ListResults.{list_kind_of}
+use Rattle.pep440_rs.specs.Lists.ListErrors.{list_rejection_of}
+use Rattle.pep440_rs.specs.Lists.ListGrammar.{DerivesList, RejectsList}
 use Rattle.pep440_rs.specs.Matching.{list_matches}
 use Rattle.pep440_rs.specs.Specifiers.{Spec}
 use Rattle.examples.specs.LockParts.{IsShort, list_part, version_part}
@@ -15,8 +15,8 @@ use Rattle.examples.specs.declared.lock.LockError.TheVariants.{Parts, Wanted, Ve
 -- why the line is rejected: the first fault from the left
 abbrev pub IsFault : List ℕ → LockError → Type 0
 IsFault line Parts = IsShort line
-IsFault line (Wanted e) = (¬ IsShort line) × IfSome (list_refusal_of (list_kind_of e)) (RefusesList (list_part line))
-IsFault line (Version e) = (¬ IsShort line) × ((list : List Spec) × DerivesList (list_part line) list) × IfSome (error_refusal e) (Refuses (version_part line))
+IsFault line (Wanted e) = (¬ IsShort line) × IfSome (list_rejection_of (list_kind_of e)) (RejectsList (list_part line))
+IsFault line (Version e) = (¬ IsShort line) × ((list : List Spec) × DerivesList (list_part line) list) × IfSome (error_rejection e) (Rejects (version_part line))
 IsFault line OutOfMemory = Unit {0}
 
 -- its list does not contain its version

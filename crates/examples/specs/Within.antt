@@ -6,5 +6,5 @@ use Rattle.pep440_version.specs.Key.{record_cmp}
 use Rattle.pep440_version.specs.Record.{Record}
 
 -- the versions that the range holds, in order
-abbrev pub held : Option Segments → List Record → Option (List Record)
-held range versions = option_map (λ r. filter (contains record_cmp r) versions) range
+abbrev pub versions_within : Option Segments → List Record → Option (List Record)
+versions_within range versions = option_map (λ r. filter (contains record_cmp r) versions) range

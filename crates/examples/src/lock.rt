@@ -1,7 +1,7 @@
 //! A lock file checker: which lines hold a version that their own list does not contain.
 ghost use Rattle.std.specs.Prelude.{◌≡◌, map, string_bytes, IfErr, IfNone, IfOk, IfSome};
 ghost use Rattle.pep440_version.specs.Grammar.{Derives};
-ghost use Rattle.pep440_rs.specs.ListGrammar.{DerivesList};
+ghost use Rattle.pep440_rs.specs.Lists.ListGrammar.{DerivesList};
 ghost use Rattle.examples.specs.Lock.{IsFault, broken_names};
 ghost use Rattle.examples.specs.LockParts.{IsShort, list_part, name_part, version_part};
 

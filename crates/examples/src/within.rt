@@ -6,7 +6,7 @@ ghost use Rattle.pep440_version.specs.Key.{record_cmp};
 ghost use Rattle.pep440_rs.specs.Agreement.{HasOperand, IsCandidate};
 ghost use Rattle.pep440_rs.specs.Bounds.{list_range, range_of};
 ghost use Rattle.pep440_rs.specs.Matching.{list_matches};
-ghost use Rattle.examples.specs.Within.{held};
+ghost use Rattle.examples.specs.Within.{versions_within};
 
 use pep440_rs::{RangeError, Ranges, Version, VersionSpecifiers, specifiers_to_ranges};
 use std::alloc::Global;
@@ -29,7 +29,7 @@ pub fn keep_wanted(
     wanted: VersionSpecifiers,
     versions: &mut Vec<Version>,
 ) -> Result<(), RangeError>
-    ensures kept { OnOk result (held (list_range range_of wanted) versions.old.items ≡ Some versions.new.items) }
+    ensures kept { OnOk result (versions_within (list_range range_of wanted) versions.old.items ≡ Some versions.new.items) }
     // Of versions without local part whose suffixes range and matching treat alike, these are those that the list contains.
     ensures agrees { All HasOperand wanted → All (λ v. All (λ m. IsCandidate m v) wanted) versions.old.items
         → OnOk result (versions.new.items ≡ filter (list_matches wanted) versions.old.items) }

@@ -13,16 +13,16 @@
 ghost use Rattle.std.specs.Prelude.{map, not, ◌==◌, ◌≡◌};
 ghost use Rattle.pep440_rs.specs.Bounds.{range_of, release_range_of};
 ghost use Rattle.pep440_rs.specs.Cover.{cover_of};
-ghost use Rattle.pep440_calls.specs.Batches.{FilterMarks, KeysAnswer, SortAnswer};
-ghost use Rattle.pep440_calls.specs.CallResults.{AllowsAnswer, ContainsAnswer, IsCompiled, IsCompiledList, IsKey, IsNormal, IsNormalList, IsVersionIn, NamesPrerelease, OrderAnswer, PartsAnswer, TellsMembers, WordAnswer};
-ghost use Rattle.pep440_calls.specs.Edits.{IsEditError, PutsEdited};
-ghost use Rattle.pep440_calls.specs.Explanations.{ErrorAnswer, IsBuildError, IsNoOperator, RefusesNumbered};
-ghost use Rattle.pep440_calls.specs.JoinedStrings.{PutsJoined};
-ghost use Rattle.pep440_calls.specs.Meaning.{RefusesBytes, RefusesListBytes};
-ghost use Rattle.pep440_calls.specs.NewestString.{NewestAnswer};
-ghost use Rattle.pep440_calls.specs.PatternCalls.{IsCompiledSpecifier, IsSpecifier, PatternAnswer, RefusesOperand, RefusesOperator, RefusesSpecifierBytes};
-ghost use Rattle.pep440_calls.specs.Ranges.{IsRangeText, LacksRange, TellsBounds, TellsIntervals};
-ghost use Rattle.pep440_calls.specs.Statuses.{IsFlagOf, Puts, PutsBytes};
+ghost use Rattle.pep440_calls.specs.Batches.{FilterMarks, KeysResult, SortResult};
+ghost use Rattle.pep440_calls.specs.CallResults.{AllowsResult, ContainsResult, IsCompiled, IsCompiledList, IsKey, IsNormal, IsNormalList, IsVersionIn, NamesPrerelease, OrderResult, PartsResult, JoinsMembers, WordResult};
+ghost use Rattle.pep440_calls.specs.Edits.{IsEditError, WritesEdited};
+ghost use Rattle.pep440_calls.specs.Explanations.{ErrorResult, IsBuildError, IsNoOperator, RejectsNumbered};
+ghost use Rattle.pep440_calls.specs.JoinedStrings.{WritesJoined};
+ghost use Rattle.pep440_calls.specs.CallerBytes.{RejectsBytes, RejectsListBytes};
+ghost use Rattle.pep440_calls.specs.NewestString.{NewestResult};
+ghost use Rattle.pep440_calls.specs.PatternCalls.{IsCompiledSpecifier, IsSpecifier, PatternResult, RejectsOperand, RejectsOperator, RejectsSpecifierBytes};
+ghost use Rattle.pep440_calls.specs.Ranges.{IsRangeLines, LacksRange, JoinsRangeBounds, JoinsRangeIntervals};
+ghost use Rattle.pep440_calls.specs.Statuses.{IsFlagOf, WritesOrFails, WritesBytes};
 
 use pep440_calls::{
     Parts, write_allowed, write_build_error, write_compiled, write_compiled_list,
@@ -52,7 +52,7 @@ pub extern "C" fn pep440_normalize(
     out: &mut [u8],
     written: &mut usize,
 ) -> u8
-    ensures { PutsBytes (RefusesBytes text.now) ⊥ ⊥ (IsNormal text.now) out.old out.new written.old written.new result }
+    ensures { WritesBytes (RejectsBytes text.now) ⊥ ⊥ (IsNormal text.now) out.old out.new written.old written.new result }
 {
     write_normal_form(alloc, text, out, written)
 }
@@ -65,7 +65,7 @@ pub extern "C" fn pep440_normalize_list(
     out: &mut [u8],
     written: &mut usize,
 ) -> u8
-    ensures { PutsBytes ⊥ (RefusesListBytes list.now) ⊥ (IsNormalList list.now) out.old out.new written.old written.new result }
+    ensures { WritesBytes ⊥ (RejectsListBytes list.now) ⊥ (IsNormalList list.now) out.old out.new written.old written.new result }
 {
     write_normal_list(alloc, list, out, written)
 }
@@ -80,7 +80,7 @@ pub extern "C" fn pep440_specifiers_of(
     written: &mut usize,
     count: &mut usize,
 ) -> u8
-    ensures { PutsJoined ⊥ (RefusesListBytes list.now) ⊥ (TellsMembers list.now)
+    ensures { WritesJoined ⊥ (RejectsListBytes list.now) ⊥ (JoinsMembers list.now)
         out.old out.new ends.old ends.new written.old written.new count.old count.new result }
 {
     write_members(alloc, list, out, ends, written, count)
@@ -95,7 +95,7 @@ pub extern "C" fn pep440_specifier(
     out: &mut [u8],
     written: &mut usize,
 ) -> u8
-    ensures { PutsBytes (RefusesOperand operator.now version.now) (RefusesOperator operator.now version.now) ⊥
+    ensures { WritesBytes (RejectsOperand operator.now version.now) (RejectsOperator operator.now version.now) ⊥
         (IsSpecifier operator.now version.now) out.old out.new written.old written.new result }
 {
     write_specifier(alloc, operator, version, out, written)
@@ -110,7 +110,7 @@ pub extern "C" fn pep440_pattern(
     written: &mut usize,
     star: &mut u8,
 ) -> u8
-    ensures { PatternAnswer pattern.now out.old out.new written.old written.new star.old star.new result }
+    ensures { PatternResult pattern.now out.old out.new written.old written.new star.old star.new result }
 {
     write_pattern(alloc, pattern, out, written, star)
 }
@@ -124,7 +124,7 @@ pub extern "C" fn pep440_edit(
     out: &mut [u8],
     written: &mut usize,
 ) -> u8
-    ensures { PutsEdited text.now (map (λ t. t.now) changes.now) out.old out.new written.old written.new result }
+    ensures { WritesEdited text.now (map (λ t. t.now) changes.now) out.old out.new written.old written.new result }
 {
     write_edited(alloc, text, changes, out, written)
 }
@@ -138,7 +138,7 @@ pub extern "C" fn pep440_edit_error(
     out: &mut [u8],
     written: &mut usize,
 ) -> u8
-    ensures { PutsBytes ⊥ ⊥ ⊥ (IsEditError text.now (map (λ t. t.now) changes.now)) out.old out.new written.old written.new result }
+    ensures { WritesBytes ⊥ ⊥ ⊥ (IsEditError text.now (map (λ t. t.now) changes.now)) out.old out.new written.old written.new result }
 {
     write_edit_error(alloc, text, changes, out, written)
 }
@@ -152,7 +152,7 @@ pub extern "C" fn pep440_error(
     out: &mut [u8],
     written: &mut usize,
 ) -> u8
-    ensures { ErrorAnswer kind bytes.now out.old out.new written.old written.new result }
+    ensures { ErrorResult kind bytes.now out.old out.new written.old written.new result }
 {
     write_error(alloc, kind, bytes, out, written)
 }
@@ -160,7 +160,7 @@ pub extern "C" fn pep440_error(
 /// How the left version compares with the right one: -1 below, 0 equal, 1 above.
 #[unsafe(no_mangle)]
 pub extern "C" fn pep440_compare(alloc: Global, left: &[u8], right: &[u8], order: &mut i8) -> u8
-    ensures { OrderAnswer left.now right.now order.old order.new result }
+    ensures { OrderResult left.now right.now order.old order.new result }
 {
     write_order(alloc, left, right, order)
 }
@@ -174,7 +174,7 @@ pub extern "C" fn pep440_contains(
     contained: &mut u8,
     prerelease: &mut u8,
 ) -> u8
-    ensures { ContainsAnswer list.now text.now contained.old contained.new prerelease.old prerelease.new result }
+    ensures { ContainsResult list.now text.now contained.old contained.new prerelease.old prerelease.new result }
 {
     write_match(alloc, list, text, contained, prerelease)
 }
@@ -182,7 +182,7 @@ pub extern "C" fn pep440_contains(
 /// Whether the list allows the version, 1 or 0: it contains the version, and this is no pre-release and no developmental release unless a specifier with another operator than `!=` names one.
 #[unsafe(no_mangle)]
 pub extern "C" fn pep440_allows(alloc: Global, list: &[u8], text: &[u8], allowed: &mut u8) -> u8
-    ensures { AllowsAnswer list.now text.now allowed.old allowed.new result }
+    ensures { AllowsResult list.now text.now allowed.old allowed.new result }
 {
     write_allowed(alloc, list, text, allowed)
 }
@@ -190,7 +190,7 @@ pub extern "C" fn pep440_allows(alloc: Global, list: &[u8], text: &[u8], allowed
 /// Whether a version of the list's specifiers is a pre-release or a developmental release, 1 or 0.
 #[unsafe(no_mangle)]
 pub extern "C" fn pep440_any_prerelease(alloc: Global, list: &[u8], any: &mut u8) -> u8
-    ensures { Puts ⊥ (RefusesListBytes list.now) ⊥ (IsFlagOf (NamesPrerelease list.now)) any.old any.new result }
+    ensures { WritesOrFails ⊥ (RejectsListBytes list.now) ⊥ (IsFlagOf (NamesPrerelease list.now)) any.old any.new result }
 {
     write_prerelease_flag(alloc, list, any)
 }
@@ -203,7 +203,7 @@ pub extern "C" fn pep440_version_in(
     out: &mut [u8],
     written: &mut usize,
 ) -> u8
-    ensures { PutsBytes ⊥ (RefusesListBytes list.now) ⊥ (IsVersionIn list.now) out.old out.new written.old written.new result }
+    ensures { WritesBytes ⊥ (RejectsListBytes list.now) ⊥ (IsVersionIn list.now) out.old out.new written.old written.new result }
 {
     write_version_in(alloc, list, out, written)
 }
@@ -216,7 +216,7 @@ pub extern "C" fn pep440_parts_of(
     parts: &mut Parts,
     release: &mut [u64],
 ) -> u8
-    ensures { PartsAnswer text.now parts.old parts.new release.old release.new result }
+    ensures { PartsResult text.now parts.old parts.new release.old release.new result }
 {
     write_parts(alloc, text, parts, release)
 }
@@ -229,7 +229,7 @@ pub extern "C" fn pep440_sort_key(
     out: &mut [u8],
     written: &mut usize,
 ) -> u8
-    ensures { PutsBytes (RefusesBytes text.now) ⊥ ⊥ (IsKey text.now) out.old out.new written.old written.new result }
+    ensures { WritesBytes (RejectsBytes text.now) ⊥ ⊥ (IsKey text.now) out.old out.new written.old written.new result }
 {
     write_sort_key(alloc, text, out, written)
 }
@@ -237,7 +237,7 @@ pub extern "C" fn pep440_sort_key(
 /// Writes the word of the version: words are numbers in the order of their versions.
 #[unsafe(no_mangle)]
 pub extern "C" fn pep440_word(alloc: Global, text: &[u8], word: &mut u64) -> u8
-    ensures { WordAnswer text.now word.old word.new result }
+    ensures { WordResult text.now word.old word.new result }
 {
     write_word(alloc, text, word)
 }
@@ -250,7 +250,7 @@ pub extern "C" fn pep440_ranges(
     out: &mut [u8],
     written: &mut usize,
 ) -> u8
-    ensures { PutsBytes ⊥ (RefusesListBytes list.now) (LacksRange range_of list.now) (IsRangeText list.now)
+    ensures { WritesBytes ⊥ (RejectsListBytes list.now) (LacksRange range_of list.now) (IsRangeLines list.now)
         out.old out.new written.old written.new result }
 {
     write_range(alloc, list, out, written)
@@ -266,8 +266,8 @@ pub extern "C" fn pep440_range_keys(
     written: &mut usize,
     count: &mut usize,
 ) -> u8
-    ensures { PutsJoined ⊥ (RefusesListBytes list.now) (LacksRange range_of list.now)
-        (TellsIntervals range_of list.now) out.old out.new ends.old ends.new written.old written.new count.old count.new result }
+    ensures { WritesJoined ⊥ (RejectsListBytes list.now) (LacksRange range_of list.now)
+        (JoinsRangeIntervals range_of list.now) out.old out.new ends.old ends.new written.old written.new count.old count.new result }
 {
     write_range_keys(alloc, list, out, ends, written, count)
 }
@@ -282,8 +282,8 @@ pub extern "C" fn pep440_cover_keys(
     written: &mut usize,
     count: &mut usize,
 ) -> u8
-    ensures { PutsJoined ⊥ (RefusesListBytes list.now) (LacksRange cover_of list.now)
-        (TellsIntervals cover_of list.now) out.old out.new ends.old ends.new written.old written.new count.old count.new result }
+    ensures { WritesJoined ⊥ (RejectsListBytes list.now) (LacksRange cover_of list.now)
+        (JoinsRangeIntervals cover_of list.now) out.old out.new ends.old ends.new written.old written.new count.old count.new result }
 {
     write_cover_keys(alloc, list, out, ends, written, count)
 }
@@ -298,7 +298,7 @@ pub extern "C" fn pep440_range_bounds(
     written: &mut usize,
     count: &mut usize,
 ) -> u8
-    ensures { PutsJoined ⊥ (RefusesListBytes list.now) (LacksRange range_of list.now) (TellsBounds range_of list.now)
+    ensures { WritesJoined ⊥ (RejectsListBytes list.now) (LacksRange range_of list.now) (JoinsRangeBounds range_of list.now)
         out.old out.new ends.old ends.new written.old written.new count.old count.new result }
 {
     write_range_bounds(alloc, list, out, ends, written, count)
@@ -314,8 +314,8 @@ pub extern "C" fn pep440_release_range_bounds(
     written: &mut usize,
     count: &mut usize,
 ) -> u8
-    ensures { PutsJoined ⊥ (RefusesListBytes list.now) (LacksRange release_range_of list.now)
-        (TellsBounds release_range_of list.now) out.old out.new ends.old ends.new written.old written.new count.old count.new result }
+    ensures { WritesJoined ⊥ (RejectsListBytes list.now) (LacksRange release_range_of list.now)
+        (JoinsRangeBounds release_range_of list.now) out.old out.new ends.old ends.new written.old written.new count.old count.new result }
 {
     write_release_range_bounds(alloc, list, out, ends, written, count)
 }
@@ -328,7 +328,7 @@ pub extern "C" fn pep440_compile(
     out: &mut [u8],
     written: &mut usize,
 ) -> u8
-    ensures { PutsBytes (RefusesBytes text.now) ⊥ ⊥ (IsCompiled text.now) out.old out.new written.old written.new result }
+    ensures { WritesBytes (RejectsBytes text.now) ⊥ ⊥ (IsCompiled text.now) out.old out.new written.old written.new result }
 {
     write_compiled(alloc, text, out, written)
 }
@@ -341,7 +341,7 @@ pub extern "C" fn pep440_compile_list(
     out: &mut [u8],
     written: &mut usize,
 ) -> u8
-    ensures { PutsBytes ⊥ (RefusesListBytes list.now) ⊥ (IsCompiledList list.now) out.old out.new written.old written.new result }
+    ensures { WritesBytes ⊥ (RejectsListBytes list.now) ⊥ (IsCompiledList list.now) out.old out.new written.old written.new result }
 {
     write_compiled_list(alloc, list, out, written)
 }
@@ -354,7 +354,7 @@ pub extern "C" fn pep440_compile_specifier(
     out: &mut [u8],
     written: &mut usize,
 ) -> u8
-    ensures { PutsBytes ⊥ (RefusesSpecifierBytes specifier.now) ⊥ (IsCompiledSpecifier specifier.now)
+    ensures { WritesBytes ⊥ (RejectsSpecifierBytes specifier.now) ⊥ (IsCompiledSpecifier specifier.now)
         out.old out.new written.old written.new result }
 {
     write_compiled_specifier(alloc, specifier, out, written)
@@ -370,7 +370,7 @@ pub extern "C" fn pep440_build_error(
     out: &mut [u8],
     written: &mut usize,
 ) -> u8
-    ensures { PutsBytes (RefusesNumbered operator text.now) (IsNoOperator operator) ⊥
+    ensures { WritesBytes (RejectsNumbered operator text.now) (IsNoOperator operator) ⊥
         (IsBuildError operator text.now (not (star == 0))) out.old out.new written.old written.new result }
 {
     write_build_error(alloc, operator, text, star, out, written)
@@ -392,7 +392,7 @@ pub extern "C" fn pep440_newest(
     texts: &[&[u8]],
     index: &mut usize,
 ) -> u8
-    ensures { NewestAnswer list.now (map (λ t. t.now) texts.now) index.old index.new result }
+    ensures { NewestResult list.now (map (λ t. t.now) texts.now) index.old index.new result }
 {
     write_newest(alloc, list, texts, index)
 }
@@ -405,7 +405,7 @@ pub extern "C" fn pep440_sort(
     places: &mut [usize],
     at: &mut usize,
 ) -> u8
-    ensures { SortAnswer (map (λ t. t.now) texts.now) places.old places.new at.old at.new result }
+    ensures { SortResult (map (λ t. t.now) texts.now) places.old places.new at.old at.new result }
 {
     write_positions(alloc, texts, places, at)
 }
@@ -420,7 +420,7 @@ pub extern "C" fn pep440_sort_keys(
     written: &mut usize,
     at: &mut usize,
 ) -> u8
-    ensures { KeysAnswer (map (λ t. t.now) texts.now) out.old out.new ends.old ends.new written.old written.new at.old at.new result }
+    ensures { KeysResult (map (λ t. t.now) texts.now) out.old out.new ends.old ends.new written.old written.new at.old at.new result }
 {
     write_sort_keys(alloc, texts, out, ends, written, at)
 }

@@ -9,9 +9,9 @@ use Rattle.pep440_rs.specs.Specifiers.{Spec}
 use Rattle.pep440_version.specs.Record.{Record}
 use Rattle.pep440_calls.proofs.Once.{one_bytes_list, one_version}
 use Rattle.pep440_calls.specs.CallResults.{IsCompiled, IsCompiledList}
-use Rattle.pep440_calls.specs.Meaning.{MeansBytes, MeansListBytes}
+use Rattle.pep440_calls.specs.CallerBytes.{BytesDenote, BytesDenoteList}
 
-pub same_compiled : (s t a b : List ℕ) (r q : Record) → IsCompiled s a → IsCompiled t b → MeansBytes s r → MeansBytes t q → (a ≡ b) ↔ (r ≡ q)
+pub same_compiled : (s t a b : List ℕ) (r q : Record) → IsCompiled s a → IsCompiled t b → BytesDenote s r → BytesDenote t q → (a ≡ b) ↔ (r ≡ q)
 same_compiled s t a b r q (v, v_means, v_denotes) (w, w_means, w_denotes) means also =
     let left : v ≡ r = one_version s v r v_means means in
     let right : w ≡ q = one_version t w q w_means also in (
@@ -22,13 +22,13 @@ same_compiled s t a b r q (v, v_means, v_denotes) (w, w_means, w_denotes) means 
 pub one_form : (text a b : List ℕ) → IsCompiled text a → IsCompiled text b → a ≡ b
 one_form text a b (r, means, denotes) (q, also, again) = denotes.same ∙ (ap compiled_bytes (one_version text r q means also) ∙ sym again.same)
 
-pub same_version : (text compiled : List ℕ) (q : Record) → IsCompiled text compiled → MeansBytes text q ↔ MeansBytes compiled q
+pub same_version : (text compiled : List ℕ) (q : Record) → IsCompiled text compiled → BytesDenote text q ↔ BytesDenote compiled q
 same_version text compiled q (r, means, denotes) = (
   λ also. inr (subst (DenotesVersion compiled) (one_version text r q means also) denotes),
-  λ also. subst (MeansBytes text) (one_version compiled r q (inr denotes) also) means,
+  λ also. subst (BytesDenote text) (one_version compiled r q (inr denotes) also) means,
 )
 
-pub same_compiled_list : (s t a b : List ℕ) (l m : List Spec) → IsCompiledList s a → IsCompiledList t b → MeansListBytes s l → MeansListBytes t m → (a ≡ b) ↔ (l ≡ m)
+pub same_compiled_list : (s t a b : List ℕ) (l m : List Spec) → IsCompiledList s a → IsCompiledList t b → BytesDenoteList s l → BytesDenoteList t m → (a ≡ b) ↔ (l ≡ m)
 same_compiled_list s t a b l m (v, v_means, v_denotes) (w, w_means, w_denotes) means also =
     let left : v ≡ l = one_bytes_list s v l v_means means in
     let right : w ≡ m = one_bytes_list t w m w_means also in (
@@ -39,8 +39,8 @@ same_compiled_list s t a b l m (v, v_means, v_denotes) (w, w_means, w_denotes) m
 pub one_list_form : (text a b : List ℕ) → IsCompiledList text a → IsCompiledList text b → a ≡ b
 one_list_form text a b (l, means, denotes) (m, also, again) = denotes.same ∙ (ap list_bytes (one_bytes_list text l m means also) ∙ sym again.same)
 
-pub same_list : (text compiled : List ℕ) (m : List Spec) → IsCompiledList text compiled → MeansListBytes text m ↔ MeansListBytes compiled m
+pub same_list : (text compiled : List ℕ) (m : List Spec) → IsCompiledList text compiled → BytesDenoteList text m ↔ BytesDenoteList compiled m
 same_list text compiled m (l, means, denotes) = (
   λ also. inr (subst (DenotesList compiled) (one_bytes_list text l m means also) denotes),
-  λ also. subst (MeansListBytes text) (one_bytes_list compiled l m (inr denotes) also) means,
+  λ also. subst (BytesDenoteList text) (one_bytes_list compiled l m (inr denotes) also) means,
 )

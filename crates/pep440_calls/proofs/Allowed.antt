@@ -7,7 +7,7 @@ use Rattle.pep440_rs.specs.Specifiers.{Spec}
 use Rattle.pep440_version.specs.Record.{Record}
 use Rattle.pep440_calls.proofs.Once.{one_bytes_list, one_version}
 use Rattle.pep440_calls.specs.CallResults.{Contains, IsPrerelease, Allows}
-use Rattle.pep440_calls.specs.Meaning.{MeansBytes, MeansListBytes}
+use Rattle.pep440_calls.specs.CallerBytes.{BytesDenote, BytesDenoteList}
 
 no_match : (takes : Bool) (list : List Spec) (r : Record) → list_matches list r ≡ false → list_allows takes list r ≡ false
 no_match true list r none = none
@@ -26,7 +26,7 @@ prerelease true list r early contained = contained
 prerelease false list r early contained = ap (λ b. not b && list_matches list r) early
 
 -- of a list and a version that were read
-pub allows_read : (list text : List ℕ) (l : List Spec) (r : Record) (takes allowed : Bool) → MeansListBytes list l → MeansBytes text r → takes ≡ requests_prereleases l → allowed ≡ list_allows takes l r → Allows list text allowed
+pub allows_read : (list text : List ℕ) (l : List Spec) (r : Record) (takes allowed : Bool) → BytesDenoteList list l → BytesDenote text r → takes ≡ requests_prereleases l → allowed ≡ list_allows takes l r → Allows list text allowed
 allows_read list text l r takes allowed means also asks is = (
   inr ((l, means), (r, also)),
   λ m q first second.
@@ -42,7 +42,7 @@ module _ (list text : List ℕ) (contained early : Bool) (found : Contains list 
   pub allows_none : contained ≡ false → Allows list text false
   allows_none none = (found.0, λ l r means also. sym (no_match (requests_prereleases l) l r (sym (found.1 l r means also) ∙ none)))
 
-  pub allows_early : (asks : Bool) → contained ≡ true → early ≡ true → ((l : List Spec) → MeansListBytes list l → asks ≡ requests_prereleases l) → Allows list text asks
+  pub allows_early : (asks : Bool) → contained ≡ true → early ≡ true → ((l : List Spec) → BytesDenoteList list l → asks ≡ requests_prereleases l) → Allows list text asks
   allows_early asks all pre is = (
     found.0,
     λ l r means also. is l means ∙ sym (prerelease (requests_prereleases l) l r (sym (is_early r also) ∙ pre) (sym (found.1 l r means also) ∙ all)),

@@ -8,9 +8,9 @@ use Rattle.pep440_pick.proofs.Choosing as greatest
 use Rattle.pep440_pick.specs.Greatest.{Greatest, is_above}
 use Rattle.pep440_rs.specs.Matching.{any_prerelease, list_matches}
 use Rattle.pep440_rs.specs.Specifiers.{Spec}
-use Rattle.pep440_version.specs.KeyLaws.{record_total}
+use Rattle.pep440_version.specs.Key.KeyLaws.{record_total}
 use Rattle.pep440_version.specs.Record.{Record}
-use Rattle.pep440_calls.specs.Meaning.{MeansBytes, RefusesBytes}
+use Rattle.pep440_calls.specs.CallerBytes.{BytesDenote, RejectsBytes}
 use Rattle.pep440_calls.specs.NewestString.{IsContainedString, preference}
 use Rattle.pep440_calls.specs.Statuses.{flag}
 use Rattle.pep440_calls.proofs.Once.{never_both, one_version}
@@ -25,7 +25,7 @@ module _ (takes : Bool) (list : List Spec) where
   abbrev NewestOf : List (List ℕ) → Option (ℕ × Record) → Type 0
   NewestOf = Greatest (IsContainedString list) (preference takes)
 
-  pub out_of : (t : List ℕ) → RefusesBytes t ⊎ ((r : Record) × MeansBytes t r × (list_matches list r ≡ false)) → (r : Record) → ¬ (IsContainedString list t r)
+  pub out_of : (t : List ℕ) → RejectsBytes t ⊎ ((r : Record) × BytesDenote t r × (list_matches list r ≡ false)) → (r : Record) → ¬ (IsContainedString list t r)
   out_of t (inl why) r h = never_both t r h.0 why
   out_of t (inr (q, means, out)) r h = both_ways (list_matches list r) (ap (list_matches list) (one_version t r q h.0 means) ∙ out) h.1
 

@@ -10,29 +10,29 @@ use Rattle.pep440_compiled.specs.declared.error.CompileError.{CompileError}
 use Rattle.pep440_compiled.specs.declared.error.CompileError.TheVariants.{NotParsed, OutOfMemory}
 use Rattle.pep440_rs.proofs.Agreement.Operands.{list_has_texts}
 use Rattle.pep440_rs.proofs.Covering.Lists.{is_coverable}
-use Rattle.pep440_rs.specs.SpecifierGrammar.{HasText}
+use Rattle.pep440_rs.specs.Specifiers.SpecifierGrammar.{IsDenotedSpecifier}
 use Rattle.pep440_rs.specs.Specifiers.{Spec}
 use Rattle.pep440_version.specs.Grammar.{Derives}
 use Rattle.pep440_version.specs.Record.{Record}
 use Rattle.pep440_calls.proofs.Ascii.{derived_utf8}
 use Rattle.pep440_calls.proofs.Once.{no_format}
 use Rattle.pep440_calls.specs.CallResults.{IsCompiled}
-use Rattle.pep440_calls.specs.Meaning.{MeansBytes, MeansListBytes}
+use Rattle.pep440_calls.specs.CallerBytes.{BytesDenote, BytesDenoteList}
 use Rattle.pep440_calls.specs.Statuses.{Faults, fault_of_compile}
 use Rattle.pep440_calls.specs.declared.fault.Fault.{Fault}
 
 abbrev pub IsParsedSpec : Spec → Type 0
 IsParsedSpec s = IsParsed s.version
 
-pub specifier_parsed : (s : Spec) → HasText s → IsParsedSpec s
+pub specifier_parsed : (s : Spec) → IsDenotedSpecifier s → IsParsedSpec s
 specifier_parsed s has = let denoted = (is_coverable s has).1 in parsed denoted.0 s.version denoted.1
 
-pub means_parsed : (bytes : List ℕ) (r : Record) → MeansBytes bytes r → IsParsed r
+pub means_parsed : (bytes : List ℕ) (r : Record) → BytesDenote bytes r → IsParsed r
 means_parsed bytes r (inl (plain, (utf8, d))) = parsed bytes r d
 means_parsed bytes r (inr d) = d.parsed
 
-pub members_parsed : (bytes : List ℕ) (list : List Spec) → MeansListBytes bytes list → All IsParsedSpec list
-members_parsed bytes list (inl (plain, (utf8, means))) = All-weaker HasText IsParsedSpec specifier_parsed list (list_has_texts bytes list means)
+pub members_parsed : (bytes : List ℕ) (list : List Spec) → BytesDenoteList bytes list → All IsParsedSpec list
+members_parsed bytes list (inl (plain, (utf8, means))) = All-weaker IsDenotedSpecifier IsParsedSpec specifier_parsed list (list_has_texts bytes list means)
 members_parsed bytes list (inr d) = All-weaker IsParsedMember IsParsedSpec (λ s p. p.version) list d.members
 
 -- so an error is out of memory

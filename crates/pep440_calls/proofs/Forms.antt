@@ -10,17 +10,17 @@ use Rattle.pep440_version.specs.Key.{record_cmp}
 use Rattle.pep440_version.specs.Record.{Record}
 use Rattle.pep440_calls.proofs.Once.{one_bytes_list, one_version}
 use Rattle.pep440_calls.specs.CallResults.{Contains, IsOrder, IsPrerelease, order_number}
-use Rattle.pep440_calls.specs.Meaning.{IsNoCompiledList, IsNoCompiledVersion, MeansBytes, MeansListBytes, MeansListString, MeansString, RefusesBytes, RefusesListBytes, RefusesListString, RefusesString}
-use Rattle.pep440_calls.specs.Statuses.{Gives}
+use Rattle.pep440_calls.specs.CallerBytes.{IsNoCompiledList, IsNoCompiledVersion, BytesDenote, BytesDenoteList, StringDenotesList, StringDenotes, RejectsBytes, RejectsListBytes, RejectsListString, RejectsString}
+use Rattle.pep440_calls.specs.Statuses.{HoldsOrFaults}
 use Rattle.pep440_calls.specs.declared.fault.Fault.{Fault}
 use Rattle.pep440_calls.specs.declared.fault.Fault.TheVariants as fault
 
 -- ---- versions
 
-pub no_compiled : (bytes : List ℕ) → HasVersionFormat bytes → IsNoCompiledVersion bytes → RefusesBytes bytes
+pub no_compiled : (bytes : List ℕ) → HasVersionFormat bytes → IsNoCompiledVersion bytes → RejectsBytes bytes
 no_compiled bytes format none = (codes "not a compiled version", inr (format, none, refl))
 
-pub string_read : (bytes : List ℕ) → (¬ HasVersionFormat bytes) → (result : Result Record Fault) → Gives (RefusesString bytes) ⊥ ⊥ (MeansString bytes) result → Gives (RefusesBytes bytes) ⊥ ⊥ (MeansBytes bytes) result
+pub string_read : (bytes : List ℕ) → (¬ HasVersionFormat bytes) → (result : Result Record Fault) → HoldsOrFaults (RejectsString bytes) ⊥ ⊥ (StringDenotes bytes) result → HoldsOrFaults (RejectsBytes bytes) ⊥ ⊥ (BytesDenote bytes) result
 string_read bytes plain (Ok r) means = inl (plain, means)
 string_read bytes plain (Err fault.InvalidVersion) why = (why.0, inl (plain, why.1))
 string_read bytes plain (Err fault.InvalidList) h = h
@@ -28,7 +28,7 @@ string_read bytes plain (Err fault.OutOfMemory) h = h
 string_read bytes plain (Err fault.NumberAtMax) h = h
 string_read bytes plain (Err fault.InvalidRight) h = h
 
-pub compiled_read : (bytes : List ℕ) → HasVersionFormat bytes → (result : Result Record Fault) → Gives (IsNoCompiledVersion bytes) ⊥ ⊥ (DenotesVersion bytes) result → Gives (RefusesBytes bytes) ⊥ ⊥ (MeansBytes bytes) result
+pub compiled_read : (bytes : List ℕ) → HasVersionFormat bytes → (result : Result Record Fault) → HoldsOrFaults (IsNoCompiledVersion bytes) ⊥ ⊥ (DenotesVersion bytes) result → HoldsOrFaults (RejectsBytes bytes) ⊥ ⊥ (BytesDenote bytes) result
 compiled_read bytes format (Ok r) d = inr d
 compiled_read bytes format (Err fault.InvalidVersion) none = no_compiled bytes format none
 compiled_read bytes format (Err fault.InvalidList) h = h
@@ -37,16 +37,16 @@ compiled_read bytes format (Err fault.NumberAtMax) h = h
 compiled_read bytes format (Err fault.InvalidRight) h = h
 
 -- compiled bytes denote what they denote as a compiled form
-pub as_compiled : (bytes : List ℕ) (r : Record) → HasVersionFormat bytes → MeansBytes bytes r → DenotesVersion bytes r
+pub as_compiled : (bytes : List ℕ) (r : Record) → HasVersionFormat bytes → BytesDenote bytes r → DenotesVersion bytes r
 as_compiled bytes r format (inl (plain, means)) = absurd (plain format)
 as_compiled bytes r format (inr d) = d
 
 -- ---- lists
 
-pub no_compiled_list : (bytes : List ℕ) → HasListFormat bytes → IsNoCompiledList bytes → RefusesListBytes bytes
+pub no_compiled_list : (bytes : List ℕ) → HasListFormat bytes → IsNoCompiledList bytes → RejectsListBytes bytes
 no_compiled_list bytes format none = (codes "not a compiled list", inr (format, none, refl))
 
-pub list_string_read : (bytes : List ℕ) → (¬ HasListFormat bytes) → (result : Result (List Spec) Fault) → Gives ⊥ (RefusesListString bytes) ⊥ (MeansListString bytes) result → Gives ⊥ (RefusesListBytes bytes) ⊥ (MeansListBytes bytes) result
+pub list_string_read : (bytes : List ℕ) → (¬ HasListFormat bytes) → (result : Result (List Spec) Fault) → HoldsOrFaults ⊥ (RejectsListString bytes) ⊥ (StringDenotesList bytes) result → HoldsOrFaults ⊥ (RejectsListBytes bytes) ⊥ (BytesDenoteList bytes) result
 list_string_read bytes plain (Ok l) means = inl (plain, means)
 list_string_read bytes plain (Err fault.InvalidVersion) h = h
 list_string_read bytes plain (Err fault.InvalidList) why = (why.0, inl (plain, why.1))
@@ -54,7 +54,7 @@ list_string_read bytes plain (Err fault.OutOfMemory) h = h
 list_string_read bytes plain (Err fault.NumberAtMax) h = h
 list_string_read bytes plain (Err fault.InvalidRight) h = h
 
-pub compiled_list_read : (bytes : List ℕ) → HasListFormat bytes → (result : Result (List Spec) Fault) → Gives ⊥ (IsNoCompiledList bytes) ⊥ (DenotesList bytes) result → Gives ⊥ (RefusesListBytes bytes) ⊥ (MeansListBytes bytes) result
+pub compiled_list_read : (bytes : List ℕ) → HasListFormat bytes → (result : Result (List Spec) Fault) → HoldsOrFaults ⊥ (IsNoCompiledList bytes) ⊥ (DenotesList bytes) result → HoldsOrFaults ⊥ (RejectsListBytes bytes) ⊥ (BytesDenoteList bytes) result
 compiled_list_read bytes format (Ok l) d = inr d
 compiled_list_read bytes format (Err fault.InvalidVersion) h = h
 compiled_list_read bytes format (Err fault.InvalidList) none = no_compiled_list bytes format none
@@ -62,25 +62,25 @@ compiled_list_read bytes format (Err fault.OutOfMemory) h = h
 compiled_list_read bytes format (Err fault.NumberAtMax) h = h
 compiled_list_read bytes format (Err fault.InvalidRight) h = h
 
-pub as_compiled_list : (bytes : List ℕ) (l : List Spec) → HasListFormat bytes → MeansListBytes bytes l → DenotesList bytes l
+pub as_compiled_list : (bytes : List ℕ) (l : List Spec) → HasListFormat bytes → BytesDenoteList bytes l → DenotesList bytes l
 as_compiled_list bytes l format (inl (plain, means)) = absurd (plain format)
 as_compiled_list bytes l format (inr d) = d
 
 -- ---- what calls find
 
 -- the order of versions that were read
-pub order_read : (left right : List ℕ) (r q : Record) (o : Ordering) → MeansBytes left r → MeansBytes right q → o ≡ record_cmp r q → IsOrder left right (order_number o)
+pub order_read : (left right : List ℕ) (r q : Record) (o : Ordering) → BytesDenote left r → BytesDenote right q → o ≡ record_cmp r q → IsOrder left right (order_number o)
 order_read left right r q o means also is = (
   inr ((r, means), (q, also)),
   λ x y first second. ap order_number (is ∙ (λ i. record_cmp (one_version left r x means first i) (one_version right q y also second i))),
 )
 
 -- matching of a list and a version that were read
-pub contains_read : (list text : List ℕ) (l : List Spec) (r : Record) (contained : Bool) → MeansListBytes list l → MeansBytes text r → contained ≡ list_matches l r → Contains list text contained
+pub contains_read : (list text : List ℕ) (l : List Spec) (r : Record) (contained : Bool) → BytesDenoteList list l → BytesDenote text r → contained ≡ list_matches l r → Contains list text contained
 contains_read list text l r contained means also is = (
   inr ((l, means), (r, also)),
   λ m q first second. is ∙ (λ i. list_matches (one_bytes_list list l m means first i) (one_version text r q also second i)),
 )
 
-pub early_read : (text : List ℕ) (r : Record) (early : Bool) → MeansBytes text r → early ≡ any_prerelease r → IsPrerelease text early
+pub early_read : (text : List ℕ) (r : Record) (early : Bool) → BytesDenote text r → early ≡ any_prerelease r → IsPrerelease text early
 early_read text r early means is q also = is ∙ ap any_prerelease (one_version text r q means also)

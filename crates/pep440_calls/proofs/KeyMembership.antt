@@ -19,24 +19,24 @@ use Rattle.pep440_version.specs.Print.{print}
 use Rattle.pep440_version.specs.Record.{Record}
 use Rattle.pep440_calls.proofs.Keyed.{cover_has_keys, range_has_keys}
 use Rattle.pep440_calls.specs.Ranges.{HasRange}
-use Rattle.pep440_calls.specs.Meaning.{MeansBytes, MeansListString}
+use Rattle.pep440_calls.specs.CallerBytes.{BytesDenote, StringDenotesList}
 
 any_map : (key : List ℕ) (range : Segments) → list_any (λ s. is_within (segment_interval s) key) range ≡ list_any (λ interval. is_within interval key) (map segment_interval range)
 any_map key [] = refl
 any_map key (s ∷ range) = ap (λ (b : Bool). is_within (segment_interval s) key || b) (any_map key range)
 
 -- some string denotes the version
-denoted : (bytes : List ℕ) (r : Record) → MeansBytes bytes r → IsDenoted r
+denoted : (bytes : List ℕ) (r : Record) → BytesDenote bytes r → IsDenoted r
 denoted bytes r (inl (plain, (utf8, d))) = (bytes, d)
 denoted bytes r (inr d) = (print r, reread r d.parsed.valid d.parsed.round_trips)
 
-tells : (range : Segments) (text : List ℕ) (r : Record) → HasKeys range → MeansBytes text r → list_any (λ s. is_within (segment_interval s) (key_bytes r)) range ≡ contains record_cmp range r
+tells : (range : Segments) (text : List ℕ) (r : Record) → HasKeys range → BytesDenote text r → list_any (λ s. is_within (segment_interval s) (key_bytes r)) range ≡ contains record_cmp range r
 tells range text r keys means = let d = denoted text r means in any_map (key_bytes r) range ∙ tells_membership range keys r (derived_keyed d.0 r d.1)
 
-pub in_range : (list text : List ℕ) (range : Segments) (r : Record) → HasRange range_of list range → MeansBytes text r → list_any (λ s. is_within (segment_interval s) (key_bytes r)) range ≡ contains record_cmp range r
+pub in_range : (list text : List ℕ) (range : Segments) (r : Record) → HasRange range_of list range → BytesDenote text r → list_any (λ s. is_within (segment_interval s) (key_bytes r)) range ≡ contains record_cmp range r
 in_range list text range r has means = tells range text r (range_has_keys list range has) means
 
-pub in_cover : (list text : List ℕ) (members : List Spec) (cover : Segments) (r : Record) → (¬ HasListFormat list) → MeansListString list members → list_range cover_of members ≡ Some cover → MeansBytes text r → list_matches members r ≡ true
+pub in_cover : (list text : List ℕ) (members : List Spec) (cover : Segments) (r : Record) → (¬ HasListFormat list) → StringDenotesList list members → list_range cover_of members ≡ Some cover → BytesDenote text r → list_matches members r ≡ true
     → list_any (λ s. is_within (segment_interval s) (key_bytes r)) cover ≡ true
 in_cover list text members cover r plain (utf8, means) is also matches =
     tells cover text r (cover_has_keys list cover (members, inl (plain, (utf8, means)), is)) also

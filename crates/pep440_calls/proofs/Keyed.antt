@@ -18,7 +18,7 @@ use Rattle.pep440_rs.proofs.Covering.Lists.{is_coverable}
 use Rattle.pep440_rs.specs.Bounds.{Segments, alone, compatible_end, from_to, full, greater, less, list_range, next_number, raise_last, range_from, range_of, star, star_end}
 use Rattle.pep440_rs.specs.Cover.{after_devs, after_locals, below_post, IsCoverable, cover_of, next_public}
 use Rattle.pep440_rs.specs.Matching.{any_prerelease, has_local, without_last}
-use Rattle.pep440_rs.specs.SpecifierGrammar.{HasText}
+use Rattle.pep440_rs.specs.Specifiers.SpecifierGrammar.{IsDenotedSpecifier}
 use Rattle.pep440_rs.specs.Specifiers.{Spec}
 use Rattle.pep440_rs.specs.declared.specifier.operator.Operator.{Operator}
 use Rattle.pep440_rs.specs.declared.specifier.operator.Operator.TheVariants.{Equal, EqualStar, ExactEqual, NotEqual, NotEqualStar, TildeEqual, LessThan, LessThanEqual, GreaterThan, GreaterThanEqual}
@@ -29,7 +29,7 @@ use Rattle.pep440_version.specs.Record.{Fits, Record, SegmentFits, epoch_and_rel
 use Rattle.pep440_version.specs.declared.prerelease.Prerelease.{Prerelease}
 use Rattle.pep440_version.specs.declared.prerelease.PrereleaseKind.TheVariants.{Alpha}
 use Rattle.pep440_calls.specs.Ranges.{HasRange}
-use Rattle.pep440_calls.specs.Meaning.{MeansListBytes}
+use Rattle.pep440_calls.specs.CallerBytes.{BytesDenoteList}
 
 -- ---- versions
 
@@ -267,9 +267,9 @@ module _ (conversion : Operator → Record → Option Segments) (keyed : (op : O
   list_keyed members range k is = All-from_recursion IsKeyedSegment range (from_keyed full members range ((tt, tt), tt) (recursion_from_All KeyedMember members k) is)
 
 -- the members of a list that bytes denote
-members_keyed : (text : List ℕ) (list : List Spec) → MeansListBytes text list → All KeyedMember list
+members_keyed : (text : List ℕ) (list : List Spec) → BytesDenoteList text list → All KeyedMember list
 members_keyed text list (inr d) = All-weaker IsParsedMember KeyedMember (λ m p. keyed m.version p.version) list d.members
-members_keyed text list (inl (plain, (utf8, means))) = All-weaker HasText KeyedMember (λ m has. version_keyed m (is_coverable m has)) list (list_has_texts text list means)
+members_keyed text list (inl (plain, (utf8, means))) = All-weaker IsDenotedSpecifier KeyedMember (λ m has. version_keyed m (is_coverable m has)) list (list_has_texts text list means)
   where
     version_keyed : (m : Spec) → IsCoverable m → IsKeyed m.version
     version_keyed m (operand, (found, derives)) = derived_keyed found m.version derives

@@ -15,9 +15,9 @@ use Rattle.pep440_compiled.specs.Version.{compiled_bytes}
 use Rattle.pep440_rs.proofs.Reading.Pieces.{after_comma}
 use Rattle.pep440_rs.proofs.Reread.Again.{built_is}
 use Rattle.pep440_rs.specs.Build.{built, built_pattern}
-use Rattle.pep440_rs.specs.ListGrammar.{DerivesList, pieces}
+use Rattle.pep440_rs.specs.Lists.ListGrammar.{DerivesList, pieces}
 use Rattle.pep440_rs.specs.Operators.{operator_text}
-use Rattle.pep440_rs.specs.SpecifierGrammar.{DerivesSpecifier, SpecifierParts}
+use Rattle.pep440_rs.specs.Specifiers.SpecifierGrammar.{DerivesSpecifier, SpecifierParts}
 use Rattle.pep440_rs.specs.Specifiers.{Spec}
 use Rattle.pep440_rs.specs.declared.specifier.operator.Operator.{Operator}
 use Rattle.pep440_rs.specs.declared.specifier.operator.Operator.TheVariants.{Equal, EqualStar, ExactEqual, NotEqual, NotEqualStar, TildeEqual, LessThan, LessThanEqual, GreaterThan, GreaterThanEqual}

@@ -9,13 +9,13 @@ use Rattle.std.specs.declared.cmp.Ordering.{Ordering}
 use Rattle.pep440_keys.specs.SortKeys.{key_bytes}
 use Rattle.pep440_version.specs.Key.{record_cmp}
 use Rattle.pep440_version.specs.Record.{Record}
-use Rattle.pep440_calls.specs.Batches.{ArrangesPlaces, MeansKeys, StopsAll, stop_at}
+use Rattle.pep440_calls.specs.Batches.{ArrangesPositions, JoinsKeys, BatchFaults, batch_error_at}
 use Rattle.pep440_calls.specs.JoinedStrings.{Joins}
 use Rattle.pep440_calls.specs.Statuses.{Faults}
 use Rattle.pep440_calls.specs.declared.fault.Fault.{Fault}
 use Rattle.pep440_calls.specs.declared.fault.Fault.TheVariants.{InvalidVersion, InvalidList, InvalidRight, NumberAtMax, OutOfMemory}
 use Rattle.pep440_calls.specs.declared.batch.BatchError.{BatchError}
-use Rattle.pep440_calls.specs.Meaning.{MeansBytes, RefusesBytes}
+use Rattle.pep440_calls.specs.CallerBytes.{BytesDenote, RejectsBytes}
 
 -- one text more
 all_more : {A B : Type 0} (R : A → B → Type 0) (xs : List A) (ys : List B) (x : A) (y : B) → AllZip R xs ys → R x y → AllZip R (xs ++ x ∷ []) (ys ++ y ∷ [])
@@ -86,14 +86,14 @@ placed_more Means texts i x pairs new v inside means more (versions, all, placed
     )
 
 -- the text at a place that is refused is the first, where those before it mean versions
-pub stops_at : (texts : List (Bor (List ℕ))) (i : ℕ) (x : Bor (List ℕ)) (f : Fault) (s : BatchError) (versions : List Record) → i < length texts → s ≡ stop_at i f
-    → Faults (RefusesBytes (get_or texts i x).now) ⊥ ⊥ f → AllZip MeansBytes (map (λ t. t.now) (take i texts)) versions → StopsAll (map (λ t. t.now) texts) s
-stops_at texts i x InvalidVersion s versions inside is why all = subst (λ (t : BatchError). StopsAll (map (λ (y : Bor (List ℕ)). y.now) texts) t) (sym is)
-    (let both = refused_first MeansBytes RefusesBytes texts i x versions inside why all in record { refused = both.0; before = both.1 })
+pub stops_at : (texts : List (Bor (List ℕ))) (i : ℕ) (x : Bor (List ℕ)) (f : Fault) (s : BatchError) (versions : List Record) → i < length texts → s ≡ batch_error_at i f
+    → Faults (RejectsBytes (get_or texts i x).now) ⊥ ⊥ f → AllZip BytesDenote (map (λ t. t.now) (take i texts)) versions → BatchFaults (map (λ t. t.now) texts) s
+stops_at texts i x InvalidVersion s versions inside is why all = subst (λ (t : BatchError). BatchFaults (map (λ (y : Bor (List ℕ)). y.now) texts) t) (sym is)
+    (let both = refused_first BytesDenote RejectsBytes texts i x versions inside why all in record { refused = both.0; before = both.1 })
 stops_at texts i x InvalidList s versions inside is why all = absurd why
 stops_at texts i x NumberAtMax s versions inside is why all = absurd why
 stops_at texts i x InvalidRight s versions inside is why all = absurd why
-stops_at texts i x OutOfMemory s versions inside is why all = subst (λ (t : BatchError). StopsAll (map (λ (y : Bor (List ℕ)). y.now) texts) t) (sym is) tt
+stops_at texts i x OutOfMemory s versions inside is why all = subst (λ (t : BatchError). BatchFaults (map (λ (y : Bor (List ℕ)). y.now) texts) t) (sym is) tt
 
 -- one more mark
 pub marked_more : (Marks : List ℕ → ℕ → Type 0) (texts : List (Bor (List ℕ))) (i : ℕ) (x : Bor (List ℕ)) (marks new : List ℕ) (m : ℕ) → i < length texts → Marks (get_or texts i x).now m → new ≡ marks ++ m ∷ []
@@ -106,17 +106,17 @@ placed_cmp = on (λ (p : ℕ × Record). p.1) record_cmp
 
 -- the places of what a sort made, where memory was found for them
 pub arranged_if : {V E : Type 0} (view : V → List ℕ) (given sorted : List (ℕ × Record)) (result : Result V E) → IsPermutation given sorted → IsSorted placed_cmp sorted → IsStable placed_cmp given sorted
-    → (seen : List (ℕ × Record)) → seen ≡ sorted → IfOk result (λ found. view found ≡ map (λ (p : ℕ × Record). p.0) seen) → IfOk result (λ found. ArrangesPlaces given (view found))
+    → (seen : List (ℕ × Record)) → seen ≡ sorted → IfOk result (λ found. view found ≡ map (λ (p : ℕ × Record). p.0) seen) → IfOk result (λ found. ArrangesPositions given (view found))
 arranged_if view given sorted (Ok found) same rises stable seen is told = (sorted, record { same = same; rises = rises; stable = stable }, rw is at told)
 arranged_if view given sorted (Err e) same rises stable seen is told = tt
 
 -- ---- sort keys
 
 -- one more key
-pub keys_more : (texts : List (Bor (List ℕ))) (i : ℕ) (x : Bor (List ℕ)) (bytes new ends new_ends key : List ℕ) (v : Record) → i < length texts → MeansBytes (get_or texts i x).now v → key ≡ key_bytes v
-    → ((l : List (List ℕ)) → Joins l bytes ends → Joins (l ++ key ∷ []) new new_ends) → MeansKeys (map (λ t. t.now) (take i texts)) bytes ends → MeansKeys (map (λ t. t.now) (take (i + 1) texts)) new new_ends
+pub keys_more : (texts : List (Bor (List ℕ))) (i : ℕ) (x : Bor (List ℕ)) (bytes new ends new_ends key : List ℕ) (v : Record) → i < length texts → BytesDenote (get_or texts i x).now v → key ≡ key_bytes v
+    → ((l : List (List ℕ)) → Joins l bytes ends → Joins (l ++ key ∷ []) new new_ends) → JoinsKeys (map (λ t. t.now) (take i texts)) bytes ends → JoinsKeys (map (λ t. t.now) (take (i + 1) texts)) new new_ends
 keys_more texts i x bytes new ends new_ends key v inside means is more (versions, all, joins) = (
   versions ++ v ∷ [],
-  each_more MeansBytes texts i (get_or texts i x) versions (versions ++ v ∷ []) v inside (get_or_default texts i x (get_or texts i x) inside) means refl all,
+  each_more BytesDenote texts i (get_or texts i x) versions (versions ++ v ∷ []) v inside (get_or_default texts i x (get_or texts i x) inside) means refl all,
   subst (λ (l : List (List ℕ)). Joins l new new_ends) (ap (λ (k : List ℕ). map key_bytes versions ++ k ∷ []) is ∙ sym (map-append key_bytes versions (v ∷ []))) (more (map key_bytes versions) joins),
 )

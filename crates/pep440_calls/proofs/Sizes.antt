@@ -19,9 +19,9 @@ use Rattle.pep440_version.proofs.Reading.Digits.{digits_model}
 use Rattle.pep440_version.proofs.Reading.Prefixes.{both_first, both_second}
 use Rattle.pep440_version.specs.Grammar.{AreSegments, Derives, IsCount, IsDev, IsEpoch, IsLocal, IsNumber, IsPost, IsPre, IsRelease, IsSegment, IsSpelled, IsSpelling, Spellings, dev_spellings, is_numeral, post_spellings, pre_spellings}
 use Rattle.pep440_version.specs.Key.{dev_of, dev_rank, post_of, post_rank, stage_of, stage_rank}
-use Rattle.pep440_version.specs.Print.{dotted, epoch_text, labelled, local_text, pre_text, prerelease_kind_text, print, segment_print}
+use Rattle.pep440_version.specs.Print.{dotted, epoch_text, labelled, local_text, pre_text, prerelease_kind_text, print, print_segment}
 use Rattle.pep440_version.specs.Record.{LocalSegmentValue, Number, Record, Text}
-use Rattle.pep440_version.specs.Trim.{prepend_trimmed, trim}
+use Rattle.pep440_version.specs.Key.Trim.{prepend_trimmed, trim}
 use Rattle.pep440_version.specs.declared.prerelease.Prerelease.{Prerelease}
 use Rattle.pep440_version.specs.declared.prerelease.PrereleaseKind.{PrereleaseKind}
 use Rattle.pep440_version.specs.declared.prerelease.PrereleaseKind.TheVariants.{Alpha, Beta, Rc}
@@ -210,7 +210,7 @@ dev_short part after (Some n) d = omega (arith, count_short d.digits n d.count, 
 
 -- of a segment: how long its value is in the normal form, and in the key
 record IsShort (text : List ℕ) (s : LocalSegmentValue) : Type 0 where
-  print : length (segment_print s) ≤ length text
+  print : length (print_segment s) ≤ length text
   bytes : 2 * length (segment_bytes s) ≤ 3 * (length text + 1)
 
 text_short : (text t : List ℕ) → 0 < length text → length t ≡ length text → IsShort text (Text t)
@@ -234,20 +234,20 @@ segment_short text s d = subst (IsShort text) (sym d.2) (value_fits text d.0 (is
 
 -- the segments after a dot each
 abbrev later_segments : List LocalSegmentValue → List ℕ
-later_segments segments = flat_map (λ s. codes "." ++ segment_print s) segments
+later_segments segments = flat_map (λ s. codes "." ++ print_segment s) segments
 
-segments_print : (text : List ℕ) (segments : List LocalSegmentValue) → AreSegments text segments → length (dotted segment_print segments) ≤ length text
+segments_print : (text : List ℕ) (segments : List LocalSegmentValue) → AreSegments text segments → length (dotted print_segment segments) ≤ length text
 segments_print text [] d = absurd d
-segments_print text (s ∷ []) d = let short = segment_short text s d in omega (arith, length-append (segment_print s) [], short.print)
+segments_print text (s ∷ []) d = let short = segment_short text s d in omega (arith, length-append (print_segment s) [], short.print)
 segments_print text (s ∷ t ∷ rest) d =
     let short = segment_short d.0 s d.3 in
-    let later : length (dotted segment_print (t ∷ rest)) ≤ length d.1 = segments_print d.1 (t ∷ rest) d.5 in
+    let later : length (dotted print_segment (t ∷ rest)) ≤ length d.1 = segments_print d.1 (t ∷ rest) d.5 in
     omega (
       arith,
-      length-append (segment_print s) (later_segments (t ∷ rest)),
-      length-append (segment_print t) (later_segments rest),
-      length-append (codes "." ++ segment_print t) (later_segments rest),
-      length-append (codes ".") (segment_print t),
+      length-append (print_segment s) (later_segments (t ∷ rest)),
+      length-append (print_segment t) (later_segments rest),
+      length-append (codes "." ++ print_segment t) (later_segments rest),
+      length-append (codes ".") (print_segment t),
       later,
       short.print,
       ap length d.6,
@@ -263,7 +263,7 @@ segments_bytes text (s ∷ t ∷ rest) d =
 
 local_print : (part : List ℕ) (segments : List LocalSegmentValue) → IsLocal part segments → length (local_text segments) ≤ length part
 local_print part [] d = omega arith
-local_print part (s ∷ rest) d = omega (arith, length-append (codes "+") (dotted segment_print (s ∷ rest)), segments_print d.0 (s ∷ rest) d.1, ap length d.2, length-append (codes "+") d.0)
+local_print part (s ∷ rest) d = omega (arith, length-append (codes "+") (dotted print_segment (s ∷ rest)), segments_print d.0 (s ∷ rest) d.1, ap length d.2, length-append (codes "+") d.0)
 
 local_short : (part : List ℕ) (segments : List LocalSegmentValue) → IsLocal part segments → 2 * length (local_bytes segments) ≤ 3 * length part + 2
 local_short part [] d = omega arith

@@ -6,14 +6,14 @@ use Rattle.pep440_version.specs.Key.{record_cmp}
 use Rattle.pep440_version.specs.Record.{Record}
 use Rattle.pep440_version.specs.Word.{is_packed, word}
 use Rattle.pep440_calls.proofs.Once.{one_version}
-use Rattle.pep440_calls.specs.CallResults.{TellsWord}
-use Rattle.pep440_calls.specs.Meaning.{MeansBytes}
+use Rattle.pep440_calls.specs.CallResults.{IsPackedWord}
+use Rattle.pep440_calls.specs.CallerBytes.{BytesDenote}
 
-of_record : (bytes : List ℕ) (m : ℕ) (r : Record) → TellsWord bytes (Some m) → MeansBytes bytes r → Some m ≡ (if is_packed r then Some (word r) else None)
+of_record : (bytes : List ℕ) (m : ℕ) (r : Record) → IsPackedWord bytes (Some m) → BytesDenote bytes r → Some m ≡ (if is_packed r then Some (word r) else None)
 of_record bytes m r (q, means, is) other = is ∙ ap (λ (p : Record). if is_packed p then Some (word p) else None) (one_version bytes q r means other)
 
-pub one_word : (bytes : List ℕ) (m n : ℕ) → TellsWord bytes (Some m) → TellsWord bytes (Some n) → m ≡ n
+pub one_word : (bytes : List ℕ) (m n : ℕ) → IsPackedWord bytes (Some m) → IsPackedWord bytes (Some n) → m ≡ n
 one_word bytes m n (r, means, is) other = let same : Some n ≡ (if is_packed r then Some (word r) else None) = of_record bytes n r other means in cc
 
-pub in_order : (a b : List ℕ) (m n : ℕ) (r q : Record) → TellsWord a (Some m) → TellsWord b (Some n) → MeansBytes a r → MeansBytes b q → nat_cmp m n ≡ record_cmp r q
+pub in_order : (a b : List ℕ) (m n : ℕ) (r q : Record) → IsPackedWord a (Some m) → IsPackedWord b (Some n) → BytesDenote a r → BytesDenote b q → nat_cmp m n ≡ record_cmp r q
 in_order a b m n r q first second means other = lent_order r q m n (of_record a m r first means) (of_record b n q second other)

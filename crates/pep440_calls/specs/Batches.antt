@@ -9,8 +9,8 @@ use Rattle.pep440_rs.specs.Specifiers.{Spec}
 use Rattle.pep440_version.specs.Key.{record_cmp}
 use Rattle.pep440_version.specs.Record.{Record}
 use Rattle.pep440_calls.specs.JoinedStrings.{Joins}
-use Rattle.pep440_calls.specs.Meaning.{MeansBytes, MeansListBytes, RefusesBytes, RefusesListBytes}
-use Rattle.pep440_calls.specs.Statuses.{Fails, PutsBoth, PutsFront}
+use Rattle.pep440_calls.specs.CallerBytes.{BytesDenote, BytesDenoteList, RejectsBytes, RejectsListBytes}
+use Rattle.pep440_calls.specs.Statuses.{Fails, WritesBoth, WritesAtStart}
 use Rattle.pep440_calls.specs.declared.batch.BatchError.{BatchError}
 use Rattle.pep440_calls.specs.declared.fault.Fault.{Fault}
 use Rattle.pep440_calls.specs.declared.batch.BatchError.TheVariants as stop
@@ -20,78 +20,78 @@ use Rattle.pep440_calls.specs.declared.fault.Fault.TheVariants as fault
 
 -- the mark of a string: 1 contained, 3 contained and a pre-release or developmental release, 0 not contained, 2 no version
 abbrev pub IsMark : List Spec → List ℕ → ℕ → Type 0
-IsMark list text mark = ((r : Record) × MeansBytes text r × (mark ≡ if list_matches list r then (if any_prerelease r then 3 else 1) else 0)) ⊎ (RefusesBytes text × (mark ≡ 2))
+IsMark list text mark = ((r : Record) × BytesDenote text r × (mark ≡ if list_matches list r then (if any_prerelease r then 3 else 1) else 0)) ⊎ (RejectsBytes text × (mark ≡ 2))
 
 -- the marks of the strings, in their order
 abbrev pub Marks : List ℕ → List (List ℕ) → List ℕ → Type 0
-Marks list_text texts marks = (list : List Spec) × MeansListBytes list_text list × AllZip (IsMark list) texts marks
+Marks list_text texts marks = (list : List Spec) × BytesDenoteList list_text list × AllZip (IsMark list) texts marks
 
 -- the marks are written at the start of the caller's buffer, or the buffer is too small; otherwise nothing is written
 abbrev pub FilterMarks : List ℕ → List (List ℕ) → List ℕ → List ℕ → ℕ → Type 0
 FilterMarks list_text texts old marks status =
-    ((found : List ℕ) × Marks list_text texts found × PutsFront found old marks status)
-    ⊎ ((marks ≡ old) × Fails ⊥ (RefusesListBytes list_text) ⊥ status)
+    ((found : List ℕ) × Marks list_text texts found × WritesAtStart found old marks status)
+    ⊎ ((marks ≡ old) × Fails ⊥ (RejectsListBytes list_text) ⊥ status)
 
 -- ---- texts that are all to be versions
 
 -- the first string that is no version has this index
-pub record FirstRefusedText (texts : List (List ℕ)) (position : ℕ) : Type 0 where
-  pub refused : IsSomeAnd (slice_get texts position) RefusesBytes
-  pub before : All (λ text. (r : Record) × MeansBytes text r) (take position texts)
+pub record FirstInvalidString (texts : List (List ℕ)) (position : ℕ) : Type 0 where
+  pub refused : IsSomeAnd (slice_get texts position) RejectsBytes
+  pub before : All (λ text. (r : Record) × BytesDenote text r) (take position texts)
 
 -- the index of the first string that is no version is written; or an allocation failed
-abbrev pub StopsAt : List (List ℕ) → ℕ → ℕ → ℕ → Type 0
-StopsAt texts old_at at status = ((status ≡ 1) × FirstRefusedText texts at) ⊎ ((status ≡ 3) × (at ≡ old_at))
+abbrev pub WritesInvalidPosition : List (List ℕ) → ℕ → ℕ → ℕ → Type 0
+WritesInvalidPosition texts old_at at status = ((status ≡ 1) × FirstInvalidString texts at) ⊎ ((status ≡ 3) × (at ≡ old_at))
 
 -- the indices of the versions in ascending order, equal versions in the order given
-abbrev pub ArrangesPlaces : List (ℕ × Record) → List ℕ → Type 0
-ArrangesPlaces given places = (sorted : List (ℕ × Record)) × ArrangesBy (on (λ (p : ℕ × Record). p.1) record_cmp) given sorted × (places ≡ map (λ (p : ℕ × Record). p.0) sorted)
+abbrev pub ArrangesPositions : List (ℕ × Record) → List ℕ → Type 0
+ArrangesPositions given places = (sorted : List (ℕ × Record)) × ArrangesBy (on (λ (p : ℕ × Record). p.1) record_cmp) given sorted × (places ≡ map (λ (p : ℕ × Record). p.0) sorted)
 
 -- each string denotes a version, and these are their indices in ascending order
 abbrev pub Sorts : List (List ℕ) → List ℕ → Type 0
-Sorts texts places = (versions : List Record) × AllZip MeansBytes texts versions × ArrangesPlaces (enumerate_from 0 versions) places
+Sorts texts places = (versions : List Record) × AllZip BytesDenote texts versions × ArrangesPositions (enumerate_from 0 versions) places
 
 -- the indices are written at the start of the caller's buffer, or the buffer is too small; otherwise only the index of an
 -- invalid string is written
-abbrev pub SortAnswer : List (List ℕ) → List ℕ → List ℕ → ℕ → ℕ → ℕ → Type 0
-SortAnswer texts old places old_at at status =
-    ((found : List ℕ) × Sorts texts found × PutsFront found old places status × (at ≡ old_at))
-    ⊎ ((places ≡ old) × StopsAt texts old_at at status)
+abbrev pub SortResult : List (List ℕ) → List ℕ → List ℕ → ℕ → ℕ → ℕ → Type 0
+SortResult texts old places old_at at status =
+    ((found : List ℕ) × Sorts texts found × WritesAtStart found old places status × (at ≡ old_at))
+    ⊎ ((places ≡ old) × WritesInvalidPosition texts old_at at status)
 
 -- each string denotes a version; these are their sort keys, joined, and where each key ends
-abbrev pub MeansKeys : List (List ℕ) → List ℕ → List ℕ → Type 0
-MeansKeys texts bytes ends = (versions : List Record) × AllZip MeansBytes texts versions × Joins (map key_bytes versions) bytes ends
+abbrev pub JoinsKeys : List (List ℕ) → List ℕ → List ℕ → Type 0
+JoinsKeys texts bytes ends = (versions : List Record) × AllZip BytesDenote texts versions × Joins (map key_bytes versions) bytes ends
 
 -- keys and ends are written at the start of the caller's buffers, or one is too small; how many bytes are needed is written.
 -- Otherwise only the index of an invalid string is written
-abbrev pub KeysAnswer : List (List ℕ) → List ℕ → List ℕ → List ℕ → List ℕ → ℕ → ℕ → ℕ → ℕ → ℕ → Type 0
-KeysAnswer texts old bytes old_ends ends old_written written old_at at status =
-    ((found : List ℕ) × (places : List ℕ) × MeansKeys texts found places × (written ≡ length found) × PutsBoth found places old bytes old_ends ends status × (at ≡ old_at))
-    ⊎ ((bytes ≡ old) × (ends ≡ old_ends) × (written ≡ old_written) × StopsAt texts old_at at status)
+abbrev pub KeysResult : List (List ℕ) → List ℕ → List ℕ → List ℕ → List ℕ → ℕ → ℕ → ℕ → ℕ → ℕ → Type 0
+KeysResult texts old bytes old_ends ends old_written written old_at at status =
+    ((found : List ℕ) × (places : List ℕ) × JoinsKeys texts found places × (written ≡ length found) × WritesBoth found places old bytes old_ends ends status × (at ≡ old_at))
+    ⊎ ((bytes ≡ old) × (ends ≡ old_ends) × (written ≡ old_written) × WritesInvalidPosition texts old_at at status)
 
 -- why nothing is given, where memory didn't run out
-abbrev pub StopsAll : List (List ℕ) → BatchError → Type 0
-StopsAll texts (stop.InvalidAt position) = FirstRefusedText texts position
-StopsAll texts stop.OutOfMemory = Unit {0}
+abbrev pub BatchFaults : List (List ℕ) → BatchError → Type 0
+BatchFaults texts (stop.InvalidAt position) = FirstInvalidString texts position
+BatchFaults texts stop.OutOfMemory = Unit {0}
 
 -- what holds of what is given, or why nothing is
-abbrev pub GivesAll : {X : Type 0} → List (List ℕ) → (X → Type 0) → Result X BatchError → Type 0
-GivesAll texts P (Ok x) = P x
-GivesAll texts P (Err s) = StopsAll texts s
+abbrev pub HoldsOrBatchFaults : {X : Type 0} → List (List ℕ) → (X → Type 0) → Result X BatchError → Type 0
+HoldsOrBatchFaults texts P (Ok x) = P x
+HoldsOrBatchFaults texts P (Err s) = BatchFaults texts s
 
 -- why a batch is rejected, where the string at this position was not read
-abbrev pub stop_at : ℕ → Fault → BatchError
-stop_at position fault.InvalidVersion = stop.InvalidAt position
-stop_at position fault.InvalidList = stop.InvalidAt position
-stop_at position fault.NumberAtMax = stop.InvalidAt position
-stop_at position fault.InvalidRight = stop.InvalidAt position
-stop_at position fault.OutOfMemory = stop.OutOfMemory
+abbrev pub batch_error_at : ℕ → Fault → BatchError
+batch_error_at position fault.InvalidVersion = stop.InvalidAt position
+batch_error_at position fault.InvalidList = stop.InvalidAt position
+batch_error_at position fault.NumberAtMax = stop.InvalidAt position
+batch_error_at position fault.InvalidRight = stop.InvalidAt position
+batch_error_at position fault.OutOfMemory = stop.OutOfMemory
 
 -- the versions that the strings denote, with their positions
-abbrev pub MeansPlaced : List (List ℕ) → List (ℕ × Record) → Type 0
-MeansPlaced texts given = (versions : List Record) × AllZip MeansBytes texts versions × (given ≡ enumerate_from 0 versions)
+abbrev pub DenotesPositioned : List (List ℕ) → List (ℕ × Record) → Type 0
+DenotesPositioned texts given = (versions : List Record) × AllZip BytesDenote texts versions × (given ≡ enumerate_from 0 versions)
 
 -- the position that was rejected is reported, and the status
-abbrev pub TellsStop : BatchError → ℕ → ℕ → ℕ → Type 0
-TellsStop (stop.InvalidAt position) old new status = (new ≡ position) × (status ≡ 1)
-TellsStop stop.OutOfMemory old new status = (new ≡ old) × (status ≡ 3)
+abbrev pub ReportsBatchError : BatchError → ℕ → ℕ → ℕ → Type 0
+ReportsBatchError (stop.InvalidAt position) old new status = (new ≡ position) × (status ≡ 1)
+ReportsBatchError stop.OutOfMemory old new status = (new ≡ old) × (status ≡ 3)

@@ -7,7 +7,7 @@ use Rattle.std.specs.declared.cmp.Ordering.TheVariants.{Less, Equal, Greater}
 use Rattle.pep440_compiled.specs.Lists.{HasListFormat, DenotesList}
 use Rattle.pep440_compiled.specs.Version.{HasVersionFormat, DenotesVersion}
 use Rattle.pep440_keys.specs.SortKeys.{key_bytes}
-use Rattle.pep440_rs.specs.Lists.{list_print}
+use Rattle.pep440_rs.specs.Lists.{print_list}
 use Rattle.pep440_rs.specs.Matching.{any_prerelease, has_local, list_matches}
 use Rattle.pep440_rs.specs.Operators.{is_star, operator_text}
 use Rattle.pep440_rs.specs.Prereleases.{list_allows, requests_prereleases}
@@ -21,8 +21,8 @@ use Rattle.pep440_version.specs.declared.prerelease.PrereleaseKind.{PrereleaseKi
 use Rattle.pep440_version.specs.declared.prerelease.PrereleaseKind.TheVariants.{Alpha, Beta, Rc}
 use Rattle.pep440_witness.specs.Probes.{first_match}
 use Rattle.pep440_calls.specs.JoinedStrings.{Joins}
-use Rattle.pep440_calls.specs.Meaning.{MeansBytes, MeansListBytes, RefusesBytes, RefusesListBytes}
-use Rattle.pep440_calls.specs.Statuses.{Fails, IsFlagOf, PutsFront, fault_status, flag, Puts}
+use Rattle.pep440_calls.specs.CallerBytes.{BytesDenote, BytesDenoteList, RejectsBytes, RejectsListBytes}
+use Rattle.pep440_calls.specs.Statuses.{Fails, IsFlagOf, WritesAtStart, fault_status, flag, WritesOrFails}
 use Rattle.pep440_calls.specs.declared.fault.Fault.{Fault}
 use Rattle.pep440_calls.specs.declared.one_version.Parts.{Parts}
 use Rattle.pep440_calls.specs.declared.fault.Fault.TheVariants as fault
@@ -31,41 +31,41 @@ use Rattle.pep440_calls.specs.declared.fault.Fault.TheVariants as fault
 
 -- the normal form of a version
 abbrev pub IsNormal : List ℕ → List ℕ → Type 0
-IsNormal text bytes = (r : Record) × MeansBytes text r × (bytes ≡ print r)
+IsNormal text bytes = (r : Record) × BytesDenote text r × (bytes ≡ print r)
 
 -- the normal form of a list
 abbrev pub IsNormalList : List ℕ → List ℕ → Type 0
-IsNormalList text bytes = (list : List Spec) × MeansListBytes text list × (bytes ≡ list_print list)
+IsNormalList text bytes = (list : List Spec) × BytesDenoteList text list × (bytes ≡ print_list list)
 
 -- the sort key of the version
 abbrev pub IsKey : List ℕ → List ℕ → Type 0
-IsKey text bytes = (r : Record) × MeansBytes text r × (bytes ≡ key_bytes r)
+IsKey text bytes = (r : Record) × BytesDenote text r × (bytes ≡ key_bytes r)
 
 -- the word of a version, if it is packed
-abbrev pub TellsWord : List ℕ → Option ℕ → Type 0
-TellsWord text found = (r : Record) × MeansBytes text r × (found ≡ if is_packed r then Some (word r) else None)
+abbrev pub IsPackedWord : List ℕ → Option ℕ → Type 0
+IsPackedWord text found = (r : Record) × BytesDenote text r × (found ≡ if is_packed r then Some (word r) else None)
 
 -- the word is written with status 0; otherwise the caller's number is unchanged, and the status is 7 (not packed) or that of
 -- the failure
-abbrev pub WordAnswer : List ℕ → ℕ → ℕ → ℕ → Type 0
-WordAnswer text old new status =
-    (TellsWord text (Some new) × (status ≡ 0))
-    ⊎ ((TellsWord text None × (status ≡ 7) × (new ≡ old))
-    ⊎ ((new ≡ old) × Fails (RefusesBytes text) ⊥ ⊥ status))
+abbrev pub WordResult : List ℕ → ℕ → ℕ → ℕ → Type 0
+WordResult text old new status =
+    (IsPackedWord text (Some new) × (status ≡ 0))
+    ⊎ ((IsPackedWord text None × (status ≡ 7) × (new ≡ old))
+    ⊎ ((new ≡ old) × Fails (RejectsBytes text) ⊥ ⊥ status))
 
 -- ---- members
 
 -- the version, and `.*` for a star form
-abbrev pub version_text : Spec → List ℕ
-version_text s = if is_star s.operator then print s.version ++ codes ".*" else print s.version
+abbrev pub version_string : Spec → List ℕ
+version_string s = if is_star s.operator then print s.version ++ codes ".*" else print s.version
 
 -- operator and version of a member, as Display writes them
-abbrev pub member_texts : Spec → List (List ℕ)
-member_texts s = operator_text s.operator ∷ version_text s ∷ []
+abbrev pub member_strings : Spec → List (List ℕ)
+member_strings s = operator_text s.operator ∷ version_string s ∷ []
 
 -- operator and version of each member, joined, and where each of these strings ends
-abbrev pub TellsMembers : List ℕ → List ℕ → List ℕ → Type 0
-TellsMembers text bytes ends = (list : List Spec) × MeansListBytes text list × Joins (flat_map member_texts list) bytes ends
+abbrev pub JoinsMembers : List ℕ → List ℕ → List ℕ → Type 0
+JoinsMembers text bytes ends = (list : List Spec) × BytesDenoteList text list × Joins (flat_map member_strings list) bytes ends
 
 -- ---- order and matching
 
@@ -77,55 +77,55 @@ order_number Greater = pos 1
 
 -- both begin as compiled versions, which are compared as they lie; or both denote a version
 abbrev pub AreComparable : List ℕ → List ℕ → Type 0
-AreComparable left right = (HasVersionFormat left × HasVersionFormat right) ⊎ (((r : Record) × MeansBytes left r) × ((q : Record) × MeansBytes right q))
+AreComparable left right = (HasVersionFormat left × HasVersionFormat right) ⊎ (((r : Record) × BytesDenote left r) × ((q : Record) × BytesDenote right q))
 
 -- the number is the order of the two versions, if the bytes denote versions: -1, 0 or 1
 abbrev pub IsOrder : List ℕ → List ℕ → ℤ → Type 0
-IsOrder left right number = AreComparable left right × ((r q : Record) → MeansBytes left r → MeansBytes right q → number ≡ order_number (record_cmp r q))
+IsOrder left right number = AreComparable left right × ((r q : Record) → BytesDenote left r → BytesDenote right q → number ≡ order_number (record_cmp r q))
 
 module _ (left right : List ℕ) where
   -- why there is no order: the left version is invalid, or the right one
   abbrev pub OrderFaults : Fault → Type 0
-  OrderFaults fault.InvalidVersion = RefusesBytes left
+  OrderFaults fault.InvalidVersion = RejectsBytes left
   OrderFaults fault.InvalidList = ⊥
   OrderFaults fault.OutOfMemory = Unit {0}
   OrderFaults fault.NumberAtMax = ⊥
-  OrderFaults fault.InvalidRight = ((HasVersionFormat left × HasVersionFormat right) ⊎ ((r : Record) × MeansBytes left r)) × RefusesBytes right
+  OrderFaults fault.InvalidRight = ((HasVersionFormat left × HasVersionFormat right) ⊎ ((r : Record) × BytesDenote left r)) × RejectsBytes right
 
   -- the order, or why there is none
-  abbrev pub GivesOrder : Result Ordering Fault → Type 0
-  GivesOrder (Ok order) = IsOrder left right (order_number order)
-  GivesOrder (Err f) = OrderFaults f
+  abbrev pub ReturnsOrder : Result Ordering Fault → Type 0
+  ReturnsOrder (Ok order) = IsOrder left right (order_number order)
+  ReturnsOrder (Err f) = OrderFaults f
 
   -- the order is written with status 0; otherwise the caller's number is unchanged, and the status is that of the failure
-  abbrev pub OrderAnswer : ℤ → ℤ → ℕ → Type 0
-  OrderAnswer old new status = ((order : Ordering) × (status ≡ 0) × (new ≡ order_number order) × IsOrder left right new) ⊎ ((new ≡ old) × (f : Fault) × OrderFaults f × (status ≡ fault_status f))
+  abbrev pub OrderResult : ℤ → ℤ → ℕ → Type 0
+  OrderResult old new status = ((order : Ordering) × (status ≡ 0) × (new ≡ order_number order) × IsOrder left right new) ⊎ ((new ≡ old) × (f : Fault) × OrderFaults f × (status ≡ fault_status f))
 
 -- both begin as compiled forms, which are matched as they lie; or both denote something
 abbrev pub AreMatchable : List ℕ → List ℕ → Type 0
-AreMatchable list_text text = (HasListFormat list_text × HasVersionFormat text) ⊎ (((list : List Spec) × MeansListBytes list_text list) × ((r : Record) × MeansBytes text r))
+AreMatchable list_text text = (HasListFormat list_text × HasVersionFormat text) ⊎ (((list : List Spec) × BytesDenoteList list_text list) × ((r : Record) × BytesDenote text r))
 
 -- whether the list contains the version, if the bytes denote them
 abbrev pub Contains : List ℕ → List ℕ → Bool → Type 0
-Contains list_text text contained = AreMatchable list_text text × ((list : List Spec) (r : Record) → MeansListBytes list_text list → MeansBytes text r → contained ≡ list_matches list r)
+Contains list_text text contained = AreMatchable list_text text × ((list : List Spec) (r : Record) → BytesDenoteList list_text list → BytesDenote text r → contained ≡ list_matches list r)
 
 -- whether the version is a pre-release or a developmental release
 abbrev pub IsPrerelease : List ℕ → Bool → Type 0
-IsPrerelease text early = (r : Record) → MeansBytes text r → early ≡ any_prerelease r
+IsPrerelease text early = (r : Record) → BytesDenote text r → early ≡ any_prerelease r
 
 -- the version is invalid, and the list is not, or both begin as compiled forms: else the list is read first
-abbrev pub RefusesSecond : List ℕ → List ℕ → Type 0
-RefusesSecond list_text text = ((HasListFormat list_text × HasVersionFormat text) ⊎ ((list : List Spec) × MeansListBytes list_text list)) × RefusesBytes text
+abbrev pub RejectsSecond : List ℕ → List ℕ → Type 0
+RejectsSecond list_text text = ((HasListFormat list_text × HasVersionFormat text) ⊎ ((list : List Spec) × BytesDenoteList list_text list)) × RejectsBytes text
 
 -- both flags are written with status 0; otherwise both are unchanged, and the status is that of the failure
-abbrev pub ContainsAnswer : List ℕ → List ℕ → ℕ → ℕ → ℕ → ℕ → ℕ → Type 0
-ContainsAnswer list text old contained old_prerelease prerelease status =
+abbrev pub ContainsResult : List ℕ → List ℕ → ℕ → ℕ → ℕ → ℕ → ℕ → Type 0
+ContainsResult list text old contained old_prerelease prerelease status =
     ((status ≡ 0) × IsFlagOf (Contains list text) contained × IsFlagOf (IsPrerelease text) prerelease)
-    ⊎ ((contained ≡ old) × (prerelease ≡ old_prerelease) × Fails (RefusesSecond list text) (RefusesListBytes list) ⊥ status)
+    ⊎ ((contained ≡ old) × (prerelease ≡ old_prerelease) × Fails (RejectsSecond list text) (RejectsListBytes list) ⊥ status)
 
 -- whether a version of the list is a pre-release or a developmental release
 abbrev pub NamesPrerelease : List ℕ → Bool → Type 0
-NamesPrerelease text any = (list : List Spec) × MeansListBytes text list × (any ≡ list_any (λ (s : Spec). any_prerelease s.version) list)
+NamesPrerelease text any = (list : List Spec) × BytesDenoteList text list × (any ≡ list_any (λ (s : Spec). any_prerelease s.version) list)
 
 -- ---- parts
 
@@ -136,7 +136,7 @@ kind_number Beta = 2
 kind_number Rc = 3
 
 -- the parts of the version; 0 for a part that is absent
-pub record TellsParts (r : Record) (p : Parts) : Type 0 where
+pub record HasPartsOf (r : Record) (p : Parts) : Type 0 where
   pub epoch : p.epoch ≡ r.epoch
   pub pre : p.pre ≡ option_map_or (λ (pre : Prerelease). pre.number) r.pre 0
   pub post : p.post ≡ option_map_or (λ n. n) r.post 0
@@ -148,27 +148,27 @@ pub record TellsParts (r : Record) (p : Parts) : Type 0 where
   pub has_local : p.has_local ≡ flag (has_local r)
 
 -- the parts are written, and the release numbers where the caller's array has room for them; otherwise nothing is written
-abbrev pub PartsAnswer : List ℕ → Parts → Parts → List ℕ → List ℕ → ℕ → Type 0
-PartsAnswer text old parts old_release release status =
-    ((r : Record) × MeansBytes text r × TellsParts r parts × PutsFront r.release old_release release status)
-    ⊎ ((parts ≡ old) × (release ≡ old_release) × Fails (RefusesBytes text) ⊥ ⊥ status)
+abbrev pub PartsResult : List ℕ → Parts → Parts → List ℕ → List ℕ → ℕ → Type 0
+PartsResult text old parts old_release release status =
+    ((r : Record) × BytesDenote text r × HasPartsOf r parts × WritesAtStart r.release old_release release status)
+    ⊎ ((parts ≡ old) × (release ≡ old_release) × Fails (RejectsBytes text) ⊥ ⊥ status)
 
 -- the compiled form of the version
 abbrev pub IsCompiled : List ℕ → List ℕ → Type 0
-IsCompiled text bytes = (r : Record) × MeansBytes text r × DenotesVersion bytes r
+IsCompiled text bytes = (r : Record) × BytesDenote text r × DenotesVersion bytes r
 
 -- the compiled form of the list
 abbrev pub IsCompiledList : List ℕ → List ℕ → Type 0
-IsCompiledList text bytes = (list : List Spec) × MeansListBytes text list × DenotesList bytes list
+IsCompiledList text bytes = (list : List Spec) × BytesDenoteList text list × DenotesList bytes list
 
 -- whether the list allows the version, if the bytes denote them: pre-releases are taken if the list asks for them
 abbrev pub Allows : List ℕ → List ℕ → Bool → Type 0
-Allows list_text text allowed = AreMatchable list_text text × ((list : List Spec) (r : Record) → MeansListBytes list_text list → MeansBytes text r → allowed ≡ list_allows (requests_prereleases list) list r)
+Allows list_text text allowed = AreMatchable list_text text × ((list : List Spec) (r : Record) → BytesDenoteList list_text list → BytesDenote text r → allowed ≡ list_allows (requests_prereleases list) list r)
 
 -- the flag is written with status 0; otherwise it is unchanged, and the status is that of the failure, as of matching
-abbrev pub AllowsAnswer : List ℕ → List ℕ → ℕ → ℕ → ℕ → Type 0
-AllowsAnswer list_text text = Puts (RefusesSecond list_text text) (RefusesListBytes list_text) ⊥ (IsFlagOf (Allows list_text text))
+abbrev pub AllowsResult : List ℕ → List ℕ → ℕ → ℕ → ℕ → Type 0
+AllowsResult list_text text = WritesOrFails (RejectsSecond list_text text) (RejectsListBytes list_text) ⊥ (IsFlagOf (Allows list_text text))
 
 -- the normal form of the first probe that the list contains; no bytes if it contains none
 abbrev pub IsVersionIn : List ℕ → List ℕ → Type 0
-IsVersionIn text bytes = (list : List Spec) × MeansListBytes text list × (bytes ≡ option_map_or print (first_match list) [])
+IsVersionIn text bytes = (list : List Spec) × BytesDenoteList text list × (bytes ≡ option_map_or print (first_match list) [])

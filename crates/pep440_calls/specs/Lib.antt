@@ -1,4 +1,4 @@
-pub mod Meaning
+pub mod CallerBytes
 pub mod Statuses
 pub mod JoinedStrings
 pub mod CallResults

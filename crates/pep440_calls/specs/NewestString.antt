@@ -9,7 +9,7 @@ use Rattle.pep440_rs.specs.Prereleases.{requests_prereleases}
 use Rattle.pep440_rs.specs.Specifiers.{Spec}
 use Rattle.pep440_version.specs.Key.{record_cmp}
 use Rattle.pep440_version.specs.Record.{Record}
-use Rattle.pep440_calls.specs.Meaning.{MeansBytes, MeansListBytes, RefusesListBytes}
+use Rattle.pep440_calls.specs.CallerBytes.{BytesDenote, BytesDenoteList, RejectsListBytes}
 use Rattle.pep440_calls.specs.Statuses.{Fails, flag}
 
 -- pre-releases lie below all final releases unless they are taken, so that one is the newest only if no final release is contained
@@ -19,16 +19,16 @@ preference takes = then_cmp (on (λ (r : Record). flag (takes || not (any_prerel
 
 -- the string denotes this version, which the list contains
 abbrev pub IsContainedString : List Spec → List ℕ → Record → Type 0
-IsContainedString list text version = MeansBytes text version × IsTrue (list_matches list version)
+IsContainedString list text version = BytesDenote text version × IsTrue (list_matches list version)
 
 -- its index by the list, which takes pre-releases if it asks for them
 abbrev pub FindsNewestString : List ℕ → List (List ℕ) → Option ℕ → Type 0
 FindsNewestString list_text texts position =
-    (list : List Spec) × (newest : Option (ℕ × Record)) × MeansListBytes list_text list × Greatest (IsContainedString list) (preference (requests_prereleases list)) texts newest × (position ≡ option_map (λ (p : ℕ × Record). p.0) newest)
+    (list : List Spec) × (newest : Option (ℕ × Record)) × BytesDenoteList list_text list × Greatest (IsContainedString list) (preference (requests_prereleases list)) texts newest × (position ≡ option_map (λ (p : ℕ × Record). p.0) newest)
 
 -- its index is written with status 0; otherwise nothing is written, and the status is 10 if there is none, or that of the failure
-abbrev pub NewestAnswer : List ℕ → List (List ℕ) → ℕ → ℕ → ℕ → Type 0
-NewestAnswer list_text texts old index status =
+abbrev pub NewestResult : List ℕ → List (List ℕ) → ℕ → ℕ → ℕ → Type 0
+NewestResult list_text texts old index status =
     (FindsNewestString list_text texts (Some index) × (status ≡ 0))
     ⊎ ((FindsNewestString list_text texts None × (status ≡ 10) × (index ≡ old))
-    ⊎ ((index ≡ old) × Fails ⊥ (RefusesListBytes list_text) ⊥ status))
+    ⊎ ((index ≡ old) × Fails ⊥ (RejectsListBytes list_text) ⊥ status))

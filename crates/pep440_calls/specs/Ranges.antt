@@ -13,7 +13,7 @@ use Rattle.pep440_rs.specs.Specifiers.{Spec}
 use Rattle.pep440_rs.specs.declared.specifier.operator.Operator.{Operator}
 use Rattle.pep440_version.specs.Record.{Record}
 use Rattle.pep440_calls.specs.JoinedStrings.{Joins}
-use Rattle.pep440_calls.specs.Meaning.{MeansListBytes}
+use Rattle.pep440_calls.specs.CallerBytes.{BytesDenoteList}
 
 -- the low and the high key of an interval; no bytes for a missing bound, since no sort key is empty
 abbrev pub interval_keys : Interval → List (List ℕ)
@@ -36,20 +36,20 @@ JoinsBounds range bytes ends = Joins (flat_map segment_bounds range) bytes ends
 module _ (conversion : Operator → Record → Option Segments) where
   -- the bytes denote a list, whose conversion returns this range
   abbrev pub HasRange : List ℕ → Segments → Type 0
-  HasRange text range = (list : List Spec) × MeansListBytes text list × (list_range conversion list ≡ Some range)
+  HasRange text range = (list : List Spec) × BytesDenoteList text list × (list_range conversion list ≡ Some range)
 
   -- the bytes denote a list, whose conversion fails, since a number to be raised is the greatest
   abbrev pub LacksRange : List ℕ → Type 0
-  LacksRange text = (list : List Spec) × MeansListBytes text list × (list_range conversion list ≡ None)
+  LacksRange text = (list : List Spec) × BytesDenoteList text list × (list_range conversion list ≡ None)
 
   -- the keys of the segments of that range, joined in order, and where each key ends
-  abbrev pub TellsIntervals : List ℕ → List ℕ → List ℕ → Type 0
-  TellsIntervals text bytes ends = (range : Segments) × HasRange text range × Joins (flat_map (λ s. interval_keys (segment_interval s)) range) bytes ends
+  abbrev pub JoinsRangeIntervals : List ℕ → List ℕ → List ℕ → Type 0
+  JoinsRangeIntervals text bytes ends = (range : Segments) × HasRange text range × Joins (flat_map (λ s. interval_keys (segment_interval s)) range) bytes ends
 
   -- the bounds of the segments of that range, joined in order, and where each bound ends
-  abbrev pub TellsBounds : List ℕ → List ℕ → List ℕ → Type 0
-  TellsBounds text bytes ends = (range : Segments) × HasRange text range × JoinsBounds range bytes ends
+  abbrev pub JoinsRangeBounds : List ℕ → List ℕ → List ℕ → Type 0
+  JoinsRangeBounds text bytes ends = (range : Segments) × HasRange text range × JoinsBounds range bytes ends
 
 -- the lines of the range of a list
-abbrev pub IsRangeText : List ℕ → List ℕ → Type 0
-IsRangeText text bytes = (range : Segments) × HasRange range_of text range × (bytes ≡ range_lines range)
+abbrev pub IsRangeLines : List ℕ → List ℕ → Type 0
+IsRangeLines text bytes = (range : Segments) × HasRange range_of text range × (bytes ≡ range_lines range)

@@ -45,33 +45,33 @@ module _ (version list range : Type 0) where
   Faults fault.InvalidRight = ⊥
 
   -- what holds of what is given, or why nothing is
-  abbrev pub Gives : {X : Type 0} → (X → Type 0) → Result X Fault → Type 0
-  Gives P (Ok x) = P x
-  Gives P (Err f) = Faults f
+  abbrev pub HoldsOrFaults : {X : Type 0} → (X → Type 0) → Result X Fault → Type 0
+  HoldsOrFaults P (Ok x) = P x
+  HoldsOrFaults P (Err f) = Faults f
 
   -- the status names the cause of the failure, which may be memory
   abbrev pub Fails : ℕ → Type 0
   Fails status = (f : Fault) × Faults f × (status ≡ fault_status f)
 
   -- a value of which this holds is written; or the call fails and the caller's value is unchanged
-  abbrev pub Puts : {X : Type 0} → (X → Type 0) → X → X → ℕ → Type 0
-  Puts P old new status = ((status ≡ 0) × P new) ⊎ ((new ≡ old) × Fails status)
+  abbrev pub WritesOrFails : {X : Type 0} → (X → Type 0) → X → X → ℕ → Type 0
+  WritesOrFails P old new status = ((status ≡ 0) × P new) ⊎ ((new ≡ old) × Fails status)
 
 -- the items are written at the start of the caller's buffer, whose rest is unchanged; or it is too small, and unchanged
-abbrev pub PutsFront : {X : Type 0} → List X → List X → List X → ℕ → Type 0
-PutsFront items old new status =
+abbrev pub WritesAtStart : {X : Type 0} → List X → List X → List X → ℕ → Type 0
+WritesAtStart items old new status =
     ((status ≡ 0) × (length items ≤ length old) × (new ≡ items ++ drop (length items) old))
     ⊎ ((status ≡ 4) × (length old < length items) × (new ≡ old))
 
 -- items of two kinds are written so, where both buffers have room
-abbrev pub PutsBoth : {X Y : Type 0} → List X → List Y → List X → List X → List Y → List Y → ℕ → Type 0
-PutsBoth first second old new old_second new_second status =
+abbrev pub WritesBoth : {X Y : Type 0} → List X → List Y → List X → List X → List Y → List Y → ℕ → Type 0
+WritesBoth first second old new old_second new_second status =
     ((status ≡ 0) × (length first ≤ length old) × (length second ≤ length old_second) × (new ≡ first ++ drop (length first) old) × (new_second ≡ second ++ drop (length second) old_second))
     ⊎ ((status ≡ 4) × ((length old < length first) ⊎ (length old_second < length second)) × (new ≡ old) × (new_second ≡ old_second))
 
 -- bytes of which this holds are written at the start of the caller's buffer, or the buffer is too small; how many bytes are
 -- needed is written. Otherwise nothing is written
-abbrev pub PutsBytes : Type 0 → Type 0 → Type 0 → (List ℕ → Type 0) → List ℕ → List ℕ → ℕ → ℕ → ℕ → Type 0
-PutsBytes version list range P old new old_written written status =
-    ((bytes : List ℕ) × P bytes × (written ≡ length bytes) × PutsFront bytes old new status)
+abbrev pub WritesBytes : Type 0 → Type 0 → Type 0 → (List ℕ → Type 0) → List ℕ → List ℕ → ℕ → ℕ → ℕ → Type 0
+WritesBytes version list range P old new old_written written status =
+    ((bytes : List ℕ) × P bytes × (written ≡ length bytes) × WritesAtStart bytes old new status)
     ⊎ ((new ≡ old) × (written ≡ old_written) × Fails version list range status)

@@ -2,9 +2,9 @@
 ghost use Rattle.std.specs.List.{AllZip};
 ghost use Rattle.std.specs.Prelude.{IfOk, map, ◌≡◌};
 ghost use Rattle.pep440_version.specs.Key.{record_cmp};
-ghost use Rattle.pep440_calls.specs.Batches.{ArrangesPlaces, FilterMarks, GivesAll, IsMark, KeysAnswer, Marks, MeansKeys, MeansPlaced, SortAnswer, Sorts, TellsStop, stop_at};
-ghost use Rattle.pep440_calls.specs.Meaning.{RefusesListBytes};
-ghost use Rattle.pep440_calls.specs.Statuses.{Gives};
+ghost use Rattle.pep440_calls.specs.Batches.{ArrangesPositions, FilterMarks, HoldsOrBatchFaults, IsMark, KeysResult, Marks, JoinsKeys, DenotesPositioned, SortResult, Sorts, ReportsBatchError, batch_error_at};
+ghost use Rattle.pep440_calls.specs.CallerBytes.{RejectsListBytes};
+ghost use Rattle.pep440_calls.specs.Statuses.{HoldsOrFaults};
 ghost use Rattle.pep440_calls.specs.declared.batch.BatchError.TheVariants.{OutOfMemory};
 
 use crate::buffer::{put, put_both};
@@ -51,7 +51,7 @@ impl<T: Drop> From<AllocFailed<T>> for BatchError {
 impl BatchError {
     // Why a batch is rejected, where the string at this position was not read.
     fn from_fault(position: usize, fault: Fault) -> BatchError
-        ensures { result ≡ stop_at position fault }
+        ensures { result ≡ batch_error_at position fault }
     {
         match fault {
             Fault::InvalidVersion | Fault::InvalidList | Fault::NumberAtMax | Fault::InvalidRight =>
@@ -105,7 +105,7 @@ fn mark_all(alloc: Global, list: &VersionSpecifiers, texts: &[&[u8]]) -> Result<
 
 // Of each string, whether the list contains it.
 fn filter(alloc: Global, list: &[u8], texts: &[&[u8]]) -> Result<Vec<u8>, Fault>
-    ensures { Gives ⊥ (RefusesListBytes list.now) ⊥ (λ found. Marks list.now (map (λ t. t.now) texts.now) found.items) result }
+    ensures { HoldsOrFaults ⊥ (RejectsListBytes list.now) ⊥ (λ found. Marks list.now (map (λ t. t.now) texts.now) found.items) result }
 {
     let specifiers = read_list(alloc, list)?;
     Ok(mark_all(alloc, &specifiers, texts)?)
@@ -114,7 +114,7 @@ fn filter(alloc: Global, list: &[u8], texts: &[&[u8]]) -> Result<Vec<u8>, Fault>
 /// Writes the positions of the strings in the order of their versions, equal ones in the order given. With status 1
 /// `at` is the position of the first that is no version.
 pub fn write_positions(alloc: Global, texts: &[&[u8]], places: &mut [usize], at: &mut usize) -> u8
-    ensures { SortAnswer (map (λ t. t.now) texts.now) places.old places.new at.old at.new result }
+    ensures { SortResult (map (λ t. t.now) texts.now) places.old places.new at.old at.new result }
 {
     match sort(alloc, texts) {
         Ok(found) => put(found.as_slice(), places),
@@ -124,7 +124,7 @@ pub fn write_positions(alloc: Global, texts: &[&[u8]], places: &mut [usize], at:
 
 // The versions that the strings denote, with their positions.
 fn read_all(alloc: Global, texts: &[&[u8]]) -> Result<Vec<(usize, Version)>, BatchError>
-    ensures { GivesAll (map (λ t. t.now) texts.now) (λ pairs. MeansPlaced (map (λ t. t.now) texts.now) pairs.items) result }
+    ensures { HoldsOrBatchFaults (map (λ t. t.now) texts.now) (λ pairs. DenotesPositioned (map (λ t. t.now) texts.now) pairs.items) result }
 {
     let mut pairs = Vec::with_capacity(alloc, texts.len())?;
     for (position, text) in texts.iter().enumerate() {
@@ -156,7 +156,7 @@ fn collect_positions(alloc: Global, pairs: &[(usize, Version)]) -> Result<Vec<us
 
 // The positions of the versions in order, equal ones in the order given.
 fn sort_pairs(alloc: Global, pairs: Vec<(usize, Version)>) -> Result<Vec<usize>, AllocError>
-    ensures { IfOk result (λ found. ArrangesPlaces pairs.items found.items) }
+    ensures { IfOk result (λ found. ArrangesPositions pairs.items found.items) }
 {
     let mut sorted = pairs;
     sorted.sort_by(|a, b| cmp_versions(a, b))?;
@@ -165,7 +165,7 @@ fn sort_pairs(alloc: Global, pairs: Vec<(usize, Version)>) -> Result<Vec<usize>,
 
 // The positions of the strings in the order of their versions.
 fn sort(alloc: Global, texts: &[&[u8]]) -> Result<Vec<usize>, BatchError>
-    ensures { GivesAll (map (λ t. t.now) texts.now) (λ found. Sorts (map (λ t. t.now) texts.now) found.items) result }
+    ensures { HoldsOrBatchFaults (map (λ t. t.now) texts.now) (λ found. Sorts (map (λ t. t.now) texts.now) found.items) result }
 {
     let pairs = read_all(alloc, texts)?;
     Ok(sort_pairs(alloc, pairs)?)
@@ -180,7 +180,7 @@ pub fn write_sort_keys(
     written: &mut usize,
     at: &mut usize,
 ) -> u8
-    ensures { KeysAnswer (map (λ t. t.now) texts.now) out.old out.new ends.old ends.new written.old written.new at.old at.new result }
+    ensures { KeysResult (map (λ t. t.now) texts.now) out.old out.new ends.old ends.new written.old written.new at.old at.new result }
 {
     match sort_keys(alloc, texts) {
         Ok(found) => {
@@ -193,8 +193,8 @@ pub fn write_sort_keys(
 
 // The sort keys of the strings.
 fn sort_keys(alloc: Global, texts: &[&[u8]]) -> Result<JoinedStrings, BatchError>
-    ensures { GivesAll (map (λ t. t.now) texts.now)
-        (λ keys. MeansKeys (map (λ t. t.now) texts.now) keys.bytes.items keys.ends.items) result }
+    ensures { HoldsOrBatchFaults (map (λ t. t.now) texts.now)
+        (λ keys. JoinsKeys (map (λ t. t.now) texts.now) keys.bytes.items keys.ends.items) result }
 {
     let mut keys = JoinedStrings::with_capacity(alloc, texts.len())?;
     for (position, text) in texts.iter().enumerate() {
@@ -208,7 +208,7 @@ fn sort_keys(alloc: Global, texts: &[&[u8]]) -> Result<JoinedStrings, BatchError
 
 // Reports the position of the invalid string, and returns the status.
 fn report_batch_error(stop: BatchError, at: &mut usize) -> u8
-    ensures { TellsStop stop at.old at.new result }
+    ensures { ReportsBatchError stop at.old at.new result }
 {
     match stop {
         BatchError::InvalidAt(position) => {

@@ -1,7 +1,7 @@
 //! What is written to the caller's memory.
 ghost use Rattle.std.specs.Prelude.{length, string_bytes, ◌≡◌};
-ghost use Rattle.pep440_calls.specs.Buffers.{PutsGiven, PutsGivenJoined};
-ghost use Rattle.pep440_calls.specs.Statuses.{PutsBoth, PutsFront, flag};
+ghost use Rattle.pep440_calls.specs.Buffers.{WritesResult, WritesJoinedResult};
+ghost use Rattle.pep440_calls.specs.Statuses.{WritesBoth, WritesAtStart, flag};
 
 use crate::fault::Fault;
 use crate::joined_strings::JoinedStrings;
@@ -21,7 +21,7 @@ pub(crate) fn flag(truth: bool) -> u8
 
 // Writes the items at the start of the buffer if it has room.
 pub(crate) fn put<T: Copy>(items: &[T], out: &mut [T]) -> u8
-    ensures { PutsFront items.now out.old out.new result }
+    ensures { WritesAtStart items.now out.old out.new result }
 {
     if out.len() < items.len() {
         return NO_ROOM;
@@ -33,7 +33,7 @@ pub(crate) fn put<T: Copy>(items: &[T], out: &mut [T]) -> u8
 // Writes the bytes at the start of the buffer if it has room, and reports how many they are.
 pub(crate) fn put_and_count(bytes: &[u8], out: &mut [u8], written: &mut usize) -> u8
     ensures counted { written.new ≡ length bytes.now }
-    ensures put { PutsFront bytes.now out.old out.new result }
+    ensures put { WritesAtStart bytes.now out.old out.new result }
 {
     *written = bytes.len();
     put(bytes, out)
@@ -42,7 +42,7 @@ pub(crate) fn put_and_count(bytes: &[u8], out: &mut [u8], written: &mut usize) -
 // Writes the string that a call gives at the start of the buffer if it has room, and reports how many bytes it
 // takes.
 pub(crate) fn put_text(given: Result<String, Fault>, out: &mut [u8], written: &mut usize) -> u8
-    ensures { PutsGiven string_bytes given out.old out.new written.old written.new result }
+    ensures { WritesResult string_bytes given out.old out.new written.old written.new result }
 {
     match given {
         Ok(text) => put_and_count(text.as_bytes(), out, written),
@@ -52,7 +52,7 @@ pub(crate) fn put_text(given: Result<String, Fault>, out: &mut [u8], written: &m
 
 // Writes the bytes that a call finds at the start of the buffer if it has room, and reports how many they are.
 pub(crate) fn put_slice(given: Result<&[u8], Fault>, out: &mut [u8], written: &mut usize) -> u8
-    ensures { PutsGiven (λ bytes. bytes.now) given.entry out.old out.new written.old written.new result }
+    ensures { WritesResult (λ bytes. bytes.now) given.entry out.old out.new written.old written.new result }
 {
     match given {
         Ok(bytes) => put_and_count(bytes, out, written),
@@ -62,7 +62,7 @@ pub(crate) fn put_slice(given: Result<&[u8], Fault>, out: &mut [u8], written: &m
 
 // Writes the bytes that a call makes at the start of the buffer if it has room, and reports how many they are.
 pub(crate) fn put_bytes(given: Result<Vec<u8>, Fault>, out: &mut [u8], written: &mut usize) -> u8
-    ensures { PutsGiven (λ bytes. bytes.items) given out.old out.new written.old written.new result }
+    ensures { WritesResult (λ bytes. bytes.items) given out.old out.new written.old written.new result }
 {
     match given {
         Ok(bytes) => put_and_count(bytes.as_slice(), out, written),
@@ -72,7 +72,7 @@ pub(crate) fn put_bytes(given: Result<Vec<u8>, Fault>, out: &mut [u8], written: 
 
 // Writes bytes and positions at the start of the two buffers if both have room.
 pub(crate) fn put_both(bytes: &[u8], places: &[usize], out: &mut [u8], ends: &mut [usize]) -> u8
-    ensures { PutsBoth bytes.now places.now out.old out.new ends.old ends.new result }
+    ensures { WritesBoth bytes.now places.now out.old out.new ends.old ends.new result }
 {
     if out.len() < bytes.len() || ends.len() < places.len() {
         return NO_ROOM;
@@ -91,7 +91,7 @@ pub(crate) fn put_joined(
     written: &mut usize,
     count: &mut usize,
 ) -> u8
-    ensures { PutsGivenJoined given out.old out.new ends.old ends.new written.old written.new count.old count.new result }
+    ensures { WritesJoinedResult given out.old out.new ends.old ends.new written.old written.new count.old count.new result }
 {
     match given {
         Ok(joined) => {

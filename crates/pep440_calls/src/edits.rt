@@ -1,13 +1,13 @@
 //! A version and changes of it, as words.
 ghost use Rattle.std.specs.List.{AllZip};
 ghost use Rattle.std.specs.Prelude.{IfErr, IfOk, List, Ok, map, string_bytes, ℕ, ◌≡◌};
-ghost use Rattle.pep440_version.specs.ChangeWords.{not_a_change_text};
+ghost use Rattle.pep440_version.specs.Changes.ChangeWords.{not_a_change_text};
 ghost use Rattle.pep440_version.specs.Record.{Record};
 ghost use Rattle.pep440_version.specs.declared.change_word.ChangeWordError.TheVariants.{NotAChange};
 ghost use Rattle.pep440_version.specs.Changes.{edit};
-ghost use Rattle.pep440_calls.specs.Edits.{ChangesTo, GivesEdited, IsEditError, IsEdited, MeansChange, PutsEdited, RefusesChange, edit_status};
-ghost use Rattle.pep440_calls.specs.Meaning.{MeansBytes};
-ghost use Rattle.pep440_calls.specs.Statuses.{Gives, PutsBytes};
+ghost use Rattle.pep440_calls.specs.Edits.{ChangesTo, HoldsOrEditFaults, IsEditError, IsEdited, BytesDenoteChange, WritesEdited, RejectsChangeWord, edit_status};
+ghost use Rattle.pep440_calls.specs.CallerBytes.{BytesDenote};
+ghost use Rattle.pep440_calls.specs.Statuses.{HoldsOrFaults, WritesBytes};
 ghost use Rattle.pep440_calls.specs.declared.edits.EditError.TheVariants.{OutOfMemory};
 
 use crate::buffer::{put_and_count, put_text};
@@ -69,7 +69,7 @@ pub fn write_edited(
     out: &mut [u8],
     written: &mut usize,
 ) -> u8
-    ensures { PutsEdited text.now (map (λ t. t.now) changes.now) out.old out.new written.old written.new result }
+    ensures { WritesEdited text.now (map (λ t. t.now) changes.now) out.old out.new written.old written.new result }
 {
     match edit_version(alloc, text, changes) {
         Ok(edited) => put_and_count(edited.as_bytes(), out, written),
@@ -85,15 +85,15 @@ pub fn write_edit_error(
     out: &mut [u8],
     written: &mut usize,
 ) -> u8
-    ensures { PutsBytes ⊥ ⊥ ⊥ (IsEditError text.now (map (λ t. t.now) changes.now)) out.old out.new written.old written.new result }
+    ensures { WritesBytes ⊥ ⊥ ⊥ (IsEditError text.now (map (λ t. t.now) changes.now)) out.old out.new written.old written.new result }
 {
     put_text(explain_edit(alloc, text, changes), out, written)
 }
 
 // The change that the bytes ask for.
 fn read_change(alloc: Global, word: &[u8]) -> Result<Change, ChangeWordError>
-    ensures ok { IfOk result (λ change. MeansChange word.now (edit change)) }
-    ensures err { IfErr result (λ e. e ≡ NotAChange → RefusesChange word.now) }
+    ensures ok { IfOk result (λ change. BytesDenoteChange word.now (edit change)) }
+    ensures err { IfErr result (λ e. e ≡ NotAChange → RejectsChangeWord word.now) }
 {
     let Ok(text) = std::str::from_utf8(word) else {
         return Err(ChangeWordError::NotAChange);
@@ -103,9 +103,9 @@ fn read_change(alloc: Global, word: &[u8]) -> Result<Change, ChangeWordError>
 
 // The changes that the words ask for; of a version, so that an error is one of both.
 fn read_changes(alloc: Global, words: &[&[u8]]) -> Result<Vec<Change>, EditError>
-    ensures { (text : List ℕ) (r : Record) → MeansBytes text r
-        → GivesEdited text (map (λ t. t.now) words.now)
-        (λ changes. AllZip MeansChange (map (λ t. t.now) words.now) (map edit changes.items)) result }
+    ensures { (text : List ℕ) (r : Record) → BytesDenote text r
+        → HoldsOrEditFaults text (map (λ t. t.now) words.now)
+        (λ changes. AllZip BytesDenoteChange (map (λ t. t.now) words.now) (map edit changes.items)) result }
 {
     let mut changes = Vec::with_capacity(alloc, words.len())?;
     for (position, word) in words.iter().enumerate() {
@@ -120,9 +120,9 @@ fn read_changes(alloc: Global, words: &[&[u8]]) -> Result<Vec<Change>, EditError
 
 // The version after the changes.
 fn apply_changes(alloc: Global, version: Version, words: &[&[u8]]) -> Result<Version, EditError>
-    ensures { (text : List ℕ) → MeansBytes text version
-        → GivesEdited text (map (λ t. t.now) words.now)
-        (λ q. (r : Record) × MeansBytes text r × ChangesTo r (map (λ t. t.now) words.now) (Ok q)) result }
+    ensures { (text : List ℕ) → BytesDenote text version
+        → HoldsOrEditFaults text (map (λ t. t.now) words.now)
+        (λ q. (r : Record) × BytesDenote text r × ChangesTo r (map (λ t. t.now) words.now) (Ok q)) result }
 {
     let changes = read_changes(alloc, words)?;
     match version.with_changes(alloc, changes.as_slice()) {
@@ -134,8 +134,8 @@ fn apply_changes(alloc: Global, version: Version, words: &[&[u8]]) -> Result<Ver
 
 // The version that the bytes denote, after the changes. The version is read first, then all words, and then the changes are made.
 fn change(alloc: Global, bytes: &[u8], words: &[&[u8]]) -> Result<Version, EditError>
-    ensures { GivesEdited bytes.now (map (λ t. t.now) words.now)
-        (λ q. (r : Record) × MeansBytes bytes.now r × ChangesTo r (map (λ t. t.now) words.now) (Ok q)) result }
+    ensures { HoldsOrEditFaults bytes.now (map (λ t. t.now) words.now)
+        (λ q. (r : Record) × BytesDenote bytes.now r × ChangesTo r (map (λ t. t.now) words.now) (Ok q)) result }
 {
     match read(alloc, bytes) {
         Ok(version) => apply_changes(alloc, version, words),
@@ -146,7 +146,7 @@ fn change(alloc: Global, bytes: &[u8], words: &[&[u8]]) -> Result<Version, EditE
 
 // The version after the changes, with its sentinels.
 fn edit_version(alloc: Global, bytes: &[u8], words: &[&[u8]]) -> Result<String, EditError>
-    ensures { GivesEdited bytes.now (map (λ t. t.now) words.now)
+    ensures { HoldsOrEditFaults bytes.now (map (λ t. t.now) words.now)
         (λ text. IsEdited bytes.now (map (λ t. t.now) words.now) (string_bytes text)) result }
 {
     let version = change(alloc, bytes, words)?;
@@ -162,7 +162,7 @@ fn explain_no_change(alloc: Global, number: usize) -> Result<String, AllocError>
 
 // Why there is no such version; empty if there is one.
 fn explain_edit(alloc: Global, bytes: &[u8], words: &[&[u8]]) -> Result<String, Fault>
-    ensures { Gives ⊥ ⊥ ⊥ (λ text. IsEditError bytes.now (map (λ t. t.now) words.now) (string_bytes text)) result }
+    ensures { HoldsOrFaults ⊥ ⊥ ⊥ (λ text. IsEditError bytes.now (map (λ t. t.now) words.now) (string_bytes text)) result }
 {
     match change(alloc, bytes, words) {
         Ok(_) => Ok(String::new(alloc)),

@@ -16,110 +16,110 @@ ghost use Rattle.pep440_version.specs.Key.{record_cmp};
 ghost use Rattle.pep440_version.specs.Print.{print};
 ghost use Rattle.pep440_version.specs.Record.{Record};
 ghost use Rattle.pep440_witness.specs.Probes.{first_match};
-ghost use Rattle.pep440_calls.specs.CallResults.{IsCompiled, IsCompiledList, IsVersionIn, TellsWord};
-ghost use Rattle.pep440_calls.specs.Meaning.{MeansBytes, MeansListBytes, MeansListString, MeansString, RefusesBytes, RefusesListBytes, TellsWhy, TellsWhyNoList};
-ghost use Rattle.pep440_calls.specs.PatternCalls.{IsSpecifier, MeansPattern, MeansSpecifierBytes, RefusesOperand, RefusesOperator, RefusesPatternBytes, RefusesSpecifierBytes, TellsWhyNoSpecifier};
-ghost use Rattle.pep440_calls.specs.Ranges.{HasRange, IsRangeText, LacksRange};
+ghost use Rattle.pep440_calls.specs.CallResults.{IsCompiled, IsCompiledList, IsVersionIn, IsPackedWord};
+ghost use Rattle.pep440_calls.specs.CallerBytes.{BytesDenote, BytesDenoteList, StringDenotesList, StringDenotes, RejectsBytes, RejectsListBytes, ExplainsBytes, ExplainsListBytes};
+ghost use Rattle.pep440_calls.specs.PatternCalls.{IsSpecifier, StringDenotesPattern, BytesDenoteSpecifier, RejectsOperand, RejectsOperator, RejectsPatternBytes, RejectsSpecifierBytes, ExplainsSpecifier};
+ghost use Rattle.pep440_calls.specs.Ranges.{HasRange, IsRangeLines, LacksRange};
 
 /// Bytes denote one version, or are invalid with one error, and never both; a string does one of
 /// these. No string of a version begins as a compiled one.
 pub fn versions_once()
-    ensures one { (bytes : List ℕ) (r q : Record) → MeansBytes bytes r → MeansBytes bytes q → r ≡ q }
-    ensures why { (bytes words others : List ℕ) → TellsWhy bytes words → TellsWhy bytes others → words ≡ others }
-    ensures either { (bytes : List ℕ) → (¬ HasVersionFormat bytes) → ((r : Record) × MeansBytes bytes r) ⊎ RefusesBytes bytes }
-    ensures never_both { (bytes : List ℕ) (r : Record) → MeansBytes bytes r → RefusesBytes bytes → ⊥ }
+    ensures one { (bytes : List ℕ) (r q : Record) → BytesDenote bytes r → BytesDenote bytes q → r ≡ q }
+    ensures why { (bytes words others : List ℕ) → ExplainsBytes bytes words → ExplainsBytes bytes others → words ≡ others }
+    ensures either { (bytes : List ℕ) → (¬ HasVersionFormat bytes) → ((r : Record) × BytesDenote bytes r) ⊎ RejectsBytes bytes }
+    ensures never_both { (bytes : List ℕ) (r : Record) → BytesDenote bytes r → RejectsBytes bytes → ⊥ }
     ensures format { (bytes : List ℕ) (r : Record) → Derives bytes r → HasVersionFormat bytes → ⊥ }
 {}
 
 /// Bytes denote one list, or are invalid with one error, and never both; a string does one of these.
 pub fn lists_once()
-    ensures one { (bytes : List ℕ) (l m : List Spec) → MeansListBytes bytes l → MeansListBytes bytes m → l ≡ m }
-    ensures why { (bytes words others : List ℕ) → TellsWhyNoList bytes words → TellsWhyNoList bytes others → words ≡ others }
-    ensures either { (bytes : List ℕ) → (¬ HasListFormat bytes) → ((l : List Spec) × MeansListBytes bytes l) ⊎ RefusesListBytes bytes }
-    ensures never_both { (bytes : List ℕ) (l : List Spec) → MeansListBytes bytes l → RefusesListBytes bytes → ⊥ }
+    ensures one { (bytes : List ℕ) (l m : List Spec) → BytesDenoteList bytes l → BytesDenoteList bytes m → l ≡ m }
+    ensures why { (bytes words others : List ℕ) → ExplainsListBytes bytes words → ExplainsListBytes bytes others → words ≡ others }
+    ensures either { (bytes : List ℕ) → (¬ HasListFormat bytes) → ((l : List Spec) × BytesDenoteList bytes l) ⊎ RejectsListBytes bytes }
+    ensures never_both { (bytes : List ℕ) (l : List Spec) → BytesDenoteList bytes l → RejectsListBytes bytes → ⊥ }
 {}
 
 /// Bytes denote one specifier, or are invalid with one error, and never both.
 pub fn one_specifier_once()
-    ensures one { (bytes : List ℕ) (s t : Spec) → MeansSpecifierBytes bytes s → MeansSpecifierBytes bytes t → s ≡ t }
-    ensures why { (bytes words others : List ℕ) → TellsWhyNoSpecifier bytes words → TellsWhyNoSpecifier bytes others → words ≡ others }
-    ensures either { (bytes : List ℕ) → ((s : Spec) × MeansSpecifierBytes bytes s) ⊎ RefusesSpecifierBytes bytes }
-    ensures never_both { (bytes : List ℕ) (s : Spec) → MeansSpecifierBytes bytes s → RefusesSpecifierBytes bytes → ⊥ }
+    ensures one { (bytes : List ℕ) (s t : Spec) → BytesDenoteSpecifier bytes s → BytesDenoteSpecifier bytes t → s ≡ t }
+    ensures why { (bytes words others : List ℕ) → ExplainsSpecifier bytes words → ExplainsSpecifier bytes others → words ≡ others }
+    ensures either { (bytes : List ℕ) → ((s : Spec) × BytesDenoteSpecifier bytes s) ⊎ RejectsSpecifierBytes bytes }
+    ensures never_both { (bytes : List ℕ) (s : Spec) → BytesDenoteSpecifier bytes s → RejectsSpecifierBytes bytes → ⊥ }
 {}
 
 /// Bytes have one range, or are no list, or are a list without a range, and never two of these: so of the statuses 0, 2
 /// and 5 a call on a string has one.
 pub fn ranges_once()
-    ensures one { (bytes words others : List ℕ) → IsRangeText bytes words → IsRangeText bytes others → words ≡ others }
+    ensures one { (bytes words others : List ℕ) → IsRangeLines bytes words → IsRangeLines bytes others → words ≡ others }
     ensures either { (bytes : List ℕ) → (¬ HasListFormat bytes)
-        → ((words : List ℕ) × IsRangeText bytes words) ⊎ (RefusesListBytes bytes ⊎ LacksRange range_of bytes) }
-    ensures never_both { (bytes words : List ℕ) → IsRangeText bytes words → RefusesListBytes bytes → ⊥ }
-    ensures never_at_max { (bytes words : List ℕ) → IsRangeText bytes words → LacksRange range_of bytes → ⊥ }
-    ensures one_error { (bytes : List ℕ) → LacksRange range_of bytes → RefusesListBytes bytes → ⊥ }
+        → ((words : List ℕ) × IsRangeLines bytes words) ⊎ (RejectsListBytes bytes ⊎ LacksRange range_of bytes) }
+    ensures never_both { (bytes words : List ℕ) → IsRangeLines bytes words → RejectsListBytes bytes → ⊥ }
+    ensures never_at_max { (bytes words : List ℕ) → IsRangeLines bytes words → LacksRange range_of bytes → ⊥ }
+    ensures one_error { (bytes : List ℕ) → LacksRange range_of bytes → RejectsListBytes bytes → ⊥ }
 {}
 
 /// What `pep440_version_in` writes is nothing or a version that the list contains; of a list of a string it writes nothing only if
 /// the list contains no version that a string denotes.
 pub fn versions_in_lists()
-    ensures contained { (bytes words : List ℕ) (l : List Spec) → IsVersionIn bytes words → MeansListBytes bytes l
+    ensures contained { (bytes words : List ℕ) (l : List Spec) → IsVersionIn bytes words → BytesDenoteList bytes l
         → (words ≡ []) ⊎ ((v : Record) × (words ≡ print v) × IsTrue (list_matches l v)) }
-    ensures none { (bytes : List ℕ) (l : List Spec) → MeansListString bytes l → first_match l ≡ None → (v : Record)
+    ensures none { (bytes : List ℕ) (l : List Spec) → StringDenotesList bytes l → first_match l ≡ None → (v : Record)
         → IsDenoted v → IsTrue (list_matches l v) → ⊥ }
 {}
 
 /// The words of strings, as numbers, are in the order of the versions, and equal exactly if these are; a string has at most one word.
 pub fn words_are_ordered()
-    ensures one { (bytes : List ℕ) (m n : ℕ) → TellsWord bytes (Some m) → TellsWord bytes (Some n) → m ≡ n }
-    ensures ordered { (a b : List ℕ) (m n : ℕ) (r q : Record) → TellsWord a (Some m) → TellsWord b (Some n)
-        → MeansBytes a r → MeansBytes b q → nat_cmp m n ≡ record_cmp r q }
+    ensures one { (bytes : List ℕ) (m n : ℕ) → IsPackedWord bytes (Some m) → IsPackedWord bytes (Some n) → m ≡ n }
+    ensures ordered { (a b : List ℕ) (m n : ℕ) (r q : Record) → IsPackedWord a (Some m) → IsPackedWord b (Some n)
+        → BytesDenote a r → BytesDenote b q → nat_cmp m n ≡ record_cmp r q }
 {}
 
 /// The sort key of a version lies in one of the intervals of a list's range exactly where the range has the version; and
 /// in an interval of its cover if the list, as a string denotes it, contains the version.
 pub fn keys_tell_membership()
     ensures range { (list text : List ℕ) (range : Segments) (r : Record) → HasRange range_of list range
-        → MeansBytes text r → list_any (λ s. is_within (segment_interval s) (key_bytes r)) range ≡ contains record_cmp range r }
+        → BytesDenote text r → list_any (λ s. is_within (segment_interval s) (key_bytes r)) range ≡ contains record_cmp range r }
     ensures cover { (list text : List ℕ) (members : List Spec) (cover : Segments) (r : Record)
-        → (¬ HasListFormat list) → MeansListString list members → list_range cover_of members ≡ Some cover
-        → MeansBytes text r → list_matches members r ≡ true → list_any (λ s. is_within (segment_interval s) (key_bytes r)) cover ≡ true }
+        → (¬ HasListFormat list) → StringDenotesList list members → list_range cover_of members ≡ Some cover
+        → BytesDenote text r → list_matches members r ≡ true → list_any (λ s. is_within (segment_interval s) (key_bytes r)) cover ≡ true }
 {}
 
 /// Bytes denote one pattern, or are invalid, and never both.
 pub fn patterns_once()
-    ensures one { (bytes : List ℕ) (r q : Record) (s t : Bool) → MeansPattern bytes r s → MeansPattern bytes q t → (r ≡ q) × (s ≡ t) }
-    ensures either { (bytes : List ℕ) → ((r : Record) × (s : Bool) × MeansPattern bytes r s) ⊎ RefusesPatternBytes bytes }
-    ensures never_both { (bytes : List ℕ) (r : Record) (s : Bool) → MeansPattern bytes r s → RefusesPatternBytes bytes → ⊥ }
+    ensures one { (bytes : List ℕ) (r q : Record) (s t : Bool) → StringDenotesPattern bytes r s → StringDenotesPattern bytes q t → (r ≡ q) × (s ≡ t) }
+    ensures either { (bytes : List ℕ) → ((r : Record) × (s : Bool) × StringDenotesPattern bytes r s) ⊎ RejectsPatternBytes bytes }
+    ensures never_both { (bytes : List ℕ) (r : Record) (s : Bool) → StringDenotesPattern bytes r s → RejectsPatternBytes bytes → ⊥ }
 {}
 
 /// An operator and a pattern make one specifier, or the operator is rejected, or the pattern is, and never two of these.
 pub fn specifiers_once()
     ensures one { (operator version a b : List ℕ) → IsSpecifier operator version a → IsSpecifier operator version b → a ≡ b }
     ensures either { (operator version : List ℕ) → ((bytes : List ℕ) × IsSpecifier operator version bytes)
-        ⊎ (RefusesOperator operator version ⊎ RefusesOperand operator version) }
-    ensures never_both { (operator version bytes : List ℕ) → IsSpecifier operator version bytes → RefusesOperator operator version → ⊥ }
-    ensures never_without { (operator version bytes : List ℕ) → IsSpecifier operator version bytes → RefusesOperand operator version → ⊥ }
-    ensures one_error { (operator version : List ℕ) → RefusesOperator operator version → RefusesOperand operator version → ⊥ }
+        ⊎ (RejectsOperator operator version ⊎ RejectsOperand operator version) }
+    ensures never_both { (operator version bytes : List ℕ) → IsSpecifier operator version bytes → RejectsOperator operator version → ⊥ }
+    ensures never_without { (operator version bytes : List ℕ) → IsSpecifier operator version bytes → RejectsOperand operator version → ⊥ }
+    ensures one_error { (operator version : List ℕ) → RejectsOperator operator version → RejectsOperand operator version → ⊥ }
 {}
 
 /// Bytes have one compiled form, which denotes what they denote; two have the same exactly if they denote the same version, all its
 /// parts, or the same list. So each call returns of a compiled form what it returns of the string.
 pub fn compiled_once()
     ensures one { (text a b : List ℕ) → IsCompiled text a → IsCompiled text b → a ≡ b }
-    ensures same { (s t a b : List ℕ) (r q : Record) → IsCompiled s a → IsCompiled t b → MeansBytes s r
-        → MeansBytes t q → (a ≡ b) ↔ (r ≡ q) }
-    ensures version { (text compiled : List ℕ) (r : Record) → IsCompiled text compiled → MeansBytes text r ↔ MeansBytes compiled r }
+    ensures same { (s t a b : List ℕ) (r q : Record) → IsCompiled s a → IsCompiled t b → BytesDenote s r
+        → BytesDenote t q → (a ≡ b) ↔ (r ≡ q) }
+    ensures version { (text compiled : List ℕ) (r : Record) → IsCompiled text compiled → BytesDenote text r ↔ BytesDenote compiled r }
     ensures one_list { (text a b : List ℕ) → IsCompiledList text a → IsCompiledList text b → a ≡ b }
     ensures same_list { (s t a b : List ℕ) (l m : List Spec) → IsCompiledList s a → IsCompiledList t b
-        → MeansListBytes s l → MeansListBytes t m → (a ≡ b) ↔ (l ≡ m) }
+        → BytesDenoteList s l → BytesDenoteList t m → (a ≡ b) ↔ (l ≡ m) }
     ensures list { (text compiled : List ℕ) (l : List Spec) → IsCompiledList text compiled
-        → MeansListBytes text l ↔ MeansListBytes compiled l }
+        → BytesDenoteList text l ↔ BytesDenoteList compiled l }
 {}
 
 /// How many bytes suffice for the forms of a version or a list, by the length of a string that denotes it: the bounds of
 /// `callers/c/pep440.h`, where one serves both compiled forms.
 pub fn forms_are_bounded()
-    ensures normal { (bytes : List ℕ) (r : Record) → MeansString bytes r → length (print r) ≤ 9 + length bytes }
-    ensures key { (bytes : List ℕ) (r : Record) → MeansString bytes r → length (key_bytes r) ≤ 7 + 3 * length bytes / 2 }
-    ensures compiled { (bytes : List ℕ) (r : Record) → MeansString bytes r → length (compiled_bytes r) ≤ 8 + 3 * length bytes / 2 }
-    ensures list { (bytes : List ℕ) (l : List Spec) → MeansListString bytes l → length (list_bytes l) ≤ 4 + 3 * length bytes }
+    ensures normal { (bytes : List ℕ) (r : Record) → StringDenotes bytes r → length (print r) ≤ 9 + length bytes }
+    ensures key { (bytes : List ℕ) (r : Record) → StringDenotes bytes r → length (key_bytes r) ≤ 7 + 3 * length bytes / 2 }
+    ensures compiled { (bytes : List ℕ) (r : Record) → StringDenotes bytes r → length (compiled_bytes r) ≤ 8 + 3 * length bytes / 2 }
+    ensures list { (bytes : List ℕ) (l : List Spec) → StringDenotesList bytes l → length (list_bytes l) ≤ 4 + 3 * length bytes }
 {}

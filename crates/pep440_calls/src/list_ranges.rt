@@ -5,10 +5,10 @@ ghost use Rattle.pep440_compiled.specs.Version.{compiled_bytes};
 ghost use Rattle.pep440_keys.specs.RangeKeys.{segment_interval};
 ghost use Rattle.pep440_rs.specs.Bounds.{Segments, range_of, release_range_of};
 ghost use Rattle.pep440_rs.specs.Cover.{cover_of};
-ghost use Rattle.pep440_calls.specs.JoinedStrings.{Joins, PutsJoined};
-ghost use Rattle.pep440_calls.specs.Meaning.{RefusesListBytes};
-ghost use Rattle.pep440_calls.specs.Ranges.{HasRange, IsRangeText, JoinsBounds, LacksRange, TellsBounds, TellsIntervals, bound_bytes, interval_keys};
-ghost use Rattle.pep440_calls.specs.Statuses.{Gives, PutsBytes};
+ghost use Rattle.pep440_calls.specs.JoinedStrings.{Joins, WritesJoined};
+ghost use Rattle.pep440_calls.specs.CallerBytes.{RejectsListBytes};
+ghost use Rattle.pep440_calls.specs.Ranges.{HasRange, IsRangeLines, JoinsBounds, LacksRange, JoinsRangeBounds, JoinsRangeIntervals, bound_bytes, interval_keys};
+ghost use Rattle.pep440_calls.specs.Statuses.{HoldsOrFaults, WritesBytes};
 
 use crate::buffer::{put_joined, put_text};
 use crate::fault::Fault;
@@ -25,7 +25,7 @@ use std::ops::Bound;
 
 /// Writes the range of the list, a segment a line. Status 5 if a bound of it would need a number above the greatest.
 pub fn write_range(alloc: Global, list: &[u8], out: &mut [u8], written: &mut usize) -> u8
-    ensures { PutsBytes ⊥ (RefusesListBytes list.now) (LacksRange range_of list.now) (IsRangeText list.now)
+    ensures { WritesBytes ⊥ (RejectsListBytes list.now) (LacksRange range_of list.now) (IsRangeLines list.now)
         out.old out.new written.old written.new result }
 {
     put_text(to_range_lines(alloc, list), out, written)
@@ -42,8 +42,8 @@ pub fn write_range_keys(
     written: &mut usize,
     count: &mut usize,
 ) -> u8
-    ensures { PutsJoined ⊥ (RefusesListBytes list.now) (LacksRange range_of list.now)
-        (TellsIntervals range_of list.now) out.old out.new ends.old ends.new written.old written.new count.old count.new result }
+    ensures { WritesJoined ⊥ (RejectsListBytes list.now) (LacksRange range_of list.now)
+        (JoinsRangeIntervals range_of list.now) out.old out.new ends.old ends.new written.old written.new count.old count.new result }
 {
     put_joined(to_range_keys(alloc, list), out, ends, written, count)
 }
@@ -57,8 +57,8 @@ pub fn write_cover_keys(
     written: &mut usize,
     count: &mut usize,
 ) -> u8
-    ensures { PutsJoined ⊥ (RefusesListBytes list.now) (LacksRange cover_of list.now)
-        (TellsIntervals cover_of list.now) out.old out.new ends.old ends.new written.old written.new count.old count.new result }
+    ensures { WritesJoined ⊥ (RejectsListBytes list.now) (LacksRange cover_of list.now)
+        (JoinsRangeIntervals cover_of list.now) out.old out.new ends.old ends.new written.old written.new count.old count.new result }
 {
     put_joined(to_cover_keys(alloc, list), out, ends, written, count)
 }
@@ -74,7 +74,7 @@ pub fn write_range_bounds(
     written: &mut usize,
     count: &mut usize,
 ) -> u8
-    ensures { PutsJoined ⊥ (RefusesListBytes list.now) (LacksRange range_of list.now) (TellsBounds range_of list.now)
+    ensures { WritesJoined ⊥ (RejectsListBytes list.now) (LacksRange range_of list.now) (JoinsRangeBounds range_of list.now)
         out.old out.new ends.old ends.new written.old written.new count.old count.new result }
 {
     put_joined(to_bounds(alloc, list), out, ends, written, count)
@@ -89,14 +89,14 @@ pub fn write_release_range_bounds(
     written: &mut usize,
     count: &mut usize,
 ) -> u8
-    ensures { PutsJoined ⊥ (RefusesListBytes list.now) (LacksRange release_range_of list.now)
-        (TellsBounds release_range_of list.now) out.old out.new ends.old ends.new written.old written.new count.old count.new result }
+    ensures { WritesJoined ⊥ (RejectsListBytes list.now) (LacksRange release_range_of list.now)
+        (JoinsRangeBounds release_range_of list.now) out.old out.new ends.old ends.new written.old written.new count.old count.new result }
 {
     put_joined(to_release_bounds(alloc, list), out, ends, written, count)
 }
 
 fn to_range(alloc: Global, list: &[u8]) -> Result<Ranges<Version>, Fault>
-    ensures { Gives ⊥ (RefusesListBytes list.now) (LacksRange range_of list.now) (HasRange range_of list.now) result }
+    ensures { HoldsOrFaults ⊥ (RejectsListBytes list.now) (LacksRange range_of list.now) (HasRange range_of list.now) result }
 {
     let specifiers = read_list(alloc, list)?;
     Ok(specifiers_to_ranges(alloc, specifiers)?)
@@ -104,7 +104,7 @@ fn to_range(alloc: Global, list: &[u8]) -> Result<Ranges<Version>, Fault>
 
 // The range of a list, a segment a line.
 fn to_range_lines(alloc: Global, list: &[u8]) -> Result<String, Fault>
-    ensures { Gives ⊥ (RefusesListBytes list.now) (LacksRange range_of list.now) (λ text. IsRangeText list.now (string_bytes text)) result }
+    ensures { HoldsOrFaults ⊥ (RejectsListBytes list.now) (LacksRange range_of list.now) (λ text. IsRangeLines list.now (string_bytes text)) result }
 {
     let range = to_range(alloc, list)?;
     Ok(RangeLines(&range).to_string(alloc)?)
@@ -151,8 +151,8 @@ fn join_range(alloc: Global, range: &Ranges<Version>) -> Result<JoinedStrings, A
 
 // The keys of the segments of the list's range.
 fn to_range_keys(alloc: Global, list: &[u8]) -> Result<JoinedStrings, Fault>
-    ensures { Gives ⊥ (RefusesListBytes list.now) (LacksRange range_of list.now)
-        (λ found. TellsIntervals range_of list.now found.bytes.items found.ends.items) result }
+    ensures { HoldsOrFaults ⊥ (RejectsListBytes list.now) (LacksRange range_of list.now)
+        (λ found. JoinsRangeIntervals range_of list.now found.bytes.items found.ends.items) result }
 {
     let range = to_range(alloc, list)?;
     Ok(join_range(alloc, &range)?)
@@ -160,8 +160,8 @@ fn to_range_keys(alloc: Global, list: &[u8]) -> Result<JoinedStrings, Fault>
 
 // The keys of the segments of the list's cover.
 fn to_cover_keys(alloc: Global, list: &[u8]) -> Result<JoinedStrings, Fault>
-    ensures { Gives ⊥ (RefusesListBytes list.now) (LacksRange cover_of list.now)
-        (λ found. TellsIntervals cover_of list.now found.bytes.items found.ends.items) result }
+    ensures { HoldsOrFaults ⊥ (RejectsListBytes list.now) (LacksRange cover_of list.now)
+        (λ found. JoinsRangeIntervals cover_of list.now found.bytes.items found.ends.items) result }
 {
     let specifiers = read_list(alloc, list)?;
     let cover = specifiers_to_cover(alloc, specifiers)?;
@@ -224,16 +224,16 @@ fn join_bounds(alloc: Global, range: &Ranges<Version>) -> Result<JoinedStrings, 
 }
 
 fn to_bounds(alloc: Global, list: &[u8]) -> Result<JoinedStrings, Fault>
-    ensures { Gives ⊥ (RefusesListBytes list.now) (LacksRange range_of list.now)
-        (λ found. TellsBounds range_of list.now found.bytes.items found.ends.items) result }
+    ensures { HoldsOrFaults ⊥ (RejectsListBytes list.now) (LacksRange range_of list.now)
+        (λ found. JoinsRangeBounds range_of list.now found.bytes.items found.ends.items) result }
 {
     let range = to_range(alloc, list)?;
     Ok(join_bounds(alloc, &range)?)
 }
 
 fn to_release_bounds(alloc: Global, list: &[u8]) -> Result<JoinedStrings, Fault>
-    ensures { Gives ⊥ (RefusesListBytes list.now) (LacksRange release_range_of list.now)
-        (λ found. TellsBounds release_range_of list.now found.bytes.items found.ends.items) result }
+    ensures { HoldsOrFaults ⊥ (RejectsListBytes list.now) (LacksRange release_range_of list.now)
+        (λ found. JoinsRangeBounds release_range_of list.now found.bytes.items found.ends.items) result }
 {
     let specifiers = read_list(alloc, list)?;
     let range = release_specifiers_to_ranges(alloc, specifiers)?;

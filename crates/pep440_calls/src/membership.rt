@@ -2,9 +2,9 @@
 ghost use Rattle.std.specs.Prelude.{List, ℕ};
 ghost use Rattle.pep440_compiled.specs.Lists.{HasListFormat};
 ghost use Rattle.pep440_compiled.specs.Version.{HasVersionFormat};
-ghost use Rattle.pep440_calls.specs.CallResults.{Allows, AllowsAnswer, Contains, ContainsAnswer, IsPrerelease, RefusesSecond};
-ghost use Rattle.pep440_calls.specs.Meaning.{RefusesListBytes};
-ghost use Rattle.pep440_calls.specs.Statuses.{Gives};
+ghost use Rattle.pep440_calls.specs.CallResults.{Allows, AllowsResult, Contains, ContainsResult, IsPrerelease, RejectsSecond};
+ghost use Rattle.pep440_calls.specs.CallerBytes.{RejectsListBytes};
+ghost use Rattle.pep440_calls.specs.Statuses.{HoldsOrFaults};
 
 use crate::buffer::{OK, flag};
 use crate::fault::Fault;
@@ -15,9 +15,9 @@ use std::alloc::Global;
 // Writes whether a list contains a version, and whether this is a pre-release or a developmental release.
 #[inline(always)]
 fn put_match(given: Result<(bool, bool), Fault>, contained: &mut u8, prerelease: &mut u8) -> u8
-    ensures { (list version : List ℕ) → Gives (RefusesSecond list version) (RefusesListBytes list) ⊥
+    ensures { (list version : List ℕ) → HoldsOrFaults (RejectsSecond list version) (RejectsListBytes list) ⊥
         (λ found. Contains list version found.0 × IsPrerelease version found.1) given
-        → ContainsAnswer list version contained.old contained.new prerelease.old prerelease.new result }
+        → ContainsResult list version contained.old contained.new prerelease.old prerelease.new result }
 {
     match given {
         Ok((found, is_early)) => {
@@ -34,7 +34,7 @@ fn put_match(given: Result<(bool, bool), Fault>, contained: &mut u8, prerelease:
 fn contains_compiled(list: &[u8], version: &[u8]) -> Result<(bool, bool), Fault>
     requires list { HasListFormat list.now }
     requires version { HasVersionFormat version.now }
-    ensures { Gives (RefusesSecond list.now version.now) (RefusesListBytes list.now) ⊥
+    ensures { HoldsOrFaults (RejectsSecond list.now version.now) (RejectsListBytes list.now) ⊥
         (λ found. Contains list.now version.now found.0 × IsPrerelease version.now found.1) result }
 {
     match pep440_compiled::contains(list, version) {
@@ -46,7 +46,7 @@ fn contains_compiled(list: &[u8], version: &[u8]) -> Result<(bool, bool), Fault>
 
 // Whether the list contains the version, and whether this is a pre-release or a developmental release; of any bytes.
 fn contains(alloc: Global, list: &[u8], bytes: &[u8]) -> Result<(bool, bool), Fault>
-    ensures { Gives (RefusesSecond list.now bytes.now) (RefusesListBytes list.now) ⊥
+    ensures { HoldsOrFaults (RejectsSecond list.now bytes.now) (RejectsListBytes list.now) ⊥
         (λ found. Contains list.now bytes.now found.0 × IsPrerelease bytes.now found.1) result }
 {
     let specifiers = read_list(alloc, list)?;
@@ -64,7 +64,7 @@ fn write_parsed_match(
     contained: &mut u8,
     prerelease: &mut u8,
 ) -> u8
-    ensures { ContainsAnswer list.now text.now contained.old contained.new prerelease.old prerelease.new result }
+    ensures { ContainsResult list.now text.now contained.old contained.new prerelease.old prerelease.new result }
 {
     put_match(contains(alloc, list, text), contained, prerelease)
 }
@@ -79,7 +79,7 @@ pub fn write_match(
     contained: &mut u8,
     prerelease: &mut u8,
 ) -> u8
-    ensures { ContainsAnswer list.now text.now contained.old contained.new prerelease.old prerelease.new result }
+    ensures { ContainsResult list.now text.now contained.old contained.new prerelease.old prerelease.new result }
 {
     if !has_list_format(list) || !has_version_format(text) {
         return write_parsed_match(alloc, list, text, contained, prerelease);
@@ -91,7 +91,7 @@ pub fn write_match(
 /// pre-release and no developmental release unless a specifier with another operator than `!=` names one. The list is
 /// read first, unless both are compiled: then nothing is allocated.
 pub fn write_allowed(alloc: Global, list: &[u8], text: &[u8], allowed: &mut u8) -> u8
-    ensures { AllowsAnswer list.now text.now allowed.old allowed.new result }
+    ensures { AllowsResult list.now text.now allowed.old allowed.new result }
 {
     match allows(alloc, list, text) {
         Ok(found) => {
@@ -106,7 +106,7 @@ pub fn write_allowed(alloc: Global, list: &[u8], text: &[u8], allowed: &mut u8) 
 fn allows_compiled(list: &[u8], version: &[u8]) -> Result<bool, Fault>
     requires list { HasListFormat list.now }
     requires version { HasVersionFormat version.now }
-    ensures { Gives (RefusesSecond list.now version.now) (RefusesListBytes list.now) ⊥ (Allows list.now version.now) result }
+    ensures { HoldsOrFaults (RejectsSecond list.now version.now) (RejectsListBytes list.now) ⊥ (Allows list.now version.now) result }
 {
     let (contained, is_early) = contains_compiled(list, version)?;
     if !is_early {
@@ -123,7 +123,7 @@ fn allows_compiled(list: &[u8], version: &[u8]) -> Result<bool, Fault>
 
 // Whether the list allows the version that the bytes denote.
 fn allows(alloc: Global, list: &[u8], bytes: &[u8]) -> Result<bool, Fault>
-    ensures { Gives (RefusesSecond list.now bytes.now) (RefusesListBytes list.now) ⊥ (Allows list.now bytes.now) result }
+    ensures { HoldsOrFaults (RejectsSecond list.now bytes.now) (RejectsListBytes list.now) ⊥ (Allows list.now bytes.now) result }
 {
     if has_list_format(list) && has_version_format(bytes) {
         return allows_compiled(list, bytes);

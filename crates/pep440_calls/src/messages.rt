@@ -4,9 +4,9 @@ ghost use Rattle.pep440_compiled.specs.Lists.{DenotesList};
 ghost use Rattle.pep440_compiled.specs.Version.{DenotesVersion};
 ghost use Rattle.pep440_rs.specs.Specifiers.{Spec};
 ghost use Rattle.pep440_version.specs.Record.{Record};
-ghost use Rattle.pep440_calls.specs.Explanations.{ErrorAnswer, IsBuildError, IsErrorOf, IsNoOperator, RefusesNumbered, bytes_kind_number};
-ghost use Rattle.pep440_calls.specs.Meaning.{IsNoCompiledList, IsNoCompiledVersion, MeansListString, MeansString, TellsWhyNoListString, TellsWhyNoString};
-ghost use Rattle.pep440_calls.specs.Statuses.{Gives, PutsBytes};
+ghost use Rattle.pep440_calls.specs.Explanations.{ErrorResult, IsBuildError, IsErrorOf, IsNoOperator, RejectsNumbered, bytes_kind_number};
+ghost use Rattle.pep440_calls.specs.CallerBytes.{IsNoCompiledList, IsNoCompiledVersion, StringDenotesList, StringDenotes, ExplainsListString, ExplainsString};
+ghost use Rattle.pep440_calls.specs.Statuses.{HoldsOrFaults, WritesBytes};
 ghost use Rattle.pep440_calls.specs.declared.messages.BytesKind.TheVariants as to_be;
 
 use crate::buffer::put_text;
@@ -56,7 +56,7 @@ impl BytesKind {
 /// Writes why the bytes are no version, no pattern, no specifier or no list, as `kind` is 0, 1, 2 or 3; nothing if they are one.
 /// Patterns and specifiers are strings. Status 9 with another `kind`.
 pub fn write_error(alloc: Global, kind: u8, bytes: &[u8], out: &mut [u8], written: &mut usize) -> u8
-    ensures { ErrorAnswer kind bytes.now out.old out.new written.old written.new result }
+    ensures { ErrorResult kind bytes.now out.old out.new written.old written.new result }
 {
     match BytesKind::from_number(kind) {
         Some(kind) => put_text(explain(alloc, kind, bytes), out, written),
@@ -65,7 +65,7 @@ pub fn write_error(alloc: Global, kind: u8, bytes: &[u8], out: &mut [u8], writte
 }
 
 fn explain(alloc: Global, kind: BytesKind, bytes: &[u8]) -> Result<String, Fault>
-    ensures { Gives ⊥ ⊥ ⊥ (λ words. IsErrorOf kind bytes.now (string_bytes words)) result }
+    ensures { HoldsOrFaults ⊥ ⊥ ⊥ (λ words. IsErrorOf kind bytes.now (string_bytes words)) result }
 {
     match kind {
         BytesKind::Version => explain_version(alloc, bytes),
@@ -85,7 +85,7 @@ pub fn write_build_error(
     out: &mut [u8],
     written: &mut usize,
 ) -> u8
-    ensures { PutsBytes (RefusesNumbered operator text.now) (IsNoOperator operator) ⊥
+    ensures { WritesBytes (RejectsNumbered operator text.now) (IsNoOperator operator) ⊥
         (IsBuildError operator text.now (not (star == 0))) out.old out.new written.old written.new result }
 {
     put_text(
@@ -102,7 +102,7 @@ fn explain_build(
     text: &[u8],
     is_wildcard: bool,
 ) -> Result<String, Fault>
-    ensures { Gives (RefusesNumbered operator text.now) (IsNoOperator operator) ⊥
+    ensures { HoldsOrFaults (RejectsNumbered operator text.now) (IsNoOperator operator) ⊥
         (λ words. IsBuildError operator text.now is_wildcard (string_bytes words)) result }
 {
     let Some(operator) = Operator::from_number(operator) else {
@@ -121,8 +121,8 @@ fn explain_build(
 }
 
 fn explain_string(alloc: Global, bytes: &[u8]) -> Result<String, Fault>
-    ensures { Gives ⊥ ⊥ ⊥ (λ words. ((r : Record) × MeansString bytes.now r × (string_bytes words ≡ []))
-        ⊎ TellsWhyNoString bytes.now (string_bytes words)) result }
+    ensures { HoldsOrFaults ⊥ ⊥ ⊥ (λ words. ((r : Record) × StringDenotes bytes.now r × (string_bytes words ≡ []))
+        ⊎ ExplainsString bytes.now (string_bytes words)) result }
 {
     let Ok(text) = std::str::from_utf8(bytes) else {
         return Ok(String::from_str(alloc, NOT_UTF8)?);
@@ -139,7 +139,7 @@ fn explain_string(alloc: Global, bytes: &[u8]) -> Result<String, Fault>
 }
 
 fn explain_compiled(alloc: Global, bytes: &[u8]) -> Result<String, Fault>
-    ensures { Gives ⊥ ⊥ ⊥ (λ words. ((r : Record) × DenotesVersion bytes.now r × (string_bytes words ≡ []))
+    ensures { HoldsOrFaults ⊥ ⊥ ⊥ (λ words. ((r : Record) × DenotesVersion bytes.now r × (string_bytes words ≡ []))
         ⊎ (IsNoCompiledVersion bytes.now × (string_bytes words ≡ codes "not a compiled version"))) result }
 {
     match read_version(alloc, bytes) {
@@ -151,7 +151,7 @@ fn explain_compiled(alloc: Global, bytes: &[u8]) -> Result<String, Fault>
 
 // Why the bytes are no version; empty if they are one.
 pub(crate) fn explain_version(alloc: Global, bytes: &[u8]) -> Result<String, Fault>
-    ensures { Gives ⊥ ⊥ ⊥ (λ words. IsErrorOf to_be.Version bytes.now (string_bytes words)) result }
+    ensures { HoldsOrFaults ⊥ ⊥ ⊥ (λ words. IsErrorOf to_be.Version bytes.now (string_bytes words)) result }
 {
     if has_version_format(bytes) {
         return explain_compiled(alloc, bytes);
@@ -160,8 +160,8 @@ pub(crate) fn explain_version(alloc: Global, bytes: &[u8]) -> Result<String, Fau
 }
 
 fn explain_list_string(alloc: Global, bytes: &[u8]) -> Result<String, Fault>
-    ensures { Gives ⊥ ⊥ ⊥ (λ words. ((list : List Spec) × MeansListString bytes.now list × (string_bytes words ≡ []))
-        ⊎ TellsWhyNoListString bytes.now (string_bytes words)) result }
+    ensures { HoldsOrFaults ⊥ ⊥ ⊥ (λ words. ((list : List Spec) × StringDenotesList bytes.now list × (string_bytes words ≡ []))
+        ⊎ ExplainsListString bytes.now (string_bytes words)) result }
 {
     let Ok(text) = std::str::from_utf8(bytes) else {
         return Ok(String::from_str(alloc, NOT_UTF8)?);
@@ -178,7 +178,7 @@ fn explain_list_string(alloc: Global, bytes: &[u8]) -> Result<String, Fault>
 }
 
 fn explain_compiled_list(alloc: Global, bytes: &[u8]) -> Result<String, Fault>
-    ensures { Gives ⊥ ⊥ ⊥ (λ words. ((list : List Spec) × DenotesList bytes.now list × (string_bytes words ≡ []))
+    ensures { HoldsOrFaults ⊥ ⊥ ⊥ (λ words. ((list : List Spec) × DenotesList bytes.now list × (string_bytes words ≡ []))
         ⊎ (IsNoCompiledList bytes.now × (string_bytes words ≡ codes "not a compiled list"))) result }
 {
     match read_list(alloc, bytes) {
@@ -190,7 +190,7 @@ fn explain_compiled_list(alloc: Global, bytes: &[u8]) -> Result<String, Fault>
 
 // Why the bytes are no list; empty if they are one.
 fn explain_list(alloc: Global, bytes: &[u8]) -> Result<String, Fault>
-    ensures { Gives ⊥ ⊥ ⊥ (λ words. IsErrorOf to_be.List bytes.now (string_bytes words)) result }
+    ensures { HoldsOrFaults ⊥ ⊥ ⊥ (λ words. IsErrorOf to_be.List bytes.now (string_bytes words)) result }
 {
     if has_list_format(bytes) {
         return explain_compiled_list(alloc, bytes);
@@ -200,7 +200,7 @@ fn explain_list(alloc: Global, bytes: &[u8]) -> Result<String, Fault>
 
 // Why the bytes are no pattern; empty if they are one.
 fn explain_pattern(alloc: Global, bytes: &[u8]) -> Result<String, Fault>
-    ensures { Gives ⊥ ⊥ ⊥ (λ words. IsErrorOf to_be.Pattern bytes.now (string_bytes words)) result }
+    ensures { HoldsOrFaults ⊥ ⊥ ⊥ (λ words. IsErrorOf to_be.Pattern bytes.now (string_bytes words)) result }
 {
     let Ok(text) = std::str::from_utf8(bytes) else {
         return Ok(String::from_str(alloc, NOT_UTF8)?);
@@ -218,7 +218,7 @@ fn explain_pattern(alloc: Global, bytes: &[u8]) -> Result<String, Fault>
 
 // Why the bytes are no specifier; empty if they are one.
 fn explain_specifier(alloc: Global, bytes: &[u8]) -> Result<String, Fault>
-    ensures { Gives ⊥ ⊥ ⊥ (λ words. IsErrorOf to_be.Specifier bytes.now (string_bytes words)) result }
+    ensures { HoldsOrFaults ⊥ ⊥ ⊥ (λ words. IsErrorOf to_be.Specifier bytes.now (string_bytes words)) result }
 {
     let Ok(text) = std::str::from_utf8(bytes) else {
         return Ok(String::from_str(alloc, NOT_UTF8)?);

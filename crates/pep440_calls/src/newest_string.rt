@@ -3,9 +3,9 @@ ghost use Rattle.std.specs.Prelude.{IfOk, MatchOption, false, map, not, true, �
 ghost use Rattle.pep440_pick.specs.Greatest.{Greatest, is_above};
 ghost use Rattle.pep440_rs.specs.Matching.{any_prerelease, list_matches};
 ghost use Rattle.pep440_version.specs.Record.{Record};
-ghost use Rattle.pep440_calls.specs.Meaning.{MeansBytes, RefusesBytes, RefusesListBytes};
-ghost use Rattle.pep440_calls.specs.NewestString.{FindsNewestString, IsContainedString, NewestAnswer, preference};
-ghost use Rattle.pep440_calls.specs.Statuses.{Gives, flag};
+ghost use Rattle.pep440_calls.specs.CallerBytes.{BytesDenote, RejectsBytes, RejectsListBytes};
+ghost use Rattle.pep440_calls.specs.NewestString.{FindsNewestString, IsContainedString, NewestResult, preference};
+ghost use Rattle.pep440_calls.specs.Statuses.{HoldsOrFaults, flag};
 
 use crate::buffer::{OK, flag};
 use crate::fault::Fault;
@@ -20,7 +20,7 @@ const NONE_FOUND: u8 = 10;
 /// passed over. Pre-releases and developmental releases count only if the list asks for them, or contains no final release
 /// of the batch (PEP 440, "Handling of pre-releases"). Status 10 if the list contains none; `index` is then unchanged.
 pub fn write_newest(alloc: Global, list: &[u8], texts: &[&[u8]], index: &mut usize) -> u8
-    ensures { NewestAnswer list.now (map (λ t. t.now) texts.now) index.old index.new result }
+    ensures { NewestResult list.now (map (λ t. t.now) texts.now) index.old index.new result }
 {
     match find(alloc, list, texts) {
         Ok(Some(position)) => {
@@ -34,7 +34,7 @@ pub fn write_newest(alloc: Global, list: &[u8], texts: &[&[u8]], index: &mut usi
 
 // The index of the newest version that the list of the bytes contains.
 fn find(alloc: Global, list: &[u8], texts: &[&[u8]]) -> Result<Option<usize>, Fault>
-    ensures { Gives ⊥ (RefusesListBytes list.now) ⊥ (FindsNewestString list.now (map (λ t. t.now) texts.now)) result }
+    ensures { HoldsOrFaults ⊥ (RejectsListBytes list.now) ⊥ (FindsNewestString list.now (map (λ t. t.now) texts.now)) result }
 {
     let specifiers = read_list(alloc, list)?;
     let takes = specifiers.requests_prereleases();
@@ -64,7 +64,7 @@ fn read_contained(
     bytes: &[u8],
 ) -> Result<Option<Version>, AllocError>
     ensures { IfOk result (λ found. MatchOption found
-        (RefusesBytes bytes.now ⊎ ((r : Record) × MeansBytes bytes.now r × (list_matches list.now r ≡ false)))
+        (RejectsBytes bytes.now ⊎ ((r : Record) × BytesDenote bytes.now r × (list_matches list.now r ≡ false)))
         (IsContainedString list.now bytes.now)) }
 {
     let version = match read(alloc, bytes) {

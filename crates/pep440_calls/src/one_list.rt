@@ -6,10 +6,10 @@ ghost use Rattle.pep440_rs.specs.Matching.{any_prerelease};
 ghost use Rattle.pep440_rs.specs.Operators.{operator_text};
 ghost use Rattle.pep440_rs.specs.Specifiers.{Spec};
 ghost use Rattle.pep440_version.specs.Print.{print};
-ghost use Rattle.pep440_calls.specs.CallResults.{IsCompiledList, IsNormalList, IsVersionIn, NamesPrerelease, TellsMembers, member_texts, version_text};
-ghost use Rattle.pep440_calls.specs.JoinedStrings.{Joins, PutsJoined};
-ghost use Rattle.pep440_calls.specs.Meaning.{RefusesListBytes};
-ghost use Rattle.pep440_calls.specs.Statuses.{Gives, IsFlagOf, Puts, PutsBytes};
+ghost use Rattle.pep440_calls.specs.CallResults.{IsCompiledList, IsNormalList, IsVersionIn, NamesPrerelease, JoinsMembers, member_strings, version_string};
+ghost use Rattle.pep440_calls.specs.JoinedStrings.{Joins, WritesJoined};
+ghost use Rattle.pep440_calls.specs.CallerBytes.{RejectsListBytes};
+ghost use Rattle.pep440_calls.specs.Statuses.{HoldsOrFaults, IsFlagOf, WritesOrFails, WritesBytes};
 
 use crate::buffer::{OK, flag, put_bytes, put_joined, put_text};
 use crate::fault::Fault;
@@ -21,14 +21,14 @@ use std::alloc::{AllocError, Global};
 
 /// Writes the normal form of the list.
 pub fn write_normal_list(alloc: Global, list: &[u8], out: &mut [u8], written: &mut usize) -> u8
-    ensures { PutsBytes ⊥ (RefusesListBytes list.now) ⊥ (IsNormalList list.now) out.old out.new written.old written.new result }
+    ensures { WritesBytes ⊥ (RejectsListBytes list.now) ⊥ (IsNormalList list.now) out.old out.new written.old written.new result }
 {
     put_text(normalize_list(alloc, list), out, written)
 }
 
 // The normal form of a list.
 fn normalize_list(alloc: Global, bytes: &[u8]) -> Result<String, Fault>
-    ensures { Gives ⊥ (RefusesListBytes bytes.now) ⊥ (λ text. IsNormalList bytes.now (string_bytes text)) result }
+    ensures { HoldsOrFaults ⊥ (RejectsListBytes bytes.now) ⊥ (λ text. IsNormalList bytes.now (string_bytes text)) result }
 {
     let list = read_list(alloc, bytes)?;
     Ok(list.to_string(alloc)?)
@@ -36,13 +36,13 @@ fn normalize_list(alloc: Global, bytes: &[u8]) -> Result<String, Fault>
 
 /// Writes the compiled form of the list.
 pub fn write_compiled_list(alloc: Global, list: &[u8], out: &mut [u8], written: &mut usize) -> u8
-    ensures { PutsBytes ⊥ (RefusesListBytes list.now) ⊥ (IsCompiledList list.now) out.old out.new written.old written.new result }
+    ensures { WritesBytes ⊥ (RejectsListBytes list.now) ⊥ (IsCompiledList list.now) out.old out.new written.old written.new result }
 {
     put_bytes(compile_list(alloc, list), out, written)
 }
 
 fn compile_list(alloc: Global, list: &[u8]) -> Result<Vec<u8>, Fault>
-    ensures { Gives ⊥ (RefusesListBytes list.now) ⊥ (λ compiled. IsCompiledList list.now compiled.items) result }
+    ensures { HoldsOrFaults ⊥ (RejectsListBytes list.now) ⊥ (λ compiled. IsCompiledList list.now compiled.items) result }
 {
     let list = read_list(alloc, list)?;
     Ok(pep440_compiled::compile_list(alloc, &list)?)
@@ -50,7 +50,7 @@ fn compile_list(alloc: Global, list: &[u8]) -> Result<Vec<u8>, Fault>
 
 /// Whether a version of the list's specifiers is a pre-release or a developmental release, 1 or 0 (PEP 440, "Handling of pre-releases").
 pub fn write_prerelease_flag(alloc: Global, list: &[u8], any: &mut u8) -> u8
-    ensures { Puts ⊥ (RefusesListBytes list.now) ⊥ (IsFlagOf (NamesPrerelease list.now)) any.old any.new result }
+    ensures { WritesOrFails ⊥ (RejectsListBytes list.now) ⊥ (IsFlagOf (NamesPrerelease list.now)) any.old any.new result }
 {
     match any_prerelease(alloc, list) {
         Ok(found) => {
@@ -70,7 +70,7 @@ fn has_prerelease(list: &VersionSpecifiers) -> bool
 
 // Whether a version of the list is a pre-release or a developmental release.
 fn any_prerelease(alloc: Global, list: &[u8]) -> Result<bool, Fault>
-    ensures { Gives ⊥ (RefusesListBytes list.now) ⊥ (NamesPrerelease list.now) result }
+    ensures { HoldsOrFaults ⊥ (RejectsListBytes list.now) ⊥ (NamesPrerelease list.now) result }
 {
     let specifiers = read_list(alloc, list)?;
     Ok(has_prerelease(&specifiers))
@@ -78,7 +78,7 @@ fn any_prerelease(alloc: Global, list: &[u8]) -> Result<bool, Fault>
 
 /// Writes a version that the list contains, and nothing if it contains none that a string denotes (PEP 440, "Version specifiers").
 pub fn write_version_in(alloc: Global, list: &[u8], out: &mut [u8], written: &mut usize) -> u8
-    ensures { PutsBytes ⊥ (RefusesListBytes list.now) ⊥ (IsVersionIn list.now) out.old out.new written.old written.new result }
+    ensures { WritesBytes ⊥ (RejectsListBytes list.now) ⊥ (IsVersionIn list.now) out.old out.new written.old written.new result }
 {
     put_text(find_in(alloc, list), out, written)
 }
@@ -95,7 +95,7 @@ fn print_found(alloc: Global, found: Option<Version>) -> Result<String, AllocErr
 
 // A version that the list contains; empty if it contains none.
 fn find_in(alloc: Global, list: &[u8]) -> Result<String, Fault>
-    ensures { Gives ⊥ (RefusesListBytes list.now) ⊥ (λ text. IsVersionIn list.now (string_bytes text)) result }
+    ensures { HoldsOrFaults ⊥ (RejectsListBytes list.now) ⊥ (λ text. IsVersionIn list.now (string_bytes text)) result }
 {
     let specifiers = read_list(alloc, list)?;
     let found = find_version(alloc, specifiers.as_slice())?;
@@ -113,7 +113,7 @@ pub fn write_members(
     written: &mut usize,
     count: &mut usize,
 ) -> u8
-    ensures { PutsJoined ⊥ (RefusesListBytes list.now) ⊥ (TellsMembers list.now)
+    ensures { WritesJoined ⊥ (RejectsListBytes list.now) ⊥ (JoinsMembers list.now)
         out.old out.new ends.old ends.new written.old written.new count.old count.new result }
 {
     put_joined(to_members(alloc, list), out, ends, written, count)
@@ -126,7 +126,7 @@ fn print_operator(alloc: Global, member: &VersionSpecifier) -> Result<String, Al
 }
 
 fn print_version(alloc: Global, member: &VersionSpecifier) -> Result<String, AllocError>
-    ensures { IfOk result (λ text. string_bytes text ≡ version_text member.now) }
+    ensures { IfOk result (λ text. string_bytes text ≡ version_string member.now) }
 {
     let mut text = member.version().to_string(alloc)?;
     if member.operator().is_star() {
@@ -141,7 +141,7 @@ fn push_member(
     member: &VersionSpecifier,
 ) -> Result<(), AllocError>
     ensures { (strings : List (List ℕ)) → Joins strings found.old.bytes.items found.old.ends.items
-        → OnOk result (Joins (strings ++ member_texts member.now) found.new.bytes.items found.new.ends.items) }
+        → OnOk result (Joins (strings ++ member_strings member.now) found.new.bytes.items found.new.ends.items) }
 {
     let operator = print_operator(alloc, member)?;
     let version = print_version(alloc, member)?;
@@ -152,7 +152,7 @@ fn push_member(
 
 // Operators and versions of the members, in their order.
 fn join_members(alloc: Global, members: &[VersionSpecifier]) -> Result<JoinedStrings, AllocError>
-    ensures { IfOk result (λ found. Joins (flat_map member_texts members.now) found.bytes.items found.ends.items) }
+    ensures { IfOk result (λ found. Joins (flat_map member_strings members.now) found.bytes.items found.ends.items) }
 {
     let mut found = JoinedStrings::with_capacity(alloc, members.len())?;
     for member in members {
@@ -163,7 +163,7 @@ fn join_members(alloc: Global, members: &[VersionSpecifier]) -> Result<JoinedStr
 
 // Operators and versions of the members of the list.
 fn to_members(alloc: Global, list: &[u8]) -> Result<JoinedStrings, Fault>
-    ensures { Gives ⊥ (RefusesListBytes list.now) ⊥ (λ found. TellsMembers list.now found.bytes.items found.ends.items) result }
+    ensures { HoldsOrFaults ⊥ (RejectsListBytes list.now) ⊥ (λ found. JoinsMembers list.now found.bytes.items found.ends.items) result }
 {
     let specifiers = read_list(alloc, list)?;
     Ok(join_members(alloc, specifiers.as_slice())?)

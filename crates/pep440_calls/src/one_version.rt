@@ -1,9 +1,9 @@
 //! What is made of one version: its normal form, compiled form, parts, sort key and word.
 ghost use Rattle.std.specs.Prelude.{string_bytes, ◌≡◌};
 ghost use Rattle.pep440_compiled.specs.Version.{HasVersionFormat};
-ghost use Rattle.pep440_calls.specs.CallResults.{IsCompiled, IsKey, IsNormal, PartsAnswer, TellsParts, TellsWord, WordAnswer, kind_number};
-ghost use Rattle.pep440_calls.specs.Meaning.{RefusesBytes};
-ghost use Rattle.pep440_calls.specs.Statuses.{Gives, PutsBytes};
+ghost use Rattle.pep440_calls.specs.CallResults.{IsCompiled, IsKey, IsNormal, PartsResult, HasPartsOf, IsPackedWord, WordResult, kind_number};
+ghost use Rattle.pep440_calls.specs.CallerBytes.{RejectsBytes};
+ghost use Rattle.pep440_calls.specs.Statuses.{HoldsOrFaults, WritesBytes};
 ghost use Rattle.pep440_calls.specs.declared.fault.Fault.TheVariants.{OutOfMemory};
 
 use crate::buffer::{NOT_PACKED, OK, flag, put, put_and_count, put_bytes, put_slice, put_text};
@@ -18,14 +18,14 @@ use std::alloc::Global;
 
 /// Writes the normal form of the version (PEP 440, "Normalization").
 pub fn write_normal_form(alloc: Global, text: &[u8], out: &mut [u8], written: &mut usize) -> u8
-    ensures { PutsBytes (RefusesBytes text.now) ⊥ ⊥ (IsNormal text.now) out.old out.new written.old written.new result }
+    ensures { WritesBytes (RejectsBytes text.now) ⊥ ⊥ (IsNormal text.now) out.old out.new written.old written.new result }
 {
     put_text(normalize(alloc, text), out, written)
 }
 
 // The normal form of a version.
 fn normalize(alloc: Global, bytes: &[u8]) -> Result<String, Fault>
-    ensures { Gives (RefusesBytes bytes.now) ⊥ ⊥ (λ text. IsNormal bytes.now (string_bytes text)) result }
+    ensures { HoldsOrFaults (RejectsBytes bytes.now) ⊥ ⊥ (λ text. IsNormal bytes.now (string_bytes text)) result }
 {
     let version = read(alloc, bytes)?;
     Ok(version.to_string(alloc)?)
@@ -34,7 +34,7 @@ fn normalize(alloc: Global, bytes: &[u8]) -> Result<String, Fault>
 /// Writes the compiled form of the version.
 #[tactic(auto, using(crate::proofs::Compiling::string_compiled))]
 pub fn write_compiled(alloc: Global, text: &[u8], out: &mut [u8], written: &mut usize) -> u8
-    ensures { PutsBytes (RefusesBytes text.now) ⊥ ⊥ (IsCompiled text.now) out.old out.new written.old written.new result }
+    ensures { WritesBytes (RejectsBytes text.now) ⊥ ⊥ (IsCompiled text.now) out.old out.new written.old written.new result }
 {
     let mut form = ArrayVec::new();
     // no string in a normal spelling has the format of a compiled version
@@ -45,7 +45,7 @@ pub fn write_compiled(alloc: Global, text: &[u8], out: &mut [u8], written: &mut 
 }
 
 fn compile(alloc: Global, text: &[u8]) -> Result<Vec<u8>, Fault>
-    ensures { Gives (RefusesBytes text.now) ⊥ ⊥ (λ compiled. IsCompiled text.now compiled.items) result }
+    ensures { HoldsOrFaults (RejectsBytes text.now) ⊥ ⊥ (λ compiled. IsCompiled text.now compiled.items) result }
 {
     let version = read(alloc, text)?;
     Ok(compile_version(alloc, &version)?)
@@ -54,7 +54,7 @@ fn compile(alloc: Global, text: &[u8]) -> Result<Vec<u8>, Fault>
 /// Writes the sort key of the version: `memcmp` orders keys as their versions (PEP 440, "Summary of permitted
 /// suffixes and relative ordering"). Allocates nothing for a compiled version.
 pub fn write_sort_key(alloc: Global, text: &[u8], out: &mut [u8], written: &mut usize) -> u8
-    ensures { PutsBytes (RefusesBytes text.now) ⊥ ⊥ (IsKey text.now) out.old out.new written.old written.new result }
+    ensures { WritesBytes (RejectsBytes text.now) ⊥ ⊥ (IsKey text.now) out.old out.new written.old written.new result }
 {
     if has_version_format(text) {
         return put_slice(find_key(text), out, written);
@@ -65,7 +65,7 @@ pub fn write_sort_key(alloc: Global, text: &[u8], out: &mut [u8], written: &mut 
 // The sort key of a compiled version, as it lies in the bytes.
 fn find_key(bytes: &[u8]) -> Result<&[u8], Fault>
     requires { HasVersionFormat bytes.now }
-    ensures { Gives (RefusesBytes bytes.now) ⊥ ⊥ (λ key. IsKey bytes.now key.now) result }
+    ensures { HoldsOrFaults (RejectsBytes bytes.now) ⊥ ⊥ (λ key. IsKey bytes.now key.now) result }
 {
     match pep440_compiled::read_sort_key(bytes) {
         Ok(key) => Ok(key),
@@ -75,7 +75,7 @@ fn find_key(bytes: &[u8]) -> Result<&[u8], Fault>
 
 // The sort key of a version.
 fn make_key(alloc: Global, bytes: &[u8]) -> Result<Vec<u8>, Fault>
-    ensures { Gives (RefusesBytes bytes.now) ⊥ ⊥ (λ key. IsKey bytes.now key.items) result }
+    ensures { HoldsOrFaults (RejectsBytes bytes.now) ⊥ ⊥ (λ key. IsKey bytes.now key.items) result }
 {
     let version = read(alloc, bytes)?;
     Ok(sort_key(alloc, &version)?)
@@ -84,7 +84,7 @@ fn make_key(alloc: Global, bytes: &[u8]) -> Result<Vec<u8>, Fault>
 /// Writes the word of the version: words are numbers in the order of their versions (PEP 440, "Summary of permitted
 /// suffixes and relative ordering"). Status 7 if the version is not packed: then it has no word.
 pub fn write_word(alloc: Global, text: &[u8], word: &mut u64) -> u8
-    ensures { WordAnswer text.now word.old word.new result }
+    ensures { WordResult text.now word.old word.new result }
 {
     match to_word(alloc, text) {
         Ok(Some(found)) => {
@@ -98,7 +98,7 @@ pub fn write_word(alloc: Global, text: &[u8], word: &mut u64) -> u8
 
 // The word of a version; `None` of one that is not packed.
 fn to_word(alloc: Global, bytes: &[u8]) -> Result<Option<u64>, Fault>
-    ensures { Gives (RefusesBytes bytes.now) ⊥ ⊥ (TellsWord bytes.now) result }
+    ensures { HoldsOrFaults (RejectsBytes bytes.now) ⊥ ⊥ (IsPackedWord bytes.now) result }
 {
     let version = read(alloc, bytes)?;
     Ok(word(&version).copied())
@@ -124,7 +124,7 @@ pub struct Parts {
 
 /// Writes the parts of the version, and the numbers of its release (PEP 440, "Public version identifiers").
 pub fn write_parts(alloc: Global, text: &[u8], parts: &mut Parts, release: &mut [u64]) -> u8
-    ensures { PartsAnswer text.now parts.old parts.new release.old release.new result }
+    ensures { PartsResult text.now parts.old parts.new release.old release.new result }
 {
     match read(alloc, text) {
         Ok(version) => {
@@ -148,7 +148,7 @@ fn kind_number(kind: PrereleaseKind) -> u8
 
 // The parts of the version.
 fn parts_of(version: &Version) -> Parts
-    ensures { TellsParts version.now result }
+    ensures { HasPartsOf version.now result }
 {
     let (pre_kind, pre) = match version.pre() {
         None => (0, 0),

@@ -1,8 +1,8 @@
 //! Version patterns, specifiers of an operator and a pattern, and one specifier.
 ghost use Rattle.std.specs.Prelude.{string_bytes};
 ghost use Rattle.pep440_rs.specs.Operators.{Spells};
-ghost use Rattle.pep440_calls.specs.PatternCalls.{IsCompiledSpecifier, IsOperator, IsPattern, IsSpecifier, MeansPattern, MeansSpecifierBytes, PatternAnswer, RefusesOperand, RefusesOperator, RefusesPatternBytes, RefusesSpecifierBytes};
-ghost use Rattle.pep440_calls.specs.Statuses.{Gives, PutsBytes};
+ghost use Rattle.pep440_calls.specs.PatternCalls.{IsCompiledSpecifier, IsOperator, IsPattern, IsSpecifier, StringDenotesPattern, BytesDenoteSpecifier, PatternResult, RejectsOperand, RejectsOperator, RejectsPatternBytes, RejectsSpecifierBytes};
+ghost use Rattle.pep440_calls.specs.Statuses.{HoldsOrFaults, WritesBytes};
 
 use crate::buffer::{flag, put_and_count, put_bytes, put_text};
 use crate::fault::Fault;
@@ -20,7 +20,7 @@ pub fn write_pattern(
     written: &mut usize,
     star: &mut u8,
 ) -> u8
-    ensures { PatternAnswer pattern.now out.old out.new written.old written.new star.old star.new result }
+    ensures { PatternResult pattern.now out.old out.new written.old written.new star.old star.new result }
 {
     match normalize_pattern(alloc, pattern) {
         Ok((text, is_wildcard)) => {
@@ -41,7 +41,7 @@ pub fn write_specifier(
     out: &mut [u8],
     written: &mut usize,
 ) -> u8
-    ensures { PutsBytes (RefusesOperand operator.now version.now) (RefusesOperator operator.now version.now) ⊥
+    ensures { WritesBytes (RejectsOperand operator.now version.now) (RejectsOperator operator.now version.now) ⊥
         (IsSpecifier operator.now version.now) out.old out.new written.old written.new result }
 {
     put_text(to_specifier(alloc, operator, version), out, written)
@@ -55,7 +55,7 @@ pub fn write_compiled_specifier(
     out: &mut [u8],
     written: &mut usize,
 ) -> u8
-    ensures { PutsBytes ⊥ (RefusesSpecifierBytes specifier.now) ⊥ (IsCompiledSpecifier specifier.now)
+    ensures { WritesBytes ⊥ (RejectsSpecifierBytes specifier.now) ⊥ (IsCompiledSpecifier specifier.now)
         out.old out.new written.old written.new result }
 {
     put_bytes(compile_specifier(alloc, specifier), out, written)
@@ -63,7 +63,7 @@ pub fn write_compiled_specifier(
 
 // The pattern that the bytes denote.
 fn read_pattern(alloc: Global, bytes: &[u8]) -> Result<VersionPattern, Fault>
-    ensures { Gives (RefusesPatternBytes bytes.now) ⊥ ⊥ (λ pattern. MeansPattern bytes.now pattern.0 pattern.1) result }
+    ensures { HoldsOrFaults (RejectsPatternBytes bytes.now) ⊥ ⊥ (λ pattern. StringDenotesPattern bytes.now pattern.0 pattern.1) result }
 {
     let Ok(text) = std::str::from_utf8(bytes) else {
         return Err(Fault::InvalidVersion);
@@ -81,7 +81,7 @@ fn read_pattern(alloc: Global, bytes: &[u8]) -> Result<VersionPattern, Fault>
 
 // The operator that the bytes are.
 fn read_operator(alloc: Global, bytes: &[u8]) -> Result<Operator, Fault>
-    ensures { Gives ⊥ (¬ IsOperator bytes.now) ⊥ (Spells bytes.now) result }
+    ensures { HoldsOrFaults ⊥ (¬ IsOperator bytes.now) ⊥ (Spells bytes.now) result }
 {
     let Ok(text) = std::str::from_utf8(bytes) else {
         return Err(Fault::InvalidList);
@@ -99,7 +99,7 @@ fn read_operator(alloc: Global, bytes: &[u8]) -> Result<Operator, Fault>
 
 // The normal form of a pattern's version, and whether `.*` follows it.
 fn normalize_pattern(alloc: Global, bytes: &[u8]) -> Result<(String, bool), Fault>
-    ensures { Gives (RefusesPatternBytes bytes.now) ⊥ ⊥ (λ found. IsPattern bytes.now (string_bytes found.0) found.1) result }
+    ensures { HoldsOrFaults (RejectsPatternBytes bytes.now) ⊥ ⊥ (λ found. IsPattern bytes.now (string_bytes found.0) found.1) result }
 {
     let pattern = read_pattern(alloc, bytes)?;
     let text = pattern.version().to_string(alloc)?;
@@ -108,7 +108,7 @@ fn normalize_pattern(alloc: Global, bytes: &[u8]) -> Result<(String, bool), Faul
 
 // The specifier of an operator and a pattern, as it prints.
 fn to_specifier(alloc: Global, operator: &[u8], version: &[u8]) -> Result<String, Fault>
-    ensures { Gives (RefusesOperand operator.now version.now) (RefusesOperator operator.now version.now) ⊥
+    ensures { HoldsOrFaults (RejectsOperand operator.now version.now) (RejectsOperator operator.now version.now) ⊥
         (λ text. IsSpecifier operator.now version.now (string_bytes text)) result }
 {
     let operator = read_operator(alloc, operator)?;
@@ -121,7 +121,7 @@ fn to_specifier(alloc: Global, operator: &[u8], version: &[u8]) -> Result<String
 
 // The specifier that the bytes denote.
 fn read_specifier(alloc: Global, bytes: &[u8]) -> Result<VersionSpecifier, Fault>
-    ensures { Gives ⊥ (RefusesSpecifierBytes bytes.now) ⊥ (MeansSpecifierBytes bytes.now) result }
+    ensures { HoldsOrFaults ⊥ (RejectsSpecifierBytes bytes.now) ⊥ (BytesDenoteSpecifier bytes.now) result }
 {
     let Ok(text) = std::str::from_utf8(bytes) else {
         return Err(Fault::InvalidList);
@@ -139,7 +139,7 @@ fn read_specifier(alloc: Global, bytes: &[u8]) -> Result<VersionSpecifier, Fault
 
 // The compiled form of its list.
 fn compile_specifier(alloc: Global, bytes: &[u8]) -> Result<Vec<u8>, Fault>
-    ensures { Gives ⊥ (RefusesSpecifierBytes bytes.now) ⊥ (λ compiled. IsCompiledSpecifier bytes.now compiled.items) result }
+    ensures { HoldsOrFaults ⊥ (RejectsSpecifierBytes bytes.now) ⊥ (λ compiled. IsCompiledSpecifier bytes.now compiled.items) result }
 {
     let specifier = read_specifier(alloc, bytes)?;
     let list = VersionSpecifiers::from_specifier(alloc, specifier)?;

@@ -1,8 +1,8 @@
 //! The version or the list that bytes denote, which are a string or a compiled form.
 ghost use Rattle.pep440_compiled.specs.Lists.{DenotesList};
 ghost use Rattle.pep440_compiled.specs.Version.{DenotesVersion};
-ghost use Rattle.pep440_calls.specs.Meaning.{IsNoCompiledList, IsNoCompiledVersion, MeansBytes, MeansListBytes, MeansListString, MeansString, RefusesBytes, RefusesListBytes, RefusesListString, RefusesString};
-ghost use Rattle.pep440_calls.specs.Statuses.{Gives};
+ghost use Rattle.pep440_calls.specs.CallerBytes.{IsNoCompiledList, IsNoCompiledVersion, BytesDenote, BytesDenoteList, StringDenotesList, StringDenotes, RejectsBytes, RejectsListBytes, RejectsListString, RejectsString};
+ghost use Rattle.pep440_calls.specs.Statuses.{HoldsOrFaults};
 ghost use Rattle.pep440_calls.specs.declared.fault.Fault.TheVariants.{OutOfMemory};
 
 use crate::fault::Fault;
@@ -12,7 +12,7 @@ use std::alloc::Global;
 
 // The version that the string denotes.
 fn read_string(alloc: Global, bytes: &[u8]) -> Result<Version, Fault>
-    ensures { Gives (RefusesString bytes.now) ⊥ ⊥ (MeansString bytes.now) result }
+    ensures { HoldsOrFaults (RejectsString bytes.now) ⊥ ⊥ (StringDenotes bytes.now) result }
 {
     let Ok(text) = std::str::from_utf8(bytes) else {
         return Err(Fault::InvalidVersion);
@@ -30,7 +30,7 @@ fn read_string(alloc: Global, bytes: &[u8]) -> Result<Version, Fault>
 
 // The version of the compiled form.
 fn read_compiled(alloc: Global, bytes: &[u8]) -> Result<Version, Fault>
-    ensures { Gives (IsNoCompiledVersion bytes.now) ⊥ ⊥ (DenotesVersion bytes.now) result }
+    ensures { HoldsOrFaults (IsNoCompiledVersion bytes.now) ⊥ ⊥ (DenotesVersion bytes.now) result }
 {
     match read_version(alloc, bytes) {
         Ok(version) => Ok(version),
@@ -41,7 +41,7 @@ fn read_compiled(alloc: Global, bytes: &[u8]) -> Result<Version, Fault>
 
 // The version that the bytes denote.
 pub(crate) fn read(alloc: Global, bytes: &[u8]) -> Result<Version, Fault>
-    ensures { Gives (RefusesBytes bytes.now) ⊥ ⊥ (MeansBytes bytes.now) result }
+    ensures { HoldsOrFaults (RejectsBytes bytes.now) ⊥ ⊥ (BytesDenote bytes.now) result }
 {
     if has_version_format(bytes) {
         return read_compiled(alloc, bytes);
@@ -51,7 +51,7 @@ pub(crate) fn read(alloc: Global, bytes: &[u8]) -> Result<Version, Fault>
 
 // The list that the string denotes.
 fn read_list_string(alloc: Global, bytes: &[u8]) -> Result<VersionSpecifiers, Fault>
-    ensures { Gives ⊥ (RefusesListString bytes.now) ⊥ (MeansListString bytes.now) result }
+    ensures { HoldsOrFaults ⊥ (RejectsListString bytes.now) ⊥ (StringDenotesList bytes.now) result }
 {
     let Ok(text) = std::str::from_utf8(bytes) else {
         return Err(Fault::InvalidList);
@@ -69,7 +69,7 @@ fn read_list_string(alloc: Global, bytes: &[u8]) -> Result<VersionSpecifiers, Fa
 
 // The list of the compiled form.
 fn read_compiled_list(alloc: Global, bytes: &[u8]) -> Result<VersionSpecifiers, Fault>
-    ensures { Gives ⊥ (IsNoCompiledList bytes.now) ⊥ (DenotesList bytes.now) result }
+    ensures { HoldsOrFaults ⊥ (IsNoCompiledList bytes.now) ⊥ (DenotesList bytes.now) result }
 {
     match pep440_compiled::read_list(alloc, bytes) {
         Ok(list) => Ok(list),
@@ -80,7 +80,7 @@ fn read_compiled_list(alloc: Global, bytes: &[u8]) -> Result<VersionSpecifiers, 
 
 // The list that the bytes denote.
 pub(crate) fn read_list(alloc: Global, bytes: &[u8]) -> Result<VersionSpecifiers, Fault>
-    ensures { Gives ⊥ (RefusesListBytes bytes.now) ⊥ (MeansListBytes bytes.now) result }
+    ensures { HoldsOrFaults ⊥ (RejectsListBytes bytes.now) ⊥ (BytesDenoteList bytes.now) result }
 {
     if has_list_format(bytes) {
         return read_compiled_list(alloc, bytes);

@@ -1,6 +1,6 @@
 //! How two versions compare.
 ghost use Rattle.std.specs.Prelude.{◌≡◌};
-ghost use Rattle.pep440_calls.specs.CallResults.{GivesOrder, OrderAnswer, order_number};
+ghost use Rattle.pep440_calls.specs.CallResults.{ReturnsOrder, OrderResult, order_number};
 ghost use Rattle.pep440_calls.specs.declared.fault.Fault.TheVariants.{OutOfMemory};
 
 use crate::buffer::OK;
@@ -12,7 +12,7 @@ use std::cmp::Ordering;
 /// How the left version compares with the right one: -1 below, 0 equal, 1 above (PEP 440, "Summary of permitted
 /// suffixes and relative ordering"). Status 6 if only the right one is invalid. Allocates nothing for two compiled versions.
 pub fn write_order(alloc: Global, left: &[u8], right: &[u8], order: &mut i8) -> u8
-    ensures { OrderAnswer left.now right.now order.old order.new result }
+    ensures { OrderResult left.now right.now order.old order.new result }
 {
     match compare(alloc, left, right) {
         Ok(found) => {
@@ -36,7 +36,7 @@ fn order_number(order: Ordering) -> i8
 
 // How the left version compares with the right one.
 fn compare(alloc: Global, left: &[u8], right: &[u8]) -> Result<Ordering, Fault>
-    ensures { GivesOrder left.now right.now result }
+    ensures { ReturnsOrder left.now right.now result }
 {
     if let Ok(order) = pep440_compiled::compare(left, right) {
         return Ok(order);

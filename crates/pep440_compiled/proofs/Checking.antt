@@ -10,8 +10,8 @@ use Rattle.pep440_compiled.proofs.Zeros.{number_more, trim_again, trim_pad, trim
 use Rattle.pep440_compiled.specs.KeyParts.{ending_zeros}
 use Rattle.pep440_keys.specs.SortKeys.{number_bytes, segment_bytes}
 use Rattle.pep440_version.specs.Record.{Fits, LocalSegmentValue, SegmentFits}
-use Rattle.pep440_version.specs.RoundTrip.{SegmentRereads}
-use Rattle.pep440_version.specs.Trim.{trim}
+use Rattle.pep440_version.specs.RoundTrip.{SegmentRoundTrips}
+use Rattle.pep440_version.specs.Key.Trim.{trim}
 
 -- ---- release numbers
 
@@ -80,7 +80,7 @@ may_end_there seen release k may_end ends same z some =
 -- ---- local segments
 
 abbrev pub IsParsedSegment : LocalSegmentValue → Type 0
-IsParsedSegment s = SegmentFits s × SegmentRereads s
+IsParsedSegment s = SegmentFits s × SegmentRoundTrips s
 
 pub record TestedSegments (bytes left : List ℕ) : Type 0 where
   pub seen : List LocalSegmentValue
@@ -95,9 +95,9 @@ segments_fit xs all = All-from_recursion SegmentFits xs (go xs all)
     go [] all = tt
     go (x ∷ xs) all = (all.0.0, go xs all.1)
 
-pub segments_reread : (xs : List LocalSegmentValue) → AllByRecursion IsParsedSegment xs → All SegmentRereads xs
-segments_reread xs all = All-from_recursion SegmentRereads xs (go xs all)
+pub segments_reread : (xs : List LocalSegmentValue) → AllByRecursion IsParsedSegment xs → All SegmentRoundTrips xs
+segments_reread xs all = All-from_recursion SegmentRoundTrips xs (go xs all)
   where
-    go : (xs : List LocalSegmentValue) → AllByRecursion IsParsedSegment xs → AllByRecursion SegmentRereads xs
+    go : (xs : List LocalSegmentValue) → AllByRecursion IsParsedSegment xs → AllByRecursion SegmentRoundTrips xs
     go [] all = tt
     go (x ∷ xs) all = (all.0.1, go xs all.1)

@@ -11,7 +11,7 @@ use Rattle.pep440_compiled.specs.KeyParts.{ending_zeros, base_bytes}
 use Rattle.pep440_keys.specs.SortKeys.{needed_bytes, number_bytes}
 use Rattle.pep440_rs.specs.Matching.{without_last}
 use Rattle.pep440_version.specs.Record.{Fits}
-use Rattle.pep440_version.specs.Trim.{trim}
+use Rattle.pep440_version.specs.Key.Trim.{trim}
 
 -- the numbers that were seen, and those that are left
 pub record Seen (epoch : ℕ) (numbers left : List ℕ) (end ending : ℕ) : Type 0 where

@@ -10,20 +10,20 @@ use Rattle.std.specs.Str.{IsUtf8}
 use Rattle.pep440_compiled.proofs.Zeros.{trim_pad}
 use Rattle.pep440_compiled.specs.KeyParts.{ending_zeros, suffix_bytes}
 use Rattle.pep440_compiled.specs.Version.{compiled_bytes, zero_bytes}
-use Rattle.pep440_version.specs.RoundTrip.{IsParsed, SegmentRereads, is_lower}
+use Rattle.pep440_version.specs.RoundTrip.{IsParsed, SegmentRoundTrips, is_lower}
 use Rattle.pep440_keys.specs.SortKeys.{key_bytes, local_bytes, number_bytes, rank_bytes}
 use Rattle.pep440_version.proofs.Reading.Prefixes.{both_first, both_second}
 use Rattle.pep440_version.specs.Key.{dev_rank, key, post_rank, stage_rank}
 use Rattle.pep440_version.specs.Record.{Record, from_parts}
 use Rattle.pep440_version.specs.Segments.{segment}
-use Rattle.pep440_version.specs.Trim.{trim}
+use Rattle.pep440_version.specs.Key.Trim.{trim}
 use Rattle.pep440_version.specs.declared.segment.LocalSegment.{LocalSegment}
 
 -- ---- before compiling
 
-pub one_of : (xs : List LocalSegment) (i : ℕ) (x : LocalSegment) → x ≡ get_or xs i x → i < length xs → All SegmentRereads (map segment xs) → SegmentRereads (segment x)
+pub one_of : (xs : List LocalSegment) (i : ℕ) (x : LocalSegment) → x ≡ get_or xs i x → i < length xs → All SegmentRoundTrips (map segment xs) → SegmentRoundTrips (segment x)
 one_of xs i x is inside all =
-    subst SegmentRereads (get_or-map segment xs i x (segment x) inside ∙ sym (ap segment is)) (all i (segment x) (omega (arith, inside, length-map xs segment)))
+    subst SegmentRoundTrips (get_or-map segment xs i x (segment x) inside ∙ sym (ap segment is)) (all i (segment x) (omega (arith, inside, length-map xs segment)))
 
 -- ---- the zeros after a key
 

@@ -19,10 +19,10 @@ use Rattle.pep440_version.proofs.Reading.Agreement.{one_record}
 use Rattle.pep440_version.proofs.RoundTrip.PrintIsRead.{derived_record, derived_rereads, reread}
 use Rattle.pep440_version.specs.Grammar.{Derives}
 use Rattle.pep440_version.specs.Key.{dev_of, dev_rank, kind_rank, post_of, post_rank, rank_cmp, record_cmp, segment_cmp, stage_of, stage_rank}
-use Rattle.pep440_version.specs.KeyLaws.{release_cmp-trim}
+use Rattle.pep440_version.specs.Key.KeyLaws.{release_cmp-trim}
 use Rattle.pep440_version.specs.Print.{print}
 use Rattle.pep440_version.specs.Record.{Number, Record, Text}
-use Rattle.pep440_version.specs.Trim.{trim}
+use Rattle.pep440_version.specs.Key.Trim.{trim}
 use Rattle.pep440_version.specs.declared.prerelease.Prerelease.{Prerelease}
 use Rattle.pep440_version.specs.declared.prerelease.PrereleaseKind.{PrereleaseKind}
 use Rattle.pep440_version.specs.declared.prerelease.PrereleaseKind.TheVariants.{Alpha, Beta, Rc}

@@ -10,7 +10,7 @@ use Rattle.pep440_keys.proofs.Codes.{segment_opens}
 use Rattle.pep440_keys.specs.SortKeys.{key_bytes, local_bytes, number_bytes, rank_bytes, segment_bytes}
 use Rattle.pep440_version.specs.Key.{dev_rank, key, post_rank, stage_rank}
 use Rattle.pep440_version.specs.Record.{LocalSegmentValue, Record}
-use Rattle.pep440_version.specs.Trim.{trim}
+use Rattle.pep440_version.specs.Key.Trim.{trim}
 
 regroup : (n f s p d l w : List ℕ) → (n ++ (f ++ 0 ∷ []) ++ s ++ p ++ d ++ l) ++ w ≡ (n ++ f) ++ 0 ∷ ((s ++ (p ++ d)) ++ (l ++ w))
 regroup n f s p d l w = simp append_assoc

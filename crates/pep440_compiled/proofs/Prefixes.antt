@@ -15,7 +15,7 @@ use Rattle.pep440_keys.proofs.Codes.{number_is_code}
 use Rattle.pep440_keys.specs.SortKeys.{needed_bytes, number_bytes}
 use Rattle.pep440_rs.specs.Matching.{begins_with}
 use Rattle.pep440_version.specs.Record.{Fits}
-use Rattle.pep440_version.specs.Trim.{prepend_trimmed, trim}
+use Rattle.pep440_version.specs.Key.Trim.{prepend_trimmed, trim}
 
 zero_fits : Fits 0
 zero_fits = lit< tt

@@ -18,7 +18,7 @@ use Rattle.pep440_compiled.specs.declared.views.VersionView.{VersionView}
 use Rattle.pep440_keys.proofs.Bytes.{needed_is, one_byte}
 use Rattle.pep440_keys.specs.SortKeys.{key_bytes, local_bytes, needed_bytes, number_bytes, segment_bytes, trim_leading_zeros}
 use Rattle.pep440_version.specs.Record.{Fits, LocalSegmentValue, Record, Text, from_parts}
-use Rattle.pep440_version.specs.Trim.{trim}
+use Rattle.pep440_version.specs.Key.Trim.{trim}
 use Rattle.pep440_version.specs.declared.prerelease.Prerelease.{Prerelease}
 
 -- ---- numbers by their bytes

@@ -10,14 +10,14 @@ use Rattle.pep440_keys.specs.SortKeys.{local_bytes, segment_bytes}
 use Rattle.pep440_version.proofs.Reading.Digits.{digits_model}
 use Rattle.pep440_version.proofs.Reading.Prefixes.{same_front}
 use Rattle.pep440_version.specs.Grammar.{starts}
-use Rattle.pep440_version.specs.Print.{dotted, local_text, segment_print}
+use Rattle.pep440_version.specs.Print.{dotted, local_text, print_segment}
 use Rattle.pep440_version.specs.Record.{LocalSegmentValue, Number, Text}
-use Rattle.pep440_version.specs.RoundTrip.{SegmentRereads, is_lower}
+use Rattle.pep440_version.specs.RoundTrip.{SegmentRoundTrips, is_lower}
 
 -- ---- a segment, by its string
 
 -- a string that is not of digits alone, which has capacity beside the two bytes around it
-pub string_only : (old : ℕ) (text : List ℕ) (s : LocalSegmentValue) → IsShortSegment s → text ≡ segment_print s → list_all is_ascii_digit text ≡ false → old + length (segment_bytes s) ≤ 64
+pub string_only : (old : ℕ) (text : List ℕ) (s : LocalSegmentValue) → IsShortSegment s → text ≡ print_segment s → list_all is_ascii_digit text ≡ false → old + length (segment_bytes s) ≤ 64
     → (s ≡ Text text) × (old + (1 + (length text + 1)) ≤ 64)
 string_only old text (Text t) one is other fits = (ap Text (sym is), omega (arith, fits, ap length is, length-append t (0 ∷ [])))
 string_only old text (Number n) one is other fits =
@@ -25,7 +25,7 @@ string_only old text (Number n) one is other fits =
     absurd (true≢false (sym all ∙ other))
 
 -- a digit
-pub digit_only : (text : List ℕ) (s : LocalSegmentValue) → IsShortSegment s → text ≡ segment_print s → list_all is_ascii_digit text ≡ true
+pub digit_only : (text : List ℕ) (s : LocalSegmentValue) → IsShortSegment s → text ≡ print_segment s → list_all is_ascii_digit text ≡ true
     → (length text ≡ 1) × (s ≡ Number (get_or text 0 0 - 48))
 digit_only text (Text t) one is all = absurd (true≢false (sym all ∙ ap (list_all is_ascii_digit) is ∙ one))
 digit_only text (Number n) one is all =
@@ -36,11 +36,11 @@ digit_only text (Number n) one is all =
 lower_digit : (n : ℕ) → n < 10 → list_all is_lower ((48 + n) ∷ []) ≡ true
 lower_digit n small = grind (arith, nat_tests)
 
-lower_print : (s : LocalSegmentValue) → SegmentRereads s → IsShortSegment s → list_all is_lower (segment_print s) ≡ true
+lower_print : (s : LocalSegmentValue) → SegmentRoundTrips s → IsShortSegment s → list_all is_lower (print_segment s) ≡ true
 lower_print (Text t) again one = again.1
 lower_print (Number n) again one = ap (list_all is_lower) (decimal_digit n one) ∙ lower_digit n one
 
-some_print : (s : LocalSegmentValue) → SegmentRereads s → IsShortSegment s → 0 < length (segment_print s)
+some_print : (s : LocalSegmentValue) → SegmentRoundTrips s → IsShortSegment s → 0 < length (print_segment s)
 some_print (Text t) again one = again.0
 some_print (Number n) again one = omega (arith, ap length (decimal_digit n one))
 
@@ -50,12 +50,12 @@ some_print (Number n) again one = omega (arith, ap length (decimal_digit n one))
 pub record AreLeft (rest form whole : List ℕ) : Type 0 where
   pub left : List LocalSegmentValue
   pub some : 0 < length left
-  pub again : All SegmentRereads left
+  pub again : All SegmentRoundTrips left
   pub digits : All IsShortSegment left
-  pub is : rest ≡ dotted segment_print left
+  pub is : rest ≡ dotted print_segment left
   pub bytes : form ++ flat_map segment_bytes left ≡ whole
 
-pub all_left : (text old : List ℕ) (segments : List LocalSegmentValue) → 0 < length segments → All SegmentRereads segments → All IsShortSegment segments → text ≡ dotted segment_print segments
+pub all_left : (text old : List ℕ) (segments : List LocalSegmentValue) → 0 < length segments → All SegmentRoundTrips segments → All IsShortSegment segments → text ≡ dotted print_segment segments
     → AreLeft text old (old ++ flat_map segment_bytes segments)
 all_left text old segments some again digits is = record { left = segments; some = some; again = again; digits = digits; is = is; bytes = refl }
 
@@ -64,12 +64,12 @@ whole_fits old segments fits = omega (arith, fits, length-append old (flat_map s
 
 -- segments, each after a dot
 abbrev dotted_more : List LocalSegmentValue → List ℕ
-dotted_more others = flat_map (λ y. codes "." ++ segment_print y) others
+dotted_more others = flat_map (λ y. codes "." ++ print_segment y) others
 
-some_of : (left : List LocalSegmentValue) → 0 < length left → All SegmentRereads left → All IsShortSegment left → 0 < length (dotted segment_print left)
+some_of : (left : List LocalSegmentValue) → 0 < length left → All SegmentRoundTrips left → All IsShortSegment left → 0 < length (dotted print_segment left)
 some_of [] some again digits = absurd (omega (arith, some))
 some_of (s ∷ others) some again digits =
-    omega (arith, some_print s (again 0 s (omega arith)) (digits 0 s (omega arith)), length-append (segment_print s) (dotted_more others))
+    omega (arith, some_print s (again 0 s (omega arith)) (digits 0 s (omega arith)), length-append (print_segment s) (dotted_more others))
 
 pub some_left : {rest form whole : List ℕ} → AreLeft rest form whole → 0 < length rest
 some_left h = omega (arith, ap length h.is, some_of h.left h.some h.again h.digits)
@@ -79,7 +79,7 @@ some_left h = omega (arith, ap length h.is, some_of h.left h.some h.again h.digi
 -- what follows it are the others
 pub record AreAfter (after form whole : List ℕ) : Type 0 where
   pub others : List LocalSegmentValue
-  pub again : All SegmentRereads others
+  pub again : All SegmentRoundTrips others
   pub digits : All IsShortSegment others
   pub is : after ≡ dotted_more others
   pub bytes : form ++ flat_map segment_bytes others ≡ whole
@@ -91,16 +91,16 @@ no_lower (s ∷ others) = refl
 -- the string of the first of them is written so
 abbrev pub IsPushed : Type 0 → List ℕ → List ℕ → List ℕ → Type 0
 IsPushed Done first form new =
-    (s : LocalSegmentValue) → SegmentRereads s → IsShortSegment s → first ≡ segment_print s → length form + length (segment_bytes s) ≤ 64 → Done × (new ≡ form ++ segment_bytes s)
+    (s : LocalSegmentValue) → SegmentRoundTrips s → IsShortSegment s → first ≡ print_segment s → length form + length (segment_bytes s) ≤ 64 → Done × (new ≡ form ++ segment_bytes s)
 
-after_of : {Done : Type 0} (left : List LocalSegmentValue) (rest first after form new whole : List ℕ) → 0 < length left → All SegmentRereads left → All IsShortSegment left
-    → rest ≡ dotted segment_print left → form ++ flat_map segment_bytes left ≡ whole → length whole ≤ 64 → rest ≡ first ++ after → list_all is_lower first ≡ true → starts is_lower after ≡ false
+after_of : {Done : Type 0} (left : List LocalSegmentValue) (rest first after form new whole : List ℕ) → 0 < length left → All SegmentRoundTrips left → All IsShortSegment left
+    → rest ≡ dotted print_segment left → form ++ flat_map segment_bytes left ≡ whole → length whole ≤ 64 → rest ≡ first ++ after → list_all is_lower first ≡ true → starts is_lower after ≡ false
     → IsPushed Done first form new → Done × AreAfter after new whole
 after_of [] rest first after form new whole some again digits is bytes fits joined lower ended pushed = absurd (omega (arith, some))
 after_of (s ∷ others) rest first after form new whole some again digits is bytes fits joined lower ended pushed =
     let one = again 0 s (omega arith) in
     let digit = digits 0 s (omega arith) in
-    let same = same_front is_lower first after (segment_print s) (dotted_more others) lower ended (lower_print s one digit) (no_lower others) (sym joined ∙ is) in
+    let same = same_front is_lower first after (print_segment s) (dotted_more others) lower ended (lower_print s one digit) (no_lower others) (sym joined ∙ is) in
     let more = flat_map segment_bytes others in
     let capacity : length form + length (segment_bytes s) ≤ 64 = omega (arith, fits, ap length bytes, length-append form (segment_bytes s ++ more), length-append (segment_bytes s) more) in
     let done = pushed s one digit same.0 capacity in (
@@ -134,7 +134,7 @@ dot_of (s ∷ others) some = refl
 pub dot_after : {after form whole : List ℕ} → AreAfter after form whole → 0 < length after → get_or after 0 0 ≡ 46
 dot_after h some = ap (λ l. get_or l 0 0) h.is ∙ dot_of h.others (omega (arith, some, ap length h.is))
 
-left_of : (others : List LocalSegmentValue) (later form whole : List ℕ) → All SegmentRereads others → All IsShortSegment others
+left_of : (others : List LocalSegmentValue) (later form whole : List ℕ) → All SegmentRoundTrips others → All IsShortSegment others
     → dotted_more others ≡ 46 ∷ later → form ++ flat_map segment_bytes others ≡ whole → AreLeft later form whole
 left_of [] later form whole again digits dot bytes = absurd (omega (arith, ap length dot))
 left_of (s ∷ others) later form whole again digits dot bytes = record { left = s ∷ others; some = omega arith; again = again; digits = digits; is = ap (drop 1) (sym dot); bytes = bytes }
@@ -148,7 +148,7 @@ pub no_local : (local : List LocalSegmentValue) → local_text local ≡ [] → 
 no_local [] none = refl
 no_local (s ∷ others) none = absurd (omega (arith, ap length none))
 
-pub after_plus : (local : List LocalSegmentValue) (first : ℕ) (rest : List ℕ) → local_text local ≡ first ∷ rest → (0 < length local) × (rest ≡ dotted segment_print local)
+pub after_plus : (local : List LocalSegmentValue) (first : ℕ) (rest : List ℕ) → local_text local ≡ first ∷ rest → (0 < length local) × (rest ≡ dotted print_segment local)
 after_plus [] first rest is = absurd (omega (arith, ap length is))
 after_plus (s ∷ others) first rest is = (omega arith, ap (drop 1) (sym is))
 

@@ -12,7 +12,7 @@ use Rattle.pep440_compiled.specs.KeyParts.{continues_with_zeros, ending_zeros, b
 use Rattle.pep440_keys.specs.SortKeys.{number_bytes}
 use Rattle.pep440_rs.specs.Matching.{begins_with, without_last}
 use Rattle.pep440_version.specs.Record.{Fits}
-use Rattle.pep440_version.specs.Trim.{prepend_trimmed, trim}
+use Rattle.pep440_version.specs.Key.Trim.{prepend_trimmed, trim}
 
 -- ---- trimmed numbers, and zeros
 

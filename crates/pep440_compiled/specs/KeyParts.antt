@@ -4,7 +4,7 @@ use Rattle.std.specs.List.{flat_map, list_all}
 use Rattle.pep440_keys.specs.SortKeys.{number_bytes, rank_bytes}
 use Rattle.pep440_version.specs.Key.{dev_rank, key, post_rank, stage_rank}
 use Rattle.pep440_version.specs.Record.{Record}
-use Rattle.pep440_version.specs.Trim.{trim}
+use Rattle.pep440_version.specs.Key.Trim.{trim}
 
 -- the epoch, and these numbers but for the zeros at their end
 abbrev pub base_bytes : ℕ → List ℕ → List ℕ

@@ -6,7 +6,7 @@ use Rattle.pep440_keys.specs.SortKeys.{key_bytes}
 use Rattle.pep440_version.specs.Normal.{HasSmallParts}
 use Rattle.pep440_version.specs.Record.{LocalSegmentValue, Number, Record, Text}
 use Rattle.pep440_version.specs.RoundTrip.{IsParsed}
-use Rattle.pep440_version.specs.Trim.{trim}
+use Rattle.pep440_version.specs.Key.Trim.{trim}
 
 -- a byte 1 for each zero that ends the release
 abbrev pub zero_bytes : List ℕ → List ℕ

@@ -5,8 +5,8 @@ ghost use Rattle.pep440_compiled.specs.KeyParts.{ending_zeros};
 ghost use Rattle.pep440_compiled.specs.Version.{DenotesVersion};
 ghost use Rattle.pep440_keys.specs.SortKeys.{key_bytes, local_bytes, number_bytes, segment_bytes};
 ghost use Rattle.pep440_version.specs.Record.{Fits, LocalSegmentValue, Record, SegmentFits};
-ghost use Rattle.pep440_version.specs.RoundTrip.{SegmentRereads};
-ghost use Rattle.pep440_version.specs.Trim.{trim};
+ghost use Rattle.pep440_version.specs.RoundTrip.{SegmentRoundTrips};
+ghost use Rattle.pep440_version.specs.Key.Trim.{trim};
 
 use crate::decode::{read_epoch, read_number, read_suffix, split_text};
 use crate::parsed::is_normal_string;
@@ -59,9 +59,9 @@ fn check_release(bytes: &[u8], zeros: usize) -> Option<&[u8]>
 // What follows a local segment, whose first byte this is.
 fn check_segment(first: u8, bytes: &[u8]) -> Option<&[u8]>
     requires { 0 < first }
-    ensures found { (s : LocalSegmentValue) (rest : List ℕ) → SegmentFits s → SegmentRereads s
+    ensures found { (s : LocalSegmentValue) (rest : List ℕ) → SegmentFits s → SegmentRoundTrips s
         → first ∷ bytes.now ≡ segment_bytes s ++ rest → MatchOption result ⊥ (λ r. r.now ≡ rest) }
-    ensures exact { IfSome result (λ r. (s : LocalSegmentValue) × SegmentFits s × SegmentRereads s
+    ensures exact { IfSome result (λ r. (s : LocalSegmentValue) × SegmentFits s × SegmentRoundTrips s
         × (first ∷ bytes.now ≡ segment_bytes s ++ r.now)) }
     ensures shorter { IfSome result (λ r. length r.now ≤ length bytes.now) }
 {
@@ -82,10 +82,10 @@ fn check_segment(first: u8, bytes: &[u8]) -> Option<&[u8]>
 
 // Whether the bytes are a local part, after which nothing follows.
 fn is_local_part(bytes: &[u8]) -> bool
-    ensures found { (local : List LocalSegmentValue) → All SegmentFits local → All SegmentRereads local
+    ensures found { (local : List LocalSegmentValue) → All SegmentFits local → All SegmentRoundTrips local
         → bytes.now ≡ local_bytes local → result ≡ true }
     ensures exact { result ≡ true → (local : List LocalSegmentValue) × All SegmentFits local
-        × All SegmentRereads local × (bytes.now ≡ local_bytes local) }
+        × All SegmentRoundTrips local × (bytes.now ≡ local_bytes local) }
 {
     let mut left = bytes;
     while let Some((first, later)) = left.split_first() {

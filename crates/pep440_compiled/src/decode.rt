@@ -3,13 +3,13 @@
 ghost use Rattle.std.specs.Prelude.{◌≡◌, ◌↔◌, ◌<◌, ◌≤◌, ◌++◌, ◌∷◌, [], ℕ, List, length, map, MatchOption, IfOk, replicate, IfSome, OnOk, Option, Some, None, true};
 ghost use Rattle.std.specs.List.{All, flat_map};
 ghost use Rattle.pep440_compiled.specs.KeyParts.{BeginsOtherwise, ending_zeros, suffix_bytes};
-ghost use Rattle.pep440_version.specs.RoundTrip.{IsParsed, SegmentRereads};
+ghost use Rattle.pep440_version.specs.RoundTrip.{IsParsed, SegmentRoundTrips};
 ghost use Rattle.pep440_compiled.specs.KeyViews.{IsViewOf};
 ghost use Rattle.pep440_keys.specs.SortKeys.{HasNoZero, local_bytes, needed_bytes, number_bytes, rank_bytes, segment_bytes};
 ghost use Rattle.pep440_version.specs.Key.{dev_of, dev_rank, post_of, post_rank, stage_of, stage_rank};
 ghost use Rattle.pep440_version.specs.Record.{Fits, LocalSegmentValue, Record, SegmentFits, from_parts};
 ghost use Rattle.pep440_version.specs.Segments.{segment};
-ghost use Rattle.pep440_version.specs.Trim.{trim};
+ghost use Rattle.pep440_version.specs.Key.Trim.{trim};
 ghost use Rattle.pep440_version.specs.declared.prerelease.Prerelease.{Prerelease};
 
 use crate::key_parts::skip_text;
@@ -175,7 +175,7 @@ fn read_segment(
     bytes: &[u8],
 ) -> Result<Option<(LocalSegment, &[u8])>, AllocError>
     requires { 0 < first }
-    ensures found { (s : LocalSegmentValue) (rest : List ℕ) → SegmentFits s → SegmentRereads s
+    ensures found { (s : LocalSegmentValue) (rest : List ℕ) → SegmentFits s → SegmentRoundTrips s
         → first ∷ bytes.now ≡ segment_bytes s ++ rest → IfOk result (λ o. MatchOption o ⊥ (λ p. (segment p.0 ≡ s) × (p.1.now ≡ rest))) }
     ensures exact { IfOk result (λ o. IfSome o (λ p. first ∷ bytes.now ≡ segment_bytes (segment p.0) ++ p.1.now)) }
     ensures shorter { IfOk result (λ o. IfSome o (λ p. length p.1.now ≤ length bytes.now)) }
@@ -197,7 +197,7 @@ fn read_segment(
 
 // A local part, after which nothing follows.
 fn read_local(alloc: Global, bytes: &[u8]) -> Result<Option<Vec<LocalSegment>>, AllocError>
-    ensures found { (local : List LocalSegmentValue) → All SegmentFits local → All SegmentRereads local
+    ensures found { (local : List LocalSegmentValue) → All SegmentFits local → All SegmentRoundTrips local
         → bytes.now ≡ local_bytes local → IfOk result (λ o. MatchOption o ⊥ (λ segments. map segment segments.items ≡ local)) }
     ensures exact { IfOk result (λ o. IfSome o (λ segments. bytes.now ≡ local_bytes (map segment segments.items))) }
 {

@@ -9,7 +9,7 @@ ghost use Rattle.pep440_compiled.specs.KeyViews.{HasKey, HasParts, IsDecided};
 ghost use Rattle.pep440_compiled.specs.declared.error.CompileError.TheVariants.{NotParsed};
 ghost use Rattle.pep440_compiled.specs.declared.error.CompiledError.TheVariants as unread;
 ghost use Rattle.pep440_compiled.specs.declared.error.ContainsError.TheVariants.{NoList, NoVersion};
-ghost use Rattle.pep440_rs.specs.Lists.{list_print};
+ghost use Rattle.pep440_rs.specs.Lists.{print_list};
 ghost use Rattle.pep440_rs.specs.Matching.{any_prerelease, has_prefix, list_matches, matches};
 ghost use Rattle.pep440_rs.specs.Operators.{operator_rank};
 ghost use Rattle.pep440_rs.specs.Prereleases.{requests_prerelease, requests_prereleases};
@@ -395,7 +395,7 @@ pub fn read_list(alloc: Global, bytes: &[u8]) -> Result<VersionSpecifiers, Compi
 ///
 /// Allocates, and may return `OutOfMemory`.
 pub fn normalize_list(alloc: Global, bytes: &[u8]) -> Result<String, CompiledError>
-    ensures ok { IfOk result (λ text. (l : List Spec) × DenotesList bytes.now l × (string_bytes text ≡ list_print l)) }
+    ensures ok { IfOk result (λ text. (l : List Spec) × DenotesList bytes.now l × (string_bytes text ≡ print_list l)) }
     ensures err { IfErr result (λ e. e ≡ unread.NotCompiled → (l : List Spec) → DenotesList bytes.now l → ⊥) }
 {
     let list = read_list(alloc, bytes)?;

@@ -2,7 +2,7 @@
 ghost use Rattle.std.specs.Prelude.{◌≡◌, ◌↔◌, true, map};
 ghost use Rattle.std.specs.Char.{is_ascii_digit};
 ghost use Rattle.std.specs.List.{All, list_all};
-ghost use Rattle.pep440_version.specs.RoundTrip.{IsParsed, SegmentRereads, is_lower};
+ghost use Rattle.pep440_version.specs.RoundTrip.{IsParsed, SegmentRoundTrips, is_lower};
 ghost use Rattle.pep440_version.specs.Grammar.{is_numeral};
 ghost use Rattle.pep440_version.specs.Record.{Text};
 ghost use Rattle.pep440_version.specs.Segments.{segment};
@@ -33,13 +33,13 @@ fn is_numeral(text: &str) -> bool
 
 // A string of a local part as parsing gives it; the empty string counts as a numeral.
 pub(crate) fn is_normal_string(text: &str) -> bool
-    ensures { (result ≡ true) ↔ SegmentRereads (Text text.now) }
+    ensures { (result ≡ true) ↔ SegmentRoundTrips (Text text.now) }
 {
     is_lower(text.as_bytes()) && !is_numeral(text)
 }
 
 fn is_normal(part: &LocalSegment) -> bool
-    ensures { (result ≡ true) ↔ SegmentRereads (segment part.now) }
+    ensures { (result ≡ true) ↔ SegmentRoundTrips (segment part.now) }
 {
     match part {
         LocalSegment::String(text) => is_normal_string(text.as_str()),
@@ -48,7 +48,7 @@ fn is_normal(part: &LocalSegment) -> bool
 }
 
 fn are_normal(local: &[LocalSegment]) -> bool
-    ensures { (result ≡ true) ↔ All SegmentRereads (map segment local.now) }
+    ensures { (result ≡ true) ↔ All SegmentRoundTrips (map segment local.now) }
 {
     for part in local {
         if !is_normal(part) {

@@ -5,9 +5,9 @@ ghost use Rattle.std.specs.List.{All, flat_map, list_all, prefix_len};
 ghost use Rattle.pep440_compiled.specs.Version.{DenotesVersion, HasShortForm, IsShortSegment, compiled_bytes};
 ghost use Rattle.pep440_keys.specs.SortKeys.{local_bytes, segment_bytes};
 ghost use Rattle.pep440_version.specs.Grammar.{AreSegments, Derives, IsLocal, IsSegment, starts};
-ghost use Rattle.pep440_version.specs.Print.{dotted, local_text, print, segment_print};
+ghost use Rattle.pep440_version.specs.Print.{dotted, local_text, print, print_segment};
 ghost use Rattle.pep440_version.specs.Record.{LocalSegmentValue, Number, Record, from_parts};
-ghost use Rattle.pep440_version.specs.RoundTrip.{SegmentRereads, is_lower};
+ghost use Rattle.pep440_version.specs.RoundTrip.{SegmentRoundTrips, is_lower};
 
 use crate::parsed::is_digits;
 use crate::version::push_zeros;
@@ -58,7 +58,7 @@ fn push_segment(form: &mut ArrayVec<u8, 64>, text: &[u8]) -> Result<bool, AllocE
     requires { list_all is_lower text.now ≡ true }
     ensures appended { IfOk result (λ done. done ≡ true
         → (s : LocalSegmentValue) × IsSegment text.now s × (form.new.items ≡ form.old.items ++ segment_bytes s)) }
-    ensures fits { (s : LocalSegmentValue) → SegmentRereads s → IsShortSegment s → text.now ≡ segment_print s
+    ensures fits { (s : LocalSegmentValue) → SegmentRoundTrips s → IsShortSegment s → text.now ≡ print_segment s
         → length form.old.items + length (segment_bytes s) ≤ 64
         → (result ≡ Ok true) × (form.new.items ≡ form.old.items ++ segment_bytes s) }
 {
@@ -81,8 +81,8 @@ fn push_segments(form: &mut ArrayVec<u8, 64>, text: &[u8]) -> Result<bool, Alloc
     ensures appended { IfOk result (λ done. done ≡ true
         → (segments : List LocalSegmentValue) × AreSegments text.now segments
         × (form.new.items ≡ form.old.items ++ flat_map segment_bytes segments)) }
-    ensures fits { (segments : List LocalSegmentValue) → 0 < length segments → All SegmentRereads segments
-        → All IsShortSegment segments → text.now ≡ dotted segment_print segments
+    ensures fits { (segments : List LocalSegmentValue) → 0 < length segments → All SegmentRoundTrips segments
+        → All IsShortSegment segments → text.now ≡ dotted print_segment segments
         → length form.old.items + length (flat_map segment_bytes segments) ≤ 64
         → (result ≡ Ok true) × (form.new.items ≡ form.old.items ++ flat_map segment_bytes segments) }
 {
@@ -106,7 +106,7 @@ fn push_segments(form: &mut ArrayVec<u8, 64>, text: &[u8]) -> Result<bool, Alloc
 fn push_local(form: &mut ArrayVec<u8, 64>, text: &[u8]) -> Result<bool, AllocError>
     ensures appended { IfOk result (λ done. done ≡ true
         → (local : List LocalSegmentValue) × IsLocal text.now local × (form.new.items ≡ form.old.items ++ local_bytes local)) }
-    ensures fits { (local : List LocalSegmentValue) → All SegmentRereads local → All IsShortSegment local
+    ensures fits { (local : List LocalSegmentValue) → All SegmentRoundTrips local → All IsShortSegment local
         → text.now ≡ local_text local → length form.old.items + length (local_bytes local) ≤ 64
         → (result ≡ Ok true) × (form.new.items ≡ form.old.items ++ local_bytes local) }
 {
@@ -135,7 +135,7 @@ fn push_form(
         → (segments : List LocalSegmentValue) × IsLocal local.now segments
         × (form.new.items ≡ form.old.items ++ compiled_bytes
         (from_parts parts.epoch parts.release parts.pre parts.post parts.dev segments))) }
-    ensures fits { (segments : List LocalSegmentValue) → All SegmentRereads segments → All IsShortSegment segments
+    ensures fits { (segments : List LocalSegmentValue) → All SegmentRoundTrips segments → All IsShortSegment segments
         → local.now ≡ local_text segments → length form.old.items + length
         (compiled_bytes (from_parts parts.epoch parts.release parts.pre parts.post parts.dev segments)) ≤ 64 → result ≡ Ok true }
 {

@@ -13,7 +13,7 @@ use Rattle.pep440_version.proofs.Ordering.Comparisons.{then_assoc}
 use Rattle.pep440_version.proofs.Words.Blocks.{is_above, is_below, is_same, nat_cmp_block}
 use Rattle.pep440_version.specs.Key.{dev_of, dev_rank, post_of, post_rank, stage_of, stage_rank}
 use Rattle.pep440_version.specs.Record.{Fits, from_release}
-use Rattle.pep440_version.specs.Trim.{trim}
+use Rattle.pep440_version.specs.Key.Trim.{trim}
 use Rattle.pep440_version.specs.declared.prerelease.Prerelease.{Prerelease}
 use Rattle.pep440_keys.specs.SortKeys.{key_bytes, needed_bytes, number_bytes, rank_bytes, trim_leading_zeros}
 

@@ -10,9 +10,9 @@ use Rattle.std.specs.declared.cmp.Ordering.TheVariants.{Less, Greater}
 use Rattle.pep440_version.proofs.Ordering.Comparisons.{then_assoc}
 use Rattle.pep440_version.proofs.Words.Blocks.{is_above, is_below, nat_cmp_block, nat_cmp_shift}
 use Rattle.pep440_version.specs.Key.{local_cmp, rank_cmp, release_cmp, segment_cmp}
-use Rattle.pep440_version.specs.KeyLaws.{release_cmp-trim}
+use Rattle.pep440_version.specs.Key.KeyLaws.{release_cmp-trim}
 use Rattle.pep440_version.specs.Record.{Fits, LocalSegmentValue, SegmentFits, Text, Number}
-use Rattle.pep440_version.specs.Trim.{trim}
+use Rattle.pep440_version.specs.Key.Trim.{trim}
 use Rattle.pep440_keys.proofs.Bytes.{needed_cmp, needed_le}
 use Rattle.pep440_keys.specs.SortKeys.{HasNoZero, local_bytes, needed_bytes, number_bytes, rank_bytes, release_bytes, segment_bytes}
 

@@ -15,7 +15,7 @@ use Rattle.pep440_keys.specs.RangeKeys.{HasKeys, HoldsKeys, IsKeyedBound, IsKeye
 use Rattle.pep440_keys.proofs.Order.{followed_in_order, keys_in_order}
 use Rattle.pep440_keys.specs.SortKeys.{IsKeyed, key_bytes}
 use Rattle.pep440_version.specs.Key.{record_cmp}
-use Rattle.pep440_version.specs.KeyLaws.{record_total}
+use Rattle.pep440_version.specs.Key.KeyLaws.{record_total}
 use Rattle.pep440_version.specs.Record.{Record}
 
 -- ---- a key beside that of a bound

@@ -20,8 +20,8 @@ use Rattle.pep440_version.specs.Grammar.{Derives}
 use Rattle.pep440_version.specs.Key.{dev_of, dev_rank, key, local_cmp, rank_cmp, post_of, post_rank, record_cmp, release_cmp, stage_of, stage_rank}
 use Rattle.pep440_version.specs.Patterns.{DerivesPattern}
 use Rattle.pep440_version.specs.Record.{Fits, Record, LocalSegmentValue, Text, Number}
-use Rattle.pep440_version.specs.RoundTrip.{is_lower, SegmentRereads}
-use Rattle.pep440_version.specs.Trim.{trim, prepend_trimmed}
+use Rattle.pep440_version.specs.RoundTrip.{is_lower, SegmentRoundTrips}
+use Rattle.pep440_version.specs.Key.Trim.{trim, prepend_trimmed}
 use Rattle.pep440_keys.proofs.Codes.{IsPlain, local_is_code, number_is_code, place_is_code, release_is_code}
 use Rattle.pep440_keys.specs.SortKeys.{HasNoZero, IsKeyed, key_bytes, local_bytes, number_bytes, rank_bytes, release_bytes}
 
@@ -120,7 +120,7 @@ lower_above [] h = tt
 lower_above (zero ∷ t) h = absurd (true≢false (sym h))
 lower_above (suc b ∷ t) h = (zero-lt-suc b, lower_above t (second_so (is_lower (suc b)) (list_all is_lower t) h))
 
-pub no_zero : (s : LocalSegmentValue) → SegmentRereads s → HasNoZero s
+pub no_zero : (s : LocalSegmentValue) → SegmentRoundTrips s → HasNoZero s
 no_zero (Text t) h = All-from_recursion (λ b. 0 < b) t (lower_above t h.1)
 no_zero (Number n) h = tt
 

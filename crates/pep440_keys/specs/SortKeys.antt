@@ -5,7 +5,7 @@ use Rattle.std.specs.Int.{w64, to_be_bytes}
 use Rattle.std.specs.List.{All, flat_map}
 use Rattle.pep440_version.specs.Key.{key, stage_rank, post_rank, dev_rank}
 use Rattle.pep440_version.specs.Record.{Record, IsRecord, LocalSegmentValue, Text, Number}
-use Rattle.pep440_version.specs.Trim.{trim}
+use Rattle.pep440_version.specs.Key.Trim.{trim}
 
 -- bytes without leading zeros
 abbrev pub trim_leading_zeros : List ℕ → List ℕ

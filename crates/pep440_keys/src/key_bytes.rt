@@ -4,7 +4,7 @@ ghost use Rattle.std.specs.List.{flat_map};
 ghost use Rattle.pep440_keys.specs.SortKeys.{key_bytes, local_bytes, number_bytes, rank_bytes, segment_bytes};
 ghost use Rattle.pep440_version.specs.Record.{from_release};
 ghost use Rattle.pep440_version.specs.Segments.{segment};
-ghost use Rattle.pep440_version.specs.Trim.{trim};
+ghost use Rattle.pep440_version.specs.Key.Trim.{trim};
 
 use crate::number_bytes::push_number;
 use crate::sink::KeySink;

@@ -11,7 +11,7 @@ use Rattle.std.specs.Prelude.{IfOk, IsErrOf, is_none}
 use Rattle.pep440_ranges.specs.RangeSegments.{contains}
 use Rattle.pep440_rs.specs.Agreement.{HoldsInEach}
 use Rattle.pep440_rs.specs.Bounds.{Segments, full, list_range, range_of}
-use Rattle.pep440_rs.specs.Refused.{TellsMax}
+use Rattle.pep440_rs.specs.RaisedNumbers.{ReportsMax}
 use Rattle.pep440_rs.specs.Specifiers.{Spec}
 use Rattle.pep440_rs.specs.declared.range.error.RangeError.{RangeError}
 use Rattle.pep440_rs.specs.declared.range.error.RangeError.TheVariants.{NumberAtMax, OutOfMemory}
@@ -112,7 +112,7 @@ refused_alike lists members list made same =
     out_in list ∙ sym (list_any-IsPermutation is_out members list same) ∙ ap (list_any is_out) made ∙ any_joined is_out lists ∙ out_of_lists lists
 
 pub refused_allowed : (lists : List (List Spec)) (members list : List Spec) (result : Result Segments RangeError) → members ≡ joined lists → IsPermutation members list
-    → IfOk result (λ r. list_range range_of list ≡ Some r) → (IsErrOf result NumberAtMax → list_range range_of list ≡ None) → TellsMax (some_refused lists) result
+    → IfOk result (λ r. list_range range_of list ≡ Some r) → (IsErrOf result NumberAtMax → list_range range_of list ≡ None) → ReportsMax (some_refused lists) result
 refused_allowed lists members list (Ok range) made same is none = sym (refused_alike lists members list made same) ∙ ap is_none is
 refused_allowed lists members list (Err NumberAtMax) made same is none = sym (refused_alike lists members list made same) ∙ ap is_none (none refl)
 refused_allowed lists members list (Err OutOfMemory) made same is none = tt

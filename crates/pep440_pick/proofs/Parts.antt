@@ -5,7 +5,7 @@ use Rattle.std.proofs.lemmas.Bool.Decides.{nat_tests}
 use Rattle.std.specs.Char.{is_ascii_whitespace}
 use Rattle.std.specs.List.{list_all, prefix_len}
 use Rattle.pep440_version.specs.Reading.{past}
-use Rattle.pep440_rs.specs.ListGrammar.{pieces}
+use Rattle.pep440_rs.specs.Lists.ListGrammar.{pieces}
 use Rattle.pep440_pick.specs.Names.{is_name}
 use Rattle.pep440_rs.specs.Blanks.{opens, trim_blanks, trimmed_end}
 use Rattle.pep440_pick.specs.RequirementGrammar.{AreExtras, HasExtras, HasList, has_byte}

@@ -8,8 +8,8 @@ use Rattle.std.proofs.lemmas.Option.{IfSome_then}
 use Rattle.pep440_version.specs.Reading.{lead, past}
 use Rattle.pep440_rs.proofs.Blanks.{start_trimmed}
 use Rattle.pep440_pick.specs.Names.{is_name_byte}
-use Rattle.pep440_pick.specs.RequirementGrammar.{RequirementRefusal}
-use Rattle.pep440_pick.specs.RequirementReading.{behind_extras, behind_name, extras_at, list_position, name_of, refusal_position}
+use Rattle.pep440_pick.specs.RequirementGrammar.{RequirementRejection}
+use Rattle.pep440_pick.specs.RequirementReading.{behind_extras, behind_name, extras_at, list_position, name_of, rejection_position}
 use Rattle.pep440_pick.specs.Requirements.{IsOfList}
 
 -- the name that was read, and what follows it
@@ -25,5 +25,5 @@ behind_read text rest behind end extras named read is =
     start_trimmed behind end is ∙ ap (λ (o : Option (List (List ℕ) × List ℕ)). past is_ascii_whitespace (option_map_or (λ p. p.1) o [])) (read ∙ ap extras_at named)
 
 -- the error of the list is at the list
-pub at_list : (text list : List ℕ) (o : Option RequirementRefusal) (position : ℕ) → position ≡ list_position text → IfSome o (IsOfList list) → IfSome o (λ f. position ≡ refusal_position text f)
-at_list text list o position is of_list = IfSome_then o of_list (λ g h. is ∙ ap (refusal_position text) (sym h.2))
+pub at_list : (text list : List ℕ) (o : Option RequirementRejection) (position : ℕ) → position ≡ list_position text → IfSome o (IsOfList list) → IfSome o (λ f. position ≡ rejection_position text f)
+at_list text list o position is of_list = IfSome_then o of_list (λ g h. is ∙ ap (rejection_position text) (sym h.2))

@@ -3,7 +3,7 @@ use Rattle.std.proofs.Common.{◌≡◌, ◌∙◌, ◌&&◌, ℕ, Bool, List, O
 use Rattle.std.specs.Char.{is_ascii_alphanumeric}
 use Rattle.std.specs.List.{list_all}
 use Rattle.pep440_version.specs.Grammar.{starts}
-use Rattle.pep440_version.specs.Refusals.{ends}
+use Rattle.pep440_version.specs.Rejections.{ends}
 use Rattle.pep440_pick.specs.Names.{is_name, is_name_byte}
 use Rattle.pep440_rs.specs.Blanks.{trim_blanks}
 use Rattle.pep440_pick.specs.RequirementGrammar.{InvalidExtras, InvalidName, Unclosed}

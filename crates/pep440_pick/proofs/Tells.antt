@@ -6,11 +6,11 @@ use Rattle.pep440_version.specs.Grammar.{starts}
 use Rattle.pep440_version.specs.Reading.{lead, past}
 use Rattle.pep440_version.proofs.Reading.Prefixes.{lead-all, lead-run, past-run, past-stops}
 use Rattle.pep440_version.proofs.Reading.ReadIsDerived.{split}
-use Rattle.pep440_rs.specs.SpecifierGrammar.{IsRun}
+use Rattle.pep440_rs.specs.Specifiers.SpecifierGrammar.{IsRun}
 use Rattle.pep440_pick.specs.Names.{is_name, is_name_byte}
 use Rattle.pep440_rs.specs.Blanks.{trim_blanks}
-use Rattle.pep440_pick.specs.RequirementGrammar.{RequirementParts, HasExtras, HasFront, HasList, HasNoMarkerOrUrl, RefusesRequirement, RequirementRefusal, InvalidExtras, InvalidName, Marker, Specifiers, Unclosed, Url, has_byte}
-use Rattle.pep440_pick.specs.RequirementReading.{Front, behind_name, extras_at, list_in, name_of, prefix_after_name, read_prefix, with_extras, with_list}
+use Rattle.pep440_pick.specs.RequirementGrammar.{RequirementParts, HasExtras, HasRequirementPrefix, HasList, HasNoMarkerOrUrl, RejectsRequirement, RequirementRejection, InvalidExtras, InvalidName, Marker, Specifiers, Unclosed, Url, has_byte}
+use Rattle.pep440_pick.specs.RequirementReading.{RequirementPrefix, behind_name, extras_at, list_in, name_of, prefix_after_name, read_prefix, with_extras, with_list}
 use Rattle.pep440_pick.proofs.Prefixes.{is_named, not_named}
 use Rattle.pep440_pick.proofs.Parts.{brackets_complete, brackets_sound, list_complete, list_sound}
 
@@ -54,13 +54,13 @@ split_read text c =
 
 -- ---- reading says what the grammar says
 
-abbrev pub FrontTells : List ℕ → Result Front RequirementRefusal → Type 0
-FrontTells text (Ok f) = HasFront text f.name f.extras f.list
-FrontTells text (Err Marker) = RefusesRequirement text Marker
-FrontTells text (Err Url) = RefusesRequirement text Url
-FrontTells text (Err InvalidName) = RefusesRequirement text InvalidName
-FrontTells text (Err InvalidExtras) = RefusesRequirement text InvalidExtras
-FrontTells text (Err Unclosed) = RefusesRequirement text Unclosed
+abbrev pub FrontTells : List ℕ → Result RequirementPrefix RequirementRejection → Type 0
+FrontTells text (Ok f) = HasRequirementPrefix text f.name f.extras f.list
+FrontTells text (Err Marker) = RejectsRequirement text Marker
+FrontTells text (Err Url) = RejectsRequirement text Url
+FrontTells text (Err InvalidName) = RejectsRequirement text InvalidName
+FrontTells text (Err InvalidExtras) = RejectsRequirement text InvalidExtras
+FrontTells text (Err Unclosed) = RejectsRequirement text Unclosed
 FrontTells text (Err (Specifiers list f)) = ⊥
 
 module _ (text : List ℕ) (plain : HasNoMarkerOrUrl text) where
@@ -115,7 +115,7 @@ prefix_tells text = elim (cases_Bool (has_byte 59 text)) [
 
 -- ---- what the grammar says is what reading gives
 
-pub prefix_only : (text : List ℕ) (f : Front) → HasFront text f.name f.extras f.list → read_prefix text ≡ Ok f
+pub prefix_only : (text : List ℕ) (f : RequirementPrefix) → HasRequirementPrefix text f.name f.extras f.list → read_prefix text ≡ Ok f
 prefix_only text f h =
     read_by_split text h.plain h.decomposition ∙ is_named h.decomposition.name h.decomposition.rest h.prefix_after_name ∙ ap (with_extras h.decomposition.name) (brackets_complete h.decomposition.rest f.extras h.behind h.has_extras)
     ∙ ap (with_list h.decomposition.name f.extras) (list_complete h.behind f.list h.has_list) ∙ (λ i. Ok (record { name = sym h.named i; extras = f.extras; list = f.list }))
@@ -128,7 +128,7 @@ no_extras : (rest : List ℕ) → ((extras : List (List ℕ)) (behind : List ℕ
 no_extras rest none None e = refl
 no_extras rest none (Some p) e = absurd (none p.0 p.1 (brackets_sound rest p e))
 
-abbrev pub IsOfFront : RequirementRefusal → Type 0
+abbrev pub IsOfFront : RequirementRejection → Type 0
 IsOfFront Marker = Unit {0}
 IsOfFront Url = Unit {0}
 IsOfFront InvalidName = Unit {0}
@@ -136,7 +136,7 @@ IsOfFront InvalidExtras = Unit {0}
 IsOfFront Unclosed = Unit {0}
 IsOfFront (Specifiers list f) = ⊥
 
-pub prefix_refused : (text : List ℕ) (f : RequirementRefusal) → IsOfFront f → RefusesRequirement text f → read_prefix text ≡ Err f
+pub prefix_refused : (text : List ℕ) (f : RequirementRejection) → IsOfFront f → RejectsRequirement text f → read_prefix text ≡ Err f
 prefix_refused text Marker k h = has_marker text h
 prefix_refused text Url k h = has_url text h.0 h.1
 prefix_refused text InvalidName k (plain, (c, is)) = read_by_split text plain c ∙ not_named c.name c.rest is

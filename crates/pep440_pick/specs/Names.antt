@@ -3,7 +3,7 @@ use Rattle.std.specs.Prelude.{ℕ, ◌||◌, ◌&&◌, Bool, List, [], ◌∷◌
 use Rattle.std.specs.Char.{is_ascii_alphanumeric, to_ascii_lowercase}
 use Rattle.std.specs.List.{list_all}
 use Rattle.pep440_version.specs.Grammar.{is_separator, starts}
-use Rattle.pep440_version.specs.Refusals.{ends}
+use Rattle.pep440_version.specs.Rejections.{ends}
 
 -- ASCII letters and digits, `.`, `-` and `_`
 abbrev pub is_name_byte : ℕ → Bool

@@ -4,8 +4,8 @@ use Rattle.std.specs.Prelude.{◌≡◌, ◌==◌, ◌⊎◌, ℕ, List, [], ◌
 use Rattle.std.specs.Char.{is_ascii_whitespace}
 use Rattle.std.specs.List.{list_all, list_any}
 use Rattle.pep440_rs.specs.Blanks.{opens, trim_blanks}
-use Rattle.pep440_rs.specs.ListGrammar.{DerivesList, PieceRefusal, RefusesList, pieces}
-use Rattle.pep440_rs.specs.SpecifierGrammar.{IsRun}
+use Rattle.pep440_rs.specs.Lists.ListGrammar.{DerivesList, PieceRejection, RejectsList, pieces}
+use Rattle.pep440_rs.specs.Specifiers.SpecifierGrammar.{IsRun}
 use Rattle.pep440_rs.specs.Specifiers.{Spec}
 use Rattle.pep440_pick.specs.Names.{is_name, is_name_byte}
 
@@ -53,7 +53,7 @@ pub record HasNoMarkerOrUrl (text : List ℕ) : Type 0 where
   pub url : has_byte 64 text ≡ false
 
 -- the string has this name, these extras, and this string for its list
-pub record HasFront (text name : List ℕ) (extras : List (List ℕ)) (list : List ℕ) : Type 0 where
+pub record HasRequirementPrefix (text name : List ℕ) (extras : List (List ℕ)) (list : List ℕ) : Type 0 where
   pub plain : HasNoMarkerOrUrl text
   pub decomposition : RequirementParts text
   pub named : name ≡ decomposition.name
@@ -70,24 +70,24 @@ pub record Needed : Type 0 where
 
 -- the string denotes the requirement
 abbrev pub DerivesRequirement : List ℕ → Needed → Type 0
-DerivesRequirement text n = (list : List ℕ) × HasFront text n.name n.extras list × DerivesList list n.specifiers
+DerivesRequirement text n = (list : List ℕ) × HasRequirementPrefix text n.name n.extras list × DerivesList list n.specifiers
 
 -- why a string is no requirement
-pub data RequirementRefusal : Type 0 where
-  Marker : RequirementRefusal
-  Url : RequirementRefusal
-  InvalidName : RequirementRefusal
-  InvalidExtras : RequirementRefusal
-  Unclosed : RequirementRefusal
-  Specifiers : (list : List ℕ) → PieceRefusal → RequirementRefusal
+pub data RequirementRejection : Type 0 where
+  Marker : RequirementRejection
+  Url : RequirementRejection
+  InvalidName : RequirementRejection
+  InvalidExtras : RequirementRejection
+  Unclosed : RequirementRejection
+  Specifiers : (list : List ℕ) → PieceRejection → RequirementRejection
 
 -- the reasons in the order in which they are tried: each holds only where none before it does
-abbrev pub RefusesRequirement : List ℕ → RequirementRefusal → Type 0
-RefusesRequirement text Marker = has_byte 59 text ≡ true
-RefusesRequirement text Url = (has_byte 59 text ≡ false) × (has_byte 64 text ≡ true)
-RefusesRequirement text InvalidName = HasNoMarkerOrUrl text × ((c : RequirementParts text) × (is_name c.name ≡ false))
-RefusesRequirement text InvalidExtras = HasNoMarkerOrUrl text × ((c : RequirementParts text) × (is_name c.name ≡ true)
+abbrev pub RejectsRequirement : List ℕ → RequirementRejection → Type 0
+RejectsRequirement text Marker = has_byte 59 text ≡ true
+RejectsRequirement text Url = (has_byte 59 text ≡ false) × (has_byte 64 text ≡ true)
+RejectsRequirement text InvalidName = HasNoMarkerOrUrl text × ((c : RequirementParts text) × (is_name c.name ≡ false))
+RejectsRequirement text InvalidExtras = HasNoMarkerOrUrl text × ((c : RequirementParts text) × (is_name c.name ≡ true)
     × ((extras : List (List ℕ)) (behind : List ℕ) → HasExtras c.rest extras behind → ⊥))
-RefusesRequirement text Unclosed = HasNoMarkerOrUrl text × ((c : RequirementParts text) × (is_name c.name ≡ true)
+RejectsRequirement text Unclosed = HasNoMarkerOrUrl text × ((c : RequirementParts text) × (is_name c.name ≡ true)
     × ((extras : List (List ℕ)) × (behind : List ℕ) × HasExtras c.rest extras behind × ((list : List ℕ) → HasList behind list → ⊥)))
-RefusesRequirement text (Specifiers list f) = (name : List ℕ) × (extras : List (List ℕ)) × HasFront text name extras list × RefusesList list f
+RejectsRequirement text (Specifiers list f) = (name : List ℕ) × (extras : List (List ℕ)) × HasRequirementPrefix text name extras list × RejectsList list f

@@ -4,13 +4,13 @@ use Rattle.std.specs.Char.{is_ascii_whitespace}
 use Rattle.std.specs.List.{list_all}
 use Rattle.std.specs.Option.{option_map_or}
 use Rattle.pep440_version.specs.Reading.{lead, past}
-use Rattle.pep440_rs.specs.ListGrammar.{pieces}
+use Rattle.pep440_rs.specs.Lists.ListGrammar.{pieces}
 use Rattle.pep440_pick.specs.Names.{is_name, is_name_byte}
 use Rattle.pep440_rs.specs.Blanks.{opens, trim_blanks}
-use Rattle.pep440_pick.specs.RequirementGrammar.{InvalidExtras, InvalidName, Marker, RequirementRefusal, Specifiers, Unclosed, Url, has_byte}
+use Rattle.pep440_pick.specs.RequirementGrammar.{InvalidExtras, InvalidName, Marker, RequirementRejection, Specifiers, Unclosed, Url, has_byte}
 
 -- the name, the extras, and the string of the list
-pub record Front : Type 0 where
+pub record RequirementPrefix : Type 0 where
   pub name : List ℕ
   pub extras : List (List ℕ)
   pub list : List ℕ
@@ -46,16 +46,16 @@ extras_at text = if opens 91 text then bracketed (split_at_byte 93 (drop 1 text)
 abbrev pub list_in : List ℕ → Option (List ℕ)
 list_in text = if opens 40 text then option_map trim_blanks (without_end 41 (drop 1 text)) else Some text
 
-abbrev pub with_list : List ℕ → List (List ℕ) → Option (List ℕ) → Result Front RequirementRefusal
+abbrev pub with_list : List ℕ → List (List ℕ) → Option (List ℕ) → Result RequirementPrefix RequirementRejection
 with_list name extras None = Err Unclosed
 with_list name extras (Some list) = Ok (record { name = name; extras = extras; list = list })
 
-abbrev pub with_extras : List ℕ → Option (List (List ℕ) × List ℕ) → Result Front RequirementRefusal
+abbrev pub with_extras : List ℕ → Option (List (List ℕ) × List ℕ) → Result RequirementPrefix RequirementRejection
 with_extras name None = Err InvalidExtras
 with_extras name (Some p) = with_list name p.0 (list_in (trim_blanks p.1))
 
 -- the name, and what follows it after blanks
-unfoldable pub prefix_after_name : List ℕ → List ℕ → Result Front RequirementRefusal
+unfoldable pub prefix_after_name : List ℕ → List ℕ → Result RequirementPrefix RequirementRejection
 prefix_after_name name rest = if is_name name then with_extras name (extras_at rest) else Err InvalidName
 
 -- the name of a string, and what follows it after blanks
@@ -66,7 +66,7 @@ abbrev pub behind_name : List ℕ → List ℕ
 behind_name text = past is_ascii_whitespace (past is_name_byte (past is_ascii_whitespace text))
 
 -- the parts of the string
-abbrev pub read_prefix : List ℕ → Result Front RequirementRefusal
+abbrev pub read_prefix : List ℕ → Result RequirementPrefix RequirementRejection
 read_prefix text = if has_byte 59 text then Err Marker else if has_byte 64 text then Err Url else prefix_after_name (name_of text) (behind_name text)
 
 -- ---- the position of an error
@@ -84,8 +84,8 @@ abbrev pub list_position : List ℕ → ℕ
 list_position text = length text - length (in_parenthesis (behind_extras text))
 
 -- the byte at which the string is invalid: that of the extras, of the parenthesis, or of the list; else the first
-abbrev pub refusal_position : List ℕ → RequirementRefusal → ℕ
-refusal_position text InvalidExtras = length text - length (behind_name text)
-refusal_position text Unclosed = length text - length (behind_extras text)
-refusal_position text (Specifiers list f) = list_position text
-refusal_position text _ = 0
+abbrev pub rejection_position : List ℕ → RequirementRejection → ℕ
+rejection_position text InvalidExtras = length text - length (behind_name text)
+rejection_position text Unclosed = length text - length (behind_extras text)
+rejection_position text (Specifiers list f) = list_position text
+rejection_position text _ = 0

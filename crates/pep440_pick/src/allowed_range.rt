@@ -2,7 +2,7 @@
 ghost use Rattle.std.specs.Prelude.{◌≡◌, ◌++◌, [], map, is_none, IfOk};
 ghost use Rattle.std.specs.List.{flat_map, list_any};
 ghost use Rattle.pep440_rs.specs.Bounds.{full, list_range, range_of};
-ghost use Rattle.pep440_rs.specs.Refused.{TellsMax};
+ghost use Rattle.pep440_rs.specs.RaisedNumbers.{ReportsMax};
 ghost use Rattle.pep440_pick.specs.Allowed.{HoldsAllowed, lists_of};
 ghost use Rattle.pep440_pick.specs.Requirements.{needed};
 
@@ -55,7 +55,7 @@ pub fn allowed(
 ) -> Result<Ranges<Version>, RangeError>
     ensures set { IfOk result (HoldsAllowed (lists_of name.now (map needed requirements.now))) }
     // `NumberAtMax` exactly if some requirement of that name has no range, unless an allocation fails.
-    ensures at_max { TellsMax (list_any (λ list. is_none (list_range range_of list))
+    ensures at_max { ReportsMax (list_any (λ list. is_none (list_range range_of list))
         (lists_of name.now (map needed requirements.now))) result }
     ensures all { lists_of name.now (map needed requirements.now) ≡ [] → IfOk result (λ range. range ≡ full) }
 {

@@ -1,6 +1,6 @@
 //! The errors of requirements, their positions and their messages.
 ghost use Rattle.std.specs.Prelude.{◌≡◌};
-ghost use Rattle.pep440_pick.specs.Requirements.{requirement_refusal_of};
+ghost use Rattle.pep440_pick.specs.Requirements.{requirement_rejection_of};
 ghost use Rattle.pep440_pick.specs.RequirementTexts.{requirement_text_of};
 ghost use Rattle.pep440_pick.specs.declared.error.RequirementError.TheVariants.{OutOfMemory};
 
@@ -29,7 +29,7 @@ pub enum RequirementError {
 }
 
 impl Clone for RequirementError {
-    ghost is_clone = { λ error copy. requirement_refusal_of copy ≡ requirement_refusal_of error };
+    ghost is_clone = { λ error copy. requirement_rejection_of copy ≡ requirement_rejection_of error };
 
     fn clone(&self) -> Result<RequirementError, AllocError> {
         match self {

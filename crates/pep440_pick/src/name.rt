@@ -4,7 +4,7 @@ ghost use Rattle.std.specs.Char.{is_ascii_alphanumeric};
 ghost use Rattle.std.specs.List.{list_all, prefix_len};
 ghost use Rattle.std.specs.Option.{option_map_or};
 ghost use Rattle.pep440_version.specs.Grammar.{is_separator, starts};
-ghost use Rattle.pep440_version.specs.Refusals.{ends};
+ghost use Rattle.pep440_version.specs.Rejections.{ends};
 ghost use Rattle.pep440_pick.specs.Names.{is_name, is_name_byte, normal, same_name};
 
 // `.`, `-` and `_`.

@@ -3,8 +3,8 @@ ghost use Rattle.std.specs.Prelude.{◌≡◌, ◌∷◌, [], Ok, Err, Some, IfO
 ghost use Rattle.std.specs.List.{All};
 ghost use Rattle.pep440_rs.specs.Agreement.{HasOperand};
 ghost use Rattle.pep440_pick.specs.Allowed.{lists_of};
-ghost use Rattle.pep440_pick.specs.RequirementGrammar.{DerivesRequirement, Needed, RefusesRequirement, RequirementRefusal};
-ghost use Rattle.pep440_pick.specs.RequirementTexts.{requirement_refusal_text, requirement_text_of};
+ghost use Rattle.pep440_pick.specs.RequirementGrammar.{DerivesRequirement, Needed, RejectsRequirement, RequirementRejection};
+ghost use Rattle.pep440_pick.specs.RequirementTexts.{requirement_rejection_text, requirement_text_of};
 
 use crate::error::{RequirementError, RequirementParseError};
 use crate::name::same_name;
@@ -24,7 +24,7 @@ pub struct Requirement {
 }
 
 impl Requirement {
-    ghost use Rattle.pep440_pick.specs.Requirements.{IsPositioned, IsRequirementLifted, RequirementAnswers, needed, requirement_refusal_of};
+    ghost use Rattle.pep440_pick.specs.Requirements.{IsPositioned, IsRequirementLifted, ReturnsRequirement, needed, requirement_rejection_of};
 
     /// The requirement that the string denotes: a name, extras in brackets if there are any, and a list of specifiers (PEP 440,
     /// "Version specifiers"), with or without parentheses around it. Tabs, line feeds, form feeds, carriage returns and spaces
@@ -37,14 +37,14 @@ impl Requirement {
         // What is returned is what the string denotes.
         ensures found { IfOk result (λ r. DerivesRequirement text.now (needed r)) }
         // What the string denotes is returned, unless an allocation fails.
-        ensures only { (n : Needed) → DerivesRequirement text.now n → RequirementAnswers result (Ok n) }
+        ensures only { (n : Needed) → DerivesRequirement text.now n → ReturnsRequirement result (Ok n) }
         // The error is that of the string.
-        ensures refused { IfErr result (λ e. IfSome (requirement_refusal_of e) (RefusesRequirement text.now)) }
+        ensures refused { IfErr result (λ e. IfSome (requirement_rejection_of e) (RejectsRequirement text.now)) }
         // The error of the string is returned, unless an allocation fails.
-        ensures decided { (f : RequirementRefusal) → RefusesRequirement text.now f → RequirementAnswers result (Err f) }
+        ensures decided { (f : RequirementRejection) → RejectsRequirement text.now f → ReturnsRequirement result (Err f) }
         // The error's message is the stated one.
-        ensures message { IfErr result (λ e. IfSome (requirement_refusal_of e)
-            (λ f. requirement_text_of e ≡ Some (requirement_refusal_text f))) }
+        ensures message { IfErr result (λ e. IfSome (requirement_rejection_of e)
+            (λ f. requirement_text_of e ≡ Some (requirement_rejection_text f))) }
         // `OutOfMemory` is a kind of its own, and is inside no other.
         ensures lifted { IfErr result IsRequirementLifted }
         // The version of each member is one that a string can have beside the operator, as the agreement of ranges requires.
@@ -60,12 +60,12 @@ impl Requirement {
         // What is returned is what the string denotes.
         ensures found { IfOk result (λ r. DerivesRequirement text.now (needed r)) }
         // The error is that of the string.
-        ensures refused { IfErr result (λ e. IfSome (requirement_refusal_of e.kind) (RefusesRequirement text.now)) }
+        ensures refused { IfErr result (λ e. IfSome (requirement_rejection_of e.kind) (RejectsRequirement text.now)) }
         // The position is that at which the string is invalid.
         ensures position { IfErr result (IsPositioned text.now) }
         // The error's message is the stated one.
-        ensures message { IfErr result (λ e. IfSome (requirement_refusal_of e.kind)
-            (λ f. requirement_text_of e.kind ≡ Some (requirement_refusal_text f))) }
+        ensures message { IfErr result (λ e. IfSome (requirement_rejection_of e.kind)
+            (λ f. requirement_text_of e.kind ≡ Some (requirement_rejection_text f))) }
         // `OutOfMemory` is a kind of its own, and is inside no other.
         ensures lifted { IfErr result (λ e. IsRequirementLifted e.kind) }
         // The version of each member is one that a string can have beside the operator, as the agreement of ranges requires.
@@ -94,10 +94,10 @@ impl Requirement {
         // What is returned is the list of what the string denotes, if that has the name.
         ensures found { IfOk result (λ o. (n : Needed) × DerivesRequirement text.now n × (option_to_list o ≡ lists_of name.now (n ∷ []))) }
         // The error is that of the string.
-        ensures refused { IfErr result (λ e. IfSome (requirement_refusal_of e) (RefusesRequirement text.now)) }
+        ensures refused { IfErr result (λ e. IfSome (requirement_rejection_of e) (RejectsRequirement text.now)) }
         // The error's message is the stated one.
-        ensures message { IfErr result (λ e. IfSome (requirement_refusal_of e)
-            (λ f. requirement_text_of e ≡ Some (requirement_refusal_text f))) }
+        ensures message { IfErr result (λ e. IfSome (requirement_rejection_of e)
+            (λ f. requirement_text_of e ≡ Some (requirement_rejection_text f))) }
         // `OutOfMemory` is a kind of its own, and is inside no other.
         ensures lifted { IfErr result IsRequirementLifted }
     {

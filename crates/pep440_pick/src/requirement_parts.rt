@@ -2,16 +2,16 @@
 ghost use Rattle.std.specs.Prelude.{◌≡◌, ◌-◌, ◌∷◌, ◌++◌, [], length, true, map, option_map, string_bytes, IfOk, IfErr, IfSome, Some};
 ghost use Rattle.std.specs.List.{All, list_all};
 ghost use Rattle.pep440_rs.specs.Agreement.{HasOperand};
-ghost use Rattle.pep440_rs.specs.ListAnswers.{line_of, list_kind_of};
-ghost use Rattle.pep440_rs.specs.ListErrors.{IsListLifted, list_refusal_of};
-ghost use Rattle.pep440_rs.specs.ListErrorTexts.{list_text_of};
-ghost use Rattle.pep440_rs.specs.ListGrammar.{DerivesList, pieces};
+ghost use Rattle.pep440_rs.specs.Lists.ListResults.{line_of, list_kind_of};
+ghost use Rattle.pep440_rs.specs.Lists.ListErrors.{IsListLifted, list_rejection_of};
+ghost use Rattle.pep440_rs.specs.Lists.ListErrorTexts.{list_text_of};
+ghost use Rattle.pep440_rs.specs.Lists.ListGrammar.{DerivesList, pieces};
 ghost use Rattle.pep440_pick.specs.Names.{is_name, is_name_byte};
 ghost use Rattle.pep440_rs.specs.Blanks.{trim_blanks};
 ghost use Rattle.pep440_pick.specs.RequirementGrammar.{Specifiers};
 ghost use Rattle.pep440_pick.specs.RequirementReading.{behind_name, extras_at, in_parenthesis, list_in, list_position, listed_extras, prefix_after_name, read_prefix};
-ghost use Rattle.pep440_pick.specs.Requirements.{FrontGives, IsOfList, IsPositioned, IsRequirementLifted, requirement_refusal_of};
-ghost use Rattle.pep440_pick.specs.RequirementTexts.{requirement_refusal_text, requirement_text_of};
+ghost use Rattle.pep440_pick.specs.Requirements.{ParsesPrefix, IsOfList, IsPositioned, IsRequirementLifted, requirement_rejection_of};
+ghost use Rattle.pep440_pick.specs.RequirementTexts.{requirement_rejection_text, requirement_text_of};
 ghost use Rattle.pep440_pick.specs.declared.error.RequirementError.TheVariants.{OutOfMemory};
 
 use crate::error::{RequirementError, RequirementParseError};
@@ -128,10 +128,10 @@ fn parse_after_name<'a>(
 ) -> Result<SplitRequirement<'a>, RequirementParseError>
     requires name { list_all is_name_byte name.now ≡ true }
     requires rest { rest.now ≡ behind_name text.now }
-    ensures value { FrontGives result (prefix_after_name name.now rest.now) }
+    ensures value { ParsesPrefix result (prefix_after_name name.now rest.now) }
     ensures lifted { IfErr result (λ e. IsRequirementLifted e.kind) }
-    ensures message { IfErr result (λ e. IfSome (requirement_refusal_of e.kind)
-        (λ f. requirement_text_of e.kind ≡ Some (requirement_refusal_text f))) }
+    ensures message { IfErr result (λ e. IfSome (requirement_rejection_of e.kind)
+        (λ f. requirement_text_of e.kind ≡ Some (requirement_rejection_text f))) }
     ensures position { IfErr result (IsPositioned text.now) }
     ensures list { IfOk result (λ p. p.list_position ≡ list_position text.now) }
 {
@@ -155,10 +155,10 @@ fn parse_after_name<'a>(
 
 // The parts of the string.
 pub(crate) fn parse_parts(text: &str) -> Result<SplitRequirement<'_>, RequirementParseError>
-    ensures value { FrontGives result (read_prefix text.now) }
+    ensures value { ParsesPrefix result (read_prefix text.now) }
     ensures lifted { IfErr result (λ e. IsRequirementLifted e.kind) }
-    ensures message { IfErr result (λ e. IfSome (requirement_refusal_of e.kind)
-        (λ f. requirement_text_of e.kind ≡ Some (requirement_refusal_text f))) }
+    ensures message { IfErr result (λ e. IfSome (requirement_rejection_of e.kind)
+        (λ f. requirement_text_of e.kind ≡ Some (requirement_rejection_text f))) }
     ensures position { IfErr result (IsPositioned text.now) }
     ensures list { IfOk result (λ p. p.list_position ≡ list_position text.now) }
 {
@@ -175,8 +175,8 @@ pub(crate) fn parse_parts(text: &str) -> Result<SplitRequirement<'_>, Requiremen
 // The error of a requirement whose list has this error.
 fn from_list_error(error: VersionSpecifiersParseError) -> RequirementError
     requires { IsListLifted (list_kind_of error) }
-    ensures refusal { requirement_refusal_of result
-        ≡ option_map (λ f. Specifiers (line_of error) f) (list_refusal_of (list_kind_of error)) }
+    ensures refusal { requirement_rejection_of result
+        ≡ option_map (λ f. Specifiers (line_of error) f) (list_rejection_of (list_kind_of error)) }
     ensures message { requirement_text_of result ≡ list_text_of (list_kind_of error) (line_of error) }
     ensures lifted { IsRequirementLifted result }
 {
@@ -193,9 +193,9 @@ pub(crate) fn parse_list(
 ) -> Result<VersionSpecifiers, RequirementParseError>
     ensures found { IfOk result (λ list. DerivesList parts.entry.list.now list) }
     ensures operand { IfOk result (λ list. All HasOperand list) }
-    ensures refused { IfErr result (λ e. IfSome (requirement_refusal_of e.kind) (IsOfList parts.entry.list.now)) }
-    ensures message { IfErr result (λ e. IfSome (requirement_refusal_of e.kind)
-        (λ f. requirement_text_of e.kind ≡ Some (requirement_refusal_text f))) }
+    ensures refused { IfErr result (λ e. IfSome (requirement_rejection_of e.kind) (IsOfList parts.entry.list.now)) }
+    ensures message { IfErr result (λ e. IfSome (requirement_rejection_of e.kind)
+        (λ f. requirement_text_of e.kind ≡ Some (requirement_rejection_text f))) }
     ensures lifted { IfErr result (λ e. IsRequirementLifted e.kind) }
     ensures position { IfErr result (λ e. e.position ≡ parts.entry.list_position) }
 {

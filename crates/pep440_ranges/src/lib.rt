@@ -18,7 +18,7 @@ mod bound_order;
 mod gaps;
 mod merge;
 mod ranges;
-mod search;
+mod segment_search;
 mod segments;
 
 pub use crate::ranges::Ranges;

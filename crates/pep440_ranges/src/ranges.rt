@@ -11,7 +11,7 @@ ghost use Rattle.pep440_ranges.specs.Clones.{IsCloneSame, ClonesBoundValues};
 use crate::bound_order::is_valid;
 use crate::gaps::find_gaps;
 use crate::merge::find_overlaps;
-use crate::search::lies_within;
+use crate::segment_search::lies_within;
 use crate::segments::{Segment, Segments, clone_segments};
 use std::alloc::{AllocError, Global};
 use std::marker::Model;

@@ -8,7 +8,7 @@ use Rattle.std.specs.Char.{is_ascii_whitespace}
 use Rattle.std.specs.List.{list_all, prefix_len}
 use Rattle.std.specs.Str.{IsTrimAscii, IsTrimAsciiStart}
 use Rattle.pep440_version.specs.Reading.{past}
-use Rattle.pep440_version.specs.Refusals.{ends}
+use Rattle.pep440_version.specs.Rejections.{ends}
 use Rattle.pep440_rs.specs.Blanks.{trim_blanks, trimmed_end}
 
 -- the run of bytes that pass ends where one fails, or the string ends

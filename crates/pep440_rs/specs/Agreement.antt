@@ -80,17 +80,17 @@ HasFewSegments members range = length range ≤ 1 + count_by (λ m. is_exclusion
 
 module _ (conversion : Operator → Record → Option Segments) where
   -- the segments are valid, and each is apart from the next
-  abbrev pub GivesRanges : Type 0
-  GivesRanges = (op : Operator) (s : Record) (range : Segments) → conversion op s ≡ Some range → IsRange record_cmp range
+  abbrev pub ConversionsAreRanges : Type 0
+  ConversionsAreRanges = (op : Operator) (s : Record) (range : Segments) → conversion op s ≡ Some range → IsRange record_cmp range
 
   -- one segment at most; of an exclusion two at most
-  abbrev pub GivesFew : Type 0
-  GivesFew = (op : Operator) (s : Record) (range : Segments) → conversion op s ≡ Some range → length range ≤ (if is_exclusion op then 2 else 1)
+  abbrev pub ConversionsHaveFewSegments : Type 0
+  ConversionsHaveFewSegments = (op : Operator) (s : Record) (range : Segments) → conversion op s ≡ Some range → length range ≤ (if is_exclusion op then 2 else 1)
 
   -- a version lies in the range of the list exactly if it lies in the range of each member; no member fails
   abbrev pub HoldsInEach : List Spec → Segments → Type 0
   HoldsInEach members range = (v : Record) → contains record_cmp range v ≡ list_all (λ m. option_map_or (λ r. contains record_cmp r v) (conversion m.operator m.version) false) members
 
   -- the conversion of a list fails exactly if that of some member does
-  abbrev pub RefusedByAMember : List Spec → Type 0
-  RefusedByAMember members = (list_range conversion members ≡ None) ↔ Any (λ m. conversion m.operator m.version ≡ None) members
+  abbrev pub FailsByAMember : List Spec → Type 0
+  FailsByAMember members = (list_range conversion members ≡ None) ↔ Any (λ m. conversion m.operator m.version ≡ None) members

@@ -9,10 +9,10 @@ use Rattle.pep440_rs.specs.declared.specifier.operator.Operator.{Operator}
 use Rattle.pep440_rs.specs.declared.specifier.operator.Operator.TheVariants.{Equal, EqualStar, NotEqual, NotEqualStar, TildeEqual}
 
 -- why an operator and a pattern are no specifier
-pub data BuildRefusal : Type 0 where
-  OperatorLocalCombo : Operator → Record → BuildRefusal
-  OperatorWithStar : Operator → BuildRefusal
-  CompatibleRelease : BuildRefusal
+pub data BuildRejection : Type 0 where
+  OperatorLocalCombo : Operator → Record → BuildRejection
+  OperatorWithStar : Operator → BuildRejection
+  CompatibleRelease : BuildRejection
 
 -- the operator `~=`
 abbrev pub is_compatible : Operator → Bool
@@ -21,14 +21,14 @@ is_compatible _ = false
 
 -- a specifier of an operator and a version: no local part beside an operator that does not allow it, and two release numbers
 -- for `~=`
-abbrev pub built : Operator → Record → Result Spec BuildRefusal
+abbrev pub built : Operator → Record → Result Spec BuildRejection
 built o r =
     if has_local r && not (allows_local o) then Err (OperatorLocalCombo o r)
     else if is_compatible o && nat_lt (length r.release) 2 then Err CompatibleRelease
     else Ok (record { operator = o; version = r })
 
 -- a specifier of an operator and a pattern: of a pattern with a star, only plain `==` and `!=` make a specifier
-abbrev pub built_pattern : Operator → Record → Bool → Result Spec BuildRefusal
+abbrev pub built_pattern : Operator → Record → Bool → Result Spec BuildRejection
 built_pattern o r false = built o r
 built_pattern Equal r true = built EqualStar r
 built_pattern NotEqual r true = built NotEqualStar r

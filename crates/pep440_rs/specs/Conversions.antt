@@ -2,7 +2,7 @@
 use Rattle.std.specs.Prelude.{◌≡◌, ℕ, Option}
 use Rattle.pep440_rs.specs.Bounds.{Segments, full, range_of, release_range_of}
 use Rattle.pep440_rs.specs.Cover.{cover_of}
-use Rattle.pep440_rs.specs.Refused.{raised_number, raised_release_number}
+use Rattle.pep440_rs.specs.RaisedNumbers.{raised_number, raised_release_number}
 use Rattle.pep440_rs.specs.declared.range.list.Conversion.{Conversion}
 use Rattle.pep440_rs.specs.declared.range.list.Conversion.TheVariants.{WholeOrder, ReleaseOnly, Cover}
 use Rattle.pep440_rs.specs.declared.specifier.operator.Operator.{Operator}
@@ -22,5 +22,5 @@ raised_by ReleaseOnly = raised_release_number
 raised_by Cover = raised_number
 
 -- the whole line leaves the range as it is
-abbrev pub IsKept : Segments → Type 0
-IsKept range = overlaps record_cmp full range ≡ range
+abbrev pub IsUnchangedByFull : Segments → Type 0
+IsUnchangedByFull range = overlaps record_cmp full range ≡ range

@@ -1,8 +1,8 @@
 -- What an error reports, apart from its address in memory.
 use Rattle.std.specs.Prelude.{◌≡◌, ℕ, List, Option, option_map, Some, None, Result, Ok, Err, string_bytes, IfSome}
-use Rattle.pep440_version.specs.Errors.{Answers, pattern_kind_of, pattern_refusal_of}
-use Rattle.pep440_rs.specs.Build.{BuildRefusal, OperatorLocalCombo, OperatorWithStar, CompatibleRelease}
-use Rattle.pep440_rs.specs.SpecifierGrammar.{SpecifierRefusal, MissingOperator, InvalidOperator, MissingVersion, InvalidVersion, InvalidSpecifier, InvalidTrailing}
+use Rattle.pep440_version.specs.Errors.{ReturnsOutcome, pattern_kind_of, pattern_rejection_of}
+use Rattle.pep440_rs.specs.Build.{BuildRejection, OperatorLocalCombo, OperatorWithStar, CompatibleRelease}
+use Rattle.pep440_rs.specs.Specifiers.SpecifierGrammar.{SpecifierRejection, MissingOperator, InvalidOperator, MissingVersion, InvalidVersion, InvalidSpecifier, InvalidTrailing}
 use Rattle.pep440_rs.specs.Specifiers.{Spec}
 use Rattle.pep440_rs.specs.declared.specifier.error.OperatorErrorKind.{OperatorErrorKind}
 use Rattle.pep440_rs.specs.declared.specifier.error.OperatorErrorKind.TheVariants as operator
@@ -28,38 +28,38 @@ abbrev pub build_kind_of : VersionSpecifierBuildError → BuildErrorKind
 build_kind_of e = e.kind
 
 -- the reason that such a kind stands for
-abbrev pub build_refusal_of : BuildErrorKind → BuildRefusal
-build_refusal_of (build.OperatorLocalCombo o v) = OperatorLocalCombo o v
-build_refusal_of (build.OperatorWithStar o) = OperatorWithStar o
-build_refusal_of build.CompatibleRelease = CompatibleRelease
+abbrev pub build_rejection_of : BuildErrorKind → BuildRejection
+build_rejection_of (build.OperatorLocalCombo o v) = OperatorLocalCombo o v
+build_rejection_of (build.OperatorWithStar o) = OperatorWithStar o
+build_rejection_of build.CompatibleRelease = CompatibleRelease
 
 -- the result is what the build rules give
-abbrev pub Builds : Result Spec VersionSpecifierBuildError → Result Spec BuildRefusal → Type 0
-Builds = Answers (λ e. Some (build_refusal_of (build_kind_of e)))
+abbrev pub Builds : Result Spec VersionSpecifierBuildError → Result Spec BuildRejection → Type 0
+Builds = ReturnsOutcome (λ e. Some (build_rejection_of (build_kind_of e)))
 
 -- the kind of a specifier's parse error
 abbrev pub parse_kind_of : VersionSpecifierParseError → ParseErrorKind
 parse_kind_of e = e.kind
 
 -- the reason of an error, or `None` when out of memory
-abbrev pub specifier_refusal_of : ParseErrorKind → Option SpecifierRefusal
-specifier_refusal_of parse.MissingOperator = Some MissingOperator
-specifier_refusal_of (parse.InvalidOperator e) = option_map InvalidOperator (unknown_of (operator_kind_of e))
-specifier_refusal_of parse.MissingVersion = Some MissingVersion
-specifier_refusal_of (parse.InvalidVersion e) = option_map InvalidVersion (pattern_refusal_of (pattern_kind_of e))
-specifier_refusal_of (parse.InvalidSpecifier e) = Some (InvalidSpecifier (build_refusal_of (build_kind_of e)))
-specifier_refusal_of (parse.InvalidTrailing rest) = Some (InvalidTrailing (string_bytes rest))
-specifier_refusal_of parse.OutOfMemory = None
+abbrev pub specifier_rejection_of : ParseErrorKind → Option SpecifierRejection
+specifier_rejection_of parse.MissingOperator = Some MissingOperator
+specifier_rejection_of (parse.InvalidOperator e) = option_map InvalidOperator (unknown_of (operator_kind_of e))
+specifier_rejection_of parse.MissingVersion = Some MissingVersion
+specifier_rejection_of (parse.InvalidVersion e) = option_map InvalidVersion (pattern_rejection_of (pattern_kind_of e))
+specifier_rejection_of (parse.InvalidSpecifier e) = Some (InvalidSpecifier (build_rejection_of (build_kind_of e)))
+specifier_rejection_of (parse.InvalidTrailing rest) = Some (InvalidTrailing (string_bytes rest))
+specifier_rejection_of parse.OutOfMemory = None
 
 -- out of memory is the outer error's own kind, never inside another
 abbrev pub IsLifted : ParseErrorKind → Type 0
-IsLifted kind = specifier_refusal_of kind ≡ None → kind ≡ parse.OutOfMemory
+IsLifted kind = specifier_rejection_of kind ≡ None → kind ≡ parse.OutOfMemory
 
 -- what was read is what reading gives, unless an allocation failed
-abbrev pub SpecifierGives : Result Spec ParseErrorKind → Result Spec SpecifierRefusal → Type 0
-SpecifierGives (Ok s) read = read ≡ Ok s
-SpecifierGives (Err kind) read = IfSome (specifier_refusal_of kind) (λ f. read ≡ Err f) × IsLifted kind
+abbrev pub ParsesSpecifier : Result Spec ParseErrorKind → Result Spec SpecifierRejection → Type 0
+ParsesSpecifier (Ok s) read = read ≡ Ok s
+ParsesSpecifier (Err kind) read = IfSome (specifier_rejection_of kind) (λ f. read ≡ Err f) × IsLifted kind
 
 -- the public parser returns what the grammar and the reasons give, unless an allocation failed
-abbrev pub SpecifierAnswers : Result Spec VersionSpecifierParseError → Result Spec SpecifierRefusal → Type 0
-SpecifierAnswers = Answers (λ e. specifier_refusal_of (parse_kind_of e))
+abbrev pub ReturnsSpecifier : Result Spec VersionSpecifierParseError → Result Spec SpecifierRejection → Type 0
+ReturnsSpecifier = ReturnsOutcome (λ e. specifier_rejection_of (parse_kind_of e))

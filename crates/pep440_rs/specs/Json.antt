@@ -15,18 +15,18 @@ abbrev pub IsString : Value → List ℕ → Type 0
 IsString value text = text_of value ≡ Some text
 
 -- what holds of the parser's error, if the value is a string and the parser rejects it
-abbrev pub IfText : {E : Type 0} → JsonError E → (E → Type 0) → Type 0
-IfText json.NotAString P = Unit {0}
-IfText (json.Text e) P = P e
-IfText json.OutOfMemory P = Unit {0}
+abbrev pub IfParserError : {E : Type 0} → JsonError E → (E → Type 0) → Type 0
+IfParserError json.NotAString P = Unit {0}
+IfParserError (json.Text e) P = P e
+IfParserError json.OutOfMemory P = Unit {0}
 
 -- the result of a JSON string is that of its parser, unless an allocation failed; `refusal` is the reason of an error, or None if
 -- an allocation failed, which is never inside the parser's error
-abbrev pub JsonAnswers : {X E F : Type 0} → (E → Option F) → Result X (JsonError E) → Result X F → Type 0
-JsonAnswers refusal (Ok x) outcome = outcome ≡ Ok x
-JsonAnswers refusal (Err json.NotAString) outcome = ⊥
-JsonAnswers refusal (Err (json.Text e)) outcome = IsSomeAnd (refusal e) (λ f. outcome ≡ Err f)
-JsonAnswers refusal (Err json.OutOfMemory) outcome = Unit {0}
+abbrev pub ReturnsFromJson : {X E F : Type 0} → (E → Option F) → Result X (JsonError E) → Result X F → Type 0
+ReturnsFromJson refusal (Ok x) outcome = outcome ≡ Ok x
+ReturnsFromJson refusal (Err json.NotAString) outcome = ⊥
+ReturnsFromJson refusal (Err (json.Text e)) outcome = IsSomeAnd (refusal e) (λ f. outcome ≡ Err f)
+ReturnsFromJson refusal (Err json.OutOfMemory) outcome = Unit {0}
 
 -- the clone of an error reports the same; of a parser's error inside it, the same holds
 abbrev pub IsJsonClone : {E : Type 0} → (E → E → Type 0) → JsonError E → JsonError E → Type 0

@@ -4,7 +4,7 @@ use Rattle.std.specs.Prelude.{ℕ, ◌+◌, ◌==◌, Bool, false, ◌&&◌, Lis
 use Rattle.std.specs.Ordering.{is_eq}
 use Rattle.std.specs.declared.ops.Bound.{Bound}
 use Rattle.std.specs.declared.ops.Bound.TheVariants.{Included, Excluded, Unbounded}
-use Rattle.pep440_rs.specs.Build.{BuildRefusal, OperatorLocalCombo}
+use Rattle.pep440_rs.specs.Build.{BuildRejection, OperatorLocalCombo}
 use Rattle.pep440_rs.specs.Matching.{has_local}
 use Rattle.pep440_rs.specs.Specifiers.{Spec}
 use Rattle.pep440_rs.specs.declared.specifier.operator.Operator.{Operator}
@@ -37,7 +37,7 @@ upper_member (Excluded v) = Some (spec LessThan v)
 upper_member Unbounded = None
 
 -- a member is rejected, with operator and version, if its version has a local part
-abbrev pub without_locals : Option Spec → Result (Option Spec) BuildRefusal
+abbrev pub without_locals : Option Spec → Result (Option Spec) BuildRejection
 without_locals None = Ok None
 without_locals (Some m) = if has_local m.version then Err (OperatorLocalCombo m.operator m.version) else Ok (Some m)
 

@@ -1,5 +1,8 @@
 -- The value of a specifier, an operator and the record of a version; and how it is printed, ordered and hashed (PEP 440,
 -- "Version specifiers").
+pub mod SpecifierLaws
+pub mod SpecifierGrammar
+pub mod SpecifierReading
 use Rattle.std.specs.Prelude.{◌≡◌, ◌<◌, ◌++◌, ℕ, List, [], codes, length, if◌then◌else◌}
 use Rattle.std.specs.Hash.{HashWrites}
 use Rattle.std.specs.Ordering.{on, then_cmp}
@@ -22,8 +25,8 @@ abbrev pub IsSpec : Spec → Type 0
 IsSpec s = (0 < length s.version.release) × (s.operator ≡ TildeEqual → 1 < length s.version.release)
 
 -- the operator, the version, and `.*` for a star form
-abbrev pub spec_print : Spec → List ℕ
-spec_print s = operator_text s.operator ++ (print s.version ++ (if is_star s.operator then codes ".*" else []))
+abbrev pub print_spec : Spec → List ℕ
+print_spec s = operator_text s.operator ++ (print s.version ++ (if is_star s.operator then codes ".*" else []))
 
 -- by operator, then by version
 abbrev pub spec_cmp : Spec → Spec → Ordering

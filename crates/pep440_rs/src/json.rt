@@ -1,17 +1,17 @@
 //! Versions as JSON strings, and what the JSON forms of specifiers and lists share.
 ghost use Rattle.std.specs.Prelude.{◌≡◌, ◌↔◌, ℕ, List, codes, string_bytes, IfOk, IfErr, IfSome, IsErrOf, IsSomeAnd, Ok, Err, Some, None, MatchOption, MatchResult};
-ghost use Rattle.pep440_rs.specs.Json.{text_of, IsString, IfText, JsonAnswers};
-ghost use Rattle.pep440_rs.specs.Errors.{specifier_refusal_of, parse_kind_of, IsLifted};
-ghost use Rattle.pep440_rs.specs.ListAnswers.{list_kind_of};
-ghost use Rattle.pep440_rs.specs.ListErrors.{IsListLifted, list_refusal_of};
+ghost use Rattle.pep440_rs.specs.Json.{text_of, IsString, IfParserError, ReturnsFromJson};
+ghost use Rattle.pep440_rs.specs.Errors.{specifier_rejection_of, parse_kind_of, IsLifted};
+ghost use Rattle.pep440_rs.specs.Lists.ListResults.{list_kind_of};
+ghost use Rattle.pep440_rs.specs.Lists.ListErrors.{IsListLifted, list_rejection_of};
 ghost use Rattle.pep440_rs.specs.Lists.{joined};
 ghost use Rattle.pep440_rs.specs.declared.json.error.JsonError.TheVariants.{NotAString, Text, OutOfMemory};
-ghost use Rattle.pep440_version.specs.ErrorTexts.{error_text, refusal_text};
-ghost use Rattle.pep440_version.specs.Errors.{kind_of, refusal_of};
+ghost use Rattle.pep440_version.specs.ErrorTexts.{error_text, rejection_text};
+ghost use Rattle.pep440_version.specs.Errors.{kind_of, rejection_of};
 ghost use Rattle.pep440_version.specs.Grammar.{Derives};
 ghost use Rattle.pep440_version.specs.Print.{print};
 ghost use Rattle.pep440_version.specs.Record.{Record, IsRecord};
-ghost use Rattle.pep440_version.specs.Refusals.{Refusal, Refuses};
+ghost use Rattle.pep440_version.specs.Rejections.{Rejection, Rejects};
 ghost use Rattle.pep440_version.specs.RoundTrip.{RoundTrips};
 
 pub(crate) mod error;
@@ -33,7 +33,7 @@ pub(crate) fn expect_string<E>(value: &Value) -> Result<&str, JsonError<E>>
 
 // The error of the string, or out of memory.
 fn from_version_error(error: VersionParseError) -> JsonError<VersionParseError>
-    ensures { MatchOption (refusal_of (kind_of error)) (result ≡ OutOfMemory) (λ _. result ≡ Text error) }
+    ensures { MatchOption (rejection_of (kind_of error)) (result ≡ OutOfMemory) (λ _. result ≡ Text error) }
 {
     match error.kind() {
         ErrorKind::OutOfMemory => JsonError::OutOfMemory,
@@ -46,7 +46,7 @@ pub(crate) fn from_specifier_error(
     error: VersionSpecifierParseError,
 ) -> JsonError<VersionSpecifierParseError>
     requires { IsLifted (parse_kind_of error) }
-    ensures { MatchOption (specifier_refusal_of (parse_kind_of error)) (result ≡ OutOfMemory) (λ _. result ≡ Text error) }
+    ensures { MatchOption (specifier_rejection_of (parse_kind_of error)) (result ≡ OutOfMemory) (λ _. result ≡ Text error) }
 {
     match error.kind() {
         ParseErrorKind::OutOfMemory => JsonError::OutOfMemory,
@@ -59,7 +59,7 @@ pub(crate) fn from_list_error(
     error: VersionSpecifiersParseError,
 ) -> JsonError<VersionSpecifiersParseError>
     requires { IsListLifted (list_kind_of error) }
-    ensures { MatchOption (list_refusal_of (list_kind_of error)) (result ≡ OutOfMemory) (λ _. result ≡ Text error) }
+    ensures { MatchOption (list_rejection_of (list_kind_of error)) (result ≡ OutOfMemory) (λ _. result ≡ Text error) }
 {
     match error.kind() {
         SpecifiersErrorKind::OutOfMemory => JsonError::OutOfMemory,
@@ -90,22 +90,22 @@ pub fn version_from_json(
     ensures found { IfOk result (λ v. (t : List ℕ) × IsString value.now t × Derives t v) }
     // What the string denotes is returned, unless an allocation fails.
     ensures only { (t : List ℕ) (r : Record) → IsString value.now t → Derives t r
-        → JsonAnswers (λ e. refusal_of (kind_of e)) result (Ok r) }
+        → ReturnsFromJson (λ e. rejection_of (kind_of e)) result (Ok r) }
     // The error of the string is one that its prefixes decide, and not out of memory.
-    ensures refused { IfErr result (λ e. IfText e
-        (λ inner. IsSomeAnd (refusal_of (kind_of inner)) (λ f. (t : List ℕ) × IsString value.now t × Refuses t f))) }
+    ensures refused { IfErr result (λ e. IfParserError e
+        (λ inner. IsSomeAnd (rejection_of (kind_of inner)) (λ f. (t : List ℕ) × IsString value.now t × Rejects t f))) }
     // The error's message is the stated one.
-    ensures message { IfErr result (λ e. IfText e
-        (λ inner. IfSome (refusal_of (kind_of inner)) (λ f. error_text (refusal_of (kind_of inner)) ≡ Some (refusal_text f)))) }
+    ensures message { IfErr result (λ e. IfParserError e
+        (λ inner. IfSome (rejection_of (kind_of inner)) (λ f. error_text (rejection_of (kind_of inner)) ≡ Some (rejection_text f)))) }
     // The error that the prefixes of the string decide is returned, unless an allocation fails.
-    ensures decided { (t : List ℕ) (f : Refusal) → IsString value.now t → Refuses t f
-        → JsonAnswers (λ e. refusal_of (kind_of e)) result (Err f) }
+    ensures decided { (t : List ℕ) (f : Rejection) → IsString value.now t → Rejects t f
+        → ReturnsFromJson (λ e. rejection_of (kind_of e)) result (Err f) }
     // The JSON form of a record round-trips, unless an allocation fails.
     ensures round_trips { (r : Record) → IsRecord r → RoundTrips r → IsString value.now (print r)
-        → JsonAnswers (λ e. refusal_of (kind_of e)) result (Ok r) }
+        → ReturnsFromJson (λ e. rejection_of (kind_of e)) result (Ok r) }
     // So does that of what some string denotes.
     ensures again { (t : List ℕ) (r : Record) → Derives t r → IsString value.now (print r)
-        → JsonAnswers (λ e. refusal_of (kind_of e)) result (Ok r) }
+        → ReturnsFromJson (λ e. rejection_of (kind_of e)) result (Ok r) }
 {
     let text = expect_string::<VersionParseError>(value)?;
     Version::from_str(alloc, text).map_err(from_version_error)

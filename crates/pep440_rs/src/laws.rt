@@ -2,19 +2,19 @@
 ghost use Rattle.std.specs.Prelude.{◌≡◌, ◌⊎◌, ℕ, Some, List, not};
 ghost use Rattle.std.specs.List.{All};
 ghost use Rattle.std.specs.List.Sorted.{IsPermutation};
-ghost use Rattle.pep440_rs.specs.Agreement.{Agrees, HasOperand, HoldsOnlyMatches, HoldsAllMatches, IsCandidate, IsReleaseComparable, ListAgrees, HoldsInEach, HasFewSegments, RefusedByAMember, GivesRanges, GivesFew};
+ghost use Rattle.pep440_rs.specs.Agreement.{Agrees, HasOperand, HoldsOnlyMatches, HoldsAllMatches, IsCandidate, IsReleaseComparable, ListAgrees, HoldsInEach, HasFewSegments, FailsByAMember, ConversionsAreRanges, ConversionsHaveFewSegments};
 ghost use Rattle.pep440_rs.specs.Arrangement.{Arranges};
 ghost use Rattle.pep440_rs.specs.BoundsAgreement.{HoldsOnlyWithin, HoldsWithin, IsOrdered, IsReleasePair, KnowsGaps, MatchesWithin};
 ghost use Rattle.pep440_rs.specs.Bounds.{Segments, range_of, release_range_of, list_range};
 ghost use Rattle.pep440_rs.specs.Cover.{Covers, IsCoverable, ListCovers, cover_of};
-ghost use Rattle.pep440_rs.specs.ListGrammar.{DerivesList, PieceRefusal, RefusesList};
+ghost use Rattle.pep440_rs.specs.Lists.ListGrammar.{DerivesList, PieceRejection, RejectsList};
 ghost use Rattle.pep440_rs.specs.Matching.{matches};
 ghost use Rattle.pep440_rs.specs.Members.{list_members, pair_members};
-ghost use Rattle.pep440_rs.specs.SpecifierGrammar.{DerivesSpecifier, HasText, RefusesSpecifier, SpecifierRefusal};
+ghost use Rattle.pep440_rs.specs.Specifiers.SpecifierGrammar.{DerivesSpecifier, IsDenotedSpecifier, RejectsSpecifier, SpecifierRejection};
 ghost use Rattle.pep440_rs.specs.Specifiers.{Spec};
 ghost use Rattle.pep440_ranges.specs.RangeSegments.{Segment};
 ghost use Rattle.pep440_version.specs.Record.{Record};
-ghost use Rattle.pep440_rs.specs.Refused.{RefusedAtMax, raised_number, raised_release_number};
+ghost use Rattle.pep440_rs.specs.RaisedNumbers.{FailsAtMax, raised_number, raised_release_number};
 
 use crate::specifier::operator::Operator;
 
@@ -26,12 +26,12 @@ pub fn means_one()
 
 /// A string either denotes a specifier or is rejected with exactly one error, never both; likewise for lists.
 pub fn refused_once()
-    ensures specifier { (text : List ℕ) (f g : SpecifierRefusal) → RefusesSpecifier text f → RefusesSpecifier text g → f ≡ g }
-    ensures either { (text : List ℕ) → ((s : Spec) × DerivesSpecifier text s) ⊎ ((f : SpecifierRefusal) × RefusesSpecifier text f) }
-    ensures derived { (text : List ℕ) (s : Spec) (f : SpecifierRefusal) → DerivesSpecifier text s → RefusesSpecifier text f → ⊥ }
-    ensures list { (text : List ℕ) (f g : PieceRefusal) → RefusesList text f → RefusesList text g → f ≡ g }
-    ensures either_list { (text : List ℕ) → ((l : List Spec) × DerivesList text l) ⊎ ((f : PieceRefusal) × RefusesList text f) }
-    ensures derived_list { (text : List ℕ) (l : List Spec) (f : PieceRefusal) → DerivesList text l → RefusesList text f → ⊥ }
+    ensures specifier { (text : List ℕ) (f g : SpecifierRejection) → RejectsSpecifier text f → RejectsSpecifier text g → f ≡ g }
+    ensures either { (text : List ℕ) → ((s : Spec) × DerivesSpecifier text s) ⊎ ((f : SpecifierRejection) × RejectsSpecifier text f) }
+    ensures derived { (text : List ℕ) (s : Spec) (f : SpecifierRejection) → DerivesSpecifier text s → RejectsSpecifier text f → ⊥ }
+    ensures list { (text : List ℕ) (f g : PieceRejection) → RejectsList text f → RejectsList text g → f ≡ g }
+    ensures either_list { (text : List ℕ) → ((l : List Spec) × DerivesList text l) ⊎ ((f : PieceRejection) × RejectsList text f) }
+    ensures derived_list { (text : List ℕ) (l : List Spec) (f : PieceRejection) → DerivesList text l → RejectsList text f → ⊥ }
 {}
 
 /// Members have exactly one arrangement.
@@ -50,8 +50,8 @@ pub fn exclusions()
 /// star a release with its epoch, beside `==`, `!=` and `===` any version, beside the others one without local part
 /// (PEP 440, "Version specifiers"). Each member of a list that some string denotes is itself denoted by some string.
 pub fn texts_give_operands()
-    ensures single { (s : Spec) → HasText s → HasOperand s }
-    ensures members { (text : List ℕ) (list : List Spec) → DerivesList text list → All HasText list }
+    ensures single { (s : Spec) → IsDenotedSpecifier s → HasOperand s }
+    ensures members { (text : List ℕ) (list : List Spec) → DerivesList text list → All IsDenotedSpecifier list }
     ensures list { (text : List ℕ) (list : List Spec) → DerivesList text list → All HasOperand list }
 {}
 
@@ -67,11 +67,11 @@ pub fn range_agrees()
 
 /// What `range_agrees` and `list_agrees` state, of specifiers that strings denote, alone or as members of any list, in one step.
 pub fn range_of_text_agrees()
-    ensures single { (s : Spec) (range : Segments) → range_of s.operator s.version ≡ Some range → HasText s → Agrees IsCandidate s range }
+    ensures single { (s : Spec) (range : Segments) → range_of s.operator s.version ≡ Some range → IsDenotedSpecifier s → Agrees IsCandidate s range }
     ensures list { (members : List Spec) (range : Segments) → list_range range_of members ≡ Some range
-        → All HasText members → ListAgrees IsCandidate members range }
-    ensures within { (s : Spec) (range : Segments) → range_of s.operator s.version ≡ Some range → HasText s → HoldsOnlyMatches s range }
-    ensures around { (s : Spec) (range : Segments) → range_of s.operator s.version ≡ Some range → HasText s → HoldsAllMatches s range }
+        → All IsDenotedSpecifier members → ListAgrees IsCandidate members range }
+    ensures within { (s : Spec) (range : Segments) → range_of s.operator s.version ≡ Some range → IsDenotedSpecifier s → HoldsOnlyMatches s range }
+    ensures around { (s : Spec) (range : Segments) → range_of s.operator s.version ≡ Some range → IsDenotedSpecifier s → HoldsAllMatches s range }
 {}
 
 /// The release-only range holds exactly the releases that the specifier contains.
@@ -94,16 +94,16 @@ pub fn list_is_intersection()
         → HoldsInEach range_of members range }
     ensures release { (members : List Spec) (range : Segments) → list_range release_range_of members ≡ Some range
         → HoldsInEach release_range_of members range }
-    ensures refused { (members : List Spec) → RefusedByAMember range_of members }
-    ensures release_refused { (members : List Spec) → RefusedByAMember release_range_of members }
+    ensures refused { (members : List Spec) → FailsByAMember range_of members }
+    ensures release_refused { (members : List Spec) → FailsByAMember release_range_of members }
 {}
 
 /// Each conversion gives a range, and ranges stay small.
 pub fn ranges_stay_small()
-    ensures apart { GivesRanges range_of }
-    ensures few { GivesFew range_of }
-    ensures release_apart { GivesRanges release_range_of }
-    ensures release_few { GivesFew release_range_of }
+    ensures apart { ConversionsAreRanges range_of }
+    ensures few { ConversionsHaveFewSegments range_of }
+    ensures release_apart { ConversionsAreRanges release_range_of }
+    ensures release_few { ConversionsHaveFewSegments release_range_of }
     ensures whole { (members : List Spec) (range : Segments) → list_range range_of members ≡ Some range → HasFewSegments members range }
     ensures release { (members : List Spec) (range : Segments) → list_range release_range_of members ≡ Some range
         → HasFewSegments members range }
@@ -111,18 +111,18 @@ pub fn ranges_stay_small()
 
 /// The cover holds every version that the specifier or the list contains, of all that strings give.
 pub fn cover_holds()
-    ensures single { (s : Spec) (cover : Segments) → cover_of s.operator s.version ≡ Some cover → HasText s → Covers s cover }
+    ensures single { (s : Spec) (cover : Segments) → cover_of s.operator s.version ≡ Some cover → IsDenotedSpecifier s → Covers s cover }
     ensures list { (members : List Spec) (cover : Segments) → list_range cover_of members ≡ Some cover
-        → All HasText members → ListCovers members cover }
-    ensures given { (s : Spec) → HasText s → IsCoverable s }
-    ensures apart { GivesRanges cover_of }
+        → All IsDenotedSpecifier members → ListCovers members cover }
+    ensures given { (s : Spec) → IsDenotedSpecifier s → IsCoverable s }
+    ensures apart { ConversionsAreRanges cover_of }
 {}
 
 /// A conversion is rejected exactly if a number to be raised is the greatest there is.
 pub fn refused_at_max()
-    ensures whole { RefusedAtMax range_of raised_number }
-    ensures cover { RefusedAtMax cover_of raised_number }
-    ensures release { RefusedAtMax release_range_of raised_release_number }
+    ensures whole { FailsAtMax range_of raised_number }
+    ensures cover { FailsAtMax cover_of raised_number }
+    ensures release { FailsAtMax release_range_of raised_release_number }
 {}
 
 /// The members made of bounds contain the releases within the bounds: one pair gives exactly these,

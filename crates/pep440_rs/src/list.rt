@@ -6,19 +6,19 @@ ghost use Rattle.std.specs.Vec.Iter.{into_iter_items};
 ghost use Rattle.pep440_rs.specs.Agreement.{HasOperand};
 ghost use Rattle.pep440_rs.specs.Arrangement.{Arranges, IsArranged, version_cmp};
 ghost use Rattle.pep440_rs.specs.Cover.{IsCoverable};
-ghost use Rattle.pep440_rs.specs.ListAnswers.{ListAnswers, ListReads, line_for, line_of, list_kind_of};
-ghost use Rattle.pep440_rs.specs.ListErrors.{IsListLifted, list_refusal_of};
-ghost use Rattle.pep440_rs.specs.ListErrorTexts.{list_refusal_text, list_text_of};
-ghost use Rattle.pep440_rs.specs.ListGrammar.{DerivesList, PieceRefusal, RefusesList};
-ghost use Rattle.pep440_rs.specs.ListReading.{read_members};
+ghost use Rattle.pep440_rs.specs.Lists.ListResults.{ReturnsList, ListReads, line_for, line_of, list_kind_of};
+ghost use Rattle.pep440_rs.specs.Lists.ListErrors.{IsListLifted, list_rejection_of};
+ghost use Rattle.pep440_rs.specs.Lists.ListErrorTexts.{list_rejection_text, list_text_of};
+ghost use Rattle.pep440_rs.specs.Lists.ListGrammar.{DerivesList, PieceRejection, RejectsList};
+ghost use Rattle.pep440_rs.specs.Lists.ListReading.{read_members};
 ghost use Rattle.pep440_rs.specs.Matching.{list_matches};
-ghost use Rattle.pep440_rs.specs.Lists.{joined, list_print, list_cmp};
+ghost use Rattle.pep440_rs.specs.Lists.{joined, print_list, list_cmp};
 ghost use Rattle.pep440_rs.specs.Specifiers.{Spec, feed_spec};
 ghost use Rattle.pep440_version.specs.Feed.{feed_items};
 ghost use Rattle.std.specs.Cmp.{partial_equiv_from_equiv};
 ghost use Rattle.std.specs.Ordering.{as_partial_cmp, eq_by_cmp};
-ghost use Rattle.pep440_rs.specs.ListLaws.{list_equiv, list_po, list_total, lists_feed_alike};
-ghost use Rattle.pep440_rs.specs.Json.{text_of, IsString, IfText, JsonAnswers};
+ghost use Rattle.pep440_rs.specs.Lists.ListLaws.{list_equiv, list_po, list_total, lists_feed_alike};
+ghost use Rattle.pep440_rs.specs.Json.{text_of, IsString, IfParserError, ReturnsFromJson};
 ghost use Rattle.pep440_rs.specs.declared.specifier.operator.Operator.TheVariants.{ExactEqual};
 ghost use Rattle.pep440_rs.specs.declared.json.error.JsonError.TheVariants.{NotAString};
 ghost use Rattle.pep440_rs.specs.BoundsAgreement.{IsReleasePair, IsOrdered, KnowsGaps, HoldsWithin, HoldsOnlyWithin};
@@ -192,23 +192,23 @@ impl VersionSpecifiers {
         // It is one that a string denotes, too, as covers and sets require.
         ensures coverable { IfOk result (λ list. All IsCoverable list) }
         // What the string denotes is returned, unless an allocation fails.
-        ensures only { (list : List Spec) → DerivesList text.now list → ListAnswers result (Ok list) }
+        ensures only { (list : List Spec) → DerivesList text.now list → ReturnsList result (Ok list) }
         // The error is that of the first invalid piece.
-        ensures refused { IfErr result (λ e. IfSome (list_refusal_of (list_kind_of e)) (RefusesList text.now)) }
+        ensures refused { IfErr result (λ e. IfSome (list_rejection_of (list_kind_of e)) (RejectsList text.now)) }
         // The error of the string is returned, unless an allocation fails.
-        ensures decided { (f : PieceRefusal) → RefusesList text.now f → ListAnswers result (Err f) }
+        ensures decided { (f : PieceRejection) → RejectsList text.now f → ReturnsList result (Err f) }
         // The error's message is the stated one, with the whole string and a line that marks the piece.
-        ensures message { IfErr result (λ e. IfSome (list_refusal_of (list_kind_of e))
-            (λ f. list_text_of (list_kind_of e) (line_of e) ≡ Some (list_refusal_text f text.now))) }
+        ensures message { IfErr result (λ e. IfSome (list_rejection_of (list_kind_of e))
+            (λ f. list_text_of (list_kind_of e) (line_of e) ≡ Some (list_rejection_text f text.now))) }
         // The error holds the whole string, and nothing when out of memory.
         ensures line { IfErr result (λ e. line_of e ≡ line_for text.now (list_kind_of e)) }
         // Out of memory is the last kind, and stands in no other.
         ensures lifted { IfErr result (λ e. IsListLifted (list_kind_of e)) }
         // The printed form of what some string denotes round-trips, unless an allocation fails.
-        ensures again { (t : List ℕ) (list : List Spec) → DerivesList t list → text.now ≡ list_print list → ListAnswers result (Ok list) }
+        ensures again { (t : List ℕ) (list : List Spec) → DerivesList t list → text.now ≡ print_list list → ReturnsList result (Ok list) }
         // So does its form with only commas between the members.
         ensures joined { (t : List ℕ) (list : List Spec) → DerivesList t list → text.now ≡ joined (codes ",") list
-            → ListAnswers result (Ok list) }
+            → ReturnsList result (Ok list) }
     {
         VersionSpecifiers::read(alloc, text)
     }
@@ -289,22 +289,22 @@ impl VersionSpecifiers {
         ensures found { IfOk result (λ list. (t : List ℕ) × IsString value.now t × DerivesList t list) }
         // What the string denotes is returned, unless an allocation fails.
         ensures only { (t : List ℕ) (list : List Spec) → IsString value.now t → DerivesList t list
-            → JsonAnswers (λ e. list_refusal_of (list_kind_of e)) result (Ok list) }
+            → ReturnsFromJson (λ e. list_rejection_of (list_kind_of e)) result (Ok list) }
         // The error of the string is that of its first invalid piece, and not out of memory.
-        ensures refused { IfErr result (λ e. IfText e
-            (λ inner. IsSomeAnd (list_refusal_of (list_kind_of inner)) (λ f. (t : List ℕ) × IsString value.now t × RefusesList t f))) }
+        ensures refused { IfErr result (λ e. IfParserError e
+            (λ inner. IsSomeAnd (list_rejection_of (list_kind_of inner)) (λ f. (t : List ℕ) × IsString value.now t × RejectsList t f))) }
         // The error's message is the stated one, with the whole string and a line that marks the piece.
-        ensures message { IfErr result (λ e. IfText e
-            (λ inner. IfSome (list_refusal_of (list_kind_of inner))
-            (λ f. list_text_of (list_kind_of inner) (line_of inner) ≡ Some (list_refusal_text f (line_of inner))))) }
+        ensures message { IfErr result (λ e. IfParserError e
+            (λ inner. IfSome (list_rejection_of (list_kind_of inner))
+            (λ f. list_text_of (list_kind_of inner) (line_of inner) ≡ Some (list_rejection_text f (line_of inner))))) }
         // The error of the string holds the whole string.
-        ensures line { IfErr result (λ e. IfText e (λ inner. IsString value.now (line_of inner))) }
+        ensures line { IfErr result (λ e. IfParserError e (λ inner. IsString value.now (line_of inner))) }
         // The error of the string is returned, unless an allocation fails.
-        ensures decided { (t : List ℕ) (f : PieceRefusal) → IsString value.now t → RefusesList t f
-            → JsonAnswers (λ e. list_refusal_of (list_kind_of e)) result (Err f) }
+        ensures decided { (t : List ℕ) (f : PieceRejection) → IsString value.now t → RejectsList t f
+            → ReturnsFromJson (λ e. list_rejection_of (list_kind_of e)) result (Err f) }
         // The JSON form of what some string denotes round-trips, unless an allocation fails.
         ensures again { (t : List ℕ) (list : List Spec) → DerivesList t list
-            → IsString value.now (joined (codes ",") list) → JsonAnswers (λ e. list_refusal_of (list_kind_of e)) result (Ok list) }
+            → IsString value.now (joined (codes ",") list) → ReturnsFromJson (λ e. list_rejection_of (list_kind_of e)) result (Ok list) }
     {
         let text = expect_string::<VersionSpecifiersParseError>(value)?;
         VersionSpecifiers::from_str(alloc, text).map_err(from_list_error)
@@ -393,9 +393,9 @@ impl Hash for VersionSpecifiers {
 }
 
 impl fmt::Display for VersionSpecifiers {
-    ghost output = { λ list. Some (list_print list) };
+    ghost output = { λ list. Some (print_list list) };
 
-    ghost styled_output = { λ list _. Some (list_print list) };
+    ghost styled_output = { λ list _. Some (print_list list) };
 
     fn fmt<W: fmt::Write>(&self, f: &mut fmt::Formatter<W>) -> fmt::Result {
         write_list(f, self.as_slice())

@@ -2,21 +2,21 @@
 ghost use Rattle.std.specs.Prelude.{◌≡◌, ◌≢◌, ◌||◌, ◌<◌, not, IsOk, length, is_some, Ok, Err, Some, IfOk, IfErr, IfSome, ℕ, List, refl, ◌↔◌, IsErrOf, IsSomeAnd, None};
 ghost use Rattle.pep440_rs.specs.Agreement.{HasOperand};
 ghost use Rattle.pep440_rs.specs.Build.{built, built_pattern};
-ghost use Rattle.pep440_rs.specs.Errors.{Builds, SpecifierAnswers, specifier_refusal_of, parse_kind_of, IsLifted};
-ghost use Rattle.pep440_rs.specs.ErrorTexts.{specifier_error_text, specifier_refusal_text};
+ghost use Rattle.pep440_rs.specs.Errors.{Builds, ReturnsSpecifier, specifier_rejection_of, parse_kind_of, IsLifted};
+ghost use Rattle.pep440_rs.specs.ErrorTexts.{specifier_error_text, specifier_rejection_text};
 ghost use Rattle.pep440_rs.specs.Matching.{matches};
 ghost use Rattle.pep440_rs.specs.Operators.{has_lower_bound};
-ghost use Rattle.pep440_rs.specs.SpecifierGrammar.{DerivesSpecifier, RefusesSpecifier, SpecifierRefusal};
-ghost use Rattle.pep440_rs.specs.SpecifierReading.{read_specifier};
-ghost use Rattle.pep440_rs.specs.Specifiers.{Spec, IsSpec, spec_print, spec_cmp, feed_spec};
+ghost use Rattle.pep440_rs.specs.Specifiers.SpecifierGrammar.{DerivesSpecifier, RejectsSpecifier, SpecifierRejection};
+ghost use Rattle.pep440_rs.specs.Specifiers.SpecifierReading.{read_specifier};
+ghost use Rattle.pep440_rs.specs.Specifiers.{Spec, IsSpec, print_spec, spec_cmp, feed_spec};
 ghost use Rattle.pep440_rs.specs.declared.specifier.operator.Operator.TheVariants.{Equal, EqualStar, ExactEqual, NotEqual, NotEqualStar, LessThan, LessThanEqual, GreaterThan, GreaterThanEqual, TildeEqual};
 ghost use Rattle.std.specs.Cmp.{partial_equiv_from_equiv};
 ghost use Rattle.std.specs.Ordering.{as_partial_cmp, eq_by_cmp};
-ghost use Rattle.pep440_rs.specs.SpecifierLaws.{spec_equiv, spec_po, spec_total, specs_feed_alike};
+ghost use Rattle.pep440_rs.specs.Specifiers.SpecifierLaws.{spec_equiv, spec_po, spec_total, specs_feed_alike};
 ghost use Rattle.std.specs.Fmt.{WritesStyledOnOk};
-ghost use Rattle.pep440_rs.specs.Json.{text_of, IsString, IfText, JsonAnswers};
+ghost use Rattle.pep440_rs.specs.Json.{text_of, IsString, IfParserError, ReturnsFromJson};
 ghost use Rattle.pep440_rs.specs.declared.json.error.JsonError.TheVariants.{NotAString};
-ghost use Rattle.pep440_rs.specs.BoundErrors.{BoundAnswers};
+ghost use Rattle.pep440_rs.specs.BoundErrors.{ReturnsBound};
 ghost use Rattle.pep440_rs.specs.BoundsAgreement.{IsReleaseBound, MatchesWithin};
 ghost use Rattle.pep440_rs.specs.Members.{lower_member, upper_member, without_locals, pair_members};
 
@@ -201,7 +201,7 @@ impl VersionSpecifier {
         alloc: Global,
         bound: &Bound<Version>,
     ) -> Result<Option<VersionSpecifier>, BoundError>
-        ensures { BoundAnswers result (without_locals (lower_member bound.now)) }
+        ensures { ReturnsBound result (without_locals (lower_member bound.now)) }
     {
         reject_local(convert_lower(bound)?)
     }
@@ -215,7 +215,7 @@ impl VersionSpecifier {
         alloc: Global,
         bound: &Bound<Version>,
     ) -> Result<Option<VersionSpecifier>, BoundError>
-        ensures { BoundAnswers result (without_locals (upper_member bound.now)) }
+        ensures { ReturnsBound result (without_locals (upper_member bound.now)) }
     {
         reject_local(convert_upper(bound)?)
     }
@@ -284,7 +284,7 @@ impl VersionSpecifier {
 
     // What the reading from the left gives.
     fn read(alloc: Global, text: &str) -> Result<VersionSpecifier, VersionSpecifierParseError>
-        ensures value { SpecifierAnswers result (read_specifier text.now) }
+        ensures value { ReturnsSpecifier result (read_specifier text.now) }
         ensures lifted { IfErr result (λ e. IsLifted (parse_kind_of e)) }
     {
         Ok(read::parse_specifier(alloc, text)?)
@@ -304,18 +304,18 @@ impl VersionSpecifier {
         // Its version is one that a string can have beside the operator, as the agreement of ranges requires.
         ensures operand { IfOk result HasOperand }
         // What the string denotes is returned, unless an allocation fails.
-        ensures only { (s : Spec) → DerivesSpecifier text.now s → SpecifierAnswers result (Ok s) }
+        ensures only { (s : Spec) → DerivesSpecifier text.now s → ReturnsSpecifier result (Ok s) }
         // The error is that of the string.
-        ensures refused { IfErr result (λ e. IfSome (specifier_refusal_of (parse_kind_of e)) (RefusesSpecifier text.now)) }
+        ensures refused { IfErr result (λ e. IfSome (specifier_rejection_of (parse_kind_of e)) (RejectsSpecifier text.now)) }
         // The error of the string is returned, unless an allocation fails.
-        ensures decided { (f : SpecifierRefusal) → RefusesSpecifier text.now f → SpecifierAnswers result (Err f) }
+        ensures decided { (f : SpecifierRejection) → RejectsSpecifier text.now f → ReturnsSpecifier result (Err f) }
         // The error's message is the stated one.
-        ensures message { IfErr result (λ e. IfSome (specifier_refusal_of (parse_kind_of e))
-            (λ f. specifier_error_text (specifier_refusal_of (parse_kind_of e)) ≡ Some (specifier_refusal_text f))) }
+        ensures message { IfErr result (λ e. IfSome (specifier_rejection_of (parse_kind_of e))
+            (λ f. specifier_error_text (specifier_rejection_of (parse_kind_of e)) ≡ Some (specifier_rejection_text f))) }
         // Out of memory is the last kind, and stands in no other.
         ensures lifted { IfErr result (λ e. IsLifted (parse_kind_of e)) }
         // The printed form of what some string denotes round-trips, unless an allocation fails.
-        ensures again { (t : List ℕ) (s : Spec) → DerivesSpecifier t s → text.now ≡ spec_print s → SpecifierAnswers result (Ok s) }
+        ensures again { (t : List ℕ) (s : Spec) → DerivesSpecifier t s → text.now ≡ print_spec s → ReturnsSpecifier result (Ok s) }
     {
         VersionSpecifier::read(alloc, text)
     }
@@ -358,7 +358,7 @@ impl VersionSpecifier {
     ///
     /// Allocates.
     pub fn to_json(&self, alloc: Global) -> Result<Value, AllocError>
-        ensures { IfOk result (λ value. IsString value (spec_print self.now)) }
+        ensures { IfOk result (λ value. IsString value (print_spec self.now)) }
     {
         Ok(Value::from(self.to_string(alloc)?))
     }
@@ -378,21 +378,21 @@ impl VersionSpecifier {
         ensures found { IfOk result (λ s. (t : List ℕ) × IsString value.now t × DerivesSpecifier t s) }
         // What the string denotes is returned, unless an allocation fails.
         ensures only { (t : List ℕ) (s : Spec) → IsString value.now t → DerivesSpecifier t s
-            → JsonAnswers (λ e. specifier_refusal_of (parse_kind_of e)) result (Ok s) }
+            → ReturnsFromJson (λ e. specifier_rejection_of (parse_kind_of e)) result (Ok s) }
         // The error of the string is its one error, and not out of memory.
-        ensures refused { IfErr result (λ e. IfText e
-            (λ inner. IsSomeAnd (specifier_refusal_of (parse_kind_of inner))
-            (λ f. (t : List ℕ) × IsString value.now t × RefusesSpecifier t f))) }
+        ensures refused { IfErr result (λ e. IfParserError e
+            (λ inner. IsSomeAnd (specifier_rejection_of (parse_kind_of inner))
+            (λ f. (t : List ℕ) × IsString value.now t × RejectsSpecifier t f))) }
         // The error's message is the stated one.
-        ensures message { IfErr result (λ e. IfText e
-            (λ inner. IfSome (specifier_refusal_of (parse_kind_of inner))
-            (λ f. specifier_error_text (specifier_refusal_of (parse_kind_of inner)) ≡ Some (specifier_refusal_text f)))) }
+        ensures message { IfErr result (λ e. IfParserError e
+            (λ inner. IfSome (specifier_rejection_of (parse_kind_of inner))
+            (λ f. specifier_error_text (specifier_rejection_of (parse_kind_of inner)) ≡ Some (specifier_rejection_text f)))) }
         // The error of the string is returned, unless an allocation fails.
-        ensures decided { (t : List ℕ) (f : SpecifierRefusal) → IsString value.now t → RefusesSpecifier t f
-            → JsonAnswers (λ e. specifier_refusal_of (parse_kind_of e)) result (Err f) }
+        ensures decided { (t : List ℕ) (f : SpecifierRejection) → IsString value.now t → RejectsSpecifier t f
+            → ReturnsFromJson (λ e. specifier_rejection_of (parse_kind_of e)) result (Err f) }
         // The JSON form of what some string denotes round-trips, unless an allocation fails.
-        ensures again { (t : List ℕ) (s : Spec) → DerivesSpecifier t s → IsString value.now (spec_print s)
-            → JsonAnswers (λ e. specifier_refusal_of (parse_kind_of e)) result (Ok s) }
+        ensures again { (t : List ℕ) (s : Spec) → DerivesSpecifier t s → IsString value.now (print_spec s)
+            → ReturnsFromJson (λ e. specifier_rejection_of (parse_kind_of e)) result (Ok s) }
     {
         let text = expect_string::<VersionSpecifierParseError>(value)?;
         VersionSpecifier::from_str(alloc, text).map_err(from_specifier_error)
@@ -467,7 +467,7 @@ pub(crate) fn write_specifier<W: fmt::Write>(
     f: &mut fmt::Formatter<W>,
     specifier: &VersionSpecifier,
 ) -> fmt::Result
-    ensures { WritesStyledOnOk W.write_str_gives f.old result (spec_print specifier.now) f.new }
+    ensures { WritesStyledOnOk W.write_str_gives f.old result (print_spec specifier.now) f.new }
 {
     f.write_str(specifier.operator().as_str())?;
     fmt::Display::fmt(specifier.version(), f)?;
@@ -479,9 +479,9 @@ pub(crate) fn write_specifier<W: fmt::Write>(
 }
 
 impl fmt::Display for VersionSpecifier {
-    ghost output = { λ s. Some (spec_print s) };
+    ghost output = { λ s. Some (print_spec s) };
 
-    ghost styled_output = { λ s _. Some (spec_print s) };
+    ghost styled_output = { λ s _. Some (print_spec s) };
 
     fn fmt<W: fmt::Write>(&self, f: &mut fmt::Formatter<W>) -> fmt::Result {
         write_specifier(f, self)

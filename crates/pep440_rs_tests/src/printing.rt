@@ -1,6 +1,6 @@
 //! `Display` output and debug forms.
 ghost use Rattle.std.specs.Prelude.{Some, map};
-ghost use Rattle.pep440_version.specs.Print.{dotted, segment_print};
+ghost use Rattle.pep440_version.specs.Print.{dotted, print_segment};
 ghost use Rattle.pep440_version.specs.Segments.{segment};
 
 use pep440_version::{LocalSegment, min_version, write_local_segments};
@@ -29,9 +29,9 @@ struct LocalPart<'a> {
 }
 
 impl Display for LocalPart<'_> {
-    ghost output = { λ j. Some (dotted segment_print (map segment j.segments.now)) };
+    ghost output = { λ j. Some (dotted print_segment (map segment j.segments.now)) };
 
-    ghost styled_output = { λ j _. Some (dotted segment_print (map segment j.segments.now)) };
+    ghost styled_output = { λ j _. Some (dotted print_segment (map segment j.segments.now)) };
 
     fn fmt<W: fmt::Write>(&self, f: &mut fmt::Formatter<W>) -> fmt::Result {
         write_local_segments(f, self.segments)

@@ -80,7 +80,7 @@ pub fn literal_version(alloc: Global, text: &str) -> Result<String, CaseError> {
     }
 }
 
-/// What the call gives of the sets of two lists; `Unreadable` where it is none of these.
+/// What the call gives of the sets of two lists; `Unreadable` of any other call.
 pub fn of_two_sets(alloc: Global, call: &str, one: &str, other: &str) -> Result<String, CaseError> {
     let (one, other) = (set_argument(alloc, one)?, set_argument(alloc, other)?);
     match call {

@@ -16,7 +16,7 @@ use Rattle.pep440_rs.proofs.Agreement.VersionOrder.{by_parts, only_start, plain,
 use Rattle.pep440_rs.proofs.Covering.PublicParts.{unmarked}
 use Rattle.pep440_rs.specs.Bounds.{alone, full}
 use Rattle.pep440_version.specs.Key.{base_cmp, local_cmp, record_cmp, release_cmp, suffix_cmp}
-use Rattle.pep440_version.specs.KeyLaws.{record_total}
+use Rattle.pep440_version.specs.Key.KeyLaws.{record_total}
 use Rattle.pep440_version.specs.Record.{LocalSegmentValue, Record, from_parts}
 use Rattle.pep440_version.specs.declared.prerelease.Prerelease.{Prerelease}
 use Rattle.pep440_version.specs.declared.prerelease.PrereleaseKind.{PrereleaseKind}

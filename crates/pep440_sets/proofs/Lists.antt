@@ -8,7 +8,7 @@ use Rattle.pep440_ranges.specs.Intersection.{overlaps}
 use Rattle.pep440_ranges.specs.RangeSegments.{contains}
 use Rattle.pep440_rs.proofs.Intersecting.WholeLine.{kept}
 use Rattle.pep440_rs.specs.Bounds.{Segments, full}
-use Rattle.pep440_rs.specs.Conversions.{IsKept}
+use Rattle.pep440_rs.specs.Conversions.{IsUnchangedByFull}
 use Rattle.pep440_rs.specs.Cover.{IsCoverable, IsDenoted}
 use Rattle.pep440_rs.specs.LiteralMatching.{list_matches_literally, matches_literally}
 use Rattle.pep440_rs.specs.Specifiers.{Spec}
@@ -16,7 +16,7 @@ use Rattle.pep440_rs.specs.declared.specifier.operator.Operator.{Operator}
 use Rattle.pep440_rs.specs.declared.specifier.operator.Operator.TheVariants.{Equal, EqualStar, ExactEqual, NotEqual, NotEqualStar, TildeEqual, LessThan, LessThanEqual, GreaterThan, GreaterThanEqual}
 use Rattle.pep440_version.proofs.RoundTrip.PrintIsRead.{reread}
 use Rattle.pep440_version.specs.Key.{record_cmp}
-use Rattle.pep440_version.specs.KeyLaws.{record_total}
+use Rattle.pep440_version.specs.Key.KeyLaws.{record_total}
 use Rattle.pep440_version.specs.Print.{print}
 use Rattle.pep440_version.specs.Record.{Record}
 use Rattle.pep440_sets.proofs.Matches.{holds_matches, set_is_range}
@@ -110,9 +110,9 @@ first_is_none set e = ap version_in e
 
 -- ---- each member's set is a range
 
-pub ranges_kept : (members : List Spec) → All IsKept (map set_of_member members)
-ranges_kept members = All-from_recursion IsKept (map set_of_member members) (each members)
+pub ranges_kept : (members : List Spec) → All IsUnchangedByFull (map set_of_member members)
+ranges_kept members = All-from_recursion IsUnchangedByFull (map set_of_member members) (each members)
   where
-    each : (members : List Spec) → AllByRecursion IsKept (map set_of_member members)
+    each : (members : List Spec) → AllByRecursion IsUnchangedByFull (map set_of_member members)
     each [] = tt
     each (m ∷ members) = (kept (set_of_member m) (set_is_range m.operator m.version), each members)

@@ -16,9 +16,9 @@ use Rattle.std.specs.declared.cmp.Ordering.TheVariants.{Less, Equal, Greater}
 use Rattle.pep440_version.proofs.Words.Blocks.{is_below as nat_below, is_same}
 use Rattle.pep440_version.specs.Grammar.{is_numeral}
 use Rattle.pep440_version.specs.Key.{local_cmp, segment_cmp}
-use Rattle.pep440_version.specs.KeyLaws.{segment_total}
+use Rattle.pep440_version.specs.Key.KeyLaws.{segment_total}
 use Rattle.pep440_version.specs.Record.{LocalSegmentValue, Number, Record, SegmentFits, Text}
-use Rattle.pep440_version.specs.RoundTrip.{IsParsed, SegmentRereads, is_lower}
+use Rattle.pep440_version.specs.RoundTrip.{IsParsed, SegmentRoundTrips, is_lower}
 use Rattle.pep440_sets.specs.Witnesses.{low_string, string_after, with_low_segment}
 
 -- ---- strings
@@ -60,7 +60,7 @@ beside (suc k) (b ∷ t) le h =
     more e (zeros n z) = zeros (suc n) (λ i. e i ∷ z i)
     more e (above l) = above (ap (λ o. ordering_then o (slice_cmp nat_cmp (low_string k) t)) (is_same 48 b (sym e)) ∙ l)
 
-low_below : (k : ℕ) (t : List ℕ) → length t ≤ k → SegmentRereads (Text t) → slice_cmp nat_cmp (low_string k) t ≡ Less
+low_below : (k : ℕ) (t : List ℕ) → length t ≤ k → SegmentRoundTrips (Text t) → slice_cmp nat_cmp (low_string k) t ≡ Less
 low_below k t le h = by (beside k t le h.1)
   where
     by : Beside k t → slice_cmp nat_cmp (low_string k) t ≡ Less
@@ -81,11 +81,11 @@ then_less Less x y h f = refl
 then_less Equal x y h f = f h
 then_less Greater x y h f = absurd (cc)
 
-low_first : (x : LocalSegmentValue) (l : List LocalSegmentValue) (o : Ordering) → SegmentRereads x → ordering_then (segment_cmp (Text (low_string (string_after [] (x ∷ l)))) x) o ≡ Less
+low_first : (x : LocalSegmentValue) (l : List LocalSegmentValue) (o : Ordering) → SegmentRoundTrips x → ordering_then (segment_cmp (Text (low_string (string_after [] (x ∷ l)))) x) o ≡ Less
 low_first (Text t) l o h = ap (λ c. ordering_then c o) (low_below (length t) t (omega arith) h)
 low_first (Number n) l o h = refl
 
-pub low_local : (l m : List LocalSegmentValue) → AllByRecursion SegmentRereads m → local_cmp l m ≡ Less → local_cmp (l ++ Text (low_string (string_after l m)) ∷ []) m ≡ Less
+pub low_local : (l m : List LocalSegmentValue) → AllByRecursion SegmentRoundTrips m → local_cmp l m ≡ Less → local_cmp (l ++ Text (low_string (string_after l m)) ∷ []) m ≡ Less
 low_local [] [] a h = absurd (cc)
 low_local [] (x ∷ m) a h = low_first x m (slice_cmp segment_cmp [] m) a.0
 low_local (y ∷ l) [] a h = absurd (cc)
@@ -96,7 +96,7 @@ low_local (y ∷ l) (x ∷ m) a h = then_less (segment_cmp y x) (local_cmp l m) 
 one_fits : (k : ℕ) → AllByRecursion SegmentFits (Text (low_string k) ∷ [])
 one_fits k = (tt, tt)
 
-one_rereads : (k : ℕ) → AllByRecursion SegmentRereads (Text (low_string k) ∷ [])
+one_rereads : (k : ℕ) → AllByRecursion SegmentRoundTrips (Text (low_string k) ∷ [])
 one_rereads k = ((low_some k, low_lower k, ap (λ b. b && nat_lt (digits_value 10 (low_string k)) (2 ^ 64)) (low_no_numeral k)), tt)
 
 pub low_parsed : (v : Record) (k : ℕ) → IsParsed v → IsParsed (with_low_segment v k)
@@ -115,6 +115,6 @@ low_parsed v k p = record {
   round_trips = record {
     no_min = p.round_trips.no_min;
     no_max = p.round_trips.no_max;
-    local = All-append SegmentRereads v.local (Text (low_string k) ∷ []) p.round_trips.local (All-from_recursion SegmentRereads (Text (low_string k) ∷ []) (one_rereads k));
+    local = All-append SegmentRoundTrips v.local (Text (low_string k) ∷ []) p.round_trips.local (All-from_recursion SegmentRoundTrips (Text (low_string k) ∷ []) (one_rereads k));
   };
 }

@@ -21,7 +21,7 @@ use Rattle.pep440_rs.specs.declared.specifier.operator.Operator.{Operator}
 use Rattle.pep440_rs.specs.declared.specifier.operator.Operator.TheVariants.{Equal, EqualStar, ExactEqual, NotEqual, NotEqualStar, TildeEqual, LessThan, LessThanEqual, GreaterThan, GreaterThanEqual}
 use Rattle.pep440_version.proofs.RoundTrip.PrintIsRead.{derived_record}
 use Rattle.pep440_version.specs.Key.{record_cmp}
-use Rattle.pep440_version.specs.KeyLaws.{record_total}
+use Rattle.pep440_version.specs.Key.KeyLaws.{record_total}
 use Rattle.pep440_version.specs.Record.{Fits, IsRecord, LocalSegmentValue, Record, epoch_and_release, from_parts}
 use Rattle.pep440_sets.proofs.AfterParts.{HasSuffixesThatFit}
 use Rattle.pep440_sets.proofs.Exclusive.{greater_holds, less_holds}

@@ -9,7 +9,7 @@ use Rattle.pep440_rs.proofs.Agreement.Prefix.{some_is}
 use Rattle.pep440_rs.specs.Bounds.{next_number}
 use Rattle.pep440_version.proofs.RoundTrip.PrintIsRead.{none_all}
 use Rattle.pep440_version.specs.Record.{Fits, Record, SegmentFits, from_parts}
-use Rattle.pep440_version.specs.RoundTrip.{IsParsed, SegmentRereads}
+use Rattle.pep440_version.specs.RoundTrip.{IsParsed, SegmentRoundTrips}
 use Rattle.pep440_version.specs.declared.prerelease.Prerelease.{Prerelease}
 use Rattle.pep440_version.specs.declared.prerelease.PrereleaseKind.{PrereleaseKind}
 use Rattle.pep440_version.specs.declared.prerelease.PrereleaseKind.TheVariants.{Alpha, Beta, Rc}
@@ -53,7 +53,7 @@ pub record HasParts (e : ℕ) (r : List ℕ) : Type 0 where
 pub parts_parsed : (e : ℕ) (r : List ℕ) (pre : Option Prerelease) (post dev : Option ℕ) → HasParts e r → IfSome pre (λ p. Fits p.number) → IfSome post Fits → IfSome dev Fits → IsParsed (from_parts e r pre post dev [])
 parts_parsed e r pre post dev h p q d = record {
   valid = record { epoch = h.epoch; some = h.some; release = h.release; pre = p; post = q; dev = d; local = none_all SegmentFits; min = tt; max = tt };
-  round_trips = record { no_min = refl; no_max = refl; local = none_all SegmentRereads };
+  round_trips = record { no_min = refl; no_max = refl; local = none_all SegmentRoundTrips };
 }
 
 -- a version, or the place above post-releases

@@ -25,7 +25,7 @@ use Rattle.pep440_rs.specs.declared.specifier.operator.Operator.{Operator}
 use Rattle.pep440_rs.specs.declared.specifier.operator.Operator.TheVariants.{Equal, EqualStar, ExactEqual, NotEqual, NotEqualStar, TildeEqual, LessThan, LessThanEqual, GreaterThan, GreaterThanEqual}
 use Rattle.pep440_version.proofs.RoundTrip.PrintIsRead.{derived_record, derived_rereads}
 use Rattle.pep440_version.specs.Key.{base_cmp, local_cmp, record_cmp, suffix_cmp}
-use Rattle.pep440_version.specs.KeyLaws.{record_total}
+use Rattle.pep440_version.specs.Key.KeyLaws.{record_total}
 use Rattle.pep440_version.specs.Record.{Fits, IsRecord, LocalSegmentValue, Record}
 use Rattle.pep440_sets.proofs.Intervals.{alone_is_range, from_is_range, not_below_least}
 use Rattle.pep440_sets.proofs.Parsed.{HasParts, IsPlace, after_place, parts_parsed, posts_place, prefix_parsed}

@@ -17,9 +17,9 @@ use Rattle.pep440_rs.proofs.Agreement.VersionOrder.{by_parts, turn_le, turn_lt}
 use Rattle.pep440_rs.proofs.Covering.PublicParts.{unmarked}
 use Rattle.pep440_rs.specs.Bounds.{Segments}
 use Rattle.pep440_version.specs.Key.{Final, NoDev, PostTop, Pre, base_cmp, dev_cmp, dev_of, dev_rank, key, local_cmp, post_cmp, post_of, post_rank, rank_cmp, record_cmp, release_cmp, stage_cmp, stage_of, stage_rank, suffix_cmp}
-use Rattle.pep440_version.specs.KeyLaws.{record_total, release_total}
+use Rattle.pep440_version.specs.Key.KeyLaws.{record_total, release_total}
 use Rattle.pep440_version.specs.Record.{Fits, Record, Text, epoch_and_release, from_parts}
-use Rattle.pep440_version.specs.RoundTrip.{IsParsed, SegmentRereads}
+use Rattle.pep440_version.specs.RoundTrip.{IsParsed, SegmentRoundTrips}
 use Rattle.pep440_version.specs.declared.prerelease.Prerelease.{Prerelease}
 use Rattle.pep440_version.specs.declared.prerelease.PrereleaseKind.{PrereleaseKind}
 use Rattle.pep440_version.specs.declared.prerelease.PrereleaseKind.TheVariants.{Alpha, Beta, Rc}
@@ -248,7 +248,7 @@ segment_above v k = ap is_lt (by_parts v (with_low_segment v k) ∙ parts (base_
     parts B S b s l = rw (b, s) l
 
 -- and below what is above
-segment_below : (v w : Record) → AllByRecursion SegmentRereads w.local → is_lt (record_cmp v w) ≡ true → is_lt (record_cmp (with_low_segment v (string_after v.local w.local)) w) ≡ true
+segment_below : (v w : Record) → AllByRecursion SegmentRoundTrips w.local → is_lt (record_cmp v w) ≡ true → is_lt (record_cmp (with_low_segment v (string_after v.local w.local)) w) ≡ true
 segment_below v w a h =
     let low = with_low_segment v (string_after v.local w.local) in
     ap is_lt (by_parts low w ∙ then_less (base_cmp v w) _ _ (sym (by_parts v w) ∙ is_less (record_cmp v w) h) (λ k. then_less (suffix_cmp v w) _ _ k (low_local v.local w.local a)))
@@ -266,9 +266,9 @@ from_local v (Excluded w) p h k = record {
   inside = both_true _ _ (segment_above v (string_after v.local w.local)) (segment_below v w (rereads h) k);
 }
   where
-    rereads : IsBelowVersion w → AllByRecursion SegmentRereads w.local
-    rereads (inl h) = recursion_from_All SegmentRereads w.local h.parsed.round_trips.local
-    rereads (inr h) = subst (λ x. AllByRecursion SegmentRereads x.local) (sym h.same) tt
+    rereads : IsBelowVersion w → AllByRecursion SegmentRoundTrips w.local
+    rereads (inl h) = recursion_from_All SegmentRoundTrips w.local h.parsed.round_trips.local
+    rereads (inr h) = subst (λ x. AllByRecursion SegmentRoundTrips x.local) (sym h.same) tt
 
 -- ---- any interval
 

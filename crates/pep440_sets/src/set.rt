@@ -142,7 +142,7 @@ impl VersionSet {
     }
 
     /// A version of the set, or `None` if there is none: the least, unless the set begins just above a version with a local part or above
-    /// all post-releases of a release, where there is none that is least.
+    /// all post-releases of a release: then none is least.
     ///
     /// Allocates.
     pub fn find_version(&self, alloc: Global) -> Result<Option<Version>, AllocError>

@@ -18,8 +18,8 @@ use Rattle.pep440_rs.specs.Specifiers.{Spec}
 use Rattle.pep440_version.specs.Key.{record_cmp}
 use Rattle.pep440_version.specs.Print.{print}
 use Rattle.pep440_version.specs.Record.{Record}
-use Rattle.pep440_tool.specs.Lines.{LineMeans, ShowsContained, numbered_lines}
-use Rattle.pep440_tool.specs.Picks.{CandidateMeans, PickAnswer}
+use Rattle.pep440_tool.specs.Lines.{LineDenotes, ShowsContained, numbered_lines}
+use Rattle.pep440_tool.specs.Picks.{CandidateDenotes, PickAnswer}
 use Rattle.pep440_tool.specs.Texts.{line}
 use Rattle.pep440_version.proofs.ChangeWords.Items.{rest_is}
 use Rattle.pep440_tool.specs.Answers.{RejectsFirst, ToolAnswer, shown}
@@ -99,7 +99,7 @@ lists_append name xs x = ap (map (λ (n : Needed). n.specifiers)) (filter-append
 
 -- the newest is shown by its place
 pub picked : (name : List ℕ) (texts : List (List ℕ)) (input : List ℕ) (versions given : List Record) (lists held : List (List Spec)) (position : ℕ) (v : Record) (t : List ℕ) (a : ToolAnswer)
-    → is_name name ≡ true → AllZip CandidateMeans (enumerate_from 1 texts) versions → (found : List Needed) × AllZip (LineMeans DerivesRequirement) (numbered_lines input) found × (lists ≡ lists_of name found)
+    → is_name name ≡ true → AllZip CandidateDenotes (enumerate_from 1 texts) versions → (found : List Needed) × AllZip (LineDenotes DerivesRequirement) (numbered_lines input) found × (lists ≡ lists_of name found)
     → held ≡ lists → given ≡ versions → Newest held given (Some position) → position < length given → v ≡ get_or versions position v → t ≡ print v → a ≡ shown t → PickAnswer name texts input a
 picked name texts input versions given lists held position v t a valid_name means k held_is given_is newest inside is text is_answer =
     let within : position < length versions = subst (λ (g : List Record). position < length g) given_is inside in

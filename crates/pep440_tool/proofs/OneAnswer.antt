@@ -2,43 +2,43 @@
 use Rattle.std.proofs.Common.{◌≡◌, inl, inr, ℕ, ◌∙◌, List, [], ◌∷◌, ◌++◌, map, Option, Some, refl, sym, ap, subst}
 use Rattle.std.proofs.lemmas.Bool.{both_ways}
 use Rattle.std.specs.List.{AllZip, filter}
-use Rattle.pep440_version.specs.ChangeWords.{change_of}
+use Rattle.pep440_version.specs.Changes.ChangeWords.{change_of}
 use Rattle.pep440_pick.proofs.Once.{not_both_requirement, one_newest, one_requirement}
 use Rattle.pep440_pick.proofs.Once as pick
 use Rattle.pep440_pick.specs.Allowed.{lists_of}
 use Rattle.pep440_pick.specs.Names.{is_name}
-use Rattle.pep440_pick.specs.RequirementGrammar.{DerivesRequirement, Needed, RefusesRequirement}
-use Rattle.pep440_rs.specs.ListErrorTexts.{list_refusal_text}
-use Rattle.pep440_rs.specs.ListGrammar.{PieceRefusal}
+use Rattle.pep440_pick.specs.RequirementGrammar.{DerivesRequirement, Needed, RejectsRequirement}
+use Rattle.pep440_rs.specs.Lists.ListErrorTexts.{list_rejection_text}
+use Rattle.pep440_rs.specs.Lists.ListGrammar.{PieceRejection}
 use Rattle.pep440_rs.specs.Matching.{list_matches}
 use Rattle.pep440_rs.specs.Specifiers.{Spec}
 use Rattle.pep440_rs.proofs.Arranging.Arranged.{one_arrangement_by}
 use Rattle.pep440_rs.proofs.Reading.OneMeaning.{not_both_list, one_list, one_list_refusal}
 use Rattle.pep440_version.specs.Changes.{Edit}
-use Rattle.pep440_version.specs.ErrorTexts.{refusal_text}
+use Rattle.pep440_version.specs.ErrorTexts.{rejection_text}
 use Rattle.pep440_version.specs.Grammar.{Derives}
 use Rattle.pep440_version.specs.Print.{print}
 use Rattle.pep440_version.specs.Record.{Record}
-use Rattle.pep440_version.specs.Refusals.{Refusal, Refuses}
+use Rattle.pep440_version.specs.Rejections.{Rejection, Rejects}
 use Rattle.pep440_version.proofs.Reading.Agreement.{one_record}
-use Rattle.pep440_version.proofs.Refusals.ExactlyOne.{not_both, one_refusal}
-use Rattle.pep440_tool.specs.Answers.{AsksChange, ReadsVersion, ReadsEach, ReadsList, RejectsChange, ToolAnswer, candidate_fault_text, refused, refused_list, shown, shown_lines}
+use Rattle.pep440_version.proofs.Rejections.ExactlyOne.{not_both, one_refusal}
+use Rattle.pep440_tool.specs.Answers.{DenotesChange, ReadsVersion, ReadsEach, ReadsList, RejectsChange, ToolAnswer, candidate_fault_text, shown_error, shown_list_error, shown, shown_lines}
 use Rattle.pep440_tool.specs.Commands.{Show, Compare, Match, Edit as AskEdit, Range, Filter, Pick, Usage}
-use Rattle.pep440_tool.specs.Lines.{LineMeans, RejectsLine, ShowsContained, numbered_lines, refused_version}
-use Rattle.pep440_tool.specs.OneAnswer.{AnswersOnce}
-use Rattle.pep440_tool.specs.Picks.{CandidateMeans, PickAnswer, RejectsCandidate, ShowsNewest, newest_text, refused_requirement}
+use Rattle.pep440_tool.specs.Lines.{LineDenotes, RejectsLine, ShowsContained, numbered_lines, shown_version_error}
+use Rattle.pep440_tool.specs.OneAnswer.{AnswerIsUnique}
+use Rattle.pep440_tool.specs.Picks.{CandidateDenotes, PickAnswer, RejectsCandidate, ShowsNewest, newest_text, shown_requirement_error}
 
 reads_once : (word : List ℕ) (P Q : Record → Type 0) (a b : ToolAnswer) → ((r : Record) → P r → Q r → a ≡ b) → ReadsVersion word P a → ReadsVersion word Q b → a ≡ b
 reads_once word P Q a b same (inl (r, d, p)) (inl (q, e, u)) = same r p (subst Q (one_record word q r e d) u)
 reads_once word P Q a b same (inl (r, d, p)) (inr (f, e, is)) = absurd (not_both word r f d e)
 reads_once word P Q a b same (inr (f, d, is)) (inl (r, e, p)) = absurd (not_both word r f e d)
-reads_once word P Q a b same (inr (f, d, is)) (inr (g, e, so)) = is ∙ ap (λ (x : Refusal). refused (refusal_text x)) (one_refusal word f g d e) ∙ sym so
+reads_once word P Q a b same (inr (f, d, is)) (inr (g, e, so)) = is ∙ ap (λ (x : Rejection). shown_error (rejection_text x)) (one_refusal word f g d e) ∙ sym so
 
 reads_list_once : (word : List ℕ) (P Q : List Spec → Type 0) (a b : ToolAnswer) → ((l : List Spec) → P l → Q l → a ≡ b) → ReadsList word P a → ReadsList word Q b → a ≡ b
 reads_list_once word P Q a b same (inl (l, d, p)) (inl (m, e, u)) = same l p (subst Q (one_list word m l e d) u)
 reads_list_once word P Q a b same (inl (l, d, p)) (inr (f, e, is)) = absurd (not_both_list word l f d e)
 reads_list_once word P Q a b same (inr (f, d, is)) (inl (l, e, p)) = absurd (not_both_list word l f e d)
-reads_list_once word P Q a b same (inr (f, d, is)) (inr (g, e, so)) = is ∙ ap (λ (x : PieceRefusal). refused_list (list_refusal_text x word)) (one_list_refusal word f g d e) ∙ sym so
+reads_list_once word P Q a b same (inr (f, d, is)) (inr (g, e, so)) = is ∙ ap (λ (x : PieceRejection). shown_list_error (list_rejection_text x word)) (one_list_refusal word f g d e) ∙ sym so
 
 -- ---- texts that mean something, one after another
 
@@ -95,21 +95,21 @@ module _ {A : Type 0} (Means : ℕ × List ℕ → A → Type 0) (R : ℕ × Lis
 some_same : (x y : Edit) (o : Option Edit) → o ≡ Some x → o ≡ Some y → x ≡ y
 some_same x y o e f = cc (e, f)
 
-change_once : (word : ℕ × List ℕ) (x y : Edit) → AsksChange word x → AsksChange word y → x ≡ y
+change_once : (word : ℕ × List ℕ) (x y : Edit) → DenotesChange word x → DenotesChange word y → x ≡ y
 change_once word x y h g = some_same x y (change_of word.1) h g
 
 change_rejected_once : (word : ℕ × List ℕ) (a b : ToolAnswer) → RejectsChange word a → RejectsChange word b → a ≡ b
 change_rejected_once word a b h g = h.1 ∙ sym g.1
 
-change_apart : (word : ℕ × List ℕ) (x : Edit) (a : ToolAnswer) → AsksChange word x → RejectsChange word a → ⊥
+change_apart : (word : ℕ × List ℕ) (x : Edit) (a : ToolAnswer) → DenotesChange word x → RejectsChange word a → ⊥
 change_apart word x a h g = let none = g.0 in cc (h, none)
 
 -- ---- candidates
 
 candidate_rejected_once : (t : ℕ × List ℕ) (a b : ToolAnswer) → RejectsCandidate t a → RejectsCandidate t b → a ≡ b
-candidate_rejected_once t a b (f, d, is) (g, e, so) = is ∙ ap (λ x. refused (candidate_fault_text t.0 (refusal_text x))) (one_refusal t.1 f g d e) ∙ sym so
+candidate_rejected_once t a b (f, d, is) (g, e, so) = is ∙ ap (λ x. shown_error (candidate_fault_text t.0 (rejection_text x))) (one_refusal t.1 f g d e) ∙ sym so
 
-candidate_apart : (t : ℕ × List ℕ) (r : Record) (a : ToolAnswer) → CandidateMeans t r → RejectsCandidate t a → ⊥
+candidate_apart : (t : ℕ × List ℕ) (r : Record) (a : ToolAnswer) → CandidateDenotes t r → RejectsCandidate t a → ⊥
 candidate_apart t r a d (f, e, is) = not_both t.1 r f d e
 
 -- ---- lines
@@ -122,7 +122,7 @@ module _ {A F : Type 0} (Means : List ℕ → A → Type 0) (Refuse : List ℕ �
   line_rejected_once t a b (inr (utf8, x)) (inl y) = absurd (y.0 utf8)
   line_rejected_once t a b (inr (utf8, (f, d, is))) (inr (again, (g, e, so))) = is ∙ ap (answer_at t.0) (one_refused t.1 f g d e) ∙ sym so
 
-  line_apart : (t : ℕ × List ℕ) (x : A) (a : ToolAnswer) → LineMeans Means t x → RejectsLine Refuse answer_at t a → ⊥
+  line_apart : (t : ℕ × List ℕ) (x : A) (a : ToolAnswer) → LineDenotes Means t x → RejectsLine Refuse answer_at t a → ⊥
   line_apart t x a h (inl other) = other.0 h.0
   line_apart t x a h (inr (utf8, (f, d, is))) = never_both t.1 x f h.1 d
 
@@ -139,20 +139,20 @@ pick_once name texts input a b (inl h) (inl g) = h.1 ∙ sym g.1
 pick_once name texts input a b (inl h) (inr g) = absurd (both_ways (is_name name) h.0 g.0)
 pick_once name texts input a b (inr h) (inl g) = absurd (both_ways (is_name name) g.0 h.0)
 pick_once name texts input a b (inr h) (inr g) =
-    each_once CandidateMeans RejectsCandidate (λ t x y. one_record t.1 x y) candidate_rejected_once candidate_apart _ _ _ a b
-    (λ candidates p q. each_once (LineMeans DerivesRequirement) (RejectsLine RefusesRequirement refused_requirement) (λ t x y k l. one_requirement t.1 x y k.1 l.1)
-    (line_rejected_once DerivesRequirement RefusesRequirement refused_requirement pick.one_refusal not_both_requirement) (line_apart DerivesRequirement RefusesRequirement refused_requirement pick.one_refusal not_both_requirement)
+    each_once CandidateDenotes RejectsCandidate (λ t x y. one_record t.1 x y) candidate_rejected_once candidate_apart _ _ _ a b
+    (λ candidates p q. each_once (LineDenotes DerivesRequirement) (RejectsLine RejectsRequirement shown_requirement_error) (λ t x y k l. one_requirement t.1 x y k.1 l.1)
+    (line_rejected_once DerivesRequirement RejectsRequirement shown_requirement_error pick.one_refusal not_both_requirement) (line_apart DerivesRequirement RejectsRequirement shown_requirement_error pick.one_refusal not_both_requirement)
     (numbered_lines input) _ _ a b (λ found x y. newest_once name candidates found a b x y) p q) h.1 g.1
 
-pub answers_once : AnswersOnce
+pub answers_once : AnswerIsUnique
 answers_once (Show v) input a b = reads_once v _ _ a b (λ r p q. p ∙ sym q)
 answers_once (Compare v w) input a b = reads_once v _ _ a b (λ r p q. reads_once w _ _ a b (λ s x y. x ∙ sym y) p q)
 answers_once (Match list v) input a b = reads_list_once list _ _ a b (λ l p q. reads_once v _ _ a b (λ r x y. x ∙ sym y) p q)
 answers_once (AskEdit v changes) input a b =
-    reads_once v _ _ a b (λ r p q. each_once AsksChange RejectsChange change_once change_rejected_once change_apart _ _ _ a b (λ edits x y. x ∙ sym y) p q)
+    reads_once v _ _ a b (λ r p q. each_once DenotesChange RejectsChange change_once change_rejected_once change_apart _ _ _ a b (λ edits x y. x ∙ sym y) p q)
 answers_once (Range list) input a b = reads_list_once list _ _ a b (λ l p q. p ∙ sym q)
 answers_once (Filter list) input a b =
-    reads_list_once list _ _ a b (λ l p q. each_once (LineMeans Derives) (RejectsLine Refuses refused_version) (λ t x y h g. one_record t.1 x y h.1 g.1) (line_rejected_once Derives Refuses refused_version one_refusal not_both)
-    (line_apart Derives Refuses refused_version one_refusal not_both) (numbered_lines input) _ _ a b (λ found x y. contained_once l found a b x y) p q)
+    reads_list_once list _ _ a b (λ l p q. each_once (LineDenotes Derives) (RejectsLine Rejects shown_version_error) (λ t x y h g. one_record t.1 x y h.1 g.1) (line_rejected_once Derives Rejects shown_version_error one_refusal not_both)
+    (line_apart Derives Rejects shown_version_error one_refusal not_both) (numbered_lines input) _ _ a b (λ found x y. contained_once l found a b x y) p q)
 answers_once (Pick name texts) input a b = pick_once name texts input a b
 answers_once Usage input a b = λ p q. p ∙ sym q

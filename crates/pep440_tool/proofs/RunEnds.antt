@@ -6,7 +6,7 @@ use Rattle.cli_io.proofs.Bytes.{WroteBeginning-none}
 use Rattle.cli_io.specs.Runs.{AtOnce, Nothing}
 use Rattle.cli_io.specs.Streams.{WroteBeginning}
 use Rattle.pep440_tool.specs.Answers.{ToolAnswer}
-use Rattle.pep440_tool.specs.Commands.{IsAnswer, asked, reads_input}
+use Rattle.pep440_tool.specs.Commands.{IsAnswer, request_of_words, reads_input}
 use Rattle.pep440_tool.specs.Runs.{RunEnds, TookInput}
 use Rattle.pep440_tool.specs.Texts.{memory_text}
 
@@ -15,7 +15,7 @@ module _ {R W : Type 0} (remaining : R → Option (List ℕ)) (contents : W → 
   pub ends_refused : (status ≡ 3) ⊎ (status ≡ 4) → WroteBeginning (contents writer) (contents writer') memory_text → RunEnds remaining contents words reader reader' writer writer' status
   ends_refused known wrote = (writer, inr (record { begun = Nothing; message = memory_text; why = (known, refl); begins = (refl, wrote) }))
 
-  module _ (input : List ℕ) (took : TookInput remaining (reads_input (asked words)) reader reader' input) (a : ToolAnswer) (is : IsAnswer (asked words) input a) where
+  module _ (input : List ℕ) (took : TookInput remaining (reads_input (request_of_words words)) reader reader' input) (a : ToolAnswer) (is : IsAnswer (request_of_words words) input a) where
     pub ends_answered : status ≡ a.status → status ≤ 2 → Appends (contents writer) (contents writer') a.output → RunEnds remaining contents words reader reader' writer writer' status
     ends_answered ended low wrote = (
       writer',

@@ -6,13 +6,13 @@ use Rattle.cli_io.specs.Newlines.{input_lines}
 use Rattle.pep440_rs.specs.Arrangement.{ArrangesBy}
 use Rattle.pep440_rs.specs.Matching.{list_matches}
 use Rattle.pep440_rs.specs.Specifiers.{Spec}
-use Rattle.pep440_version.specs.ErrorTexts.{refusal_text}
+use Rattle.pep440_version.specs.ErrorTexts.{rejection_text}
 use Rattle.pep440_version.specs.Grammar.{Derives}
 use Rattle.pep440_version.specs.Key.{record_cmp}
 use Rattle.pep440_version.specs.Print.{print}
 use Rattle.pep440_version.specs.Record.{Record}
-use Rattle.pep440_version.specs.Refusals.{Refusal, Refuses}
-use Rattle.pep440_tool.specs.Answers.{ReadsEach, ReadsList, ToolAnswer, line_fault_text, refused, shown_lines}
+use Rattle.pep440_version.specs.Rejections.{Rejection, Rejects}
+use Rattle.pep440_tool.specs.Answers.{ReadsEach, ReadsList, ToolAnswer, line_fault_text, shown_error, shown_lines}
 
 -- ---- lines
 
@@ -35,19 +35,19 @@ numbered_lines input = numbered_from 1 (input_lines input)
 -- ---- lines that denote something, or are rejected
 
 -- the line is UTF-8 and denotes this value
-abbrev pub LineMeans : {A : Type 0} → (List ℕ → A → Type 0) → ℕ × List ℕ → A → Type 0
-LineMeans Means line x = IsUtf8 line.1 × Means line.1 x
+abbrev pub LineDenotes : {A : Type 0} → (List ℕ → A → Type 0) → ℕ × List ℕ → A → Type 0
+LineDenotes Denotes line x = IsUtf8 line.1 × Denotes line.1 x
 
 -- the answer is the error of a line: not UTF-8, or the reason for which it denotes nothing, with its number
 abbrev pub RejectsLine : {F : Type 0} → (List ℕ → F → Type 0) → (ℕ → F → ToolAnswer) → ℕ × List ℕ → ToolAnswer → Type 0
-RejectsLine {F} Refuses answer_at line a = ((¬ IsUtf8 line.1) × (a ≡ refused (line_fault_text line.0 (codes "not UTF-8"))))
-    ⊎ (IsUtf8 line.1 × ((f : F) × Refuses line.1 f × (a ≡ answer_at line.0 f)))
+RejectsLine {F} Rejects answer_at line a = ((¬ IsUtf8 line.1) × (a ≡ shown_error (line_fault_text line.0 (codes "not UTF-8"))))
+    ⊎ (IsUtf8 line.1 × ((f : F) × Rejects line.1 f × (a ≡ answer_at line.0 f)))
 
 -- ---- versions
 
 -- the error of a line that is no version
-abbrev pub refused_version : ℕ → Refusal → ToolAnswer
-refused_version number f = refused (line_fault_text number (refusal_text f))
+abbrev pub shown_version_error : ℕ → Rejection → ToolAnswer
+shown_version_error number f = shown_error (line_fault_text number (rejection_text f))
 
 -- the answer has the versions that the list contains, a line each, in ascending order
 abbrev pub ShowsContained : List Spec → List Record → ToolAnswer → Type 0
@@ -56,4 +56,4 @@ ShowsContained list found a = (shown : List Record) × ArrangesBy record_cmp (fi
 -- `filter SPECS`: SPECS is parsed, and then the lines of the input
 abbrev pub FilterAnswer : List ℕ → List ℕ → ToolAnswer → Type 0
 FilterAnswer specifiers input a =
-    ReadsList specifiers (λ list. ReadsEach (LineMeans Derives) (RejectsLine Refuses refused_version) (numbered_lines input) (λ found. ShowsContained list found a) a) a
+    ReadsList specifiers (λ list. ReadsEach (LineDenotes Derives) (RejectsLine Rejects shown_version_error) (numbered_lines input) (λ found. ShowsContained list found a) a) a

@@ -1,9 +1,9 @@
 -- How a run of the program may end. `remaining` are the bytes that the reader has left, `contents` those that the writer holds.
 use Rattle.std.specs.Prelude.{◌≡◌, ℕ, ◌⊎◌, Bool, true, false, List, [], Option}
 use Rattle.std.specs.Io.KnownBytes.{Consumes, IsAtEnd}
-use Rattle.cli_io.specs.Runs.{AtOnce, Begun, Ends, InParts, Nothing, Outcome}
+use Rattle.cli_io.specs.Runs.{AtOnce, OutputProgress, Ends, InParts, Nothing, Outcome}
 use Rattle.pep440_tool.specs.Answers.{ToolAnswer}
-use Rattle.pep440_tool.specs.Commands.{IsAnswer, asked, reads_input}
+use Rattle.pep440_tool.specs.Commands.{IsAnswer, request_of_words, reads_input}
 use Rattle.pep440_tool.specs.Texts.{memory_text}
 
 module _ {R : Type 0} (remaining : R → Option (List ℕ)) where
@@ -13,20 +13,20 @@ module _ {R : Type 0} (remaining : R → Option (List ℕ)) where
   TookInput false old new input = (input ≡ []) × (new ≡ old)
 
   -- the answer, once the input was read
-  pub record GivesAnswer (words : List (List ℕ)) (reader reader' : R) (o : Outcome) : Type 0 where
+  pub record PrintsAnswer (words : List (List ℕ)) (reader reader' : R) (o : Outcome) : Type 0 where
     pub input : List ℕ
-    pub took : TookInput (reads_input (asked words)) reader reader' input
+    pub took : TookInput (reads_input (request_of_words words)) reader reader' input
     pub answer : ToolAnswer
-    pub is : IsAnswer (asked words) input answer
+    pub is : IsAnswer (request_of_words words) input answer
     pub outcome : o ≡ record { output = answer.output; errors = []; status = answer.status }
 
   -- an allocation failed, or with 4 a read, before there was an answer; or a write of the answer failed
-  abbrev pub Stops : List (List ℕ) → R → R → Begun → ℕ → List ℕ → Type 0
-  Stops words reader reader' Nothing status message = ((status ≡ 3) ⊎ (status ≡ 4)) × (message ≡ memory_text)
-  Stops words reader reader' (AtOnce o) status message = (status ≡ 4) × (message ≡ []) × GivesAnswer words reader reader' o
-  Stops words reader reader' (InParts o) status message = ⊥
+  abbrev pub RunFails : List (List ℕ) → R → R → OutputProgress → ℕ → List ℕ → Type 0
+  RunFails words reader reader' Nothing status message = ((status ≡ 3) ⊎ (status ≡ 4)) × (message ≡ memory_text)
+  RunFails words reader reader' (AtOnce o) status message = (status ≡ 4) × (message ≡ []) × PrintsAnswer words reader reader' o
+  RunFails words reader reader' (InParts o) status message = ⊥
 
 module _ {R W : Type 0} (remaining : R → Option (List ℕ)) (contents : W → Option (List ℕ)) where
   -- the one writer takes the output, and then the message
   abbrev pub RunEnds : List (List ℕ) → R → R → W → W → ℕ → Type 0
-  RunEnds words reader reader' writer writer' status = (middle : W) × Ends contents contents (GivesAnswer remaining words reader reader') (Stops remaining words reader reader') writer middle middle writer' status
+  RunEnds words reader reader' writer writer' status = (middle : W) × Ends contents contents (PrintsAnswer remaining words reader reader') (RunFails remaining words reader reader') writer middle middle writer' status

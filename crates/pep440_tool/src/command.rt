@@ -1,7 +1,7 @@
-// The command that words ask for, and what it prints.
+//! The command that words ask for, and what it prints.
 ghost use Rattle.std.specs.Prelude.{◌≡◌, ◌≤◌, ◌==◌, map, string_bytes, IfOk};
-ghost use Rattle.pep440_tool.specs.Commands.{IsAnswer, asked, asked_by, reads_input};
-ghost use Rattle.pep440_tool.specs.AnswerValues.{Answered, request, answer_value};
+ghost use Rattle.pep440_tool.specs.Commands.{IsAnswer, request_of_words, request_by_name, reads_input};
+ghost use Rattle.pep440_tool.specs.AnswerValues.{HoldsOfAnswer, request, answer_value};
 
 use crate::compare::compare;
 use crate::edit::edit;
@@ -30,7 +30,7 @@ pub enum Command<'a> {
 
 // The command with this name, and the words after it.
 fn parse_named<'a>(command: &str, words: &'a [String]) -> Command<'a>
-    ensures { request result ≡ asked_by command.now (map string_bytes words.now) }
+    ensures { request result ≡ request_by_name command.now (map string_bytes words.now) }
 {
     match command {
         "show" => match words {
@@ -70,7 +70,7 @@ fn parse_named<'a>(command: &str, words: &'a [String]) -> Command<'a>
 impl<'a> Command<'a> {
     // The command that the words ask for.
     pub(crate) fn parse(words: &'a [String]) -> Command<'a>
-        ensures { request result ≡ asked (map string_bytes words.now) }
+        ensures { request result ≡ request_of_words (map string_bytes words.now) }
     {
         match words {
             [name, rest @ ..] => parse_named(name.as_str(), rest),
@@ -87,7 +87,7 @@ impl<'a> Command<'a> {
 
     // What it prints for its input, or why it prints no result.
     fn run(self, alloc: Global, input: &[u8]) -> Result<Answer, CommandError>
-        ensures { Answered (IsAnswer (request self.entry) input.now) result }
+        ensures { HoldsOfAnswer (IsAnswer (request self.entry) input.now) result }
     {
         match self {
             Command::Show(version) => show_version(alloc, version),
@@ -118,7 +118,7 @@ impl<'a> Command<'a> {
 ///
 /// Allocates; `AllocError` only if that fails.
 pub fn answer(alloc: Global, words: &[String], input: &[u8]) -> Result<Answer, AllocError>
-    ensures answer { IfOk result (λ a. IsAnswer (asked (map string_bytes words.now)) input.now (answer_value a)) }
+    ensures answer { IfOk result (λ a. IsAnswer (request_of_words (map string_bytes words.now)) input.now (answer_value a)) }
     ensures known { IfOk result (λ a. a.status ≤ 2) }
 {
     Command::parse(words).answer(alloc, input)

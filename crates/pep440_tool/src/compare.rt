@@ -1,7 +1,7 @@
-// The command `compare`.
+//! The command `compare`.
 ghost use Rattle.std.specs.Prelude.{◌≡◌};
 ghost use Rattle.pep440_tool.specs.Answers.{CompareAnswer, sign_of};
-ghost use Rattle.pep440_tool.specs.AnswerValues.{Answered};
+ghost use Rattle.pep440_tool.specs.AnswerValues.{HoldsOfAnswer};
 
 use crate::error::CommandError;
 use crate::operands::parse_version;
@@ -22,7 +22,7 @@ fn sign_of(order: Ordering) -> &'static str
 
 // `compare A B`: how A compares with B.
 pub(crate) fn compare(alloc: Global, left: &str, right: &str) -> Result<Answer, CommandError>
-    ensures { Answered (CompareAnswer left.now right.now) result }
+    ensures { HoldsOfAnswer (CompareAnswer left.now right.now) result }
 {
     let first = parse_version(alloc, left)?;
     let second = parse_version(alloc, right)?;

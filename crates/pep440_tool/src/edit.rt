@@ -1,9 +1,9 @@
-// The command `edit`.
+//! The command `edit`.
 ghost use Rattle.std.specs.Prelude.{◌≡◌, map, string_bytes};
 ghost use Rattle.std.specs.List.{AllZip, enumerate_from};
-ghost use Rattle.pep440_tool.specs.Answers.{AsksChange, EditAnswer, RejectsChange, RejectsFirst, edited_answer};
-ghost use Rattle.pep440_tool.specs.CommandErrors.{HoldsOrStops};
-ghost use Rattle.pep440_tool.specs.AnswerValues.{Answered};
+ghost use Rattle.pep440_tool.specs.Answers.{DenotesChange, EditAnswer, RejectsChange, RejectsFirst, edited_answer};
+ghost use Rattle.pep440_tool.specs.CommandErrors.{HoldsOrPrints};
+ghost use Rattle.pep440_tool.specs.AnswerValues.{HoldsOfAnswer};
 ghost use Rattle.pep440_version.specs.Changes.{apply_edits, edit};
 
 use crate::error::CommandError;
@@ -15,8 +15,8 @@ use std::alloc::Global;
 
 // The changes that the words ask for.
 fn parse_changes(alloc: Global, words: &[String]) -> Result<Vec<Change>, CommandError>
-    ensures { HoldsOrStops (λ v. AllZip AsksChange (enumerate_from 1 (map string_bytes words.now)) (map edit v.items))
-        (RejectsFirst AsksChange RejectsChange (enumerate_from 1 (map string_bytes words.now))) result }
+    ensures { HoldsOrPrints (λ v. AllZip DenotesChange (enumerate_from 1 (map string_bytes words.now)) (map edit v.items))
+        (RejectsFirst DenotesChange RejectsChange (enumerate_from 1 (map string_bytes words.now))) result }
 {
     let mut changes = Vec::new(alloc);
     for (at, word) in words.iter().enumerate() {
@@ -35,7 +35,7 @@ fn apply_changes(
     version: Version,
     changes: &[Change],
 ) -> Result<Answer, CommandError>
-    ensures { Answered (λ a. a ≡ edited_answer (apply_edits 1 version (map edit changes.now))) result }
+    ensures { HoldsOfAnswer (λ a. a ≡ edited_answer (apply_edits 1 version (map edit changes.now))) result }
 {
     match version.with_changes(alloc, changes) {
         Ok(version) => {
@@ -48,7 +48,7 @@ fn apply_changes(
 
 // `edit V CHANGE..`: all words are read before a change is made.
 pub(crate) fn edit(alloc: Global, word: &str, words: &[String]) -> Result<Answer, CommandError>
-    ensures { Answered (EditAnswer word.now (map string_bytes words.now)) result }
+    ensures { HoldsOfAnswer (EditAnswer word.now (map string_bytes words.now)) result }
 {
     let version = parse_version(alloc, word)?;
     let changes = parse_changes(alloc, words)?;

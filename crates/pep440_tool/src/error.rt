@@ -1,4 +1,4 @@
-// Why a command prints no result.
+//! Why a command prints no result.
 ghost use Rattle.std.specs.Prelude.{◌≡◌};
 ghost use Rattle.pep440_tool.specs.CommandErrors.{ends_lines, error_text_of, lacks_memory};
 ghost use Rattle.pep440_tool.specs.declared.error.CommandError.TheVariants.{OutOfMemory};

@@ -1,17 +1,17 @@
-// The command `filter`.
+//! The command `filter`.
 ghost use Rattle.std.specs.Prelude.{◌≡◌, ◌∷◌, ◌++◌, [], IfOk, List, Some};
 ghost use Rattle.std.specs.Fmt.{WritesStyledOnOk};
 ghost use Rattle.std.specs.List.{AllZip, filter, flat_map};
 ghost use Rattle.pep440_rs.specs.Matching.{list_matches};
 ghost use Rattle.pep440_tool.specs.Answers.{RejectsFirst};
-ghost use Rattle.pep440_tool.specs.CommandErrors.{HoldsOrStops};
-ghost use Rattle.pep440_tool.specs.Lines.{FilterAnswer, LineMeans, RejectsLine, numbered_lines, refused_version};
-ghost use Rattle.pep440_tool.specs.AnswerValues.{Answered};
+ghost use Rattle.pep440_tool.specs.CommandErrors.{HoldsOrPrints};
+ghost use Rattle.pep440_tool.specs.Lines.{FilterAnswer, LineDenotes, RejectsLine, numbered_lines, shown_version_error};
+ghost use Rattle.pep440_tool.specs.AnswerValues.{HoldsOfAnswer};
 ghost use Rattle.pep440_tool.specs.Texts.{line};
 ghost use Rattle.pep440_version.specs.Grammar.{Derives};
 ghost use Rattle.pep440_version.specs.Print.{print};
 ghost use Rattle.pep440_version.specs.Record.{Record};
-ghost use Rattle.pep440_version.specs.Refusals.{Refuses};
+ghost use Rattle.pep440_version.specs.Rejections.{Rejects};
 
 use crate::error::CommandError;
 use crate::input_lines::{Line, Lines};
@@ -23,8 +23,8 @@ use std::fmt;
 
 // The version that the line denotes.
 fn parse_line(alloc: Global, line: Line<'_>) -> Result<Version, CommandError>
-    ensures { HoldsOrStops (LineMeans Derives (line.entry.number, line.entry.bytes.now))
-        (RejectsLine Refuses refused_version (line.entry.number, line.entry.bytes.now)) result }
+    ensures { HoldsOrPrints (LineDenotes Derives (line.entry.number, line.entry.bytes.now))
+        (RejectsLine Rejects shown_version_error (line.entry.number, line.entry.bytes.now)) result }
 {
     match Version::from_str(alloc, line.text()?) {
         Ok(version) => Ok(version),
@@ -53,10 +53,10 @@ fn parse_matches(
     list: &VersionSpecifiers,
     input: &[u8],
 ) -> Result<Vec<Version>, CommandError>
-    ensures { HoldsOrStops (λ versions. (found : List Record)
-        × AllZip (LineMeans Derives) (numbered_lines input.now) found
+    ensures { HoldsOrPrints (λ versions. (found : List Record)
+        × AllZip (LineDenotes Derives) (numbered_lines input.now) found
         × (versions.items ≡ filter (list_matches list.now) found))
-        (RejectsFirst (LineMeans Derives) (RejectsLine Refuses refused_version) (numbered_lines input.now)) result }
+        (RejectsFirst (LineDenotes Derives) (RejectsLine Rejects shown_version_error) (numbered_lines input.now)) result }
 {
     let mut versions = Vec::new(alloc);
     let mut lines = Lines::new(input);
@@ -103,7 +103,7 @@ impl fmt::Display for SortedVersions<'_> {
 
 // `filter SPECS`: the versions of the lines that the list contains, in order.
 pub(crate) fn filter_lines(alloc: Global, word: &str, input: &[u8]) -> Result<Answer, CommandError>
-    ensures { Answered (FilterAnswer word.now input.now) result }
+    ensures { HoldsOfAnswer (FilterAnswer word.now input.now) result }
 {
     let list = parse_list(alloc, word)?;
     let mut versions = parse_matches(alloc, &list, input)?;

@@ -1,4 +1,4 @@
-// The lines of an input with their numbers.
+//! The lines of an input with their numbers.
 ghost use Rattle.std.specs.Prelude.{◌≡◌, ◌+◌, ◌<◌, ◌∷◌, ◌^◌, [], length, IfSome, MatchResult};
 ghost use Rattle.std.specs.Option.{ForSome, option_map_or};
 ghost use Rattle.std.specs.Str.{IsUtf8};

@@ -1,7 +1,7 @@
-// The command `match`.
+//! The command `match`.
 ghost use Rattle.std.specs.Prelude.{◌≡◌};
 ghost use Rattle.pep440_tool.specs.Answers.{MatchAnswer, yes_or_no};
-ghost use Rattle.pep440_tool.specs.AnswerValues.{Answered};
+ghost use Rattle.pep440_tool.specs.AnswerValues.{HoldsOfAnswer};
 
 use crate::error::CommandError;
 use crate::operands::{parse_list, parse_version};
@@ -17,7 +17,7 @@ fn yes_or_no(is: bool) -> &'static str
 
 // `match SPECS V`: whether the list contains the version.
 pub(crate) fn match_version(alloc: Global, list: &str, word: &str) -> Result<Answer, CommandError>
-    ensures { Answered (MatchAnswer list.now word.now) result }
+    ensures { HoldsOfAnswer (MatchAnswer list.now word.now) result }
 {
     let list = parse_list(alloc, list)?;
     let version = parse_version(alloc, word)?;

@@ -1,7 +1,7 @@
-// Operands of commands: words parsed as versions and lists.
-ghost use Rattle.pep440_rs.specs.ListGrammar.{DerivesList};
-ghost use Rattle.pep440_tool.specs.Answers.{RefusesListWord, RefusesWord};
-ghost use Rattle.pep440_tool.specs.CommandErrors.{HoldsOrStops};
+//! Operands of commands: words parsed as versions and lists.
+ghost use Rattle.pep440_rs.specs.Lists.ListGrammar.{DerivesList};
+ghost use Rattle.pep440_tool.specs.Answers.{RejectsListWord, RejectsWord};
+ghost use Rattle.pep440_tool.specs.CommandErrors.{HoldsOrPrints};
 ghost use Rattle.pep440_version.specs.Grammar.{Derives};
 
 use crate::error::CommandError;
@@ -10,7 +10,7 @@ use std::alloc::Global;
 
 // The version that the word denotes.
 pub(crate) fn parse_version(alloc: Global, word: &str) -> Result<Version, CommandError>
-    ensures { HoldsOrStops (Derives word.now) (RefusesWord word.now) result }
+    ensures { HoldsOrPrints (Derives word.now) (RejectsWord word.now) result }
 {
     match Version::from_str(alloc, word) {
         Ok(version) => Ok(version),
@@ -20,7 +20,7 @@ pub(crate) fn parse_version(alloc: Global, word: &str) -> Result<Version, Comman
 
 // The list that the word denotes.
 pub(crate) fn parse_list(alloc: Global, word: &str) -> Result<VersionSpecifiers, CommandError>
-    ensures { HoldsOrStops (DerivesList word.now) (RefusesListWord word.now) result }
+    ensures { HoldsOrPrints (DerivesList word.now) (RejectsListWord word.now) result }
 {
     match VersionSpecifiers::from_str(alloc, word) {
         Ok(list) => Ok(list),

@@ -1,4 +1,4 @@
-// What the program writes, and its status.
+//! What the program writes, and its status.
 ghost use Rattle.std.specs.Prelude.{◌≡◌, IfOk, IfSome, false, string_bytes};
 ghost use Rattle.pep440_tool.specs.Answers.{shown, usage_answer};
 ghost use Rattle.pep440_tool.specs.CommandErrors.{ends_lines, error_answer, error_text_of, lacks_memory};

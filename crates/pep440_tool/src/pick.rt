@@ -1,13 +1,13 @@
-// The command `pick`.
+//! The command `pick`.
 ghost use Rattle.std.specs.Prelude.{◌≡◌, ◌++◌, ◌∷◌, [], List, map, option_to_list, string_bytes, IfOk};
 ghost use Rattle.std.specs.List.{AllZip, enumerate_from};
 ghost use Rattle.pep440_pick.specs.Allowed.{lists_of};
-ghost use Rattle.pep440_pick.specs.RequirementGrammar.{DerivesRequirement, Needed, RefusesRequirement};
+ghost use Rattle.pep440_pick.specs.RequirementGrammar.{DerivesRequirement, Needed, RejectsRequirement};
 ghost use Rattle.pep440_tool.specs.Answers.{RejectsFirst};
-ghost use Rattle.pep440_tool.specs.CommandErrors.{HoldsOrStops};
-ghost use Rattle.pep440_tool.specs.Lines.{LineMeans, RejectsLine, numbered_lines};
-ghost use Rattle.pep440_tool.specs.Picks.{CandidateMeans, PickAnswer, RejectsCandidate, refused_requirement};
-ghost use Rattle.pep440_tool.specs.AnswerValues.{Answered};
+ghost use Rattle.pep440_tool.specs.CommandErrors.{HoldsOrPrints};
+ghost use Rattle.pep440_tool.specs.Lines.{LineDenotes, RejectsLine, numbered_lines};
+ghost use Rattle.pep440_tool.specs.Picks.{CandidateDenotes, PickAnswer, RejectsCandidate, shown_requirement_error};
+ghost use Rattle.pep440_tool.specs.AnswerValues.{HoldsOfAnswer};
 
 use crate::error::CommandError;
 use crate::input_lines::{Line, Lines};
@@ -18,7 +18,7 @@ use std::alloc::{AllocError, Global};
 
 // The version that the candidate with this number denotes.
 fn parse_candidate(alloc: Global, number: usize, word: &str) -> Result<Version, CommandError>
-    ensures { HoldsOrStops (CandidateMeans (number, word.now)) (RejectsCandidate (number, word.now)) result }
+    ensures { HoldsOrPrints (CandidateDenotes (number, word.now)) (RejectsCandidate (number, word.now)) result }
 {
     match Version::from_str(alloc, word) {
         Ok(version) => Ok(version),
@@ -28,8 +28,8 @@ fn parse_candidate(alloc: Global, number: usize, word: &str) -> Result<Version, 
 
 // The versions that the candidates denote.
 fn parse_candidates(alloc: Global, words: &[String]) -> Result<Vec<Version>, CommandError>
-    ensures { HoldsOrStops (λ v. AllZip CandidateMeans (enumerate_from 1 (map string_bytes words.now)) v.items)
-        (RejectsFirst CandidateMeans RejectsCandidate (enumerate_from 1 (map string_bytes words.now))) result }
+    ensures { HoldsOrPrints (λ v. AllZip CandidateDenotes (enumerate_from 1 (map string_bytes words.now)) v.items)
+        (RejectsFirst CandidateDenotes RejectsCandidate (enumerate_from 1 (map string_bytes words.now))) result }
 {
     let mut versions = Vec::new(alloc);
     for (at, word) in words.iter().enumerate() {
@@ -45,9 +45,9 @@ fn parse_specifiers(
     name: &str,
     line: Line<'_>,
 ) -> Result<Option<VersionSpecifiers>, CommandError>
-    ensures { HoldsOrStops (λ o. (n : Needed) × LineMeans DerivesRequirement (line.entry.number, line.entry.bytes.now)
+    ensures { HoldsOrPrints (λ o. (n : Needed) × LineDenotes DerivesRequirement (line.entry.number, line.entry.bytes.now)
         n × (option_to_list o ≡ lists_of name.now (n ∷ [])))
-        (RejectsLine RefusesRequirement refused_requirement (line.entry.number, line.entry.bytes.now)) result }
+        (RejectsLine RejectsRequirement shown_requirement_error (line.entry.number, line.entry.bytes.now)) result }
 {
     match Requirement::specifiers_for(alloc, name, line.text()?) {
         Ok(specifiers) => Ok(specifiers),
@@ -74,10 +74,10 @@ fn parse_lists(
     name: &str,
     input: &[u8],
 ) -> Result<Vec<VersionSpecifiers>, CommandError>
-    ensures { HoldsOrStops (λ lists. (found : List Needed)
-        × AllZip (LineMeans DerivesRequirement) (numbered_lines input.now) found
-        × (lists.items ≡ lists_of name.now found)) (RejectsFirst (LineMeans DerivesRequirement)
-        (RejectsLine RefusesRequirement refused_requirement) (numbered_lines input.now)) result }
+    ensures { HoldsOrPrints (λ lists. (found : List Needed)
+        × AllZip (LineDenotes DerivesRequirement) (numbered_lines input.now) found
+        × (lists.items ≡ lists_of name.now found)) (RejectsFirst (LineDenotes DerivesRequirement)
+        (RejectsLine RejectsRequirement shown_requirement_error) (numbered_lines input.now)) result }
 {
     let mut lists = Vec::new(alloc);
     let mut lines = Lines::new(input);
@@ -96,7 +96,7 @@ pub(crate) fn pick(
     candidates: &[String],
     input: &[u8],
 ) -> Result<Answer, CommandError>
-    ensures { Answered (PickAnswer name.now (map string_bytes candidates.now) input.now) result }
+    ensures { HoldsOfAnswer (PickAnswer name.now (map string_bytes candidates.now) input.now) result }
 {
     if !is_name(name) {
         return Err(CommandError::Name);

@@ -1,6 +1,6 @@
-// The command `range`.
+//! The command `range`.
 ghost use Rattle.pep440_tool.specs.Answers.{RangeAnswer};
-ghost use Rattle.pep440_tool.specs.AnswerValues.{Answered};
+ghost use Rattle.pep440_tool.specs.AnswerValues.{HoldsOfAnswer};
 
 use crate::error::CommandError;
 use crate::operands::parse_list;
@@ -10,7 +10,7 @@ use std::alloc::Global;
 
 // `range SPECS`: the range of the list.
 pub(crate) fn print_range(alloc: Global, word: &str) -> Result<Answer, CommandError>
-    ensures { Answered (RangeAnswer word.now) result }
+    ensures { HoldsOfAnswer (RangeAnswer word.now) result }
 {
     let list = parse_list(alloc, word)?;
     match specifiers_to_ranges(alloc, list) {

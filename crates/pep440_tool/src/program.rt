@@ -1,8 +1,8 @@
-// The program over any reader and any writer.
+//! The program over any reader and any writer.
 ghost use Rattle.std.specs.Prelude.{◌≡◌, ◌⊎◌, false, map, string_bytes};
 ghost use Rattle.std.specs.Io.KnownBytes.{Appends};
 ghost use Rattle.cli_io.specs.Streams.{WroteBeginning};
-ghost use Rattle.pep440_tool.specs.Commands.{asked, reads_input};
+ghost use Rattle.pep440_tool.specs.Commands.{request_of_words, reads_input};
 ghost use Rattle.pep440_tool.specs.Runs.{RunEnds};
 ghost use Rattle.pep440_tool.specs.Texts.{memory_text};
 
@@ -26,7 +26,7 @@ const MEMORY: &str = "error: out of memory\n";
 pub fn run<R: Read, W: Write>(alloc: Global, words: &[String], reader: &mut R, writer: &mut W) -> u8
     ensures ends { RunEnds R.remaining W.contents (map string_bytes words.now) reader.old reader.new writer.old writer.new result }
     ensures memory { result ≡ 3 → Appends (W.contents writer.old) (W.contents writer.new) memory_text }
-    ensures unread { reads_input (asked (map string_bytes words.now)) ≡ false → reader.new ≡ reader.old }
+    ensures unread { reads_input (request_of_words (map string_bytes words.now)) ≡ false → reader.new ≡ reader.old }
 {
     let command = Command::parse(words);
     let mut input = Vec::new(alloc);

@@ -3,6 +3,6 @@ pub mod Meaning
 pub mod RoundTrip
 pub mod Reading
 pub mod Rows
-pub mod Refusals
+pub mod Rejections
 pub mod Words
 pub mod ChangeWords

@@ -11,10 +11,10 @@ use Rattle.pep440_version.specs.Key.{record_cmp}
 use Rattle.pep440_version.specs.Locals.{parse_segments}
 use Rattle.pep440_version.specs.Reading.{parse_number, parse_release}
 use Rattle.pep440_version.specs.Record.{Record, Text, Number, epoch_and_release, from_release, from_parts}
-use Rattle.pep440_version.specs.Refusals.{NumberTooBig, LocalEmpty, UnexpectedEnd, WildcardNotTrailing, Refuses, RefusesPattern}
+use Rattle.pep440_version.specs.Rejections.{NumberTooBig, LocalEmpty, UnexpectedEnd, WildcardNotTrailing, Rejects, RejectsPattern}
 use Rattle.pep440_version.specs.Whole.{parse_epoch_and_release, parse_parts, read_version, read_pattern}
-use Rattle.pep440_version.proofs.Refusals.ExactlyOne.{sound_pattern}
-use Rattle.pep440_version.proofs.Refusals.FaultsHaveErrors.{sound}
+use Rattle.pep440_version.proofs.Rejections.ExactlyOne.{sound_pattern}
+use Rattle.pep440_version.proofs.Rejections.FaultsHaveErrors.{sound}
 
 abbrev one : Record
 one = from_release (1 ∷ 0 ∷ [])
@@ -57,18 +57,18 @@ read_star : read_pattern (codes " v1!2.*") ≡ Ok (epoch_and_release 1 (2 ∷ []
 unfolding parse_number parse_release parse_segments parse_epoch_and_release parse_parts
 read_star = refl
 
-longest_prefix : Refuses (codes "1pre-view") (UnexpectedEnd (codes "1pre-") (codes "view"))
+longest_prefix : Rejects (codes "1pre-view") (UnexpectedEnd (codes "1pre-") (codes "view"))
 unfolding parse_number parse_release parse_segments parse_epoch_and_release parse_parts
 longest_prefix = sound (codes "1pre-view") (UnexpectedEnd (codes "1pre-") (codes "view")) refl
 
-too_big : Refuses (codes "1a-18446744073709551616x") (NumberTooBig (codes "18446744073709551616"))
+too_big : Rejects (codes "1a-18446744073709551616x") (NumberTooBig (codes "18446744073709551616"))
 unfolding parse_number parse_release parse_segments parse_epoch_and_release parse_parts
 too_big = sound (codes "1a-18446744073709551616x") (NumberTooBig (codes "18446744073709551616")) refl
 
-no_segment : Refuses (codes "1.0+a_-") (LocalEmpty 95)
+no_segment : Rejects (codes "1.0+a_-") (LocalEmpty 95)
 unfolding parse_number parse_release parse_segments parse_epoch_and_release parse_parts
 no_segment = sound (codes "1.0+a_-") (LocalEmpty 95) refl
 
-star_inside : RefusesPattern (codes "1.0.*a") WildcardNotTrailing
+star_inside : RejectsPattern (codes "1.0.*a") WildcardNotTrailing
 unfolding parse_number parse_release parse_segments parse_epoch_and_release parse_parts
 star_inside = sound_pattern (codes "1.0.*a") WildcardNotTrailing refl

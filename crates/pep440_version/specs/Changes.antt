@@ -1,4 +1,6 @@
 -- Changes of a version: each replaces one field. A list of changes is applied in order, up to the first that cannot be applied.
+pub mod ChangeWords
+pub mod ChangeWordResults
 use Rattle.std.specs.Prelude.{ℕ, ◌+◌, ◌==◌, ◌||◌, List, [], ◌∷◌, length, is_some, Option, Result, Ok, Err, if◌then◌else◌, map}
 use Rattle.pep440_version.specs.declared.change.Change.{Change}
 use Rattle.pep440_version.specs.declared.change.Change.TheVariants as change

@@ -6,7 +6,7 @@ use Rattle.pep440_version.specs.declared.prerelease.PrereleaseKind.{PrereleaseKi
 use Rattle.pep440_version.specs.declared.prerelease.Prerelease.{Prerelease}
 use Rattle.pep440_version.specs.Key.{Key, key, Stage, Pre, stage_rank, kind_rank, PostPart, NoPost, PostAt, PostTop, DevPart, DevAt, NoDev}
 use Rattle.pep440_version.specs.Record.{Record, LocalSegmentValue, Text, Number}
-use Rattle.pep440_version.specs.Trim.{trim}
+use Rattle.pep440_version.specs.Key.Trim.{trim}
 
 -- its rank: Min 0, Dev 1, Alpha 2, Beta 3, Rc 4, Final 5; a pre-release is followed by its number
 abbrev pub feed_stage : Stage → HashWrites

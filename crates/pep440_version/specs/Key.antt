@@ -1,5 +1,8 @@
 -- How versions are ordered (PEP 440, "Summary of permitted suffixes and relative ordering"): each record
 -- has a key, and keys are compared part by part. Absence is a case of its own.
+pub mod Trim
+pub mod KeyLaws
+pub mod Ties
 use Rattle.std.specs.Prelude.{ℕ, ◌+◌, List, [], ◌∷◌, Option, Some, None}
 use Rattle.std.specs.Ordering.{nat_cmp, on, ordering_then, then_cmp}
 use Rattle.std.specs.declared.cmp.Ordering.{Ordering}

@@ -1,7 +1,5 @@
 pub mod Record
 pub mod Key
-pub mod Trim
-pub mod KeyLaws
 pub mod Segments
 pub mod Inline
 pub mod Word
@@ -16,12 +14,9 @@ pub mod Suffixes
 pub mod Locals
 pub mod Whole
 pub mod Changes
-pub mod ChangeWords
-pub mod ChangeWordResults
 pub mod Feed
 pub mod Patterns
-pub mod Ties
 pub mod PatternLaws
-pub mod Refusals
+pub mod Rejections
 pub mod ErrorTexts
 pub mod RoundTrip

@@ -4,7 +4,7 @@ use Rattle.std.specs.Char.{is_ascii_alphanumeric}
 use Rattle.pep440_version.specs.Grammar.{is_separator, parse_segment, starts}
 use Rattle.pep440_version.specs.Reading.{Read, ◌>>=◌, lead, past}
 use Rattle.pep440_version.specs.Record.{LocalSegmentValue}
-use Rattle.pep440_version.specs.Refusals.{LocalEmpty}
+use Rattle.pep440_version.specs.Rejections.{LocalEmpty}
 
 -- the first byte
 abbrev pub first_byte : List ℕ → ℕ

@@ -6,10 +6,10 @@ use Rattle.std.specs.Hash.{u64}
 use Rattle.std.specs.Ordering.{eq_by_cmp}
 use Rattle.pep440_version.specs.Feed.{feed}
 use Rattle.pep440_version.specs.Key.{record_cmp}
-use Rattle.pep440_version.specs.KeyLaws.{record_equiv}
+use Rattle.pep440_version.specs.Key.KeyLaws.{record_equiv}
 use Rattle.pep440_version.specs.Patterns.{pattern_eq, feed_pattern}
 use Rattle.pep440_version.specs.Record.{Record}
-use Rattle.pep440_version.specs.Ties.{feeds_alike}
+use Rattle.pep440_version.specs.Key.Ties.{feeds_alike}
 
 pub pattern_equiv : IsEquivalence pattern_eq
 pattern_equiv = and_equiv (on_equiv (λ (p : Record × Bool). p.0) record_equiv) (on_equiv (λ (p : Record × Bool). p.1) bool_eq_equiv)

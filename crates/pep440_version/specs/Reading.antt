@@ -4,15 +4,15 @@ use Rattle.std.specs.Char.{is_ascii_digit}
 use Rattle.std.specs.List.{prefix_len}
 use Rattle.std.specs.Str.Parse.{digits_value}
 use Rattle.pep440_version.specs.Grammar.{is_v, starts}
-use Rattle.pep440_version.specs.Refusals.{NumberTooBig, Refusal}
+use Rattle.pep440_version.specs.Rejections.{NumberTooBig, Rejection}
 
 -- what a parser returns, or why the string is rejected
 abbrev pub Read : Type 0 → Type 0
-Read A = Result A Refusal
+Read A = Result A Rejection
 
 -- a reader, and the next one on what it found
 infixl 10 ◌>>=◌
-abbrev pub ◌>>=◌ : {A B : Type 0} → Result A Refusal → (A → Result B Refusal) → Result B Refusal
+abbrev pub ◌>>=◌ : {A B : Type 0} → Result A Rejection → (A → Result B Rejection) → Result B Rejection
 (Ok x) >>= f = f x
 (Err e) >>= f = Err e
 

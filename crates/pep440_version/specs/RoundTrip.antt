@@ -11,15 +11,15 @@ abbrev pub is_lower : ℕ → Bool
 is_lower b = is_ascii_digit b || is_ascii_lowercase b
 
 -- a number, or a string of lower-case ASCII letters and digits that does not parse as a number
-abbrev pub SegmentRereads : LocalSegmentValue → Type 0
-SegmentRereads (Text t) = (0 < length t) × (list_all is_lower t ≡ true) × (is_numeral t ≡ false)
-SegmentRereads (Number n) = Unit {0}
+abbrev pub SegmentRoundTrips : LocalSegmentValue → Type 0
+SegmentRoundTrips (Text t) = (0 < length t) × (list_all is_lower t ≡ true) × (is_numeral t ≡ false)
+SegmentRoundTrips (Number n) = Unit {0}
 
 -- the normalized form of the record parses back to it
 pub record RoundTrips (r : Record) : Type 0 where
   pub no_min : r.min ≡ None
   pub no_max : r.max ≡ None
-  pub local : All SegmentRereads r.local
+  pub local : All SegmentRoundTrips r.local
 
 -- the records that strings parse to
 pub record IsParsed (r : Record) : Type 0 where

@@ -5,7 +5,7 @@ use Rattle.pep440_version.specs.Grammar.{starts}
 use Rattle.pep440_version.specs.Locals.{parse_local}
 use Rattle.pep440_version.specs.Reading.{Read, ◌>>=◌, past, skip_v, starts_with_number, parse_number, parse_release, parse_release_from}
 use Rattle.pep440_version.specs.Record.{Record, epoch_and_release}
-use Rattle.pep440_version.specs.Refusals.{Wildcard, NoLeadingNumber, NoLeadingReleaseNumber, UnexpectedEnd, WildcardNotTrailing, OfVersion, PatternRefusal}
+use Rattle.pep440_version.specs.Rejections.{Wildcard, NoLeadingNumber, NoLeadingReleaseNumber, UnexpectedEnd, WildcardNotTrailing, OfVersion, PatternRejection}
 use Rattle.pep440_version.specs.Suffixes.{parse_pre, parse_post, parse_dev}
 
 -- the leading release, after an epoch
@@ -44,23 +44,23 @@ abbrev pub starts_with_star : List ℕ → Bool
 starts_with_star text = starts (λ b. b == 46) text && starts (λ b. b == 42) (drop 1 text)
 
 -- a version, as a pattern
-abbrev pub without_star : Read Record → Result (Record × Bool) PatternRefusal
+abbrev pub without_star : Read Record → Result (Record × Bool) PatternRejection
 without_star (Ok r) = Ok (r, false)
 without_star (Err f) = Err (OfVersion f)
 
 -- from the end of the release on
-abbrev pub pattern_from : List ℕ → Read ((ℕ × List ℕ) × List ℕ) → Result (Record × Bool) PatternRefusal
+abbrev pub pattern_from : List ℕ → Read ((ℕ × List ℕ) × List ℕ) → Result (Record × Bool) PatternRejection
 pattern_from text (Err f) = Err (OfVersion f)
 pattern_from text (Ok x) =
     if starts_with_star x.1 then (if length (drop 2 x.1) == 0 then Ok (epoch_and_release x.0.0 x.0.1, true) else Err WildcardNotTrailing)
     else without_star (parse_after_release text x)
 
 -- what the string parses to: a record, and whether a star follows
-abbrev pub read_pattern : List ℕ → Result (Record × Bool) PatternRefusal
+abbrev pub read_pattern : List ℕ → Result (Record × Bool) PatternRejection
 read_pattern text = pattern_from text (parse_through_release text)
 
 -- the version that a pattern is; a star is rejected
-abbrev pub version_of : Result (Record × Bool) PatternRefusal → Read Record
+abbrev pub version_of : Result (Record × Bool) PatternRejection → Read Record
 version_of (Ok x) = if x.1 then Err Wildcard else Ok x.0
 version_of (Err (OfVersion f)) = Err f
 version_of (Err WildcardNotTrailing) = Err Wildcard

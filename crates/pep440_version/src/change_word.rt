@@ -1,10 +1,10 @@
 //! The parser of change words: a field, `=` and its new value, or one of two words without a value.
 ghost use Rattle.std.specs.Prelude.{◌≡◌, ◌==◌, map, IfOk};
-ghost use Rattle.pep440_version.specs.ChangeWordResults.{ReadsAs};
+ghost use Rattle.pep440_version.specs.Changes.ChangeWordResults.{ReadsAs};
 ghost use Rattle.std.specs.List.{slice_split};
 ghost use Rattle.std.specs.Char.{is_ascii_digit, is_ascii_alphanumeric};
 ghost use Rattle.std.specs.Option.{option_map, option_copied};
-ghost use Rattle.pep440_version.specs.ChangeWords.{is_run, number_of, after, parse_prerelease_of_kind, prerelease_of, local_segment_of, or_none, pieces_of, all_of, dotted_of, field_change, bare_change, change_of};
+ghost use Rattle.pep440_version.specs.Changes.ChangeWords.{is_run, number_of, after, parse_prerelease_of_kind, prerelease_of, local_segment_of, or_none, pieces_of, all_of, dotted_of, field_change, bare_change, change_of};
 ghost use Rattle.pep440_version.specs.Changes.{edit};
 ghost use Rattle.pep440_version.specs.Segments.{segment};
 ghost use Rattle.pep440_version.specs.declared.change_word.ChangeWordError.TheVariants.{OutOfMemory};

@@ -1,6 +1,6 @@
 //! Why a string is not a version or not a pattern: kinds, errors and the conversions between them.
 ghost use Rattle.std.specs.Prelude.{◌≡◌, is_none};
-ghost use Rattle.pep440_version.specs.Errors.{kind_of, pattern_kind_of, refusal_of, error_refusal, pattern_refusal_of, pattern_error_refusal};
+ghost use Rattle.pep440_version.specs.Errors.{kind_of, pattern_kind_of, rejection_of, error_rejection, pattern_rejection_of, pattern_error_rejection};
 ghost use Rattle.pep440_version.specs.declared.error.PatternErrorKind.TheVariants.{Version};
 ghost use Rattle.pep440_version.specs.declared.error.VersionParseError.{VersionParseError};
 ghost use Rattle.pep440_version.specs.declared.error.ErrorKind.TheVariants.{OutOfMemory};
@@ -40,7 +40,7 @@ pub enum ErrorKind {
 }
 
 impl Clone for ErrorKind {
-    ghost is_clone = { λ kind copy. refusal_of copy ≡ refusal_of kind };
+    ghost is_clone = { λ kind copy. rejection_of copy ≡ rejection_of kind };
 
     fn clone(&self) -> Result<ErrorKind, AllocError> {
         match self {
@@ -86,14 +86,14 @@ impl VersionParseError {
 
     /// Whether the call was out of memory, which says nothing about the string.
     pub fn is_out_of_memory(&self) -> bool
-        ensures { result ≡ is_none (error_refusal self.now) }
+        ensures { result ≡ is_none (error_rejection self.now) }
     {
         matches!(self.kind, ErrorKind::OutOfMemory)
     }
 }
 
 impl Clone for VersionParseError {
-    ghost is_clone = { λ error copy. error_refusal copy ≡ error_refusal error };
+    ghost is_clone = { λ error copy. error_rejection copy ≡ error_rejection error };
 
     fn clone(&self) -> Result<VersionParseError, AllocError> {
         Ok(VersionParseError {
@@ -120,7 +120,7 @@ pub enum PatternErrorKind {
 }
 
 impl Clone for PatternErrorKind {
-    ghost is_clone = { λ kind copy. pattern_refusal_of copy ≡ pattern_refusal_of kind };
+    ghost is_clone = { λ kind copy. pattern_rejection_of copy ≡ pattern_rejection_of kind };
 
     fn clone(&self) -> Result<PatternErrorKind, AllocError> {
         match self {
@@ -162,7 +162,7 @@ impl VersionPatternParseError {
 
     /// Whether the call was out of memory, which says nothing about the string.
     pub fn is_out_of_memory(&self) -> bool
-        ensures { result ≡ is_none (pattern_error_refusal self.now) }
+        ensures { result ≡ is_none (pattern_error_rejection self.now) }
     {
         match &self.kind {
             PatternErrorKind::Version(error) => error.is_out_of_memory(),
@@ -172,7 +172,7 @@ impl VersionPatternParseError {
 }
 
 impl Clone for VersionPatternParseError {
-    ghost is_clone = { λ error copy. pattern_error_refusal copy ≡ pattern_error_refusal error };
+    ghost is_clone = { λ error copy. pattern_error_rejection copy ≡ pattern_error_rejection error };
 
     fn clone(&self) -> Result<VersionPatternParseError, AllocError> {
         Ok(VersionPatternParseError {

@@ -3,9 +3,9 @@ ghost use Rattle.std.specs.Prelude.{◌≡◌, ◌++◌, true, Some, codes};
 ghost use Rattle.std.specs.Char.{is_ascii_digit};
 ghost use Rattle.std.specs.List.{list_all};
 ghost use Rattle.std.specs.Fmt.{WritesStyledOnOk, DisplaysStyledOnOk, decimal};
-ghost use Rattle.pep440_version.specs.ErrorTexts.{change_error_text, refusal_text, error_text, pattern_error_text};
-ghost use Rattle.pep440_version.specs.Errors.{refusal_of, error_refusal, pattern_refusal_of, pattern_error_refusal};
-ghost use Rattle.pep440_version.specs.Refusals.{NumberTooBig, LocalEmpty, UnexpectedEnd};
+ghost use Rattle.pep440_version.specs.ErrorTexts.{change_error_text, rejection_text, error_text, pattern_error_text};
+ghost use Rattle.pep440_version.specs.Errors.{rejection_of, error_rejection, pattern_rejection_of, pattern_error_rejection};
+ghost use Rattle.pep440_version.specs.Rejections.{NumberTooBig, LocalEmpty, UnexpectedEnd};
 
 use crate::change::ChangeError;
 use crate::error::{ErrorKind, PatternErrorKind, VersionParseError, VersionPatternParseError};
@@ -60,7 +60,7 @@ fn write_too_big<W: fmt::Write>(f: &mut fmt::Formatter<W>, bytes: &[u8]) -> fmt:
 }
 
 fn write_local_empty<W: fmt::Write>(f: &mut fmt::Formatter<W>, precursor: char) -> fmt::Result
-    ensures { WritesStyledOnOk W.write_str_gives f.old result (refusal_text (LocalEmpty precursor)) f.new }
+    ensures { WritesStyledOnOk W.write_str_gives f.old result (rejection_text (LocalEmpty precursor)) f.new }
 {
     let mut bytes = [0u8; 4];
     let found: &str = precursor.encode_utf8(&mut bytes);
@@ -79,7 +79,7 @@ fn write_end<W: fmt::Write>(
     version: &str,
     remaining: &str,
 ) -> fmt::Result
-    ensures { WritesStyledOnOk W.write_str_gives f.old result (refusal_text (UnexpectedEnd version.now remaining.now)) f.new }
+    ensures { WritesStyledOnOk W.write_str_gives f.old result (rejection_text (UnexpectedEnd version.now remaining.now)) f.new }
 {
     write_five(
         f,
@@ -93,7 +93,7 @@ fn write_end<W: fmt::Write>(
 
 // The message of a kind of error.
 fn write_error_kind<W: fmt::Write>(f: &mut fmt::Formatter<W>, kind: &ErrorKind) -> fmt::Result
-    ensures { DisplaysStyledOnOk W.write_str_gives f.old result (error_text (refusal_of kind.now)) f.new }
+    ensures { DisplaysStyledOnOk W.write_str_gives f.old result (error_text (rejection_of kind.now)) f.new }
 {
     match kind {
         ErrorKind::Wildcard => f.write_str("wildcards are not allowed in a version"),
@@ -118,7 +118,7 @@ fn write_pattern_kind<W: fmt::Write>(
     f: &mut fmt::Formatter<W>,
     kind: &PatternErrorKind,
 ) -> fmt::Result
-    ensures { DisplaysStyledOnOk W.write_str_gives f.old result (pattern_error_text (pattern_refusal_of kind.now)) f.new }
+    ensures { DisplaysStyledOnOk W.write_str_gives f.old result (pattern_error_text (pattern_rejection_of kind.now)) f.new }
 {
     match kind {
         PatternErrorKind::Version(error) => write_error_kind(f, error.kind()),
@@ -129,9 +129,9 @@ fn write_pattern_kind<W: fmt::Write>(
 }
 
 impl fmt::Display for VersionParseError {
-    ghost output = { λ e. error_text (error_refusal e) };
+    ghost output = { λ e. error_text (error_rejection e) };
 
-    ghost styled_output = { λ e _. error_text (error_refusal e) };
+    ghost styled_output = { λ e _. error_text (error_rejection e) };
 
     fn fmt<W: fmt::Write>(&self, f: &mut fmt::Formatter<W>) -> fmt::Result {
         write_error_kind(f, self.kind())
@@ -141,9 +141,9 @@ impl fmt::Display for VersionParseError {
 impl Error for VersionParseError {}
 
 impl fmt::Display for VersionPatternParseError {
-    ghost output = { λ e. pattern_error_text (pattern_error_refusal e) };
+    ghost output = { λ e. pattern_error_text (pattern_error_rejection e) };
 
-    ghost styled_output = { λ e _. pattern_error_text (pattern_error_refusal e) };
+    ghost styled_output = { λ e _. pattern_error_text (pattern_error_rejection e) };
 
     fn fmt<W: fmt::Write>(&self, f: &mut fmt::Formatter<W>) -> fmt::Result {
         write_pattern_kind(f, self.kind())

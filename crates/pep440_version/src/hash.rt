@@ -5,7 +5,7 @@ ghost use Rattle.std.specs.List.{flat_map, fold};
 ghost use Rattle.pep440_version.specs.Feed.{feed, feed_kind, feed_prerelease, feed_items, feed_stage, feed_post, feed_dev, feed_segment};
 ghost use Rattle.pep440_version.specs.Key.{key};
 ghost use Rattle.pep440_version.specs.Segments.{segment};
-ghost use Rattle.pep440_version.specs.Ties.{feeds_alike, segments_feed_alike, kinds_feed_alike, prereleases_feed_alike};
+ghost use Rattle.pep440_version.specs.Key.Ties.{feeds_alike, segments_feed_alike, kinds_feed_alike, prereleases_feed_alike};
 
 use crate::key::{RankedNumber, trim_trailing_zeros};
 use crate::prerelease::{Prerelease, PrereleaseKind};

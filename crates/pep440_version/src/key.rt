@@ -2,7 +2,7 @@
 //! without the zeros at its end.
 ghost use Rattle.std.specs.Prelude.{◌≡◌, ◌≤◌};
 ghost use Rattle.pep440_version.specs.Key.{dev_rank, key, post_rank, stage_rank};
-ghost use Rattle.pep440_version.specs.Trim.{trim};
+ghost use Rattle.pep440_version.specs.Key.Trim.{trim};
 
 use crate::prerelease::PrereleaseKind;
 use crate::version::Version;

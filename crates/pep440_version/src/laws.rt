@@ -5,7 +5,7 @@ ghost use Rattle.pep440_version.specs.Grammar.{Derives};
 ghost use Rattle.pep440_version.specs.Patterns.{DerivesPattern};
 ghost use Rattle.pep440_version.specs.Print.{print};
 ghost use Rattle.pep440_version.specs.Record.{Record, IsRecord};
-ghost use Rattle.pep440_version.specs.Refusals.{PatternRefusal, Refusal, Refuses, RefusesPattern};
+ghost use Rattle.pep440_version.specs.Rejections.{PatternRejection, Rejection, Rejects, RejectsPattern};
 ghost use Rattle.pep440_version.specs.RoundTrip.{RoundTrips};
 ghost use Rattle.pep440_version.specs.Key.{kind_rank, prerelease_cmp, record_cmp, segment_cmp};
 ghost use Rattle.pep440_version.specs.Segments.{segment};
@@ -44,14 +44,14 @@ pub fn means_one()
 
 /// A string either denotes a version or is rejected with exactly one error; so it is with patterns.
 pub fn refused_once()
-    ensures version { (text : List ℕ) (f g : Refusal) → Refuses text f → Refuses text g → f ≡ g }
-    ensures either { (text : List ℕ) → ((r : Record) × Derives text r) ⊎ ((f : Refusal) × Refuses text f) }
-    ensures derived { (text : List ℕ) (r : Record) (f : Refusal) → Derives text r → Refuses text f → ⊥ }
-    ensures pattern { (text : List ℕ) (f g : PatternRefusal) → RefusesPattern text f → RefusesPattern text g → f ≡ g }
+    ensures version { (text : List ℕ) (f g : Rejection) → Rejects text f → Rejects text g → f ≡ g }
+    ensures either { (text : List ℕ) → ((r : Record) × Derives text r) ⊎ ((f : Rejection) × Rejects text f) }
+    ensures derived { (text : List ℕ) (r : Record) (f : Rejection) → Derives text r → Rejects text f → ⊥ }
+    ensures pattern { (text : List ℕ) (f g : PatternRejection) → RejectsPattern text f → RejectsPattern text g → f ≡ g }
     ensures either_pattern { (text : List ℕ) → ((r : Record) × (s : Bool) × DerivesPattern text r s)
-        ⊎ ((f : PatternRefusal) × RefusesPattern text f) }
-    ensures derived_pattern { (text : List ℕ) (r : Record) (s : Bool) (f : PatternRefusal) → DerivesPattern text r s
-        → RefusesPattern text f → ⊥ }
+        ⊎ ((f : PatternRejection) × RejectsPattern text f) }
+    ensures derived_pattern { (text : List ℕ) (r : Record) (s : Bool) (f : PatternRejection) → DerivesPattern text r s
+        → RejectsPattern text f → ⊥ }
 {}
 
 /// The version that a string denotes is a record of the crate, and its normalized form parses back to it.
@@ -64,9 +64,9 @@ pub fn meaning_is_printed()
 /// Parsing from left to right, which computes, returns the version that a string denotes, or why it is rejected.
 pub fn reading_agrees()
     ensures version { (text : List ℕ) (r : Record) → Derives text r → read_version text ≡ Ok r }
-    ensures refused { (text : List ℕ) (f : Refusal) → Refuses text f → read_version text ≡ Err f }
+    ensures refused { (text : List ℕ) (f : Rejection) → Rejects text f → read_version text ≡ Err f }
     ensures pattern { (text : List ℕ) (r : Record) (s : Bool) → DerivesPattern text r s → read_pattern text ≡ Ok (r, s) }
-    ensures refused_pattern { (text : List ℕ) (f : PatternRefusal) → RefusesPattern text f → read_pattern text ≡ Err f }
+    ensures refused_pattern { (text : List ℕ) (f : PatternRejection) → RejectsPattern text f → read_pattern text ≡ Err f }
 {}
 
 /// `cmp` of kinds, pre-releases and segments, which are derived, is the stated order.

@@ -1,7 +1,7 @@
 //! The order of versions: their keys, part by part (PEP 440, "Summary of permitted suffixes and relative ordering").
 ghost use Rattle.std.specs.Prelude.{◌≡◌, [], refl, length, drop, map};
 ghost use Rattle.pep440_version.specs.Key.{base_cmp, suffix_cmp, release_cmp, local_cmp, record_cmp};
-ghost use Rattle.pep440_version.specs.KeyLaws.{record_equiv, record_po, record_total};
+ghost use Rattle.pep440_version.specs.Key.KeyLaws.{record_equiv, record_po, record_total};
 ghost use Rattle.pep440_version.specs.Segments.{segment};
 ghost use Rattle.std.specs.Cmp.{partial_equiv_from_equiv};
 ghost use Rattle.std.specs.Ordering.{as_partial_cmp, eq_by_cmp};

@@ -1,12 +1,12 @@
 //! The parser of versions and patterns, part by part from left to right.
 ghost use Rattle.std.specs.Prelude.{◌≡◌, ◌<◌, ◌≤◌, ◌==◌, ℕ, Bool, List, [], true, length, Ok, Err, Some, IfOk, IfErr, IfSome, IsOk};
-ghost use Rattle.pep440_version.specs.ErrorTexts.{error_text, refusal_text};
-ghost use Rattle.pep440_version.specs.Errors.{Answers, AnswersBy, error_refusal, pattern_error_refusal};
+ghost use Rattle.pep440_version.specs.ErrorTexts.{error_text, rejection_text};
+ghost use Rattle.pep440_version.specs.Errors.{ReturnsOutcome, ReturnsOutcomeBy, error_rejection, pattern_error_rejection};
 ghost use Rattle.pep440_version.specs.Grammar.{Derives, starts, is_v};
 ghost use Rattle.pep440_version.specs.Print.{print};
 ghost use Rattle.pep440_version.specs.Reading.{EndsWith, skip_v, starts_with_number};
 ghost use Rattle.pep440_version.specs.Record.{Record, IsRecord, epoch_and_release, from_parts};
-ghost use Rattle.pep440_version.specs.Refusals.{Refusal, Refuses};
+ghost use Rattle.pep440_version.specs.Rejections.{Rejection, Rejects};
 ghost use Rattle.pep440_version.specs.RoundTrip.{RoundTrips};
 ghost use Rattle.pep440_version.specs.Word.{is_packed};
 ghost use Rattle.pep440_version.specs.Whole.{parse_release_after_first, parse_epoch_and_release, parse_through_release, parse_parts, parse_end, parse_after_release, starts_with_star, read_pattern, read_version};
@@ -48,7 +48,7 @@ fn parse_release_after_epoch<'a>(
     first: u64,
     text: &'a str,
 ) -> Result<(u64, Release, &'a str), ErrorKind>
-    ensures reads { AnswersBy (λ x. ((x.0, x.1), x.2.now)) result (parse_release_after_first epoch first text.now) }
+    ensures reads { ReturnsOutcomeBy (λ x. ((x.0, x.1), x.2.now)) result (parse_release_after_first epoch first text.now) }
     ensures memory { (x : (ℕ × List ℕ) × List ℕ) → parse_release_after_first epoch first text.now ≡ Ok x → length x.0.1 ≤ 4 → IsOk result }
 {
     let (numbers, rest) = parse_release_from(alloc, first, text)?;
@@ -58,7 +58,7 @@ fn parse_release_after_epoch<'a>(
 // Epoch and release.
 #[tactic(auto, unfolding(crate::specs::Whole::parse_epoch_and_release))]
 fn parse_epoch_and_release(alloc: Global, text: &str) -> Result<(u64, Release, &str), ErrorKind>
-    ensures reads { AnswersBy (λ x. ((x.0, x.1), x.2.now)) result (parse_epoch_and_release text.now) }
+    ensures reads { ReturnsOutcomeBy (λ x. ((x.0, x.1), x.2.now)) result (parse_epoch_and_release text.now) }
     ensures memory { (x : (ℕ × List ℕ) × List ℕ) → parse_epoch_and_release text.now ≡ Ok x → length x.0.1 ≤ 4 → IsOk result }
 {
     if !starts_with_number(text) {
@@ -85,7 +85,7 @@ fn parse_parts(
     text: &str,
 ) -> Result<(Version, &str), ErrorKind>
     requires { 0 < length release }
-    ensures reads { AnswersBy (λ x. (x.0, x.1.now)) result (parse_parts epoch release text.now) }
+    ensures reads { ReturnsOutcomeBy (λ x. (x.0, x.1.now)) result (parse_parts epoch release text.now) }
     ensures memory { (x : Record × List ℕ) → parse_parts epoch release text.now ≡ Ok x → is_packed x.0 ≡ true → IsOk result }
 {
     let (pre, after_pre) = parse_pre(alloc, text)?;
@@ -101,7 +101,7 @@ fn parse_parts(
 // White space and the end of the string.
 fn parse_end(alloc: Global, text: &str, version: Version, rest: &str) -> Result<Version, ErrorKind>
     requires { EndsWith text.now rest.now }
-    ensures reads { AnswersBy (λ v. v) result (parse_end text.now (version, rest.now)) }
+    ensures reads { ReturnsOutcomeBy (λ v. v) result (parse_end text.now (version, rest.now)) }
     ensures memory { (r : Record) → parse_end text.now (version, rest.now) ≡ Ok r → IsOk result }
 {
     let after = scan::skip_blanks(rest);
@@ -124,7 +124,7 @@ fn parse_after_release(
 ) -> Result<Version, ErrorKind>
     requires some { 0 < length release }
     requires at_end { EndsWith text.now rest.now }
-    ensures reads { AnswersBy (λ v. v) result (parse_after_release text.now ((epoch, release), rest.now)) }
+    ensures reads { ReturnsOutcomeBy (λ v. v) result (parse_after_release text.now ((epoch, release), rest.now)) }
     ensures memory { (r : Record) → parse_after_release text.now ((epoch, release), rest.now) ≡ Ok r → is_packed r ≡ true → IsOk result }
 {
     let (version, after) = parse_parts(alloc, epoch, release, rest)?;
@@ -140,7 +140,7 @@ fn starts_with_star(text: &str) -> bool
 // Only an epoch and a release.
 fn build_star_version(alloc: Global, epoch: u64, release: Release) -> Result<Version, ErrorKind>
     requires { 0 < length release }
-    ensures reads { AnswersBy (λ v. v) result (Ok (epoch_and_release epoch release)) }
+    ensures reads { ReturnsOutcomeBy (λ v. v) result (Ok (epoch_and_release epoch release)) }
     ensures memory { is_packed (epoch_and_release epoch release) ≡ true → IsOk result }
 {
     let no_local = Vec::new(alloc);
@@ -151,7 +151,7 @@ fn build_star_version(alloc: Global, epoch: u64, release: Release) -> Result<Ver
 #[inline(always)]
 fn build_from_parts(alloc: Global, parts: NormalParts) -> Result<Version, ErrorKind>
     requires { 0 < length parts.release }
-    ensures reads { AnswersBy (λ v. v) result (Ok (from_parts parts.epoch parts.release parts.pre parts.post parts.dev [])) }
+    ensures reads { ReturnsOutcomeBy (λ v. v) result (Ok (from_parts parts.epoch parts.release parts.pre parts.post parts.dev [])) }
     ensures memory { is_packed (from_parts parts.epoch parts.release parts.pre parts.post parts.dev []) ≡ true → IsOk result }
 {
     let no_local = Vec::new(alloc);
@@ -167,7 +167,7 @@ fn build_from_parts(alloc: Global, parts: NormalParts) -> Result<Version, ErrorK
 
 // Blanks, the letter v, epoch and release.
 fn parse_through_release(alloc: Global, text: &str) -> Result<(u64, Release, &str), ErrorKind>
-    ensures reads { AnswersBy (λ x. ((x.0, x.1), x.2.now)) result (parse_through_release text.now) }
+    ensures reads { ReturnsOutcomeBy (λ x. ((x.0, x.1), x.2.now)) result (parse_through_release text.now) }
     ensures memory { (x : (ℕ × List ℕ) × List ℕ) → parse_through_release text.now ≡ Ok x → length x.0.1 ≤ 4 → IsOk result }
 {
     parse_epoch_and_release(alloc, skip_v(scan::skip_blanks(text)))
@@ -179,7 +179,7 @@ pub(crate) fn parse_pattern(
     alloc: Global,
     text: &str,
 ) -> Result<(Version, bool), VersionPatternParseError>
-    ensures reads { Answers pattern_error_refusal result (read_pattern text.now) }
+    ensures reads { ReturnsOutcome pattern_error_rejection result (read_pattern text.now) }
     ensures memory { (x : Record × Bool) → read_pattern text.now ≡ Ok x → is_packed x.0 ≡ true → IsOk result }
 {
     match parse_normal_parts(text) {
@@ -193,7 +193,7 @@ fn parse_whole_pattern(
     alloc: Global,
     text: &str,
 ) -> Result<(Version, bool), VersionPatternParseError>
-    ensures reads { Answers pattern_error_refusal result (read_pattern text.now) }
+    ensures reads { ReturnsOutcome pattern_error_rejection result (read_pattern text.now) }
     ensures memory { (x : Record × Bool) → read_pattern text.now ≡ Ok x → is_packed x.0 ≡ true → IsOk result }
 {
     let (epoch, release, rest) = parse_through_release(alloc, text)?;
@@ -214,7 +214,7 @@ impl Version {
     // The result of parsing from left to right: a version is a pattern without a star.
     #[inline(always)]
     fn parse_any(alloc: Global, text: &str) -> Result<Version, VersionParseError>
-        ensures reads { Answers error_refusal result (read_version text.now) }
+        ensures reads { ReturnsOutcome error_rejection result (read_version text.now) }
         ensures memory { (r : Record) → read_version text.now ≡ Ok r → is_packed r ≡ true → IsOk result }
     {
         match parse_normal_version(text) {
@@ -226,7 +226,7 @@ impl Version {
     // The version that the string parses to, if it is likely not packed.
     #[inline(always)]
     fn parse_unpacked(alloc: Global, text: &str) -> Result<Version, VersionParseError>
-        ensures reads { Answers error_refusal result (read_version text.now) }
+        ensures reads { ReturnsOutcome error_rejection result (read_version text.now) }
         ensures memory { (r : Record) → read_version text.now ≡ Ok r → is_packed r ≡ true → IsOk result }
     {
         match parse_normal_parts(text) {
@@ -238,7 +238,7 @@ impl Version {
     // The version of any string, part by part.
     #[inline(always)]
     fn parse_whole(alloc: Global, text: &str) -> Result<Version, VersionParseError>
-        ensures reads { Answers error_refusal result (read_version text.now) }
+        ensures reads { ReturnsOutcome error_rejection result (read_version text.now) }
         ensures memory { (r : Record) → read_version text.now ≡ Ok r → is_packed r ≡ true → IsOk result }
     {
         let (epoch, release, rest) = parse_through_release(alloc, text)?;
@@ -257,17 +257,17 @@ impl Version {
         // Ok has what the string denotes.
         ensures found { IfOk result (λ v. Derives text.now v) }
         // A string that denotes a value parses to it, unless out of memory.
-        ensures only { (r : Record) → Derives text.now r → Answers error_refusal result (Ok r) }
+        ensures only { (r : Record) → Derives text.now r → ReturnsOutcome error_rejection result (Ok r) }
         // Err has an error that the prefixes of the string determine.
-        ensures refused { IfErr result (λ e. IfSome (error_refusal e) (Refuses text.now)) }
+        ensures refused { IfErr result (λ e. IfSome (error_rejection e) (Rejects text.now)) }
         // The error that the prefixes of the string determine is returned, unless out of memory.
-        ensures decided { (f : Refusal) → Refuses text.now f → Answers error_refusal result (Err f) }
+        ensures decided { (f : Rejection) → Rejects text.now f → ReturnsOutcome error_rejection result (Err f) }
         // The message of the error is the stated one.
-        ensures message { IfErr result (λ e. IfSome (error_refusal e) (λ f. error_text (error_refusal e) ≡ Some (refusal_text f))) }
+        ensures message { IfErr result (λ e. IfSome (error_rejection e) (λ f. error_text (error_rejection e) ≡ Some (rejection_text f))) }
         // The normalized form of a record that round-trips parses back to that record, unless out of memory.
-        ensures round_trips { (r : Record) → IsRecord r → RoundTrips r → text.now ≡ print r → Answers error_refusal result (Ok r) }
+        ensures round_trips { (r : Record) → IsRecord r → RoundTrips r → text.now ≡ print r → ReturnsOutcome error_rejection result (Ok r) }
         // So does the normalized form of every parsed version.
-        ensures again { (t : List ℕ) (r : Record) → Derives t r → text.now ≡ print r → Answers error_refusal result (Ok r) }
+        ensures again { (t : List ℕ) (r : Record) → Derives t r → text.now ≡ print r → ReturnsOutcome error_rejection result (Ok r) }
         // A string that denotes a packed record is parsed without allocating.
         ensures memory { (r : Record) → Derives text.now r → is_packed r ≡ true → IsOk result }
     {

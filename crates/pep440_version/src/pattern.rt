@@ -1,12 +1,12 @@
 //! Version patterns and their parser.
 ghost use Rattle.std.specs.Prelude.{◌≡◌, Bool, true, false, Ok, Err, Some, IfOk, IfErr, IfSome, IsOk};
 ghost use Rattle.std.specs.Cmp.{partial_equiv_from_equiv};
-ghost use Rattle.pep440_version.specs.ErrorTexts.{pattern_error_text, pattern_refusal_text};
-ghost use Rattle.pep440_version.specs.Errors.{Answers, pattern_error_refusal};
+ghost use Rattle.pep440_version.specs.ErrorTexts.{pattern_error_text, pattern_rejection_text};
+ghost use Rattle.pep440_version.specs.Errors.{ReturnsOutcome, pattern_error_rejection};
 ghost use Rattle.pep440_version.specs.PatternLaws.{pattern_equiv, patterns_feed_alike};
 ghost use Rattle.pep440_version.specs.Patterns.{DerivesPattern, pattern_eq, feed_pattern};
 ghost use Rattle.pep440_version.specs.Record.{Record};
-ghost use Rattle.pep440_version.specs.Refusals.{PatternRefusal, RefusesPattern};
+ghost use Rattle.pep440_version.specs.Rejections.{PatternRejection, RejectsPattern};
 ghost use Rattle.pep440_version.specs.Whole.{read_pattern};
 ghost use Rattle.pep440_version.specs.Word.{is_packed};
 
@@ -80,7 +80,7 @@ impl VersionPattern {
 
     // The result of parsing from left to right.
     fn parse_any(alloc: Global, text: &str) -> Result<VersionPattern, VersionPatternParseError>
-        ensures reads { Answers pattern_error_refusal result (read_pattern text.now) }
+        ensures reads { ReturnsOutcome pattern_error_rejection result (read_pattern text.now) }
         ensures memory { (x : Record × Bool) → read_pattern text.now ≡ Ok x → is_packed x.0 ≡ true → IsOk result }
     {
         if let Some((version, wildcard)) = parse::parse_normal_pattern(text) {
@@ -101,14 +101,14 @@ impl VersionPattern {
         // Ok has what the string denotes.
         ensures found { IfOk result (λ p. DerivesPattern text.now p.0 p.1) }
         // A string that denotes a value parses to it, unless out of memory.
-        ensures only { (r : Record) (star : Bool) → DerivesPattern text.now r star → Answers pattern_error_refusal result (Ok (r, star)) }
+        ensures only { (r : Record) (star : Bool) → DerivesPattern text.now r star → ReturnsOutcome pattern_error_rejection result (Ok (r, star)) }
         // Err has an error that the prefixes of the string determine.
-        ensures refused { IfErr result (λ e. IfSome (pattern_error_refusal e) (RefusesPattern text.now)) }
+        ensures refused { IfErr result (λ e. IfSome (pattern_error_rejection e) (RejectsPattern text.now)) }
         // The error that the prefixes of the string determine is returned, unless out of memory.
-        ensures decided { (f : PatternRefusal) → RefusesPattern text.now f → Answers pattern_error_refusal result (Err f) }
+        ensures decided { (f : PatternRejection) → RejectsPattern text.now f → ReturnsOutcome pattern_error_rejection result (Err f) }
         // The message is that of the error's kind.
-        ensures message { IfErr result (λ e. IfSome (pattern_error_refusal e)
-            (λ f. pattern_error_text (pattern_error_refusal e) ≡ Some (pattern_refusal_text f))) }
+        ensures message { IfErr result (λ e. IfSome (pattern_error_rejection e)
+            (λ f. pattern_error_text (pattern_error_rejection e) ≡ Some (pattern_rejection_text f))) }
         // A string that denotes a packed record is parsed without allocating, with a star or without.
         ensures memory { (r : Record) (star : Bool) → DerivesPattern text.now r star → is_packed r ≡ true → IsOk result }
     {

@@ -2,7 +2,7 @@
 ghost use Rattle.std.specs.Prelude.{Some, map, ◌++◌, ◌<◌, ◌+◌, ◌∷◌, [], codes};
 ghost use Rattle.std.specs.List.{flat_map};
 ghost use Rattle.std.specs.Fmt.{WritesStyledOnOk, DisplaysOnOk, decimal};
-ghost use Rattle.pep440_version.specs.Print.{print, quoted, dotted, segment_print, prerelease_kind_text, prerelease_text, pre_text, epoch_text, local_text, labelled};
+ghost use Rattle.pep440_version.specs.Print.{print, quoted, dotted, print_segment, prerelease_kind_text, prerelease_text, pre_text, epoch_text, local_text, labelled};
 ghost use Rattle.pep440_version.specs.Segments.{segment};
 
 use crate::prerelease::{Prerelease, PrereleaseKind};
@@ -144,7 +144,7 @@ fn write_segment<W: fmt::Write>(
     f: &mut fmt::Formatter<W>,
     local_segment: &LocalSegment,
 ) -> fmt::Result
-    ensures { WritesStyledOnOk W.write_str_gives f.old result (segment_print (segment local_segment.now)) f.new }
+    ensures { WritesStyledOnOk W.write_str_gives f.old result (print_segment (segment local_segment.now)) f.new }
 {
     match local_segment {
         LocalSegment::String(text) => f.write_str(text.as_str()),
@@ -156,7 +156,7 @@ fn write_dotted_segment<W: fmt::Write>(
     f: &mut fmt::Formatter<W>,
     local_segment: &LocalSegment,
 ) -> fmt::Result
-    ensures { WritesStyledOnOk W.write_str_gives f.old result (codes "." ++ segment_print (segment local_segment.now)) f.new }
+    ensures { WritesStyledOnOk W.write_str_gives f.old result (codes "." ++ print_segment (segment local_segment.now)) f.new }
 {
     f.write_str(".")?;
     write_segment(f, local_segment)
@@ -167,7 +167,7 @@ fn write_segments<W: fmt::Write>(
     f: &mut fmt::Formatter<W>,
     segments: &[LocalSegment],
 ) -> fmt::Result
-    ensures { WritesStyledOnOk W.write_str_gives f.old result (flat_map (λ s. codes "." ++ segment_print (segment s)) segments.now) f.new }
+    ensures { WritesStyledOnOk W.write_str_gives f.old result (flat_map (λ s. codes "." ++ print_segment (segment s)) segments.now) f.new }
 {
     for local_segment in segments {
         write_dotted_segment(f, local_segment)?;
@@ -183,7 +183,7 @@ pub fn write_local_segments<W: fmt::Write>(
     f: &mut fmt::Formatter<W>,
     local: &[LocalSegment],
 ) -> fmt::Result
-    ensures { WritesStyledOnOk W.write_str_gives f.old result (dotted segment_print (map segment local.now)) f.new }
+    ensures { WritesStyledOnOk W.write_str_gives f.old result (dotted print_segment (map segment local.now)) f.new }
 {
     match local {
         [] => Ok(()),
@@ -237,9 +237,9 @@ impl fmt::Display for Prerelease {
 }
 
 impl fmt::Display for LocalSegment {
-    ghost output = { λ s. Some (segment_print (segment s)) };
+    ghost output = { λ s. Some (print_segment (segment s)) };
 
-    ghost styled_output = { λ s _. Some (segment_print (segment s)) };
+    ghost styled_output = { λ s _. Some (print_segment (segment s)) };
 
     fn fmt<W: fmt::Write>(&self, f: &mut fmt::Formatter<W>) -> fmt::Result {
         write_segment(f, self)

@@ -4,7 +4,7 @@ ghost use Rattle.pep440_version.specs.Feed.{feed};
 ghost use Rattle.pep440_version.specs.Key.{record_cmp};
 ghost use Rattle.pep440_version.specs.Record.{from_release};
 ghost use Rattle.pep440_version.specs.Segments.{segment};
-ghost use Rattle.pep440_version.specs.Trim.{trim};
+ghost use Rattle.pep440_version.specs.Key.Trim.{trim};
 ghost use Rattle.pep440_version.specs.Word.{is_packed};
 ghost use Rattle.std.specs.declared.cmp.Ordering.TheVariants.{Equal};
 

@@ -21,10 +21,10 @@ use Rattle.pep440_version.proofs.Reading.Agreement.{one_record}
 use Rattle.pep440_version.proofs.RoundTrip.PrintIsRead.{derived_again}
 use Rattle.pep440_version.specs.Grammar.{Derives, IsCount, IsDev, IsEpoch, IsPost, IsPre, IsRelease}
 use Rattle.pep440_version.specs.Key.{base_cmp, suffix_cmp, record_cmp, release_cmp, local_cmp, key}
-use Rattle.pep440_version.specs.KeyLaws.{record_total, release_total}
+use Rattle.pep440_version.specs.Key.KeyLaws.{record_total, release_total}
 use Rattle.pep440_version.specs.Print.{print}
 use Rattle.pep440_version.specs.Record.{Fits, Record, LocalSegmentValue, from_parts, from_release}
-use Rattle.pep440_version.specs.Ties.{ties}
+use Rattle.pep440_version.specs.Key.Ties.{ties}
 use Rattle.pep440_version.specs.declared.prerelease.Prerelease.{Prerelease}
 use Rattle.pep440_witness.proofs.Keeping.{first_equal, in_left, in_right, is_equal, keep_all, not_true, or_false, other_local, pins, plain_of, same_dev, same_post, same_pre, tied_after}
 use Rattle.pep440_witness.proofs.Reaching.{AllShort, IsPlain, all_shaped, around_fits, is_fit, is_shaped, versions_le_le}

@@ -6,7 +6,7 @@ use Rattle.pep440_rs.specs.Cover.{IsCoverable}
 use Rattle.pep440_rs.specs.Specifiers.{Spec}
 use Rattle.pep440_version.proofs.RoundTrip.PrintIsRead.{derived_rereads, none_all}
 use Rattle.pep440_version.specs.Record.{Record, from_parts, from_release}
-use Rattle.pep440_version.specs.RoundTrip.{RoundTrips, SegmentRereads}
+use Rattle.pep440_version.specs.RoundTrip.{RoundTrips, SegmentRoundTrips}
 use Rattle.pep440_version.specs.declared.prerelease.Prerelease.{Prerelease}
 use Rattle.pep440_witness.specs.Probes.{around, beside, just_above, longest, next_kind, next_post, next_release, points, probes, raised, raised_pre, versions}
 
@@ -33,7 +33,7 @@ found_is P p [] h = tt
 found_is P p (x ∷ xs) h = head_is P x (find p xs) (p x) h.0 (found_is P p xs h.1)
 
 plain : (epoch : ℕ) (release : List ℕ) (pre : Option Prerelease) (post dev : Option ℕ) → RoundTrips (from_parts epoch release pre post dev [])
-plain epoch release pre post dev = record { no_min = refl; no_max = refl; local = none_all SegmentRereads }
+plain epoch release pre post dev = record { no_min = refl; no_max = refl; local = none_all SegmentRoundTrips }
 
 around_again : (depth : ℕ) (s : Record) → Each RoundTrips (around depth s)
 around_again depth s =

@@ -17,9 +17,9 @@ use Rattle.pep440_rs.specs.Specifiers.{Spec}
 use Rattle.pep440_rs.specs.declared.specifier.operator.Operator.{Operator}
 use Rattle.pep440_rs.specs.declared.specifier.operator.Operator.TheVariants.{Equal, EqualStar, ExactEqual, NotEqual, NotEqualStar, TildeEqual, LessThan, LessThanEqual, GreaterThan, GreaterThanEqual}
 use Rattle.pep440_version.specs.Key.{base_cmp, suffix_cmp, record_cmp, release_cmp, local_cmp, key, stage_of, post_of, dev_of}
-use Rattle.pep440_version.specs.KeyLaws.{record_total}
+use Rattle.pep440_version.specs.Key.KeyLaws.{record_total}
 use Rattle.pep440_version.specs.Record.{Fits, Record, LocalSegmentValue, from_parts}
-use Rattle.pep440_version.specs.Ties.{ties}
+use Rattle.pep440_version.specs.Key.Ties.{ties}
 use Rattle.pep440_version.specs.declared.prerelease.Prerelease.{Prerelease}
 use Rattle.pep440_witness.proofs.Reaching.{AllShort, IsPlain, Tops, all_like, all_shaped, base_le, bases_le_lt, base_total, deep, deep_above, deep_fits, fit_of, is_shaped, reach_base, step_reaches, versions_le_le, versions_le_lt, versions_lt_le, weak, by_base}
 use Rattle.pep440_witness.proofs.Releases.{FitAll, after_apart, after_least, after_pin, after_short, and_left, and_right, and_true, begin, begins_le, begins_without_last, below_not, between, equal_is, itself, le_next, less_is, no_begin, no_begin_le, no_begin_next, pinned, tied_begins, zero_least}

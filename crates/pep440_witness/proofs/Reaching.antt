@@ -13,7 +13,7 @@ use Rattle.pep440_rs.specs.Specifiers.{Spec}
 use Rattle.pep440_rs.specs.declared.specifier.operator.Operator.{Operator}
 use Rattle.pep440_rs.specs.declared.specifier.operator.Operator.TheVariants.{Equal, EqualStar, ExactEqual, NotEqual, NotEqualStar, TildeEqual, LessThan, LessThanEqual, GreaterThan, GreaterThanEqual}
 use Rattle.pep440_version.specs.Key.{base_cmp, suffix_cmp, record_cmp, release_cmp, local_cmp}
-use Rattle.pep440_version.specs.KeyLaws.{record_total, release_total}
+use Rattle.pep440_version.specs.Key.KeyLaws.{record_total, release_total}
 use Rattle.pep440_version.specs.Record.{Fits, Record, LocalSegmentValue, from_parts}
 use Rattle.pep440_version.specs.declared.prerelease.Prerelease.{Prerelease}
 use Rattle.pep440_version.specs.declared.prerelease.PrereleaseKind.{PrereleaseKind}

@@ -14,7 +14,7 @@ use Rattle.pep440_version.specs.Key.{record_cmp}
 use Rattle.pep440_version.specs.Record.{Record, from_release}
 use Rattle.pep440_version.specs.RoundTrip.{RoundTrips}
 use Rattle.pep440_witness.proofs.Denoted.{Each, each_of_flat, points_again}
-use Rattle.pep440_witness.specs.Outlines.{HoldsAgreeing, HoldsLocal, HoldsPublic, HoldsRange, IsInRange, IsOutline, Surrounds, is_marked, may_contain, without_local}
+use Rattle.pep440_witness.specs.Outlines.{HoldsAgreeing, HoldsLocal, HoldsPublic, HoldsRange, IsInRange, IsOutline, Surrounds, has_sentinel, may_contain, without_local}
 use Rattle.pep440_witness.specs.Probes.{beside_probes, longest, points, versions}
 
 and_true : (a b : Bool) → a ≡ true → b ≡ true → a && b ≡ true
@@ -39,7 +39,7 @@ is_none : {A : Type 0} (x : Option A) → is_some x ≡ false → x ≡ None
 is_none None h = refl
 is_none (Some a) h = absurd (true≢false h)
 
-bare : (v : Record) → is_marked v ≡ false → HasNoLocalOrSentinel (without_local v)
+bare : (v : Record) → has_sentinel v ≡ false → HasNoLocalOrSentinel (without_local v)
 bare v h = record {
   local = refl;
   min = is_none v.min (no_or_left (is_some v.min) (is_some v.max) h);
@@ -88,7 +88,7 @@ may_if false true l h k = k
 may_if false false l h k = h refl
 
 may : (members : List Spec) (public local : Segments) (v : Record) → Surrounds members public local → list_matches members v ≡ true → may_contain public local v ≡ true
-may members public local v s h = may_if (is_marked v) (contains record_cmp public (without_local v)) (contains record_cmp local v) (λ u. s.public_holds v u h) (s.local_holds v h)
+may members public local v s h = may_if (has_sentinel v) (contains record_cmp public (without_local v)) (contains record_cmp local v) (λ u. s.public_holds v u h) (s.local_holds v h)
 
 -- what cannot be contained is not
 pub outside : (members : List Spec) (public local : Segments) (v : Record) → Surrounds members public local → may_contain public local v ≡ false → list_matches members v ≡ false
@@ -100,7 +100,7 @@ outside members public local v s never = go (list_matches members v) refl
 
 -- ---- no version at all
 
-unmarked : (v : Record) → RoundTrips v → is_marked v ≡ false
+unmarked : (v : Record) → RoundTrips v → has_sentinel v ≡ false
 unmarked v r = λ i. is_some (r.no_min i) || is_some (r.no_max i)
 
 none_matches : (members : List Spec) (v : Record) → HoldsPublic members [] → RoundTrips v → list_matches members v ≡ false

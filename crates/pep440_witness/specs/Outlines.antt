@@ -17,8 +17,8 @@ abbrev pub without_local : Record → Record
 without_local v = record v { local = [] }
 
 -- there is a sentinel
-abbrev pub is_marked : Record → Bool
-is_marked v = is_some v.min || is_some v.max
+abbrev pub has_sentinel : Record → Bool
+has_sentinel v = is_some v.min || is_some v.max
 
 -- ---- members
 
@@ -39,12 +39,12 @@ abbrev pub IsOutline : Spec → Spec → Type 0
 IsOutline m k = IsComparable k × ((v : Record) → IsTrue (matches m.operator m.version v) → IsTrue (matches k.operator k.version (without_local v)))
 
 -- the range of k holds v
-abbrev pub IsHeld : Record → Spec → Type 0
-IsHeld v k = IsTrue (option_map_or (λ r. contains record_cmp r v) (range_of k.operator k.version) false)
+abbrev pub RangeContains : Record → Spec → Type 0
+RangeContains v k = IsTrue (option_map_or (λ r. contains record_cmp r v) (range_of k.operator k.version) false)
 
 -- the range of k holds what k contains
 abbrev pub IsInRange : Spec → Type 0
-IsInRange k = (v : Record) → IsTrue (matches k.operator k.version v) → IsHeld v k
+IsInRange k = (v : Record) → IsTrue (matches k.operator k.version v) → RangeContains v k
 
 -- ---- ranges
 
@@ -57,11 +57,11 @@ abbrev pub HoldsAgreeing : Spec → Segments → Type 0
 HoldsAgreeing k range = HasOperand k → (v : Record) → Agreeing v k → IsTrue (contains record_cmp range v)
 
 abbrev pub HoldsRange : Spec → Segments → Type 0
-HoldsRange k range = (v : Record) → IsHeld v k → IsTrue (contains record_cmp range v)
+HoldsRange k range = (v : Record) → RangeContains v k → IsTrue (contains record_cmp range v)
 
 -- the range holds, without its local part, every version without sentinels that the list contains
 abbrev pub HoldsPublic : List Spec → Segments → Type 0
-HoldsPublic members range = (v : Record) → is_marked v ≡ false → IsTrue (list_matches members v) → IsTrue (contains record_cmp range (without_local v))
+HoldsPublic members range = (v : Record) → has_sentinel v ≡ false → IsTrue (list_matches members v) → IsTrue (contains record_cmp range (without_local v))
 
 -- the range holds every version that the list contains
 abbrev pub HoldsLocal : List Spec → Segments → Type 0
@@ -69,7 +69,7 @@ HoldsLocal members range = (v : Record) → IsTrue (list_matches members v) → 
 
 -- what both hold, or has a sentinel
 abbrev pub may_contain : Segments → Segments → Record → Bool
-may_contain public local v = is_marked v || (contains record_cmp public (without_local v) && contains record_cmp local v)
+may_contain public local v = has_sentinel v || (contains record_cmp public (without_local v) && contains record_cmp local v)
 
 -- two ranges, which hold what the list contains
 pub record Surrounds (members : List Spec) (public local : Segments) : Type 0 where

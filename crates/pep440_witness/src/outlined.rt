@@ -3,14 +3,14 @@ ghost use Rattle.std.specs.Prelude.{◌≡◌, ◌≢◌, [], IfOk, IfSome, IsTr
 ghost use Rattle.pep440_rs.specs.Agreement.{HasNoLocalOrSentinel, HasOperand};
 ghost use Rattle.pep440_rs.specs.Specifiers.{Spec};
 ghost use Rattle.pep440_version.specs.Record.{epoch_and_release};
-ghost use Rattle.pep440_witness.specs.Outlines.{IsInRange, IsOutline, is_marked, weaker};
+ghost use Rattle.pep440_witness.specs.Outlines.{IsInRange, IsOutline, has_sentinel, weaker};
 
 use pep440_rs::{Operator, Version, VersionSpecifier};
 use std::alloc::AllocError;
 
 // Whether the version has a sentinel.
 pub(crate) fn is_marked(version: &Version) -> bool
-    ensures { result ≡ is_marked version.now }
+    ensures { result ≡ has_sentinel version.now }
 {
     version.min().is_some() || version.max().is_some()
 }

@@ -1,4 +1,4 @@
-// The files of the system, which are opened by their names.
+//! The files of the system, which are opened by their names.
 use pyver_tool::{Files, OpenFailure};
 use std::alloc::{AllocError, Global};
 use std::fs::{self, Metadata, OpenFile};

@@ -8,7 +8,7 @@ use Rattle.std.specs.Ordering.{is_gt, nat_cmp, ordering_reverse, ordering_then}
 use Rattle.std.specs.declared.cmp.Ordering.{Ordering}
 use Rattle.std.specs.declared.cmp.Ordering.TheVariants.{Less, Equal, Greater}
 use Rattle.pep440_version.specs.Key.{record_cmp, release_cmp}
-use Rattle.pep440_version.specs.KeyLaws.{record_total}
+use Rattle.pep440_version.specs.Key.KeyLaws.{record_total}
 use Rattle.pep440_version.specs.Record.{Record, epoch_and_release}
 use Rattle.pep440_version.specs.declared.prerelease.PrereleaseKind.{PrereleaseKind}
 use Rattle.pyver_commands.specs.BumpLaws.{BumpsAreGreater, BumpsChangeOnly, ChangesOnly, ReleasesAreBumped, changes_number, changes_post, changes_pre, changes_release}

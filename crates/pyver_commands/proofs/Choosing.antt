@@ -10,7 +10,7 @@ use Rattle.pep440_pick.specs.Greatest.{Greatest, is_above}
 use Rattle.pep440_rs.specs.LiteralMatching.{list_allows_literally}
 use Rattle.pep440_rs.specs.Specifiers.{Spec}
 use Rattle.pep440_version.specs.Key.{record_cmp}
-use Rattle.pep440_version.specs.KeyLaws.{record_total}
+use Rattle.pep440_version.specs.Key.KeyLaws.{record_total}
 use Rattle.pep440_version.specs.Record.{Record}
 use Rattle.pyver_commands.specs.NewestOutcomes.{NewestLine, allowed_lines, or_else}
 use Rattle.pyver_commands.specs.NewestViews.{kept_line}

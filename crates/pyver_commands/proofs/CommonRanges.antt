@@ -18,7 +18,7 @@ use Rattle.pep440_rs.proofs.Reading.OneMeaning.{one_list}
 use Rattle.pep440_rs.specs.Arrangement.{Arranges}
 use Rattle.pep440_rs.specs.Bounds.{Segments}
 use Rattle.pep440_rs.specs.Cover.{IsCoverable}
-use Rattle.pep440_rs.specs.ListGrammar.{DerivesList}
+use Rattle.pep440_rs.specs.Lists.ListGrammar.{DerivesList}
 use Rattle.pep440_rs.specs.LiteralMatching.{list_matches_literally, matches_literally}
 use Rattle.pep440_rs.specs.Specifiers.{Spec}
 use Rattle.pep440_version.specs.Key.{record_cmp}

@@ -8,7 +8,7 @@ use Rattle.std.proofs.Math.Seq.{take-nil}
 use Rattle.std.specs.Io.KnownBytes.{Appends, Consumes, IsAtEnd}
 use Rattle.std.specs.List.{AllZip, concat, filter, flat_map}
 use Rattle.pyver_commands.proofs.InputLines.{all_append, cuts_all, cuts_more, filled_lines_from-append, filled_one, no_newline_none, some_line}
-use Rattle.pyver_commands.specs.FilterSteps.{Cuts, Goes, Keeps, KeepsMore, SourceFinishes, SourceStops, Steps, StepsBy, Wrote, WroteSome}
+use Rattle.pyver_commands.specs.FilterSteps.{SplitsLines, Goes, Keeps, KeepsMore, SourceFinishes, SourceFails, Steps, StepsBy, Wrote, WroteSome}
 use Rattle.pep440_rs.specs.LiteralMatching.{list_allows_literally}
 use Rattle.pyver_commands.specs.Filters.{is_printed, is_wanted, printed_lines}
 use Rattle.cli_io.specs.Newlines.{input_lines}
@@ -238,7 +238,7 @@ module _ {S W E : Type 0} (remaining : S → Option (List ℕ)) (contents : W �
     read = [];
     consumed = Consumes-nil (remaining reader);
     ended = [];
-    cut = subst (Cuts [] []) (sym none) (record { all = λ rest. refl; one = no_newline_none });
+    cut = subst (SplitsLines [] []) (sym none) (record { all = λ rest. refl; one = no_newline_none });
     line_count = count;
     wrote = wrote_none contents error_contents rule origin earlier b out err fault newest output errors;
   }
@@ -265,7 +265,7 @@ module _ {S W E : Type 0} (remaining : S → Option (List ℕ)) (contents : W �
     }
 
     -- nothing was written of the bytes that were read
-    pub stops_reading : (reader'' : S) (bytes : List ℕ) → Consumes (remaining reader') (remaining reader'') bytes → SourceStops remaining contents error_contents rule origin earlier reader reader'' out out' err err'
+    pub stops_reading : (reader'' : S) (bytes : List ℕ) → Consumes (remaining reader') (remaining reader'') bytes → SourceFails remaining contents error_contents rule origin earlier reader reader'' out out' err err'
     stops_reading reader'' bytes took = record {
       read = g.read ++ bytes;
       consumed = Consumes-trans (remaining reader) (remaining reader') (remaining reader'') g.read bytes g.consumed took;
@@ -278,7 +278,7 @@ module _ {S W E : Type 0} (remaining : S → Option (List ℕ)) (contents : W �
 
     module _ (reader'' : S) (out'' : W) (err'' : E) (next : FilterState) where
       -- more bytes were read, and what their lines ask for was written
-      pub goes_more : (bytes : List ℕ) (texts : List (List ℕ)) (begun : List ℕ) (cleared : FilterState) → Consumes (remaining reader') (remaining reader'') bytes → Cuts (line ++ bytes) texts begun → Steps rule origin texts b next
+      pub goes_more : (bytes : List ℕ) (texts : List (List ℕ)) (begun : List ℕ) (cleared : FilterState) → Consumes (remaining reader') (remaining reader'') bytes → SplitsLines (line ++ bytes) texts begun → Steps rule origin texts b next
           → Appends (contents out') (contents out'') next.output.items → Appends (error_contents err') (error_contents err'') next.errors.items
           → cleared.line_count ≡ next.line_count → cleared.fault_count ≡ next.fault_count → cleared.newest ≡ next.newest → cleared.output.items ≡ [] → cleared.errors.items ≡ []
           → Goes remaining contents error_contents rule origin earlier cleared reader reader'' out out'' err err'' begun
@@ -292,9 +292,9 @@ module _ {S W E : Type 0} (remaining : S → Option (List ℕ)) (contents : W �
       }
 
       -- a beginning was written of what their lines ask for
-      pub stops_writing : (bytes : List ℕ) (texts : List (List ℕ)) (begun : List ℕ) → Consumes (remaining reader') (remaining reader'') bytes → Cuts (line ++ bytes) texts begun → Steps rule origin texts b next
+      pub stops_writing : (bytes : List ℕ) (texts : List (List ℕ)) (begun : List ℕ) → Consumes (remaining reader') (remaining reader'') bytes → SplitsLines (line ++ bytes) texts begun → Steps rule origin texts b next
           → WroteBeginning (contents out') (contents out'') next.output.items → WroteBeginning (error_contents err') (error_contents err'') next.errors.items
-          → SourceStops remaining contents error_contents rule origin earlier reader reader'' out out'' err err''
+          → SourceFails remaining contents error_contents rule origin earlier reader reader'' out out'' err err''
       stops_writing bytes texts begun took cut s output errors = record {
         read = g.read ++ bytes;
         consumed = Consumes-trans (remaining reader) (remaining reader') (remaining reader'') g.read bytes g.consumed took;
@@ -321,7 +321,7 @@ module _ {S W E : Type 0} (remaining : S → Option (List ℕ)) (contents : W �
       -- the source ended, and a beginning was written
       pub stops_finishing : Consumes (remaining reader') (remaining reader'') [] → IsAtEnd (remaining reader'') → Steps rule origin (line ∷ []) b next
           → WroteBeginning (contents out') (contents out'') next.output.items → WroteBeginning (error_contents err') (error_contents err'') next.errors.items
-          → SourceStops remaining contents error_contents rule origin earlier reader reader'' out out'' err err''
+          → SourceFails remaining contents error_contents rule origin earlier reader reader'' out out'' err err''
       stops_finishing took end s output errors = record {
         read = g.read ++ [];
         consumed = Consumes-trans (remaining reader) (remaining reader') (remaining reader'') g.read [] g.consumed took;
@@ -337,7 +337,7 @@ abbrev pub restarted : FilterState → FilterState
 restarted s = record { read_count = s.read_count; line_count = 0; fault_count = s.fault_count; newest = s.newest; output = s.output; errors = s.errors }
 
 module _ {S W E : Type 0} (remaining : S → Option (List ℕ)) (contents : W → Option (List ℕ)) (error_contents : E → Option (List ℕ)) (rule : FilterRule) (origin : Origin) (earlier : FilterState) (reader reader' : S) (out out' : W) (err err' : E) where
-  pub stops_restarted : SourceStops remaining contents error_contents rule origin (restarted earlier) reader reader' out out' err err' → SourceStops remaining contents error_contents rule origin earlier reader reader' out out' err err'
+  pub stops_restarted : SourceFails remaining contents error_contents rule origin (restarted earlier) reader reader' out out' err err' → SourceFails remaining contents error_contents rule origin earlier reader reader' out out' err err'
   stops_restarted k =
       let w = k.wrote in
       record { read = k.read; consumed = k.consumed; front = k.front; rest = k.rest; split = k.split; whole = k.whole; wrote = record { found = w.found; are = w.are; output = w.output; errors = w.errors } }

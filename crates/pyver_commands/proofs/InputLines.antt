@@ -5,7 +5,7 @@ use Rattle.std.proofs.lemmas.Grind.{flat_map-append}
 use Rattle.std.proofs.lemmas.List.{map-append, take_more}
 use Rattle.std.proofs.lemmas.List.Elements.{All-nil, All-push, filter-append}
 use Rattle.std.proofs.lemmas.List.Splits.{length-slice_split, slice_split_at, slice_split_none}
-use Rattle.pyver_commands.specs.FilterSteps.{Cuts, HasNoNewline}
+use Rattle.pyver_commands.specs.FilterSteps.{SplitsLines, HasNoNewline}
 use Rattle.cli_io.specs.Newlines.{input_lines}
 use Rattle.pyver_commands.specs.Sources.InputLines.{SourceLine, Origin, Source, filled_lines, filled_lines_from, is_blank, line_in, numbered, source_lines}
 
@@ -14,32 +14,32 @@ use Rattle.pyver_commands.specs.Sources.InputLines.{SourceLine, Origin, Source, 
 pub no_newline_none : HasNoNewline []
 no_newline_none = All-nil (λ b. (b == 10) ≡ false)
 
-pub cuts_none : (line : List ℕ) → HasNoNewline line → Cuts (line ++ []) [] line
+pub cuts_none : (line : List ℕ) → HasNoNewline line → SplitsLines (line ++ []) [] line
 cuts_none line one = record { all = λ rest. ap (λ t. input_lines (t ++ rest)) (append-nil line); one = one }
 
 -- one byte more
-pub cuts_byte : (text : List ℕ) (ended : List (List ℕ)) (line : List ℕ) (b : ℕ) → (b == 10) ≡ false → Cuts text ended line → Cuts (text ++ b ∷ []) ended (line ++ b ∷ [])
+pub cuts_byte : (text : List ℕ) (ended : List (List ℕ)) (line : List ℕ) (b : ℕ) → (b == 10) ≡ false → SplitsLines text ended line → SplitsLines (text ++ b ∷ []) ended (line ++ b ∷ [])
 cuts_byte text ended line b other k = record {
   all = λ rest. ap input_lines (append_assoc text (b ∷ []) rest) ∙ k.all (b ∷ rest) ∙ ap (λ t. ended ++ input_lines t) (sym (append_assoc line (b ∷ []) rest));
   one = All-push (λ x. (x == 10) ≡ false) line b k.one other;
 }
 
 -- a newline more
-pub cuts_newline : (text : List ℕ) (ended : List (List ℕ)) (line : List ℕ) → Cuts text ended line → Cuts (text ++ 10 ∷ []) (ended ++ line ∷ []) []
+pub cuts_newline : (text : List ℕ) (ended : List (List ℕ)) (line : List ℕ) → SplitsLines text ended line → SplitsLines (text ++ 10 ∷ []) (ended ++ line ∷ []) []
 cuts_newline text ended line k = record {
   all = λ rest. ap input_lines (append_assoc text (10 ∷ []) rest) ∙ k.all (10 ∷ rest) ∙ ap (λ t. ended ++ t) (slice_split_at (λ b. b == 10) line 10 rest k.one refl) ∙ sym (append_assoc ended (line ∷ []) (input_lines rest));
   one = no_newline_none;
 }
 
 -- the one and then the other
-pub cuts_more : (text : List ℕ) (ended : List (List ℕ)) (line more : List ℕ) (later : List (List ℕ)) (next : List ℕ) → Cuts text ended line → Cuts (line ++ more) later next → Cuts (text ++ more) (ended ++ later) next
+pub cuts_more : (text : List ℕ) (ended : List (List ℕ)) (line more : List ℕ) (later : List (List ℕ)) (next : List ℕ) → SplitsLines text ended line → SplitsLines (line ++ more) later next → SplitsLines (text ++ more) (ended ++ later) next
 cuts_more text ended line more later next k m = record {
   all = λ rest. ap input_lines (append_assoc text more rest) ∙ k.all (more ++ rest) ∙ ap (λ t. ended ++ t) (ap input_lines (sym (append_assoc line more rest)) ∙ m.all rest) ∙ sym (append_assoc ended later (input_lines (next ++ rest)));
   one = m.one;
 }
 
 -- the line that has begun ends with the text
-pub cuts_all : (text : List ℕ) (ended : List (List ℕ)) (line : List ℕ) → Cuts text ended line → input_lines (text ++ []) ≡ (ended ++ line ∷ []) ++ []
+pub cuts_all : (text : List ℕ) (ended : List (List ℕ)) (line : List ℕ) → SplitsLines text ended line → input_lines (text ++ []) ≡ (ended ++ line ∷ []) ++ []
 cuts_all text ended line k = k.all [] ∙ ap (λ t. ended ++ input_lines t) (append-nil line) ∙ ap (λ t. ended ++ t) (slice_split_none (λ b. b == 10) line k.one) ∙ sym (append-nil (ended ++ line ∷ []))
 
 -- there is a line in any text
@@ -50,16 +50,16 @@ some_line text e = absurd (omega (arith, length-slice_split (λ b. b == 10) text
 pub taken : (line bytes : List ℕ) (i b : ℕ) → i < length bytes → b ≡ get_or bytes i 0 → (line ++ take i bytes) ++ b ∷ [] ≡ line ++ take (i + 1) bytes
 taken line bytes i b inside is = append_assoc line (take i bytes) (b ∷ []) ∙ ap (λ t. line ++ t) (sym (take_more bytes i 0 inside ∙ ap (λ x. take i bytes ++ x ∷ []) (sym is)))
 
-pub bytes_newline : (line bytes : List ℕ) (i b : ℕ) (ended : List (List ℕ)) (begun next : List ℕ) → i < length bytes → b ≡ get_or bytes i 0 → b ≡ 10 → Cuts (line ++ take i bytes) ended begun → next ≡ []
-    → Cuts (line ++ take (i + 1) bytes) (ended ++ begun ∷ []) next
+pub bytes_newline : (line bytes : List ℕ) (i b : ℕ) (ended : List (List ℕ)) (begun next : List ℕ) → i < length bytes → b ≡ get_or bytes i 0 → b ≡ 10 → SplitsLines (line ++ take i bytes) ended begun → next ≡ []
+    → SplitsLines (line ++ take (i + 1) bytes) (ended ++ begun ∷ []) next
 bytes_newline line bytes i b ended begun next inside is newline k none =
-    subst (λ t. Cuts t (ended ++ begun ∷ []) next) (taken line bytes i b inside is)
-    (subst (λ n. Cuts ((line ++ take i bytes) ++ b ∷ []) (ended ++ begun ∷ []) n) (sym none) (subst (λ x. Cuts ((line ++ take i bytes) ++ x ∷ []) (ended ++ begun ∷ []) []) (sym newline) (cuts_newline (line ++ take i bytes) ended begun k)))
+    subst (λ t. SplitsLines t (ended ++ begun ∷ []) next) (taken line bytes i b inside is)
+    (subst (λ n. SplitsLines ((line ++ take i bytes) ++ b ∷ []) (ended ++ begun ∷ []) n) (sym none) (subst (λ x. SplitsLines ((line ++ take i bytes) ++ x ∷ []) (ended ++ begun ∷ []) []) (sym newline) (cuts_newline (line ++ take i bytes) ended begun k)))
 
-pub bytes_other : (line bytes : List ℕ) (i b : ℕ) (ended : List (List ℕ)) (begun next : List ℕ) → i < length bytes → b ≡ get_or bytes i 0 → (b == 10) ≡ false → Cuts (line ++ take i bytes) ended begun → next ≡ begun ++ b ∷ []
-    → Cuts (line ++ take (i + 1) bytes) ended next
+pub bytes_other : (line bytes : List ℕ) (i b : ℕ) (ended : List (List ℕ)) (begun next : List ℕ) → i < length bytes → b ≡ get_or bytes i 0 → (b == 10) ≡ false → SplitsLines (line ++ take i bytes) ended begun → next ≡ begun ++ b ∷ []
+    → SplitsLines (line ++ take (i + 1) bytes) ended next
 bytes_other line bytes i b ended begun next inside is other k more =
-    subst (λ t. Cuts t ended next) (taken line bytes i b inside is) (subst (λ n. Cuts ((line ++ take i bytes) ++ b ∷ []) ended n) (sym more) (cuts_byte (line ++ take i bytes) ended begun b other k))
+    subst (λ t. SplitsLines t ended next) (taken line bytes i b inside is) (subst (λ n. SplitsLines ((line ++ take i bytes) ++ b ∷ []) ended n) (sym more) (cuts_byte (line ++ take i bytes) ended begun b other k))
 
 -- ---- lines with their numbers
 

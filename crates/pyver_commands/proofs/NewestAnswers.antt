@@ -2,15 +2,15 @@
 use Rattle.std.proofs.Common.{◌≡◌, ◌∙◌, ◌<◌, ℕ, List, [], ◌++◌, Bool, Option, None, Some, true, inl, inr, ap, length, refl, subst, sym, take}
 use Rattle.std.specs.Io.KnownBytes.{Appends}
 use Rattle.std.specs.List.{concat}
-use Rattle.pyver_commands.specs.FilterSteps.{AllFinish, AllStop}
+use Rattle.pyver_commands.specs.FilterSteps.{AllFinish, AllFail}
 use Rattle.pyver_commands.specs.Sources.InvalidLines.{last_message, lines_status, message_limit}
 use Rattle.pyver_commands.specs.NewestOutcomes.{FindsNewest, NewestLine, allowed_lines, newest_outcome, or_else}
 use Rattle.pyver_commands.specs.NewestViews.{KeepsNewest}
 use Rattle.cli_io.specs.Runs.{Outcome}
 use Rattle.pyver_commands.specs.PrereleaseRules.{takes_prereleases}
 use Rattle.pyver_commands.specs.Sources.ReadLines.{faults}
-use Rattle.pyver_commands.specs.Sources.RunFailures.{IsRunFailureOf, StopsUnanswered}
-use Rattle.pyver_commands.specs.Sources.{AnswersSources, KnownFile, StopsReading, UnopenedSource, last_name}
+use Rattle.pyver_commands.specs.Sources.RunFailures.{IsRunFailureOf, FailsWithoutOutcome}
+use Rattle.pyver_commands.specs.Sources.{IsOutcomeOfSources, KnownFile, FailsReading, UnopenedSource, last_name}
 use Rattle.pyver_commands.specs.Sources.VersionLines.{OfVersions, VersionLine, line_messages, unopened_outcome, version_lines}
 use Rattle.pyver_commands.specs.declared.filter.FilterRule.{FilterRule}
 use Rattle.pyver_commands.specs.declared.filter.FilterState.{FilterState}
@@ -28,11 +28,11 @@ appended a b t xs old new k = subst (λ y. Appends (Some []) y xs) new (subst (�
 module _ {R W E : Type 0} (files : List ℕ → KnownFile) (remaining : R → Option (List ℕ)) (contents : W → Option (List ℕ)) (error_contents : E → Option (List ℕ)) (rule : NewestRule) (takes : Bool) (names : List (List ℕ)) (b : FilterState) (reader reader' : R) (out out' : W) (err err' : E) where
   -- a file was not opened
   pub unopened_answers : (unopened : Option UnopenedSource) (file : UnopenedSource) (o : Outcome) → AllFinish files remaining contents error_contents (newest_filter rule takes) names unopened b reader reader' out out' err err' → unopened ≡ Some file → o ≡ unopened_outcome file
-      → AnswersSources files remaining (OfVersions rule.lines (FindsNewest rule)) names reader reader' o
+      → IsOutcomeOfSources files remaining (OfVersions rule.lines (FindsNewest rule)) names reader reader' o
   unopened_answers unopened file o k some is = let found = rw some at k in record { input = record { sources = found.sources; unopened = Some file }; reads = found.reads; is = is }
 
   -- an allocation failed after all was read
-  pub stops_after : (unopened : Option UnopenedSource) → AllFinish files remaining contents error_contents (newest_filter rule takes) names unopened b reader reader' out out' err err' → StopsUnanswered files remaining names reader reader' run_failure.OutOfMemory
+  pub stops_after : (unopened : Option UnopenedSource) → AllFinish files remaining contents error_contents (newest_filter rule takes) names unopened b reader reader' out out' err err' → FailsWithoutOutcome files remaining names reader reader' run_failure.OutOfMemory
   stops_after unopened k = record { input = record { sources = k.sources; unopened = unopened }; reads = inr (refl, k.reads); stops = tt }
 
   module _ (unopened : Option UnopenedSource) (all : AllFinish files remaining contents error_contents (newest_filter rule takes) names unopened b reader reader' out out' err err') (none : unopened ≡ None) (told messages : List ℕ) (old : error_contents err ≡ Some []) (new : error_contents err' ≡ Some told) (ends : messages ≡ told ++ last_message rule.lines.invalid b.fault_count) where
@@ -46,7 +46,7 @@ module _ {R W E : Type 0} (files : List ℕ → KnownFile) (remaining : R → Op
 
     -- some line was invalid, which is an error
     pub invalid_answers : (status : ℕ) → status ≡ lines_status rule.lines.invalid b.fault_count → 0 < status
-        → AnswersSources files remaining (OfVersions rule.lines (FindsNewest rule)) names reader reader' (record { output = []; errors = messages; status = status })
+        → IsOutcomeOfSources files remaining (OfVersions rule.lines (FindsNewest rule)) names reader reader' (record { output = []; errors = messages; status = status })
     invalid_answers status is high =
         let same : status ≡ lines_status rule.lines.invalid (length (faults k.wrote.found)) = is ∙ ap (lines_status rule.lines.invalid) k.wrote.fault_count in
         record {
@@ -58,7 +58,7 @@ module _ {R W E : Type 0} (files : List ℕ → KnownFile) (remaining : R → Op
     -- the newest line is printed, if there is one
     pub newest_answers : (newest : Option VersionLine) → lines_status rule.lines.invalid b.fault_count ≡ 0 → takes ≡ takes_prereleases rule.prereleases rule.list
         → ((lines : List VersionLine) → KeepsNewest takes rule.list lines b.newest → NewestLine (or_else rule.prereleases (allowed_lines takes rule.list lines) (allowed_lines true rule.list lines)) newest)
-        → AnswersSources files remaining (OfVersions rule.lines (FindsNewest rule)) names reader reader' (newest_outcome messages newest)
+        → IsOutcomeOfSources files remaining (OfVersions rule.lines (FindsNewest rule)) names reader reader' (newest_outcome messages newest)
     newest_answers newest zero asked is = record {
       input = record { sources = k.sources; unopened = None };
       reads = k.reads;
@@ -78,10 +78,10 @@ module _ {R W E : Type 0} (files : List ℕ → KnownFile) (remaining : R → Op
 
 -- a run that stopped before the end of the sources
 module _ {R W E : Type 0} (files : List ℕ → KnownFile) (remaining : R → Option (List ℕ)) (contents : W → Option (List ℕ)) (error_contents : E → Option (List ℕ)) (rule : FilterRule) (names : List (List ℕ)) (reader reader' : R) (out out' : W) (err err' : E) (why stop : RunFailure) where
-  pub stops_within : AllStop files remaining contents error_contents rule names reader reader' out out' err err' why → (why ≡ run_failure.OutOfMemory → stop ≡ run_failure.OutOfMemory) → ((last : Option (List ℕ)) → IsRunFailureOf last why → IsRunFailureOf last stop)
-      → StopsUnanswered files remaining names reader reader' stop
+  pub stops_within : AllFail files remaining contents error_contents rule names reader reader' out out' err err' why → (why ≡ run_failure.OutOfMemory → stop ≡ run_failure.OutOfMemory) → ((last : Option (List ℕ)) → IsRunFailureOf last why → IsRunFailureOf last stop)
+      → FailsWithoutOutcome files remaining names reader reader' stop
   stops_within k memory of = record { input = record { sources = k.sources; unopened = None }; reads = inl (by k.reads); stops = of (last_name k.sources) k.stops }
     where
-      by : StopsReading files remaining (why ≡ run_failure.OutOfMemory) names reader reader' k.sources → StopsReading files remaining (stop ≡ run_failure.OutOfMemory) names reader reader' k.sources
+      by : FailsReading files remaining (why ≡ run_failure.OutOfMemory) names reader reader' k.sources → FailsReading files remaining (stop ≡ run_failure.OutOfMemory) names reader reader' k.sources
       by (inl front) = inl front
       by (inr before) = inr (memory before.0, before.1)

@@ -11,7 +11,7 @@ use Rattle.std.specs.Ordering.{is_lt}
 use Rattle.pep440_rs.proofs.Arranging.Arranged.{same_by_ties}
 use Rattle.pep440_rs.specs.Arrangement.{ArrangesBy}
 use Rattle.pep440_version.specs.Key.{record_cmp}
-use Rattle.pep440_version.specs.KeyLaws.{record_total}
+use Rattle.pep440_version.specs.Key.KeyLaws.{record_total}
 use Rattle.pep440_version.specs.Record.{Record}
 use Rattle.cli_io.specs.Runs.{Outcome}
 use Rattle.pyver_commands.specs.Sorts.{SortsParts, firsts, last_texts, line_order, lines_text, sort_outcome, sorted_texts, version_order, without_repeats}

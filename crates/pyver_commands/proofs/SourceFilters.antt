@@ -7,7 +7,7 @@ use Rattle.std.specs.Io.KnownBytes.{Appends}
 use Rattle.std.specs.List.{AllZip, concat}
 use Rattle.pyver_commands.proofs.Filtering.{began, first-append, length-faults, printed_lines-append, wrote_front}
 use Rattle.pyver_commands.proofs.InputLines.{all_append, filled_lines-last}
-use Rattle.pyver_commands.specs.FilterSteps.{AllFinish, AllStop, FilterFinishes, FilterStops, FinishesBy, OneReads, OneRefuses, OneStops, SourceFinishes, SourceStops, WroteAll}
+use Rattle.pyver_commands.specs.FilterSteps.{AllFinish, AllFail, FilterFinishes, FilterFails, FinishesBy, OneReads, OneIsUnopened, OneFails, SourceFinishes, SourceFails, WroteAll}
 use Rattle.pyver_commands.specs.Filters.{filter_outcome, printed_lines}
 use Rattle.cli_io.specs.Newlines.{input_lines}
 use Rattle.pyver_commands.specs.Sources.InputLines.{Origin, Source}
@@ -74,8 +74,8 @@ module _ {R W E : Type 0} (files : List ℕ → KnownFile) (remaining : R → Op
     wrote = k.wrote;
   }
 
-  pub input_stops : (reader reader' : R) (out out' : W) (err err' : E) (stop : RunFailure) → is_input origin.name ≡ true → SourceStops remaining contents error_contents rule origin earlier reader reader' out out' err err' → IsRunFailureOf (Some origin.name) stop
-      → OneStops files remaining contents error_contents rule origin earlier reader reader' out out' err err' stop
+  pub input_stops : (reader reader' : R) (out out' : W) (err err' : E) (stop : RunFailure) → is_input origin.name ≡ true → SourceFails remaining contents error_contents rule origin earlier reader reader' out out' err err' → IsRunFailureOf (Some origin.name) stop
+      → OneFails files remaining contents error_contents rule origin earlier reader reader' out out' err err' stop
   input_stops reader reader' out out' err err' stop named k stops = inr (record {
     source = record { origin = origin; lines = k.front };
     lines = record {
@@ -106,7 +106,7 @@ module _ {R W E : Type 0} (files : List ℕ → KnownFile) (remaining : R → Op
   }
 
   pub file_stops : {S : Type 0} (left_of : S → Option (List ℕ)) (file file' : S) (reader : R) (out out' : W) (err err' : E) (stop : RunFailure) → is_input origin.name ≡ false → MayOpen (files origin.name) (left_of file)
-      → SourceStops left_of contents error_contents rule origin earlier file file' out out' err err' → IsRunFailureOf (Some origin.name) stop → OneStops files remaining contents error_contents rule origin earlier reader reader out out' err err' stop
+      → SourceFails left_of contents error_contents rule origin earlier file file' out out' err err' → IsRunFailureOf (Some origin.name) stop → OneFails files remaining contents error_contents rule origin earlier reader reader out out' err err' stop
   file_stops left_of file file' reader out out' err err' stop named opens k stops = inr (record {
     source = record { origin = origin; lines = k.front };
     lines = record {
@@ -123,7 +123,7 @@ module _ {R W E : Type 0} (files : List ℕ → KnownFile) (remaining : R → Op
   })
 
   -- an allocation failed before the file was opened
-  pub unopened_stops : (reader : R) (out : W) (err : E) → is_input origin.name ≡ false → OneStops files remaining contents error_contents rule origin earlier reader reader out out err err run_failure.OutOfMemory
+  pub unopened_stops : (reader : R) (out : W) (err : E) → is_input origin.name ≡ false → OneFails files remaining contents error_contents rule origin earlier reader reader out out err err run_failure.OutOfMemory
   unopened_stops reader out err named = inl (record { file = named; memory = refl; reader_kept = refl; out_kept = refl; err_kept = refl })
 
 -- ---- one source after another
@@ -191,7 +191,7 @@ module _ {R W E : Type 0} (files : List ℕ → KnownFile) (remaining : R → Op
           };
         }
 
-    pub goes_on_refused : (next : List ℕ) (left : List (List ℕ)) (failure : OpenFailure) (c : FilterState) → OneRefuses files remaining contents error_contents (record { is_first = is_none read; name = next }) failure b c reader' reader'' out' out'' err' err''
+    pub goes_on_refused : (next : List ℕ) (left : List (List ℕ)) (failure : OpenFailure) (c : FilterState) → OneIsUnopened files remaining contents error_contents (record { is_first = is_none read; name = next }) failure b c reader' reader'' out' out'' err' err''
         → AllFinish files remaining contents error_contents rule (read ++ next ∷ left) (Some (record { name = next; failure = failure })) c reader reader'' out out'' err err''
     goes_on_refused next left failure c m = record {
       sources = k.sources;
@@ -206,8 +206,8 @@ module _ {R W E : Type 0} (files : List ℕ → KnownFile) (remaining : R → Op
           (subst (λ o. WroteAll contents error_contents rule k.sources b out o err err'') (sym m.out_kept) (subst (λ e. WroteAll contents error_contents rule k.sources b out out' err e) (sym m.err_kept) k.wrote));
     }
 
-    pub goes_on_stops : (next : List ℕ) (left : List (List ℕ)) (why : RunFailure) → OneStops files remaining contents error_contents rule (record { is_first = is_none read; name = next }) b reader' reader'' out' out'' err' err'' why
-        → AllStop files remaining contents error_contents rule (read ++ next ∷ left) reader reader'' out out'' err err'' why
+    pub goes_on_stops : (next : List ℕ) (left : List (List ℕ)) (why : RunFailure) → OneFails files remaining contents error_contents rule (record { is_first = is_none read; name = next }) b reader' reader'' out' out'' err' err'' why
+        → AllFail files remaining contents error_contents rule (read ++ next ∷ left) reader reader'' out out'' err err'' why
     goes_on_stops next left why (inl m) =
         let w = k.wrote in
         let first = concat (take (message_limit rule.lines.invalid) (faults w.found)) in
@@ -254,10 +254,10 @@ module _ {R W E : Type 0} (files : List ℕ → KnownFile) (remaining : R → Op
       (input_reads files remaining contents error_contents rule input_origin a b reader reader' out out' err err' refl k)))
 
   pub alone_stops : (rule : FilterRule) (names : List (List ℕ)) (a : FilterState) (reader reader' : R) (out out' : W) (err err' : E) (stop : RunFailure) → names ≡ [] → a.fault_count ≡ 0 → HasNoLine a.newest → a.output.items ≡ [] → a.errors.items ≡ []
-      → SourceStops remaining contents error_contents rule input_origin a reader reader' out out' err err' → IsRunFailureOf (Some input_name) stop
-      → AllStop files remaining contents error_contents rule (source_names names) reader reader' out out' err err' stop
+      → SourceFails remaining contents error_contents rule input_origin a reader reader' out out' err err' → IsRunFailureOf (Some input_name) stop
+      → AllFail files remaining contents error_contents rule (source_names names) reader reader' out out' err err' stop
   alone_stops rule names a reader reader' out out' err err' stop empty fault newest output errors k stops =
-      subst (λ n. AllStop files remaining contents error_contents rule (source_names n) reader reader' out out' err err' stop) (sym empty)
+      subst (λ n. AllFail files remaining contents error_contents rule (source_names n) reader reader' out out' err err' stop) (sym empty)
       (goes_on_stops rule [] a reader reader reader' out out out' err err err' (goes_on_none rule a reader out err fault newest output errors) input_name [] stop
       (input_stops files remaining contents error_contents rule input_origin a reader reader' out out' err err' stop refl k stops))
 
@@ -265,7 +265,7 @@ module _ {R W E : Type 0} (files : List ℕ → KnownFile) (remaining : R → Op
 
   module _ (rule : FilterRule) (names : List (List ℕ)) (unopened : Option UnopenedSource) (b : FilterState) (reader reader' : R) (out out' : W) (err err' : E) (k : AllFinish files remaining contents error_contents rule names unopened b reader reader' out out' err err') where
     -- nothing more was written
-    pub stops_at_end : (stop : RunFailure) → IsRunFailureOf (last_name k.sources) stop → FilterStops files remaining contents error_contents rule names reader reader' out out' err err' stop
+    pub stops_at_end : (stop : RunFailure) → IsRunFailureOf (last_name k.sources) stop → FilterFails files remaining contents error_contents rule names reader reader' out out' err err' stop
     stops_at_end stop stops = let w = k.wrote in record {
       outcome = filter_outcome rule w.found unopened;
       stops = record { input = record { sources = k.sources; unopened = unopened }; reads = inl k.reads; is = (w.found, w.are, refl); stops = stops };
@@ -295,7 +295,7 @@ module _ {R W E : Type 0} (files : List ℕ → KnownFile) (remaining : R → Op
 
       -- a beginning was written
       pub stops_at_last : (stop : RunFailure) → IsRunFailureOf (last_name k.sources) stop → WroteBeginning (contents out') (contents out'') c.output.items → WroteBeginning (error_contents err') (error_contents err'') c.errors.items
-          → FilterStops files remaining contents error_contents rule names reader reader' out out'' err err'' stop
+          → FilterFails files remaining contents error_contents rule names reader reader' out out'' err err'' stop
       stops_at_last stop stops output errors = let w = k.wrote in record {
         outcome = filter_outcome rule w.found unopened;
         stops = record { input = record { sources = k.sources; unopened = unopened }; reads = inl k.reads; is = (w.found, w.are, refl); stops = stops };
@@ -306,8 +306,8 @@ module _ {R W E : Type 0} (files : List ℕ → KnownFile) (remaining : R → Op
       }
 
   -- a run that stopped before the end of the sources
-  pub stops_before : (rule : FilterRule) (names : List (List ℕ)) (reader reader' : R) (out out' : W) (err err' : E) (stop : RunFailure) → AllStop files remaining contents error_contents rule names reader reader' out out' err err' stop
-      → FilterStops files remaining contents error_contents rule names reader reader' out out' err err' stop
+  pub stops_before : (rule : FilterRule) (names : List (List ℕ)) (reader reader' : R) (out out' : W) (err err' : E) (stop : RunFailure) → AllFail files remaining contents error_contents rule names reader reader' out out' err err' stop
+      → FilterFails files remaining contents error_contents rule names reader reader' out out' err err' stop
   stops_before rule names reader reader' out out' err err' stop k = record {
     outcome = filter_outcome rule k.found None;
     stops = record { input = record { sources = k.sources; unopened = None }; reads = inr (k.reads, refl); is = (k.found, k.are, refl); stops = k.stops };
@@ -324,14 +324,14 @@ module _ {R W E : Type 0} (files files' : List ℕ → KnownFile) (remaining : R
       subst (λ f. OneReads f remaining contents error_contents rule (record { is_first = is_none read; name = next }) earlier b reader reader' out out' err err') same
       (subst (λ first. OneReads files' remaining contents error_contents rule (record { is_first = first; name = next }) earlier b reader reader' out out' err err') is k)
 
-  pub same_refuses : (failure : OpenFailure) (a b : FilterState) (reader reader' : R) (out out' : W) (err err' : E) → OneRefuses files' remaining contents error_contents (record { is_first = first; name = next }) failure a b reader reader' out out' err err'
-      → OneRefuses files remaining contents error_contents (record { is_first = is_none read; name = next }) failure a b reader reader' out out' err err'
+  pub same_refuses : (failure : OpenFailure) (a b : FilterState) (reader reader' : R) (out out' : W) (err err' : E) → OneIsUnopened files' remaining contents error_contents (record { is_first = first; name = next }) failure a b reader reader' out out' err err'
+      → OneIsUnopened files remaining contents error_contents (record { is_first = is_none read; name = next }) failure a b reader reader' out out' err err'
   same_refuses failure a b reader reader' out out' err err' k =
-      subst (λ f. OneRefuses f remaining contents error_contents (record { is_first = is_none read; name = next }) failure a b reader reader' out out' err err') same
-      (subst (λ first. OneRefuses files' remaining contents error_contents (record { is_first = first; name = next }) failure a b reader reader' out out' err err') is k)
+      subst (λ f. OneIsUnopened f remaining contents error_contents (record { is_first = is_none read; name = next }) failure a b reader reader' out out' err err') same
+      (subst (λ first. OneIsUnopened files' remaining contents error_contents (record { is_first = first; name = next }) failure a b reader reader' out out' err err') is k)
 
-  pub same_stops : (earlier : FilterState) (reader reader' : R) (out out' : W) (err err' : E) (stop : RunFailure) → OneStops files' remaining contents error_contents rule (record { is_first = first; name = next }) earlier reader reader' out out' err err' stop
-      → OneStops files remaining contents error_contents rule (record { is_first = is_none read; name = next }) earlier reader reader' out out' err err' stop
+  pub same_stops : (earlier : FilterState) (reader reader' : R) (out out' : W) (err err' : E) (stop : RunFailure) → OneFails files' remaining contents error_contents rule (record { is_first = first; name = next }) earlier reader reader' out out' err err' stop
+      → OneFails files remaining contents error_contents rule (record { is_first = is_none read; name = next }) earlier reader reader' out out' err err' stop
   same_stops earlier reader reader' out out' err err' stop k =
-      subst (λ f. OneStops f remaining contents error_contents rule (record { is_first = is_none read; name = next }) earlier reader reader' out out' err err' stop) same
-      (subst (λ first. OneStops files' remaining contents error_contents rule (record { is_first = first; name = next }) earlier reader reader' out out' err err' stop) is k)
+      subst (λ f. OneFails f remaining contents error_contents rule (record { is_first = is_none read; name = next }) earlier reader reader' out out' err err' stop) same
+      (subst (λ first. OneFails files' remaining contents error_contents rule (record { is_first = first; name = next }) earlier reader reader' out out' err err' stop) is k)

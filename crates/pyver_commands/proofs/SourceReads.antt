@@ -9,7 +9,7 @@ use Rattle.pyver_commands.proofs.Keeping.{size_of-append}
 use Rattle.pyver_commands.proofs.SourceFilters.{last_is, reads_last}
 use Rattle.cli_io.specs.Newlines.{input_lines}
 use Rattle.pyver_commands.specs.Sources.InputLines.{Origin, Source}
-use Rattle.pyver_commands.specs.Sources.SourceTexts.{GainsSource, StopsInSource, StopsInSources, StopsInText, size_of, source_of}
+use Rattle.pyver_commands.specs.Sources.SourceTexts.{GainsSource, FailsInSource, FailsInSources, FailsInText, size_of, source_of}
 use Rattle.pyver_commands.specs.Sources.RunFailures.{IsReadingFailure, IsRunFailureOf}
 use Rattle.pyver_commands.specs.Sources.{KnownFile, MayOpen, ReadsAll, ReadsInput, ReadsLines, ReadsSource, ReadsText, ReadsWhole, input_name, input_origin, is_input, is_none, last_name, source_names}
 use Rattle.pyver_commands.specs.declared.sources.open_failure.OpenFailure.{OpenFailure}
@@ -35,7 +35,7 @@ module _ {R : Type 0} (files : List ℕ → KnownFile) (remaining : R → Option
   file_whole left_of file file' reader text named opens consumed end =
       (left_of file', subst (λ t. ReadsText files remaining t (files name) reader reader text (left_of file')) (sym named) (left_of file, opens, consumed, refl), end)
 
-  pub input_part : (why : RunFailure) (reader reader' : R) (text : List ℕ) → IsUtf8 name → is_input name ≡ true → Consumes (remaining reader) (remaining reader') text → IsReadingFailure name why → StopsInText files remaining name reader reader' why
+  pub input_part : (why : RunFailure) (reader reader' : R) (text : List ℕ) → IsUtf8 name → is_input name ≡ true → Consumes (remaining reader) (remaining reader') text → IsReadingFailure name why → FailsInText files remaining name reader reader' why
   input_part why reader reader' text utf8 named consumed stops = inr (record {
     utf8 = utf8;
     text = text;
@@ -45,7 +45,7 @@ module _ {R : Type 0} (files : List ℕ → KnownFile) (remaining : R → Option
   })
 
   pub file_part : {S : Type 0} (left_of : S → Option (List ℕ)) (why : RunFailure) (file file' : S) (reader : R) (text : List ℕ) → IsUtf8 name → is_input name ≡ false → MayOpen (files name) (left_of file) → Consumes (left_of file) (left_of file') text → IsReadingFailure name why
-      → StopsInText files remaining name reader reader why
+      → FailsInText files remaining name reader reader why
   file_part left_of why file file' reader text utf8 named opens consumed stops = inr (record {
     utf8 = utf8;
     text = text;
@@ -55,11 +55,11 @@ module _ {R : Type 0} (files : List ℕ → KnownFile) (remaining : R → Option
   })
 
   -- an allocation failed before anything was read
-  pub stops_before : (reader : R) → StopsInText files remaining name reader reader run_failure.OutOfMemory
+  pub stops_before : (reader : R) → FailsInText files remaining name reader reader run_failure.OutOfMemory
   stops_before reader = inl (refl, refl)
 
   -- an allocation failed after all was read
-  pub stops_behind : (reader reader' : R) (text : List ℕ) → IsUtf8 name → ReadsWhole files remaining name reader reader' text → StopsInText files remaining name reader reader' run_failure.OutOfMemory
+  pub stops_behind : (reader reader' : R) (text : List ℕ) → IsUtf8 name → ReadsWhole files remaining name reader reader' text → FailsInText files remaining name reader reader' run_failure.OutOfMemory
   stops_behind reader reader' text utf8 (left, reads, end) = inr (record { utf8 = utf8; text = text; rest = left; part = reads; stops = tt })
 
 -- a run that stops in a source stops with its message
@@ -75,7 +75,7 @@ module _ {R : Type 0} (files : List ℕ → KnownFile) (remaining : R → Option
   source_read a b reader reader' text (left, reads, end) more = (record { origin = origin; lines = input_lines text }, record { text = text; left = left; reads = reads; end = end; is = refl }, more)
 
   -- no line is reported
-  part_read : (stop : RunFailure) (reader reader' : R) (text : List ℕ) (left : Option (List ℕ)) → ReadsText files remaining (is_input origin.name) (files origin.name) reader reader' text left → IsRunFailureOf (Some origin.name) stop → StopsInSource files remaining origin reader reader' stop
+  part_read : (stop : RunFailure) (reader reader' : R) (text : List ℕ) (left : Option (List ℕ)) → ReadsText files remaining (is_input origin.name) (files origin.name) reader reader' text left → IsRunFailureOf (Some origin.name) stop → FailsInSource files remaining origin reader reader' stop
   part_read stop reader reader' text left reads stops = inr (
     record { origin = origin; lines = [] },
     record { text = text; left = left; reads = reads; rest = input_lines text; split = refl; whole = λ none. absurd (some_line text none); is = refl },
@@ -83,16 +83,16 @@ module _ {R : Type 0} (files : List ℕ → KnownFile) (remaining : R → Option
   )
 
   -- an allocation failed after all was read
-  pub stops_after_text : (reader reader' : R) (text : List ℕ) → ReadsWhole files remaining origin.name reader reader' text → StopsInSource files remaining origin reader reader' run_failure.OutOfMemory
+  pub stops_after_text : (reader reader' : R) (text : List ℕ) → ReadsWhole files remaining origin.name reader reader' text → FailsInSource files remaining origin reader reader' run_failure.OutOfMemory
   stops_after_text reader reader' text (left, reads, end) = part_read run_failure.OutOfMemory reader reader' text left reads tt
 
-  unread : (named : Bool) (reader : R) → is_input origin.name ≡ named → StopsInSource files remaining origin reader reader run_failure.OutOfMemory
+  unread : (named : Bool) (reader : R) → is_input origin.name ≡ named → FailsInSource files remaining origin reader reader run_failure.OutOfMemory
   unread true reader named = part_read run_failure.OutOfMemory reader reader [] (remaining reader) (subst (λ t. ReadsText files remaining t (files origin.name) reader reader [] (remaining reader)) (sym named) (Consumes-nil (remaining reader), refl)) tt
   unread false reader named = inl (named, refl, refl)
 
-  pub source_stops : (why : RunFailure) (reader reader' : R) → StopsInText files remaining origin.name reader reader' why → StopsInSource files remaining origin reader reader' why
+  pub source_stops : (why : RunFailure) (reader reader' : R) → FailsInText files remaining origin.name reader reader' why → FailsInSource files remaining origin reader reader' why
   source_stops why reader reader' (inl (memory, kept)) =
-      subst (λ w. StopsInSource files remaining origin reader reader' w) (sym memory) (subst (λ r. StopsInSource files remaining origin reader r run_failure.OutOfMemory) (sym kept) (unread (is_input origin.name) reader refl))
+      subst (λ w. FailsInSource files remaining origin reader reader' w) (sym memory) (subst (λ r. FailsInSource files remaining origin reader r run_failure.OutOfMemory) (sym kept) (unread (is_input origin.name) reader refl))
   source_stops why reader reader' (inr k) = part_read why reader reader' k.text k.rest k.part (reading_stops origin.name why k.stops)
 
 -- ---- one source after another
@@ -113,7 +113,7 @@ module _ {R : Type 0} (files : List ℕ → KnownFile) (remaining : R → Option
     ends = (refl, named, refuses);
   }
 
-  pub all_stopped : (left : List (List ℕ)) (why : RunFailure) → StopsInSource files remaining (record { is_first = first; name = next }) reader' reader'' why → StopsInSources files remaining (read ++ next ∷ left) reader reader'' why
+  pub all_stopped : (left : List (List ℕ)) (why : RunFailure) → FailsInSource files remaining (record { is_first = first; name = next }) reader' reader'' why → FailsInSources files remaining (read ++ next ∷ left) reader reader'' why
   all_stopped left why (inl (named, memory, kept)) = (
     a,
     inr (memory, record { read = read; name = next; left = left; split = refl; whole = subst (λ r. ReadsAll files remaining true read reader r a) (sym kept) k }),
@@ -152,7 +152,7 @@ module _ {R : Type 0} (files : List ℕ → KnownFile) (remaining : R → Option
       subst (λ n. ReadsInput files remaining (source_names n) reader reader' (record { sources = b; unopened = Some (record { name = input_name; failure = failure }) })) (sym empty)
       (all_refused files remaining [] true input_name a b reader reader reader' refl (refl, none) [] failure k)
 
-  pub alone_stopped : (names : List (List ℕ)) (stop : RunFailure) (reader reader' : R) → names ≡ [] → StopsInSource files remaining input_origin reader reader' stop → StopsInSources files remaining (source_names names) reader reader' stop
+  pub alone_stopped : (names : List (List ℕ)) (stop : RunFailure) (reader reader' : R) → names ≡ [] → FailsInSource files remaining input_origin reader reader' stop → FailsInSources files remaining (source_names names) reader reader' stop
   alone_stopped names stop reader reader' empty stops =
-      subst (λ n. StopsInSources files remaining (source_names n) reader reader' stop) (sym empty)
+      subst (λ n. FailsInSources files remaining (source_names n) reader reader' stop) (sym empty)
       (all_stopped files remaining [] true input_name [] [] reader reader reader' refl (refl, refl) [] stop stops)

@@ -7,11 +7,11 @@ use Rattle.cli_io.specs.Newlines.{input_lines}
 use Rattle.pyver_commands.specs.Sources.InputLines.{Origin, Source, filled_lines, filled_lines_from, source_lines}
 use Rattle.pyver_commands.specs.Sources.InvalidLines.{last_message, lines_status, message_limit}
 use Rattle.pyver_commands.specs.NewestViews.{KeepsNewest}
-use Rattle.cli_io.specs.Runs.{Finished, Outcome}
+use Rattle.cli_io.specs.Runs.{EndsComplete, Outcome}
 use Rattle.pyver_commands.specs.Sources.ReadLines.{IsRead, ReadLine, faults}
 use Rattle.cli_io.specs.Streams.{WroteBeginning}
-use Rattle.pyver_commands.specs.Sources.RunFailures.{IsRunFailureOf, StopsWithin}
-use Rattle.pyver_commands.specs.Sources.{AnswersSources, KnownFile, MayRefuse, ReadsInput, ReadsLines, ReadsSource, StopsReading, UnopenedSource, is_input, last_name, unopened_message, unopened_status}
+use Rattle.pyver_commands.specs.Sources.RunFailures.{IsRunFailureOf, FailsWithin}
+use Rattle.pyver_commands.specs.Sources.{IsOutcomeOfSources, KnownFile, MayFailToOpen, ReadsInput, ReadsLines, ReadsSource, FailsReading, UnopenedSource, is_input, last_name, unopened_message, unopened_status}
 use Rattle.pyver_commands.specs.Sources.VersionLines.{version_lines}
 use Rattle.pyver_commands.specs.declared.filter.FilterRule.{FilterRule}
 use Rattle.pyver_commands.specs.declared.filter.FilterState.{FilterState}
@@ -25,7 +25,7 @@ abbrev pub HasNoNewline : List ℕ → Type 0
 HasNoNewline line = All (λ b. (b == 10) ≡ false) line
 
 -- of the text these lines have ended, and this one has begun
-pub record Cuts (text : List ℕ) (ended : List (List ℕ)) (line : List ℕ) : Type 0 where
+pub record SplitsLines (text : List ℕ) (ended : List (List ℕ)) (line : List ℕ) : Type 0 where
   pub all : (rest : List ℕ) → input_lines (text ++ rest) ≡ ended ++ input_lines (line ++ rest)
   pub one : HasNoNewline line
 
@@ -102,7 +102,7 @@ module _ {S W E : Type 0} (remaining : S → Option (List ℕ)) (contents : W �
     pub read : List ℕ
     pub consumed : Consumes (remaining reader) (remaining reader') read
     pub ended : List (List ℕ)
-    pub cut : Cuts read ended line
+    pub cut : SplitsLines read ended line
     pub line_count : b.line_count ≡ length ended
     pub wrote : Wrote contents error_contents rule (record { origin = origin; lines = ended }) earlier b out out' err err'
 
@@ -114,7 +114,7 @@ module _ {S W E : Type 0} (remaining : S → Option (List ℕ)) (contents : W �
     pub wrote : Wrote contents error_contents rule (record { origin = origin; lines = input_lines read }) earlier b out out' err err'
 
   -- some lines were read, and a beginning of what they ask for was written
-  pub record SourceStops (rule : FilterRule) (origin : Origin) (earlier : FilterState) (reader reader' : S) (out out' : W) (err err' : E) : Type 0 where
+  pub record SourceFails (rule : FilterRule) (origin : Origin) (earlier : FilterState) (reader reader' : S) (out out' : W) (err err' : E) : Type 0 where
     pub read : List ℕ
     pub consumed : Consumes (remaining reader) (remaining reader') read
     pub front : List (List ℕ)
@@ -131,9 +131,9 @@ module _ {R W E : Type 0} (files : List ℕ → KnownFile) (remaining : R → Op
     pub wrote : Wrote contents error_contents rule source earlier b out out' err err'
 
   -- the file with this name was not opened, and nothing was done
-  pub record OneRefuses (origin : Origin) (failure : OpenFailure) (a b : FilterState) (reader reader' : R) (out out' : W) (err err' : E) : Type 0 where
+  pub record OneIsUnopened (origin : Origin) (failure : OpenFailure) (a b : FilterState) (reader reader' : R) (out out' : W) (err err' : E) : Type 0 where
     pub file : is_input origin.name ≡ false
-    pub refuses : MayRefuse (files origin.name) failure
+    pub refuses : MayFailToOpen (files origin.name) failure
     pub state : b ≡ a
     pub reader_kept : reader' ≡ reader
     pub out_kept : out' ≡ out
@@ -141,7 +141,7 @@ module _ {R W E : Type 0} (files : List ℕ → KnownFile) (remaining : R → Op
 
   abbrev pub OneFinishes : FilterRule → Origin → FilterState → FilterState → R → R → W → W → E → E → Option OpenFailure → Type 0
   OneFinishes rule origin a b reader reader' out out' err err' None = OneReads rule origin a b reader reader' out out' err err'
-  OneFinishes rule origin a b reader reader' out out' err err' (Some failure) = OneRefuses origin failure a b reader reader' out out' err err'
+  OneFinishes rule origin a b reader reader' out out' err err' (Some failure) = OneIsUnopened origin failure a b reader reader' out out' err err'
 
   -- an allocation failed before the file with this name was opened, and nothing was done
   pub record OneUnread (origin : Origin) (reader reader' : R) (out out' : W) (err err' : E) (why : RunFailure) : Type 0 where
@@ -152,14 +152,14 @@ module _ {R W E : Type 0} (files : List ℕ → KnownFile) (remaining : R → Op
     pub err_kept : err' ≡ err
 
   -- some lines of the source with this name were read, and a beginning of what they ask for was written
-  pub record OneCut (rule : FilterRule) (origin : Origin) (earlier : FilterState) (reader reader' : R) (out out' : W) (err err' : E) (why : RunFailure) : Type 0 where
+  pub record OneReadsPart (rule : FilterRule) (origin : Origin) (earlier : FilterState) (reader reader' : R) (out out' : W) (err err' : E) (why : RunFailure) : Type 0 where
     pub source : Source
     pub lines : ReadsLines files remaining origin reader reader' source
     pub wrote : WroteSome contents error_contents rule source earlier out out' err err'
     pub stops : IsRunFailureOf (Some origin.name) why
 
-  abbrev pub OneStops : FilterRule → Origin → FilterState → R → R → W → W → E → E → RunFailure → Type 0
-  OneStops rule origin earlier reader reader' out out' err err' why = OneUnread origin reader reader' out out' err err' why ⊎ OneCut rule origin earlier reader reader' out out' err err' why
+  abbrev pub OneFails : FilterRule → Origin → FilterState → R → R → W → W → E → E → RunFailure → Type 0
+  OneFails rule origin earlier reader reader' out out' err err' why = OneUnread origin reader reader' out out' err err' why ⊎ OneReadsPart rule origin earlier reader reader' out out' err err' why
 
   -- the sources with these names were read, up to one that was not opened if there was one, and all that they ask for was written
   pub record AllFinish (rule : FilterRule) (names : List (List ℕ)) (unopened : Option UnopenedSource) (b : FilterState) (reader reader' : R) (out out' : W) (err err' : E) : Type 0 where
@@ -168,9 +168,9 @@ module _ {R W E : Type 0} (files : List ℕ → KnownFile) (remaining : R → Op
     pub wrote : WroteAll contents error_contents rule sources b out out' err err'
 
   -- some of the lines of the sources with these names were read, and a beginning of what they ask for was written
-  pub record AllStop (rule : FilterRule) (names : List (List ℕ)) (reader reader' : R) (out out' : W) (err err' : E) (why : RunFailure) : Type 0 where
+  pub record AllFail (rule : FilterRule) (names : List (List ℕ)) (reader reader' : R) (out out' : W) (err err' : E) (why : RunFailure) : Type 0 where
     pub sources : List Source
-    pub reads : StopsReading files remaining (why ≡ run_failure.OutOfMemory) names reader reader' sources
+    pub reads : FailsReading files remaining (why ≡ run_failure.OutOfMemory) names reader reader' sources
     pub found : List ReadLine
     pub are : AllZip (IsRead rule.lines) (filled_lines sources) found
     pub output : WroteBeginning (contents out) (contents out') (printed_lines rule found)
@@ -179,11 +179,11 @@ module _ {R W E : Type 0} (files : List ℕ → KnownFile) (remaining : R → Op
 
   -- all was read, up to a file that was not opened if there was one, and all was written
   abbrev pub FilterFinishes : FilterRule → List (List ℕ) → R → R → W → W → E → E → ℕ → Type 0
-  FilterFinishes rule names reader reader' out out' err err' status = Finished contents error_contents (AnswersSources files remaining (Filters rule) names reader reader') out out' err err' status
+  FilterFinishes rule names reader reader' out out' err err' status = EndsComplete contents error_contents (IsOutcomeOfSources files remaining (Filters rule) names reader reader') out out' err err' status
 
   -- some lines were read, and a beginning of what they ask for was written
-  pub record FilterStops (rule : FilterRule) (names : List (List ℕ)) (reader reader' : R) (out out' : W) (err err' : E) (why : RunFailure) : Type 0 where
+  pub record FilterFails (rule : FilterRule) (names : List (List ℕ)) (reader reader' : R) (out out' : W) (err err' : E) (why : RunFailure) : Type 0 where
     pub outcome : Outcome
-    pub stops : StopsWithin files remaining (Filters rule) names reader reader' outcome why
+    pub stops : FailsWithin files remaining (Filters rule) names reader reader' outcome why
     pub output : WroteBeginning (contents out) (contents out') outcome.output
     pub errors : WroteBeginning (error_contents err) (error_contents err') outcome.errors

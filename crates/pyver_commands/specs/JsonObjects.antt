@@ -3,7 +3,7 @@ use Rattle.std.specs.Prelude.{ℕ, List, [], ◌∷◌, ◌++◌, Option, codes,
 use Rattle.std.specs.Fmt.{decimal}
 use Rattle.std.specs.List.{flat_map}
 use Rattle.std.specs.Option.{option_map_or}
-use Rattle.pep440_version.specs.Print.{dotted, prerelease_kind_text, print, segment_print}
+use Rattle.pep440_version.specs.Print.{dotted, prerelease_kind_text, print, print_segment}
 use Rattle.pep440_version.specs.Record.{LocalSegmentValue, Record}
 use Rattle.pep440_version.specs.declared.prerelease.Prerelease.{Prerelease}
 use Rattle.pyver_commands.specs.Parts.{part_text}
@@ -37,7 +37,7 @@ json_pre pre = option_map_or json_prerelease pre (codes "null")
 -- the local part as a string, or `null`
 abbrev pub json_local : List LocalSegmentValue → List ℕ
 json_local [] = codes "null"
-json_local (s ∷ rest) = in_quotes (dotted segment_print (s ∷ rest))
+json_local (s ∷ rest) = in_quotes (dotted print_segment (s ∷ rest))
 
 -- a comma, the name of a member in quotes, and a colon
 abbrev pub next_name : List ℕ → List ℕ

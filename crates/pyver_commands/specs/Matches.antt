@@ -1,8 +1,8 @@
 -- `match SPECS V..`: which of the versions the list allows.
 use Rattle.std.specs.Prelude.{◌≡◌, ℕ, List, [], ◌++◌, Bool, codes, drop, if◌then◌else◌}
 use Rattle.std.specs.List.{AllZip}
-use Rattle.pep440_rs.specs.ListErrorTexts.{list_refusal_text}
-use Rattle.pep440_rs.specs.ListGrammar.{DerivesList, PieceRefusal, RefusesList}
+use Rattle.pep440_rs.specs.Lists.ListErrorTexts.{list_rejection_text}
+use Rattle.pep440_rs.specs.Lists.ListGrammar.{DerivesList, PieceRejection, RejectsList}
 use Rattle.pep440_rs.specs.LiteralMatching.{list_allows_literally}
 use Rattle.pep440_rs.specs.Specifiers.{Spec}
 use Rattle.cli_io.specs.Escapes.{escaped, escaped_lines}
@@ -20,7 +20,7 @@ pub data SpecifiersReading : Type 0 where
 -- the string denotes this list, or is invalid with this message
 abbrev pub ReadsSpecifiers : List ℕ → SpecifiersReading → Type 0
 ReadsSpecifiers text (DenotesList list) = DerivesList text list
-ReadsSpecifiers text (ListFails message) = (f : PieceRefusal) × RefusesList text f × (message ≡ list_refusal_text f text)
+ReadsSpecifiers text (ListFails message) = (f : PieceRejection) × RejectsList text f × (message ≡ list_rejection_text f text)
 
 -- the message of a word that is no list, which has line ends of its own: of the list's error all but its first words, which are
 -- `Failed to parse version: `

@@ -2,7 +2,7 @@
 use Rattle.std.specs.Prelude.{ℕ, List, [], Option, Some, None, bytes_eq, codes, get_or, if◌then◌else◌}
 use Rattle.std.specs.Fmt.{decimal}
 use Rattle.std.specs.Option.{option_map_or}
-use Rattle.pep440_version.specs.Print.{dotted, pre_text, print, segment_print}
+use Rattle.pep440_version.specs.Print.{dotted, pre_text, print, print_segment}
 use Rattle.pep440_version.specs.Record.{Record, epoch_and_release, from_release}
 use Rattle.pyver_commands.specs.declared.part.VersionPart.{VersionPart}
 use Rattle.pyver_commands.specs.declared.part.VersionPart.TheVariants as part
@@ -38,6 +38,6 @@ part_text part.Micro r = decimal (get_or r.release 2 0)
 part_text part.Pre r = pre_text r.pre
 part_text part.Post r = number_text r.post
 part_text part.Dev r = number_text r.dev
-part_text part.Local r = dotted segment_print r.local
+part_text part.Local r = dotted print_segment r.local
 part_text part.Public r = print (record r { local = [] })
 part_text part.Base r = print (epoch_and_release r.epoch r.release)

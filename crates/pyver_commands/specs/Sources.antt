@@ -62,10 +62,10 @@ MayOpen (Holds bytes) left = left ≡ Some bytes
 MayOpen (Fails why) left = ⊥
 
 -- the file may fail to be opened, for this reason
-abbrev pub MayRefuse : KnownFile → OpenFailure → Type 0
-MayRefuse Unknown reason = ⊤
-MayRefuse (Holds bytes) reason = ⊥
-MayRefuse (Fails why) reason = reason ≡ why
+abbrev pub MayFailToOpen : KnownFile → OpenFailure → Type 0
+MayFailToOpen Unknown reason = ⊤
+MayFailToOpen (Holds bytes) reason = ⊥
+MayFailToOpen (Fails why) reason = reason ≡ why
 
 -- what is known of a path says that it is this one
 abbrev pub IsKnownPath : Option (List ℕ) → List ℕ → Type 0
@@ -141,7 +141,7 @@ module _ {R : Type 0} (files : List ℕ → KnownFile) (remaining : R → Option
 
   -- the file with this name was not opened, for this reason
   abbrev pub IsUnopened : List ℕ → R → R → OpenFailure → Type 0
-  IsUnopened name reader reader' why = (is_input name ≡ false) × MayRefuse (files name) why × (reader' ≡ reader)
+  IsUnopened name reader reader' why = (is_input name ≡ false) × MayFailToOpen (files name) why × (reader' ≡ reader)
 
   -- a source was read to its end
   pub record ReadsSource (origin : Origin) (reader reader' : R) (source : Source) : Type 0 where
@@ -172,7 +172,7 @@ module _ {R : Type 0} (files : List ℕ → KnownFile) (remaining : R → Option
   EndsAt [] None = ⊤
   EndsAt [] (Some file) = ⊥
   EndsAt (name ∷ names) None = ⊥
-  EndsAt (name ∷ names) (Some file) = (file.name ≡ name) × (is_input name ≡ false) × MayRefuse (files name) file.failure
+  EndsAt (name ∷ names) (Some file) = (file.name ≡ name) × (is_input name ≡ false) × MayFailToOpen (files name) file.failure
 
   -- all sources were read to their ends, or all before a file that was not opened
   pub record ReadsInput (names : List (List ℕ)) (reader reader' : R) (input : Input) : Type 0 where
@@ -183,13 +183,13 @@ module _ {R : Type 0} (files : List ℕ → KnownFile) (remaining : R → Option
     pub ends : EndsAt left input.unopened
 
   -- all was read, up to a file that was not opened if there was one, and this is the outcome
-  pub record AnswersSources (Gives : Input → Outcome → Type 0) (names : List (List ℕ)) (reader reader' : R) (o : Outcome) : Type 0 where
+  pub record IsOutcomeOfSources (Prints : Input → Outcome → Type 0) (names : List (List ℕ)) (reader reader' : R) (o : Outcome) : Type 0 where
     pub input : Input
     pub reads : ReadsInput names reader reader' input
-    pub is : Gives input o
+    pub is : Prints input o
 
   -- some sources were read to their ends, and of the next one some lines
-  pub record ReadsFront (names : List (List ℕ)) (reader reader' : R) (sources : List Source) : Type 0 where
+  pub record ReadsIntoNext (names : List (List ℕ)) (reader reader' : R) (sources : List Source) : Type 0 where
     pub read : List (List ℕ)
     pub name : List ℕ
     pub left : List (List ℕ)
@@ -210,5 +210,5 @@ module _ {R : Type 0} (files : List ℕ → KnownFile) (remaining : R → Option
     pub whole : ReadsAll true read reader reader' sources
 
   -- some sources were read to their ends, and of the next one some lines, or, where an allocation failed, nothing
-  abbrev pub StopsReading : Type 0 → List (List ℕ) → R → R → List Source → Type 0
-  StopsReading memory_ran_out names reader reader' sources = ReadsFront names reader reader' sources ⊎ (memory_ran_out × ReadsBefore names reader reader' sources)
+  abbrev pub FailsReading : Type 0 → List (List ℕ) → R → R → List Source → Type 0
+  FailsReading memory_ran_out names reader reader' sources = ReadsIntoNext names reader reader' sources ⊎ (memory_ran_out × ReadsBefore names reader reader' sources)

@@ -18,14 +18,14 @@ question_lines (lines_question.Sort options) = options.lines
 question_lines (lines_question.Bump rule) = bare_line_options
 
 -- what is written of lines that were read, where no invalid one is an error
-abbrev pub AnswersParts : LinesQuestion → InputParts → Outcome → Type 0
-AnswersParts (lines_question.Sort options) parts o = SortsParts options parts o
-AnswersParts (lines_question.Bump rule) parts o = BumpsOnly rule.to rule.parts.items parts o
+abbrev pub IsOutcomeOfParts : LinesQuestion → InputParts → Outcome → Type 0
+IsOutcomeOfParts (lines_question.Sort options) parts o = SortsParts options parts o
+IsOutcomeOfParts (lines_question.Bump rule) parts o = BumpsOnly rule.to rule.parts.items parts o
 
-abbrev pub AnswersLines : LinesQuestion → Input → Outcome → Type 0
-AnswersLines asked input o = OfVersions (question_lines asked) (AnswersParts asked) input o
+abbrev pub IsOutcomeOfLines : LinesQuestion → Input → Outcome → Type 0
+IsOutcomeOfLines asked input o = OfVersions (question_lines asked) (IsOutcomeOfParts asked) input o
 
 -- what is written of what was read
-abbrev pub AnswersInput : Question → Input → Outcome → Type 0
-AnswersInput (question.Newest rule) input o = OfVersions rule.lines (FindsNewest rule) input o
-AnswersInput (question.Lines asked) input o = AnswersLines asked input o
+abbrev pub IsOutcomeOfInput : Question → Input → Outcome → Type 0
+IsOutcomeOfInput (question.Newest rule) input o = OfVersions rule.lines (FindsNewest rule) input o
+IsOutcomeOfInput (question.Lines asked) input o = IsOutcomeOfLines asked input o

@@ -1,4 +1,4 @@
-// The command `match`.
+//! The command `match`.
 ghost use Rattle.std.specs.Prelude.{◌≡◌, IfOk, map, string_bytes};
 ghost use Rattle.pyver_commands.specs.AnswerViews.{outcome_of, reading_of};
 ghost use Rattle.pyver_commands.specs.Matches.{Matches, MatchesWords, verdict, word_outcome};

@@ -1,4 +1,4 @@
-// What the program writes on standard output and on standard error, and its status.
+//! What the program writes on standard output and on standard error, and its status.
 ghost use Rattle.std.specs.Prelude.{◌≡◌, ◌≤◌, ◌++◌, IfOk};
 ghost use Rattle.pyver_commands.specs.Messages.{fault_message};
 ghost use Rattle.pyver_commands.specs.Outcomes.{fault, followed_by, silent};

@@ -1,4 +1,4 @@
-// The command `bump`.
+//! The command `bump`.
 ghost use Rattle.std.specs.Prelude.{◌≡◌, ◌++◌, IfOk, false, map};
 ghost use Rattle.pep440_version.specs.Key.{kind_rank};
 ghost use Rattle.pep440_version.specs.Record.{epoch_and_release};

@@ -1,4 +1,4 @@
-// `bump` without a version among the words.
+//! `bump` without a version among the words.
 ghost use Rattle.std.specs.Prelude.{◌≡◌, IfOk, map};
 ghost use Rattle.pyver_commands.specs.AnswerViews.{outcome_of};
 ghost use Rattle.pyver_commands.specs.BumpInputs.{BumpsOnly, only_outcome};

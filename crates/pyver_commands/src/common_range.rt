@@ -177,8 +177,8 @@ fn print_lists(alloc: Global, json: bool, found: CommonLists) -> Result<Answer, 
     })
 }
 
-/// `range SPECS..`: the versions that all lists match literally, as the intervals of a set or, with `json`, as JSON. The status is 0, 1 where
-/// there is no version, and 2 where a list is invalid.
+/// `range SPECS..`: the versions that all lists match literally, as the intervals of a set or, with `json`, as JSON. The status is 0, 1 if
+/// there is no version, and 2 if a list is invalid.
 pub fn find_common(alloc: Global, json: bool, words: &[String]) -> Result<Answer, AllocError>
     ensures { IfOk result (λ a. FindsCommon json (map string_bytes words.now) (outcome_of a)) }
 {

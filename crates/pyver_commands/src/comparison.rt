@@ -1,4 +1,4 @@
-// The command `compare`.
+//! The command `compare`.
 ghost use Rattle.std.specs.Prelude.{◌≡◌, IfOk};
 ghost use Rattle.pyver_commands.specs.AnswerViews.{outcome_of};
 ghost use Rattle.pyver_commands.specs.Comparisons.{Compares, comparison_of, holds};

@@ -1,4 +1,4 @@
-// The lines of the commands `filter` and `newest`, one after another: which are wanted, and what is to be written of them.
+//! The lines of the commands `filter` and `newest`, one after another: which are wanted, and what is to be written of them.
 ghost use Rattle.std.specs.Prelude.{◌≡◌, ◌≤◌, ◌++◌, IfOk};
 ghost use Rattle.std.specs.Option.{option_map};
 ghost use Rattle.pyver_commands.specs.Sources.{unopened_message, unopened_status};
@@ -135,7 +135,7 @@ impl FilterState {
     ghost use Rattle.std.specs.Prelude.{◌+◌, ◌*◌, ◌<◌, ◌^◌, ◌∷◌, [], List, ℕ, length};
     ghost use Rattle.pyver_commands.specs.AnswerViews.{reading_of};
     ghost use Rattle.pyver_commands.specs.NewestViews.{HasNoLine};
-    ghost use Rattle.pyver_commands.specs.FilterSteps.{Cuts, FinishesBy, HasNoNewline, Steps, StepsBy};
+    ghost use Rattle.pyver_commands.specs.FilterSteps.{SplitsLines, FinishesBy, HasNoNewline, Steps, StepsBy};
     ghost use Rattle.pyver_commands.specs.Sources.ReadLines.{Entry, Header, ReadLine};
     ghost use Rattle.pyver_commands.specs.Readings.{Denotes, Fails};
     ghost use Rattle.pyver_commands.specs.Sources.SourceViews.{origin_line, origin_of};
@@ -273,7 +273,7 @@ impl FilterState {
     ) -> Result<(), AllocError>
         requires line { HasNoNewline line.old.items }
         requires limits { (self.old.line_count + length bytes.now < 2 ^ 63) × (self.old.fault_count + length bytes.now < 2 ^ 63) }
-        ensures steps { IfOk result (λ _. (ended : List (List ℕ)) × Cuts (line.old.items ++ bytes.now) ended line.new.items × Steps rule.now (origin_of origin.entry) ended self.old self.new) }
+        ensures steps { IfOk result (λ _. (ended : List (List ℕ)) × SplitsLines (line.old.items ++ bytes.now) ended line.new.items × Steps rule.now (origin_of origin.entry) ended self.old self.new) }
         ensures count { IfOk result (λ _. (self.new.line_count ≤ self.old.line_count + length bytes.now) × (self.new.fault_count ≤ self.old.fault_count + length bytes.now)) }
     {
         for byte in bytes {

@@ -1,6 +1,6 @@
-// The loop of `filter` and `newest` over a source.
+//! The loop of `filter` and `newest` over a source.
 ghost use Rattle.std.specs.Prelude.{◌≡◌, ◌≤◌, ◌*◌, [], IfErr, IfOk, Some};
-ghost use Rattle.pyver_commands.specs.FilterSteps.{SourceFinishes, SourceStops};
+ghost use Rattle.pyver_commands.specs.FilterSteps.{SourceFinishes, SourceFails};
 ghost use Rattle.pyver_commands.specs.Sources.SourceViews.{origin_of};
 ghost use Rattle.pyver_commands.specs.Sources.RunFailures.{IsRunFailureOf};
 
@@ -25,7 +25,7 @@ pub(crate) fn filter_input<R: Read, W: Write, E: Write>(
     requires limits { state.old.fault_count ≤ 8192 * state.old.read_count }
     ensures finished { IfOk result (λ _. SourceFinishes R.remaining W.contents E.contents rule.now (origin_of origin.entry) state.old state.new input.old input.new out.old out.new err.old err.new) }
     ensures limits { IfOk result (λ _. state.new.fault_count ≤ 8192 * state.new.read_count) }
-    ensures stopped { IfErr result (λ _. SourceStops R.remaining W.contents E.contents rule.now (origin_of origin.entry) state.old input.old input.new out.old out.new err.old err.new) }
+    ensures stopped { IfErr result (λ _. SourceFails R.remaining W.contents E.contents rule.now (origin_of origin.entry) state.old input.old input.new out.old out.new err.old err.new) }
     ensures failure { IfErr result (IsRunFailureOf (Some (origin_of origin.entry).name)) }
 {
     let mut buffer = [0u8; READ_SIZE];

@@ -1,11 +1,11 @@
-// The command `newest`: the line of the newest version that specifiers allow.
+//! The command `newest`: the line of the newest version that specifiers allow.
 ghost use Rattle.std.specs.Prelude.{◌≡◌, IfErr, IfOk, List, Option, ℕ, map, string_bytes};
 ghost use Rattle.std.specs.Option.{option_map};
 ghost use Rattle.pyver_commands.specs.AnswerViews.{outcome_of};
 ghost use Rattle.pyver_commands.specs.NewestOutcomes.{FindsNewest, newest_outcome};
 ghost use Rattle.pyver_commands.specs.NewestViews.{kept_line};
-ghost use Rattle.pyver_commands.specs.Sources.RunFailures.{IsRunFailureOf, StopsUnanswered};
-ghost use Rattle.pyver_commands.specs.Sources.{AnswersSources, source_names};
+ghost use Rattle.pyver_commands.specs.Sources.RunFailures.{IsRunFailureOf, FailsWithoutOutcome};
+ghost use Rattle.pyver_commands.specs.Sources.{IsOutcomeOfSources, source_names};
 ghost use Rattle.pyver_commands.specs.Sources.VersionLines.{OfVersions};
 ghost use Rattle.pyver_commands.specs.declared.sources.stream.RunFailure.TheVariants.{OutOfMemory};
 
@@ -83,8 +83,8 @@ pub(crate) fn find_newest<F: Files, R: Read>(
     files: &mut F,
     input: &mut R,
 ) -> Result<Answer, RunFailure>
-    ensures finished { IfOk result (λ a. AnswersSources (F.known files.old) R.remaining (OfVersions rule.lines (FindsNewest rule)) (source_names (map string_bytes names.now)) input.old input.new (outcome_of a)) }
-    ensures stopped { IfErr result (StopsUnanswered (F.known files.old) R.remaining (source_names (map string_bytes names.now)) input.old input.new) }
+    ensures finished { IfOk result (λ a. IsOutcomeOfSources (F.known files.old) R.remaining (OfVersions rule.lines (FindsNewest rule)) (source_names (map string_bytes names.now)) input.old input.new (outcome_of a)) }
+    ensures stopped { IfErr result (FailsWithoutOutcome (F.known files.old) R.remaining (source_names (map string_bytes names.now)) input.old input.new) }
     ensures kept { F.known files.new ≡ F.known files.old }
 {
     let invalid = rule.lines.invalid;

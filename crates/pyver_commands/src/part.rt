@@ -1,7 +1,7 @@
-// The parts of a version, by name.
+//! The parts of a version, by name.
 ghost use Rattle.std.specs.Prelude.{◌≡◌, ◌++◌, IfOk, get_or, map, string_bytes, Some};
 ghost use Rattle.std.specs.Fmt.{decimal};
-ghost use Rattle.pep440_version.specs.Print.{dotted, pre_text, segment_print};
+ghost use Rattle.pep440_version.specs.Print.{dotted, pre_text, print_segment};
 ghost use Rattle.pep440_version.specs.Record.{epoch_and_release};
 ghost use Rattle.pep440_version.specs.Segments.{segment};
 ghost use Rattle.pyver_commands.specs.Parts.{number_text, part_of, part_text};
@@ -65,9 +65,9 @@ pub(crate) fn release_number(version: &Version, index: usize) -> u64
 struct LocalPart<'a>(&'a [LocalSegment]);
 
 impl fmt::Display for LocalPart<'_> {
-    ghost output = { λ l. Some (dotted segment_print (map segment l.0.now)) };
+    ghost output = { λ l. Some (dotted print_segment (map segment l.0.now)) };
 
-    ghost styled_output = { λ l _. Some (dotted segment_print (map segment l.0.now)) };
+    ghost styled_output = { λ l _. Some (dotted print_segment (map segment l.0.now)) };
 
     fn fmt<W: fmt::Write>(&self, f: &mut fmt::Formatter<W>) -> fmt::Result {
         write_local_segments(f, self.0)
@@ -76,7 +76,7 @@ impl fmt::Display for LocalPart<'_> {
 
 // The local part, nothing where there is none.
 pub(crate) fn local_text(alloc: Global, version: &Version) -> Result<String, AllocError>
-    ensures { IfOk result (λ s. string_bytes s ≡ dotted segment_print version.now.local) }
+    ensures { IfOk result (λ s. string_bytes s ≡ dotted print_segment version.now.local) }
 {
     LocalPart(version.local()).to_string(alloc)
 }

@@ -1,4 +1,4 @@
-// Which pre-releases a list allows (PEP 440, "Handling of pre-releases").
+//! Which pre-releases a list allows (PEP 440, "Handling of pre-releases").
 ghost use Rattle.std.specs.Prelude.{◌≡◌};
 ghost use Rattle.pyver_commands.specs.PrereleaseRules.{takes_prereleases};
 

@@ -1,4 +1,4 @@
-// Words and lines read as versions.
+//! Words and lines read as versions.
 ghost use Rattle.std.specs.Prelude.{IfOk};
 ghost use Rattle.pyver_commands.specs.AnswerViews.{reading_of};
 ghost use Rattle.pyver_commands.specs.Readings.{Reads};

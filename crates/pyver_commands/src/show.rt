@@ -1,4 +1,4 @@
-// The command `show`.
+//! The command `show`.
 ghost use Rattle.std.specs.Prelude.{◌≡◌, ◌++◌, IfOk, map, string_bytes};
 ghost use Rattle.pyver_commands.specs.AnswerViews.{outcome_of, reading_of};
 ghost use Rattle.pyver_commands.specs.Outcomes.{followed_by};

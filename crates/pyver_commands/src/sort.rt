@@ -1,4 +1,4 @@
-// The command `sort`: lines in the order of their versions.
+//! The command `sort`: lines in the order of their versions.
 ghost use Rattle.std.specs.Prelude.{◌≡◌, ◌-◌, ◌++◌, IfOk, codes, drop, length, map};
 ghost use Rattle.std.specs.List.{flat_map};
 ghost use Rattle.std.specs.Option.{option_map, option_map_or};

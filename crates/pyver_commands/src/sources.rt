@@ -1,4 +1,4 @@
-// Sources: files and standard input, why they are not read, and what their lines are.
+//! Sources: files and standard input, why they are not read, and what their lines are.
 
 pub(crate) mod files;
 pub(crate) mod invalid_lines;

@@ -1,4 +1,4 @@
-// Lists of specifiers among the words.
+//! Lists of specifiers among the words.
 ghost use Rattle.std.specs.Prelude.{◌≡◌, ◌++◌, IfOk, drop};
 ghost use Rattle.pyver_commands.specs.AnswerViews.{outcome_of, specifiers_reading_of};
 ghost use Rattle.pyver_commands.specs.Matches.{ReadsSpecifiers, list_fault, list_message, place_message};

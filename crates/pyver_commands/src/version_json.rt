@@ -1,4 +1,4 @@
-// All parts of a version as a JSON object.
+//! All parts of a version as a JSON object.
 ghost use Rattle.std.specs.Prelude.{◌≡◌, ◌++◌, IfOk, codes};
 ghost use Rattle.std.specs.List.{flat_map};
 ghost use Rattle.pep440_version.specs.Print.{prerelease_kind_text};

@@ -1,14 +1,14 @@
-// Commands that read all sources before they write.
+//! Commands that read all sources before they write.
 ghost use Rattle.std.specs.Prelude.{◌≡◌, ◌<◌, ◌^◌, IfErr, IfOk, List, None, map, string_bytes};
 ghost use Rattle.std.specs.Option.{option_map};
 ghost use Rattle.pyver_commands.specs.AnswerViews.{outcome_of};
 ghost use Rattle.pyver_commands.specs.Sources.InputLines.{Source, filled_lines};
-ghost use Rattle.pyver_commands.specs.Sources.RunFailures.{StopsUnanswered};
-ghost use Rattle.pyver_commands.specs.Sources.{AnswersSources, source_names};
+ghost use Rattle.pyver_commands.specs.Sources.RunFailures.{FailsWithoutOutcome};
+ghost use Rattle.pyver_commands.specs.Sources.{IsOutcomeOfSources, source_names};
 ghost use Rattle.pyver_commands.specs.Sources.SourceTexts.{size_of, source_of};
 ghost use Rattle.pyver_commands.specs.Sources.SourceViews.{unopened_of};
 ghost use Rattle.pyver_commands.specs.Sources.VersionLineViews.{IsOfLines, input_parts_of};
-ghost use Rattle.pyver_commands.specs.WholeInputs.{AnswersInput, AnswersLines, AnswersParts, question_lines};
+ghost use Rattle.pyver_commands.specs.WholeInputs.{IsOutcomeOfInput, IsOutcomeOfLines, IsOutcomeOfParts, question_lines};
 
 use crate::answer::Answer;
 use crate::bump_input::{BumpRule, bump_only};
@@ -55,7 +55,7 @@ fn answer_valid(
     question: &LinesQuestion,
     lines: VersionLines<'_>,
 ) -> Result<Answer, AllocError>
-    ensures { IfOk result (λ a. AnswersParts question.now (input_parts_of lines.entry) (outcome_of a)) }
+    ensures { IfOk result (λ a. IsOutcomeOfParts question.now (input_parts_of lines.entry) (outcome_of a)) }
 {
     match question {
         LinesQuestion::Sort(options) => sort_versions(alloc, *options, lines),
@@ -69,7 +69,7 @@ fn answer_lines(
     question: &LinesQuestion,
     lines: VersionLines<'_>,
 ) -> Result<Answer, AllocError>
-    ensures { IfOk result (λ a. (sources : List Source) → IsOfLines (question_lines question.now) (filled_lines sources) lines.entry → AnswersLines question.now (record { sources = sources; unopened = None }) (outcome_of a)) }
+    ensures { IfOk result (λ a. (sources : List Source) → IsOfLines (question_lines question.now) (filled_lines sources) lines.entry → IsOutcomeOfLines question.now (record { sources = sources; unopened = None }) (outcome_of a)) }
 {
     let status = lines.status(question_lines(question));
     if status > 0 {
@@ -90,7 +90,7 @@ fn answer_texts(
     unopened: Option<UnopenedSource<'_>>,
 ) -> Result<Answer, AllocError>
     requires { size_of sources.now < 2 ^ 63 }
-    ensures { IfOk result (λ a. AnswersLines question.now (record { sources = map source_of sources.now; unopened = option_map unopened_of unopened.entry }) (outcome_of a)) }
+    ensures { IfOk result (λ a. IsOutcomeOfLines question.now (record { sources = map source_of sources.now; unopened = option_map unopened_of unopened.entry }) (outcome_of a)) }
 {
     if let Some(file) = unopened {
         return report_open_failure(alloc, file.name.as_bytes(), file.failure);
@@ -107,8 +107,8 @@ fn answer_sources<F: Files, R: Read>(
     files: &mut F,
     input: &mut R,
 ) -> Result<Answer, RunFailure>
-    ensures finished { IfOk result (λ a. AnswersSources (F.known files.old) R.remaining (AnswersLines question.now) (source_names (map string_bytes names.now)) input.old input.new (outcome_of a)) }
-    ensures stopped { IfErr result (StopsUnanswered (F.known files.old) R.remaining (source_names (map string_bytes names.now)) input.old input.new) }
+    ensures finished { IfOk result (λ a. IsOutcomeOfSources (F.known files.old) R.remaining (IsOutcomeOfLines question.now) (source_names (map string_bytes names.now)) input.old input.new (outcome_of a)) }
+    ensures stopped { IfErr result (FailsWithoutOutcome (F.known files.old) R.remaining (source_names (map string_bytes names.now)) input.old input.new) }
     ensures kept { F.known files.new ≡ F.known files.old }
 {
     let mut state = SourceTexts {
@@ -127,8 +127,8 @@ pub fn answer_input<F: Files, R: Read>(
     files: &mut F,
     input: &mut R,
 ) -> Result<Answer, RunFailure>
-    ensures finished { IfOk result (λ a. AnswersSources (F.known files.old) R.remaining (AnswersInput question) (source_names (map string_bytes names.now)) input.old input.new (outcome_of a)) }
-    ensures stopped { IfErr result (StopsUnanswered (F.known files.old) R.remaining (source_names (map string_bytes names.now)) input.old input.new) }
+    ensures finished { IfOk result (λ a. IsOutcomeOfSources (F.known files.old) R.remaining (IsOutcomeOfInput question) (source_names (map string_bytes names.now)) input.old input.new (outcome_of a)) }
+    ensures stopped { IfErr result (FailsWithoutOutcome (F.known files.old) R.remaining (source_names (map string_bytes names.now)) input.old input.new) }
     ensures kept { F.known files.new ≡ F.known files.old }
 {
     match question {

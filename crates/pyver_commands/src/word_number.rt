@@ -1,4 +1,4 @@
-// Numbers that words write.
+//! Numbers that words write.
 ghost use Rattle.std.specs.Prelude.{◌≡◌};
 ghost use Rattle.pyver_commands.specs.Numbers.{are_digits, word_number};
 

@@ -11,7 +11,7 @@ use Rattle.pep440_rs.proofs.Agreement.Operands.{list_has_texts}
 use Rattle.pep440_rs.proofs.Covering.Lists.{is_coverable}
 use Rattle.pep440_rs.specs.Cover.{IsCoverable}
 use Rattle.pep440_rs.specs.LiteralMatching.{list_matches_literally}
-use Rattle.pep440_rs.specs.SpecifierGrammar.{HasText}
+use Rattle.pep440_rs.specs.Specifiers.SpecifierGrammar.{IsDenotedSpecifier}
 use Rattle.pep440_version.specs.Record.{Record}
 use Rattle.pyver_findings.specs.Demands.{Demand, IsSound, is_pinned, line_demand}
 use Rattle.pyver_findings.specs.Conflicts.{conflict_kind, conflicts, counts_under, first_mentions, have_none, of_all, of_name, has_same_marker, has_same_name, same_marker, smallest, under}
@@ -39,7 +39,7 @@ IsDerived a =
 -- strings give the members of its list
 pub derived_sound : (a : Demand) → IsDerived a → IsSound a
 derived_sound a (n, d, called, pinned, same) =
-    subst (All IsCoverable) same (All-weaker HasText IsCoverable is_coverable n.specifiers (list_has_texts d.0 n.specifiers d.2))
+    subst (All IsCoverable) same (All-weaker IsDenotedSpecifier IsCoverable is_coverable n.specifiers (list_has_texts d.0 n.specifiers d.2))
 
 -- the line allows what the list contains
 line_allows : (v : Record) (a : Demand) → IsDerived a → Allows v a → LineAllows v a.line

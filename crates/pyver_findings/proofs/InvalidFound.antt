@@ -8,7 +8,7 @@ use Rattle.pyver_findings.specs.Conflicts.{conflicts}
 use Rattle.pyver_findings.specs.FileLines.{FileLine, all_lines}
 use Rattle.pyver_findings.specs.FindingLaws.{HasMarker, InvalidLinesHaveFindings, IsAlone, IsRequirementLine, LacksRequirement}
 use Rattle.pyver_findings.specs.Findings.{NoRequirement}
-use Rattle.pyver_findings.specs.LineMeanings.{IsNone, LeftOut, LineMeaning, IsKindMeaning, IsMeaning, not_plain, refusal_meaning, requirement_meaning, invalid_line, under_marker, with_marker, with_url, IsPlain}
+use Rattle.pyver_findings.specs.LineMeanings.{IsNone, LeftOut, LineMeaning, IsKindMeaning, IsMeaning, not_plain, rejection_meaning, requirement_meaning, invalid_line, under_marker, with_marker, with_url, IsPlain}
 use Rattle.pyver_findings.specs.Reports.{Report, demands_in, invalid_in}
 use Rattle.pyver_findings.specs.declared.cause.Cause.TheVariants as cause
 use Rattle.pyver_requirements.specs.LineKinds.{ConstraintsFile, Editable, Invalid, LineKind, Location, PipOption, Requirement, RequirementsFile, Variable, line_kind}
@@ -56,7 +56,7 @@ module _ (l : FileLine) where
   by_kind Requirement x kind (inl (f, found)) is = let same : Requirement ≡ Invalid f = sym kind ∙ found in cc same
   by_kind Requirement x kind (inr lacks) (inl (none, is)) = same_found x (not_plain l (line_parts l.text)) is (inl refl)
   by_kind Requirement x kind (inr lacks) (inr (text, inl (n, d, is))) = same_found x (requirement_meaning l (line_parts l.text) n) is (by_marker kind text n d lacks.1 (line_parts l.text).marker refl)
-  by_kind Requirement x kind (inr lacks) (inr (text, inr (f, r, is))) = same_found x (refusal_meaning l (line_parts l.text) f) is (inl refl)
+  by_kind Requirement x kind (inr lacks) (inr (text, inr (f, r, is))) = same_found x (rejection_meaning l (line_parts l.text) f) is (inl refl)
 
   in_lines : LacksRequirement l → (lines : List FileLine) (xs : List LineMeaning) (k : ℕ) → k < length lines → get_or lines k l ≡ l → AllZip IsMeaning lines xs → Some_is (IsAlone l) (flat_map invalid_in xs)
   in_lines lacks [] xs k inside is h = absurd (omega (arith, inside))

@@ -2,10 +2,10 @@
 use Rattle.std.proofs.Common.{◌≡◌, ◌∙◌, List, [], ◌∷◌, length, refl, sym, ap, inl, inr}
 use Rattle.std.specs.List.{AllZip, flat_map}
 use Rattle.pep440_pick.proofs.Once.{not_both_requirement, one_refusal, one_requirement}
-use Rattle.pep440_pick.specs.RequirementGrammar.{Needed, RequirementRefusal}
+use Rattle.pep440_pick.specs.RequirementGrammar.{Needed, RequirementRejection}
 use Rattle.pyver_findings.specs.FileLines.{FileLine, all_lines}
 use Rattle.pyver_findings.specs.FindingLaws.{MeaningsOnce, ReportsOnce}
-use Rattle.pyver_findings.specs.LineMeanings.{IsKindMeaning, IsMeaning, IsPartsMeaning, LineMeaning, refusal_meaning, requirement_meaning}
+use Rattle.pyver_findings.specs.LineMeanings.{IsKindMeaning, IsMeaning, IsPartsMeaning, LineMeaning, rejection_meaning, requirement_meaning}
 use Rattle.pyver_findings.specs.Reports.{found_in, left_out_in}
 use Rattle.pyver_requirements.specs.LineKinds.{ConstraintsFile, Editable, Invalid, LineKind, Location, PipOption, Requirement, RequirementsFile, Variable, line_kind}
 use Rattle.pyver_requirements.specs.LineParts.{LineParts, line_parts}
@@ -18,7 +18,7 @@ one_parts l p x y (inr (text, a)) (inl (none, b)) = absurd (none text)
 one_parts l p x y (inr (text, inl (n, d, a))) (inr (again, inl (m, e, b))) = a ∙ ap (λ (q : Needed). requirement_meaning l p q) (one_requirement p.requirement n m d e) ∙ sym b
 one_parts l p x y (inr (text, inl (n, d, a))) (inr (again, inr (f, r, b))) = absurd (not_both_requirement p.requirement n f d r)
 one_parts l p x y (inr (text, inr (f, r, a))) (inr (again, inl (n, d, b))) = absurd (not_both_requirement p.requirement n f d r)
-one_parts l p x y (inr (text, inr (f, r, a))) (inr (again, inr (g, s, b))) = a ∙ ap (λ (h : RequirementRefusal). refusal_meaning l p h) (one_refusal p.requirement f g r s) ∙ sym b
+one_parts l p x y (inr (text, inr (f, r, a))) (inr (again, inr (g, s, b))) = a ∙ ap (λ (h : RequirementRejection). rejection_meaning l p h) (one_refusal p.requirement f g r s) ∙ sym b
 
 of_kind : (l : FileLine) (kind : LineKind) (x y : LineMeaning) → IsKindMeaning l kind x → IsKindMeaning l kind y → x ≡ y
 of_kind l (RequirementsFile path) x y a b = a ∙ sym b

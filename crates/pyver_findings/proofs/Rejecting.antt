@@ -4,11 +4,11 @@ use Rattle.std.proofs.lemmas.Bool.{true≢false}
 use Rattle.std.proofs.lemmas.List.Elements.{All-append, All-cons, All-head, All-nil, All-tail}
 use Rattle.std.specs.List.{All, AllZip, Contains, flat_map}
 use Rattle.pep440_pick.proofs.Once.{not_both_requirement, one_requirement}
-use Rattle.pep440_pick.specs.RequirementGrammar.{DerivesRequirement, Needed, RefusesRequirement, RequirementRefusal}
+use Rattle.pep440_pick.specs.RequirementGrammar.{DerivesRequirement, Needed, RejectsRequirement, RequirementRejection}
 use Rattle.pyver_findings.specs.FileLines.{FileLine}
 use Rattle.pyver_findings.specs.FindingLaws.{IsRequirementLine, IsRight}
 use Rattle.pyver_findings.specs.Findings.{NoRequirement}
-use Rattle.pyver_findings.specs.LineMeanings.{IsNone, LeftOut, LineMeaning, AsksNothing, IsKindMeaning, IsMeaning, has_scheme, names_file, not_plain, refusal_meaning, requirement_meaning, invalid_line, under_marker, with_marker, with_url, IsPlain}
+use Rattle.pyver_findings.specs.LineMeanings.{IsNone, LeftOut, LineMeaning, AsksNothing, IsKindMeaning, IsMeaning, has_scheme, names_file, not_plain, rejection_meaning, requirement_meaning, invalid_line, under_marker, with_marker, with_url, IsPlain}
 use Rattle.pyver_findings.specs.Reports.{invalid_in}
 use Rattle.pyver_findings.specs.declared.cause.Cause.TheVariants as cause
 use Rattle.pyver_requirements.specs.LineKinds.{ConstraintsFile, Editable, Invalid, LineKind, Location, PipOption, Requirement, RequirementsFile, Variable, has_variable, line_kind}
@@ -25,7 +25,7 @@ module _ (l : FileLine) where
   no_plain : (IsPlain (line_parts l.text).requirement → ⊥) → IsRequirementLine l → ⊥
   no_plain none (kind, text, (m, e, (marker, url, either))) = none text
 
-  refused : (f : RequirementRefusal) → RefusesRequirement (line_parts l.text).requirement f → IsRequirementLine l → ⊥
+  refused : (f : RequirementRejection) → RejectsRequirement (line_parts l.text).requirement f → IsRequirementLine l → ⊥
   refused f r (kind, text, (m, e, (marker, url, either))) = not_both_requirement (line_parts l.text).requirement m f e r
 
   no_marker : (t : List ℕ) (f : Misfit) → (line_parts l.text).marker ≡ Some t → marker t ≡ Err f → IsRequirementLine l → ⊥
@@ -88,7 +88,7 @@ module _ (read : List FileLine) where
     of_kind Location x kind is means = same_invalid x _ is means (λ _. All-nil (IsRight read))
     of_kind Requirement x kind (inl (none, is)) means = same_invalid x (not_plain l (line_parts l.text)) is means (λ m. one_invalid _ _ (no_plain l none) m)
     of_kind Requirement x kind (inr (text, inl (n, d, is))) means = same_invalid x (requirement_meaning l (line_parts l.text) n) is means (λ m. of_marker n d (line_parts l.text).marker refl m)
-    of_kind Requirement x kind (inr (text, inr (f, r, is))) means = same_invalid x (refusal_meaning l (line_parts l.text) f) is means (λ m. one_invalid _ _ (refused l f r) m)
+    of_kind Requirement x kind (inr (text, inr (f, r, is))) means = same_invalid x (rejection_meaning l (line_parts l.text) f) is means (λ m. one_invalid _ _ (refused l f r) m)
 
   pub invalid_right : (lines : List FileLine) (xs : List LineMeaning) → All (Contains read) lines → AllZip IsMeaning lines xs → All (IsRight read) (flat_map invalid_in xs)
   invalid_right [] [] known h = All-nil (IsRight read)

@@ -3,9 +3,9 @@ use Rattle.std.specs.Prelude.{ℕ, ◌+◌, ◌-◌, List, [], ◌∷◌, bytes_
 use Rattle.std.specs.Char.{is_ascii_whitespace}
 use Rattle.std.specs.List.{list_any}
 use Rattle.std.specs.Option.{option_map_or}
-use Rattle.pep440_rs.specs.ListGrammar.{PieceRefusal}
-use Rattle.pep440_pick.specs.RequirementGrammar.{RequirementRefusal, Specifiers}
-use Rattle.pep440_pick.specs.RequirementReading.{list_position, refusal_position}
+use Rattle.pep440_rs.specs.Lists.ListGrammar.{PieceRejection}
+use Rattle.pep440_pick.specs.RequirementGrammar.{RequirementRejection, Specifiers}
+use Rattle.pep440_pick.specs.RequirementReading.{list_position, rejection_position}
 use Rattle.pep440_version.specs.Reading.{lead, past}
 use Rattle.pyver_requirements.specs.LineParts.{behind_byte}
 use Rattle.pyver_requirements.specs.MarkerTokens.{is_operator_byte}
@@ -19,17 +19,17 @@ abbrev pub behind_operator : List ℕ → List ℕ
 behind_operator text = if list_any (bytes_eq (lead is_operator_byte text)) operators then past is_ascii_whitespace (past is_operator_byte text) else text
 
 -- what stands from the position on at which the list is invalid: the invalid specifier behind its operator
-abbrev pub rest_in_list : List ℕ → PieceRefusal → List ℕ
+abbrev pub rest_in_list : List ℕ → PieceRejection → List ℕ
 rest_in_list text f = behind_operator (past is_ascii_whitespace (drop f.start text))
 
 -- the column of that position, in bytes from 0
-abbrev pub list_column : List ℕ → PieceRefusal → ℕ
+abbrev pub list_column : List ℕ → PieceRejection → ℕ
 list_column text f = length text - length (rest_in_list text f)
 
 -- the column at which the requirement is invalid, in bytes from 0: in its list that of the specifier
-abbrev pub column : List ℕ → RequirementRefusal → ℕ
+abbrev pub column : List ℕ → RequirementRejection → ℕ
 column text (Specifiers list f) = list_position text + list_column (drop (list_position text) text) f
-column text f = refusal_position text f
+column text f = rejection_position text f
 
 -- the marker of a line, and what follows it
 abbrev pub from_marker : List ℕ → List ℕ

@@ -1,10 +1,10 @@
 -- What a line of a requirements file is to the check: a requirement, none, a line that is left out, or one that asks for no package.
 use Rattle.std.specs.Prelude.{◌≡◌, ◌⊎◌, ◌==◌, ◌||◌, ℕ, List, [], ◌∷◌, Bool, true, false, Option, Some, None, Result, Ok, Err, codes, length, nat_eq, if◌then◌else◌}
 use Rattle.std.specs.List.{list_all, prefix_len, starts_with}
-use Rattle.pep440_pick.specs.RequirementGrammar.{DerivesRequirement, Needed, RefusesRequirement, RequirementRefusal, Specifiers}
-use Rattle.pep440_pick.specs.RequirementTexts.{requirement_refusal_text}
-use Rattle.pep440_rs.specs.ErrorTexts.{specifier_refusal_text}
-use Rattle.pep440_rs.specs.ListGrammar.{DerivesList, PieceRefusal, RefusesList}
+use Rattle.pep440_pick.specs.RequirementGrammar.{DerivesRequirement, Needed, RejectsRequirement, RequirementRejection, Specifiers}
+use Rattle.pep440_pick.specs.RequirementTexts.{requirement_rejection_text}
+use Rattle.pep440_rs.specs.ErrorTexts.{specifier_rejection_text}
+use Rattle.pep440_rs.specs.Lists.ListGrammar.{DerivesList, PieceRejection, RejectsList}
 use Rattle.pep440_rs.specs.Specifiers.{Spec}
 use Rattle.pyver_requirements.specs.LineKinds.{ConstraintsFile, Editable, Invalid, LineKind, Location, PipOption, Requirement, RequirementsFile, Variable, has_variable, line_kind}
 use Rattle.pyver_requirements.specs.LineParts.{LineParts, line_parts}
@@ -60,9 +60,9 @@ invalid_line line f = IsNone (NoRequirement line (fault_reason f) (fault_column 
 -- ---- a requirement
 
 -- the reason, without what the message of a list repeats
-abbrev pub requirement_reason : RequirementRefusal → List ℕ
-requirement_reason (Specifiers list f) = specifier_refusal_text f.error
-requirement_reason f = requirement_refusal_text f
+abbrev pub requirement_reason : RequirementRejection → List ℕ
+requirement_reason (Specifiers list f) = specifier_rejection_text f.error
+requirement_reason f = requirement_rejection_text f
 
 -- what the line is with a URL: it is left out, and has no list before the URL
 abbrev pub before_url : FileLine → ℕ → Needed → LineMeaning
@@ -98,8 +98,8 @@ abbrev pub requirement_meaning : FileLine → LineParts → Needed → LineMeani
 requirement_meaning line p n = with_marker line p n p.marker
 
 -- what the line is whose part before `@` and `;` is none, for this reason
-abbrev pub refusal_meaning : FileLine → LineParts → RequirementRefusal → LineMeaning
-refusal_meaning line p f = IsNone (NoRequirement line (requirement_reason f) (column p.requirement f))
+abbrev pub rejection_meaning : FileLine → LineParts → RequirementRejection → LineMeaning
+rejection_meaning line p f = IsNone (NoRequirement line (requirement_reason f) (column p.requirement f))
 
 -- a byte of a requirement: a tab, or printable ASCII (PEP 508, "Grammar")
 abbrev pub is_plain_byte : ℕ → Bool
@@ -117,14 +117,14 @@ not_plain line p = IsNone (NoRequirement line (codes "neither printable ASCII no
 abbrev pub IsPartsMeaning : FileLine → LineParts → LineMeaning → Type 0
 IsPartsMeaning line p x = ((¬ IsPlain p.requirement) × (x ≡ not_plain line p))
     ⊎ (IsPlain p.requirement × (((n : Needed) × DerivesRequirement p.requirement n × (x ≡ requirement_meaning line p n))
-    ⊎ ((f : RequirementRefusal) × RefusesRequirement p.requirement f × (x ≡ refusal_meaning line p f))))
+    ⊎ ((f : RequirementRejection) × RejectsRequirement p.requirement f × (x ≡ rejection_meaning line p f))))
 
 -- ---- a list
 
 -- what a string of this line is that is to be a list of specifiers
 abbrev pub IsListMeaning : FileLine → List ℕ → LineMeaning → Type 0
 IsListMeaning line text x = ((list : List Spec) × DerivesList text list × (x ≡ AsksNothing))
-    ⊎ ((f : PieceRefusal) × RefusesList text f × (x ≡ IsNone (NoRequirement line (specifier_refusal_text f.error) (list_column text f))))
+    ⊎ ((f : PieceRejection) × RejectsList text f × (x ≡ IsNone (NoRequirement line (specifier_rejection_text f.error) (list_column text f))))
 
 -- ---- all lines
 

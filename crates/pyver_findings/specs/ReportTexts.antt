@@ -14,17 +14,17 @@ use Rattle.cli_io.specs.Escapes.{escaped}
 -- ---- findings
 
 -- the file and the number of the line
-abbrev pub place_text : FileLine → List ℕ
-place_text l = escaped l.file ++ (codes ":" ++ (decimal l.number ++ codes ": "))
+abbrev pub line_position_text : FileLine → List ℕ
+line_position_text l = escaped l.file ++ (codes ":" ++ (decimal l.number ++ codes ": "))
 
 -- the same with the column, from 1
-abbrev pub column_place : FileLine → ℕ → List ℕ
-column_place l column = escaped l.file ++ (codes ":" ++ (decimal l.number ++ (codes ":" ++ (decimal (column + 1) ++ codes ": "))))
+abbrev pub column_position_text : FileLine → ℕ → List ℕ
+column_position_text l column = escaped l.file ++ (codes ":" ++ (decimal l.number ++ (codes ":" ++ (decimal (column + 1) ++ codes ": "))))
 
 -- the file and line number of the first line
-abbrev pub first_place : List FileLine → List ℕ
-first_place [] = []
-first_place (l ∷ rest) = place_text l
+abbrev pub first_position_text : List FileLine → List ℕ
+first_position_text [] = []
+first_position_text (l ∷ rest) = line_position_text l
 
 -- a blank for each character that is printed before the column, and a caret
 abbrev pub caret_text : List ℕ → ℕ → List ℕ
@@ -32,7 +32,7 @@ caret_text text column = map (λ _. 32) (escaped (take column text)) ++ codes "^
 
 -- a line with its file and line number, indented
 abbrev pub quoted_line : FileLine → List ℕ
-quoted_line l = codes "    " ++ (place_text l ++ (escaped l.text ++ codes "\n"))
+quoted_line l = codes "    " ++ (line_position_text l ++ (escaped l.text ++ codes "\n"))
 
 -- a line, indented, and the caret under it
 abbrev pub marked_line : List ℕ → ℕ → List ℕ
@@ -53,8 +53,8 @@ quoted_lines lines = flat_map quoted_line (take 20 lines) ++ more_text (length l
 
 -- the file, the line number, the column and the reason, and then the line, with a caret where it is none, or the lines
 abbrev pub finding_text : Finding → List ℕ
-finding_text (NoRequirement l reason column) = column_place l column ++ (escaped reason ++ marked_line l.text column)
-finding_text (Conflicting conflict lines) = first_place lines ++ (conflict_text conflict ++ quoted_lines lines)
+finding_text (NoRequirement l reason column) = column_position_text l column ++ (escaped reason ++ marked_line l.text column)
+finding_text (Conflicting conflict lines) = first_position_text lines ++ (conflict_text conflict ++ quoted_lines lines)
 
 -- one finding after another
 abbrev pub report_text : Report → List ℕ

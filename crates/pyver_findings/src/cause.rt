@@ -1,4 +1,4 @@
-// Why a line is left out.
+//! Why a line is left out.
 
 /// Why a line is left out.
 #[derive(Clone, Copy, Debug, PartialEq, Eq)]

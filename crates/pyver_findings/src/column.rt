@@ -1,11 +1,11 @@
-// The column at which a requirement, a list or a marker is invalid.
+//! The column at which a requirement, a list or a marker is invalid.
 ghost use Rattle.std.specs.Prelude.{◌≡◌, ◌≤◌, ◌==◌, bytes_eq, drop, length, not, IfSome};
 ghost use Rattle.std.specs.List.{list_any, prefix_len};
-ghost use Rattle.pep440_pick.specs.Requirements.{IsPositioned, IsRequirementLifted, requirement_refusal_of};
+ghost use Rattle.pep440_pick.specs.Requirements.{IsPositioned, IsRequirementLifted, requirement_rejection_of};
 ghost use Rattle.pyver_findings.specs.Columns.{behind_operator, column, from_marker, list_column, marker_column, operators, rest_in_list};
 ghost use Rattle.pyver_requirements.specs.MarkerTokens.{is_operator_byte};
-ghost use Rattle.pep440_rs.specs.ListAnswers.{list_kind_of};
-ghost use Rattle.pep440_rs.specs.ListErrors.{list_refusal_of};
+ghost use Rattle.pep440_rs.specs.Lists.ListResults.{list_kind_of};
+ghost use Rattle.pep440_rs.specs.Lists.ListErrors.{list_rejection_of};
 
 use pep440_pick::{RequirementError, RequirementParseError};
 use pep440_rs::{SpecifiersErrorKind, VersionSpecifiersParseError};
@@ -61,7 +61,7 @@ fn skip_operator(text: &[u8]) -> &[u8]
 }
 
 fn piece_start(error: &VersionSpecifiersParseError) -> usize
-    ensures { IfSome (list_refusal_of (list_kind_of error.now)) (λ f. result ≡ f.start) }
+    ensures { IfSome (list_rejection_of (list_kind_of error.now)) (λ f. result ≡ f.start) }
 {
     match error.kind() {
         SpecifiersErrorKind::Piece { start, .. } => *start,
@@ -71,7 +71,7 @@ fn piece_start(error: &VersionSpecifiersParseError) -> usize
 
 // What stands from the position on at which the list is invalid.
 fn skip_to_fault<'a>(text: &'a [u8], error: &VersionSpecifiersParseError) -> &'a [u8]
-    ensures { IfSome (list_refusal_of (list_kind_of error.now)) (λ f. result.now ≡ rest_in_list text.now f) }
+    ensures { IfSome (list_rejection_of (list_kind_of error.now)) (λ f. result.now ≡ rest_in_list text.now f) }
 {
     skip_operator(skip_bytes(text, piece_start(error)).trim_ascii_start())
 }
@@ -79,7 +79,7 @@ fn skip_to_fault<'a>(text: &'a [u8], error: &VersionSpecifiersParseError) -> &'a
 // The column of that position, in bytes from 0.
 pub(crate) fn list_column(text: &[u8], error: &VersionSpecifiersParseError) -> usize
     ensures inside { result ≤ length text.now }
-    ensures value { IfSome (list_refusal_of (list_kind_of error.now)) (λ f. result ≡ list_column text.now f) }
+    ensures value { IfSome (list_rejection_of (list_kind_of error.now)) (λ f. result ≡ list_column text.now f) }
 {
     text.len().saturating_sub(skip_to_fault(text, error).len())
 }
@@ -88,7 +88,7 @@ pub(crate) fn list_column(text: &[u8], error: &VersionSpecifiersParseError) -> u
 pub(crate) fn column(text: &[u8], error: &RequirementParseError) -> usize
     requires lifted { IsRequirementLifted error.now.kind }
     requires position { IsPositioned text.now error.now }
-    ensures { IfSome (requirement_refusal_of error.now.kind) (λ f. result ≡ column text.now f) }
+    ensures { IfSome (requirement_rejection_of error.now.kind) (λ f. result ≡ column text.now f) }
 {
     match &error.kind {
         RequirementError::Specifiers(list) => {

@@ -1,4 +1,4 @@
-// The names in requirements files, and what is wrong with the lines of each.
+//! The names in requirements files, and what is wrong with the lines of each.
 ghost use Rattle.std.specs.Prelude.{◌≡◌, ◌∷◌, ◌++◌, [], IfOk, List, bytes_eq, map, ℕ, if◌then◌else◌};
 ghost use Rattle.std.specs.HashMap.{get_by};
 ghost use Rattle.std.specs.List.{All, filter};

@@ -1,4 +1,4 @@
-// Requirements files, and their logical lines.
+//! Requirements files, and their logical lines.
 ghost use Rattle.std.specs.Prelude.{◌≡◌, ◌∷◌, ◌++◌, [], IfOk, map};
 ghost use Rattle.pyver_findings.specs.FileLines.{all_lines, file_line, file_lines};
 ghost use Rattle.pyver_findings.specs.Views.{file_line_of, file_of};

@@ -1,4 +1,4 @@
-// What is reported.
+//! What is reported.
 ghost use Rattle.std.specs.Prelude.{◌≡◌, bytes_eq, map, not};
 ghost use Rattle.std.specs.List.{list_any};
 ghost use Rattle.pyver_findings.specs.Reports.{are_of_several, spans_files};

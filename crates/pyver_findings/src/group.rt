@@ -1,4 +1,4 @@
-// What is wrong with the lines of one name.
+//! What is wrong with the lines of one name.
 ghost use Rattle.std.specs.Prelude.{◌≡◌, ◌∷◌, ◌++◌, [], IfOk, map, if◌then◌else◌};
 ghost use Rattle.std.specs.List.{All, flat_map, list_any};
 ghost use Rattle.pyver_findings.specs.Conflicts.{conflict_kind, first_mentions, has_same_marker, of_all, of_name, pin_conflict, under};

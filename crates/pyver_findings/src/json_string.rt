@@ -1,4 +1,4 @@
-// Text of others as JSON strings.
+//! Text of others as JSON strings.
 ghost use Rattle.std.specs.Prelude.{◌≡◌, ◌++◌, IfOk};
 ghost use Rattle.std.specs.List.{flat_map};
 ghost use Rattle.std.specs.Str.{is_utf8};

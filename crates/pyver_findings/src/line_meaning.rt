@@ -1,4 +1,4 @@
-// What a line of a requirements file is to the check.
+//! What a line of a requirements file is to the check.
 ghost use Rattle.std.specs.Prelude.{◌≡◌, IfOk};
 ghost use Rattle.pyver_findings.specs.LineMeanings.{IsKindMeaning, IsMeaning, fault_column, fault_reason, has_scheme, invalid_line, names_file};
 ghost use Rattle.pyver_findings.specs.Views.{file_line_of, line_meaning_of};

@@ -1,4 +1,4 @@
-// Which lines of one name count together.
+//! Which lines of one name count together.
 ghost use Rattle.std.specs.Prelude.{◌≡◌, IfOk, map, option_map};
 ghost use Rattle.std.specs.List.{list_any};
 ghost use Rattle.pyver_findings.specs.Conflicts.{counts_under, has_same_marker, same_marker, under};

@@ -1,4 +1,4 @@
-// The files that the lines of a requirements file name.
+//! The files that the lines of a requirements file name.
 ghost use Rattle.std.specs.Prelude.{◌≡◌, ◌++◌, IfOk, map, option_map};
 ghost use Rattle.std.specs.List.{flat_map};
 ghost use Rattle.pyver_findings.specs.NamedFiles.{folder, named_by, named_files, named_in, path_from, path_in, path_position};

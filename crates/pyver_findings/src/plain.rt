@@ -1,4 +1,4 @@
-// The strings of requirements, which have tabs and printable ASCII.
+//! The strings of requirements, which have tabs and printable ASCII.
 ghost use Rattle.std.specs.Prelude.{◌≡◌, ◌≤◌, IfErr, IfOk, length};
 ghost use Rattle.std.specs.List.{prefix_len};
 ghost use Rattle.pyver_findings.specs.LineMeanings.{IsPlain, is_plain_byte};

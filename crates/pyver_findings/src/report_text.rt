@@ -3,7 +3,7 @@ ghost use Rattle.std.specs.Prelude.{◌≡◌, ◌+◌, ◌++◌, IfOk, count_by
 ghost use Rattle.std.specs.Fmt.{decimal};
 ghost use Rattle.std.specs.List.{flat_map};
 ghost use Rattle.pyver_findings.specs.Findings.{Conflicting, NoRequirement};
-ghost use Rattle.pyver_findings.specs.ReportTexts.{caret_text, cause_text, column_place, conflict_text, count_text, counted, finding_text, first_place, left_out_text, left_out_texts, marked_line, more_text, place_text, problems_text, quoted_line, quoted_lines, report_text, same_cause, summary_text};
+ghost use Rattle.pyver_findings.specs.ReportTexts.{caret_text, cause_text, column_position_text, conflict_text, count_text, counted, finding_text, first_position_text, left_out_text, left_out_texts, marked_line, more_text, line_position_text, problems_text, quoted_line, quoted_lines, report_text, same_cause, summary_text};
 ghost use Rattle.pyver_findings.specs.Views.{file_line_of, finding_of, report_of};
 
 use crate::cause::Cause;
@@ -28,7 +28,7 @@ pub(crate) fn push_number(alloc: Global, bytes: &mut Vec<u8>, number: u64) -> Re
 }
 
 fn push_place(alloc: Global, bytes: &mut Vec<u8>, line: &FileLine) -> Result<(), AllocError>
-    ensures { IfOk result (λ _. bytes.new.items ≡ bytes.old.items ++ place_text (file_line_of line.now)) }
+    ensures { IfOk result (λ _. bytes.new.items ≡ bytes.old.items ++ line_position_text (file_line_of line.now)) }
 {
     push_escaped(bytes, line.file.as_slice())?;
     push_text(bytes, ":")?;
@@ -49,7 +49,7 @@ fn push_column_place(
     line: &FileLine,
     column: usize,
 ) -> Result<(), AllocError>
-    ensures { IfOk result (λ _. bytes.new.items ≡ bytes.old.items ++ column_place (file_line_of line.now) column) }
+    ensures { IfOk result (λ _. bytes.new.items ≡ bytes.old.items ++ column_position_text (file_line_of line.now) column) }
 {
     push_escaped(bytes, line.file.as_slice())?;
     push_text(bytes, ":")?;
@@ -64,7 +64,7 @@ fn push_first_place(
     bytes: &mut Vec<u8>,
     lines: &[FileLine],
 ) -> Result<(), AllocError>
-    ensures { IfOk result (λ _. bytes.new.items ≡ bytes.old.items ++ first_place (map file_line_of lines.now)) }
+    ensures { IfOk result (λ _. bytes.new.items ≡ bytes.old.items ++ first_position_text (map file_line_of lines.now)) }
 {
     match lines {
         [] => Ok(()),

@@ -1,16 +1,16 @@
 //! Lines that are requirements or lists of specifiers, or should be.
 ghost use Rattle.std.specs.Prelude.{◌≡◌, Some, IfOk, IfSome, false, option_map, string_bytes, is_none};
-ghost use Rattle.pep440_pick.specs.RequirementGrammar.{RequirementRefusal};
-ghost use Rattle.pep440_pick.specs.Requirements.{IsPositioned, IsRequirementLifted, needed, requirement_refusal_of};
-ghost use Rattle.pep440_pick.specs.RequirementTexts.{requirement_refusal_text, requirement_text_of};
-ghost use Rattle.pep440_rs.specs.ErrorTexts.{specifier_refusal_text};
-ghost use Rattle.pep440_rs.specs.ListAnswers.{line_for, line_of, list_kind_of};
-ghost use Rattle.pep440_rs.specs.ListErrors.{IsListLifted, list_refusal_of};
-ghost use Rattle.pep440_rs.specs.ListErrorTexts.{list_refusal_text, list_text_of};
-ghost use Rattle.pep440_rs.specs.ListGrammar.{PieceRefusal};
+ghost use Rattle.pep440_pick.specs.RequirementGrammar.{RequirementRejection};
+ghost use Rattle.pep440_pick.specs.Requirements.{IsPositioned, IsRequirementLifted, needed, requirement_rejection_of};
+ghost use Rattle.pep440_pick.specs.RequirementTexts.{requirement_rejection_text, requirement_text_of};
+ghost use Rattle.pep440_rs.specs.ErrorTexts.{specifier_rejection_text};
+ghost use Rattle.pep440_rs.specs.Lists.ListResults.{line_for, line_of, list_kind_of};
+ghost use Rattle.pep440_rs.specs.Lists.ListErrors.{IsListLifted, list_rejection_of};
+ghost use Rattle.pep440_rs.specs.Lists.ListErrorTexts.{list_rejection_text, list_text_of};
+ghost use Rattle.pep440_rs.specs.Lists.ListGrammar.{PieceRejection};
 ghost use Rattle.pyver_findings.specs.Columns.{list_column};
 ghost use Rattle.pyver_findings.specs.Findings.{NoRequirement};
-ghost use Rattle.pyver_findings.specs.LineMeanings.{IsNone, IsPartsMeaning, IsPlain, before_url, marker_reason, requirement_meaning, refusal_meaning, under_marker, with_url, IsListMeaning};
+ghost use Rattle.pyver_findings.specs.LineMeanings.{IsNone, IsPartsMeaning, IsPlain, before_url, marker_reason, requirement_meaning, rejection_meaning, under_marker, with_url, IsListMeaning};
 ghost use Rattle.pyver_findings.specs.ReadingViews.{is_memory_error, piece_text_of, reason_text_of};
 ghost use Rattle.pyver_findings.specs.Views.{file_line_of, line_meaning_of};
 ghost use Rattle.pyver_requirements.specs.LineParts.{line_parts};
@@ -71,9 +71,9 @@ fn reject_error(
     error: &RequirementParseError,
 ) -> Result<LineMeaning, AllocError>
     requires lifted { IsRequirementLifted error.now.kind }
-    requires message { IfSome (requirement_refusal_of error.now.kind) (λ f. requirement_text_of error.now.kind ≡ Some (requirement_refusal_text f)) }
+    requires message { IfSome (requirement_rejection_of error.now.kind) (λ f. requirement_text_of error.now.kind ≡ Some (requirement_rejection_text f)) }
     requires position { IsPositioned parts.requirement.now error.now }
-    ensures { IfOk result (λ x. (f : RequirementRefusal) × (requirement_refusal_of error.now.kind ≡ Some f) × (line_meaning_of x ≡ refusal_meaning (file_line_of line.now) (line_parts_of parts.entry) f)) }
+    ensures { IfOk result (λ x. (f : RequirementRejection) × (requirement_rejection_of error.now.kind ≡ Some f) × (line_meaning_of x ≡ rejection_meaning (file_line_of line.now) (line_parts_of parts.entry) f)) }
 {
     let reason = print_reason(alloc, &error.kind)?;
     let column = column(parts.requirement, error);
@@ -194,7 +194,7 @@ fn parse_parts(
 
 fn is_list_memory(kind: &SpecifiersErrorKind) -> bool
     requires { IsListLifted kind.now }
-    ensures { result ≡ is_none (list_refusal_of kind.now) }
+    ensures { result ≡ is_none (list_rejection_of kind.now) }
 {
     matches!(kind, SpecifiersErrorKind::OutOfMemory)
 }
@@ -208,8 +208,8 @@ fn reject_list(
 ) -> Result<LineMeaning, AllocError>
     requires lifted { IsListLifted (list_kind_of error.now) }
     requires line { line_of error.now ≡ line_for text.now (list_kind_of error.now) }
-    requires message { IfSome (list_refusal_of (list_kind_of error.now)) (λ f. list_text_of (list_kind_of error.now) (line_of error.now) ≡ Some (list_refusal_text f text.now)) }
-    ensures { IfOk result (λ x. (f : PieceRefusal) × (list_refusal_of (list_kind_of error.now) ≡ Some f) × (line_meaning_of x ≡ IsNone (NoRequirement (file_line_of line.now) (specifier_refusal_text f.error) (list_column text.now f)))) }
+    requires message { IfSome (list_rejection_of (list_kind_of error.now)) (λ f. list_text_of (list_kind_of error.now) (line_of error.now) ≡ Some (list_rejection_text f text.now)) }
+    ensures { IfOk result (λ x. (f : PieceRejection) × (list_rejection_of (list_kind_of error.now) ≡ Some f) × (line_meaning_of x ≡ IsNone (NoRequirement (file_line_of line.now) (specifier_rejection_text f.error) (list_column text.now f)))) }
 {
     if is_list_memory(error.kind()) {
         return Err(AllocError);

@@ -1,4 +1,4 @@
-// A smallest list of lines that have no version in common.
+//! A smallest list of lines that have no version in common.
 ghost use Rattle.std.specs.Prelude.{◌≡◌, ◌++◌, ◌-◌, ◌<◌, ◌≤◌, IfOk, false, length, map, take, true};
 ghost use Rattle.std.specs.List.{All};
 ghost use Rattle.pyver_findings.specs.Conflicts.{have_none, smallest, specifiers_of};

@@ -4,11 +4,11 @@ use Rattle.std.specs.List.{AllZip, flat_map}
 use Rattle.pep440_pick.specs.Names.{same_name}
 use Rattle.pep440_pick.specs.RequirementGrammar.{Needed}
 use Rattle.pep440_rs.proofs.Reading.OneMeaning.{not_both_list, one_list}
-use Rattle.pep440_rs.specs.ListGrammar.{DerivesList}
+use Rattle.pep440_rs.specs.Lists.ListGrammar.{DerivesList}
 use Rattle.pep440_rs.specs.LiteralMatching.{list_matches_literally}
 use Rattle.pep440_rs.specs.Specifiers.{Spec}
 use Rattle.pep440_version.proofs.Reading.Agreement.{one_record}
-use Rattle.pep440_version.proofs.Refusals.ExactlyOne.{not_both}
+use Rattle.pep440_version.proofs.Rejections.ExactlyOne.{not_both}
 use Rattle.pep440_version.specs.Grammar.{Derives}
 use Rattle.pep440_version.specs.Record.{Record}
 use Rattle.pyver_findings.specs.Demands.{Demand, line_demand}
@@ -25,7 +25,7 @@ use Rattle.pyver_projects.specs.Comparing.{found_beside, beside_all, compared, c
 use Rattle.pyver_projects.specs.Documents.{sources}
 use Rattle.pyver_projects.specs.Groups.{groups}
 use Rattle.pyver_projects.specs.Meanings.{Document, DocumentReading, IsDocumentReading, IsLockReading, IsLockedReading, IsProject, IsRequirementReading, IsStringReading, IsVersionReading, LockedReading, StringReading, package_line, requirement_line, string_line}
-use Rattle.pyver_projects.specs.ProjectLaws.{AllContained, AllMet, HasContents, HasTable, NoFindingMeansContained}
+use Rattle.pyver_projects.specs.ProjectLaws.{AllContained, AllMet, HasContents, HasTable, NoFindingImpliesContained}
 use Rattle.pyver_projects.specs.ProjectStrings.{LockContents, LockedPackage, LockedRequirement, Section}
 use Rattle.pyver_projects.specs.declared.document_kind.DocumentKind.TheVariants.{Lock, Project}
 use Rattle.pyver_projects.specs.declared.document_kind.LockKind.{LockKind}
@@ -114,7 +114,7 @@ all_met documents zs h own lock q p list text v (kind, l, ((m, below, there), ot
     let one : excluded asked w ≡ [] = nil_at (excluded asked) ys w o in_w is_w (left_nil (flat_map (excluded asked) ys) [] met) in
     not_excluded (requirement_line lock.name q) n lock.name p w p.version text v written derives same rw one
 
-pub no_finding_means_contained : NoFindingMeansContained
+pub no_finding_means_contained : NoFindingImpliesContained
 no_finding_means_contained documents r (zs, h, is) none =
     let found : (with_own_reports empty_report zs).findings ++ flat_map (beside_all zs) zs ≡ [] = sym (ap (λ (e : Report). e.findings) is) ∙ none in
     let own : flat_map (λ x. (own_report x).findings) zs ≡ [] = sym (findings_of documents empty_report zs) ∙ left_nil (with_own_reports empty_report zs).findings (flat_map (beside_all zs) zs) found in

@@ -4,14 +4,14 @@ use Rattle.std.proofs.lemmas.List.Elements.{All-contains_itself}
 use Rattle.std.specs.List.{Contains}
 use Rattle.pep440_pick.specs.Names.{normal}
 use Rattle.pep440_rs.proofs.Reading.OneMeaning.{not_both_list, one_list, one_list_refusal}
-use Rattle.pep440_rs.specs.ErrorTexts.{specifier_refusal_text}
-use Rattle.pep440_rs.specs.ListGrammar.{PieceRefusal}
+use Rattle.pep440_rs.specs.ErrorTexts.{specifier_rejection_text}
+use Rattle.pep440_rs.specs.Lists.ListGrammar.{PieceRejection}
 use Rattle.pep440_rs.specs.Specifiers.{Spec}
 use Rattle.pep440_version.proofs.Reading.Agreement.{one_record}
-use Rattle.pep440_version.proofs.Refusals.ExactlyOne.{not_both, one_refusal}
-use Rattle.pep440_version.specs.ErrorTexts.{refusal_text}
+use Rattle.pep440_version.proofs.Rejections.ExactlyOne.{not_both, one_refusal}
+use Rattle.pep440_version.specs.ErrorTexts.{rejection_text}
 use Rattle.pep440_version.specs.Record.{Record}
-use Rattle.pep440_version.specs.Refusals.{Refusal}
+use Rattle.pep440_version.specs.Rejections.{Rejection}
 use Rattle.pyver_findings.proofs.Once.{one_parts}
 use Rattle.pyver_findings.specs.Columns.{list_column}
 use Rattle.pyver_findings.specs.Demands.{line_demand}
@@ -40,11 +40,11 @@ one_meaning all line text Build x y a b = one_parts line (line_parts line.text) 
 one_meaning all line text Python x y (inl (l, d, a)) (inl (m, e, b)) = a ∙ sym b
 one_meaning all line text Python x y (inl (l, d, a)) (inr (f, r, b)) = absurd (not_both_list text l f d r)
 one_meaning all line text Python x y (inr (f, r, a)) (inl (l, d, b)) = absurd (not_both_list text l f d r)
-one_meaning all line text Python x y (inr (f, r, a)) (inr (g, s, b)) = a ∙ ap (λ (h : PieceRefusal). IsNone (NoRequirement line (specifier_refusal_text h.error) (list_column text h))) (one_list_refusal text f g r s) ∙ sym b
+one_meaning all line text Python x y (inr (f, r, a)) (inr (g, s, b)) = a ∙ ap (λ (h : PieceRejection). IsNone (NoRequirement line (specifier_rejection_text h.error) (list_column text h))) (one_list_refusal text f g r s) ∙ sym b
 one_meaning all line text Version x y (inl (l, d, a)) (inl (m, e, b)) = a ∙ sym b
 one_meaning all line text Version x y (inl (l, d, a)) (inr (f, r, b)) = absurd (not_both text l f d r)
 one_meaning all line text Version x y (inr (f, r, a)) (inl (l, d, b)) = absurd (not_both text l f d r)
-one_meaning all line text Version x y (inr (f, r, a)) (inr (g, s, b)) = a ∙ ap (λ (h : Refusal). IsNone (NoRequirement line (refusal_text h) 0)) (one_refusal text f g r s) ∙ sym b
+one_meaning all line text Version x y (inr (f, r, a)) (inr (g, s, b)) = a ∙ ap (λ (h : Rejection). IsNone (NoRequirement line (rejection_text h) 0)) (one_refusal text f g r s) ∙ sym b
 
 pub one_string : (all : Groups) (file : File) (s : ProjectString) (x y : StringReading) → IsStringReading all file s x → IsStringReading all file s y → x ≡ y
 one_string all file s x y (p, a) (q, b) =
@@ -58,7 +58,7 @@ one_version line name (Some text) x y (inl (r, d, a)) (inl (q, e, b)) = a ∙ ap
 one_version line name (Some text) x y (inl (r, d, a)) (inr (f, e, b)) = absurd (not_both text r f d e)
 one_version line name (Some text) x y (inr (f, e, a)) (inl (r, d, b)) = absurd (not_both text r f d e)
 one_version line name (Some text) x y (inr (f, r, a)) (inr (g, s, b)) =
-    a ∙ ap (λ (h : Refusal). record { line = line; name = normal name; version = None; invalid = Some (NoRequirement line (refusal_text h) (length name + 1)) }) (one_refusal text f g r s) ∙ sym b
+    a ∙ ap (λ (h : Rejection). record { line = line; name = normal name; version = None; invalid = Some (NoRequirement line (rejection_text h) (length name + 1)) }) (one_refusal text f g r s) ∙ sym b
 
 one_project : (file : File) (t : Members) (x y : DocumentReading) → IsProjectReading file t x → IsProjectReading file t y → x ≡ y
 one_project file t x y (xs, g, a) (ys, h, b) =

@@ -20,7 +20,7 @@ use Rattle.pyver_projects.specs.Comparing.{beside_all, invalid_string, own_repor
 use Rattle.pyver_projects.specs.Documents.{sources}
 use Rattle.pyver_projects.specs.Groups.{groups, inclusions}
 use Rattle.pyver_projects.specs.Meanings.{DocumentReading, IsDocumentReading, IsProject, IsStringReading, StringReading}
-use Rattle.pyver_projects.specs.ProjectLaws.{NoFindingMeansSatisfiable}
+use Rattle.pyver_projects.specs.ProjectLaws.{NoFindingImpliesSatisfiable}
 use Rattle.pyver_projects.specs.ProjectStrings.{Build, Dependencies, Extra, Group, Section}
 use Rattle.pyver_projects.specs.Soundness.{IsSoundString}
 use Rattle.pyver_projects.specs.Together.{part_conflicts, part_demands, parts, project_conflicts, same_finding, same_part, section_part, sections, with_new}
@@ -90,7 +90,7 @@ none_new : (fs : List Finding) → with_new same_finding [] fs ≡ [] → fs ≡
 none_new [] e = refl
 none_new (f ∷ fs) e = absurd (stays f [] fs e)
 
-pub no_finding_means_satisfiable : NoFindingMeansSatisfiable
+pub no_finding_means_satisfiable : NoFindingImpliesSatisfiable
 no_finding_means_satisfiable documents r (zs, h, is) none file t s xs a m ((k, inside, at), table) (i, within, is_s) g known empty =
     let all = groups t in
     let (x, (c, in_x, is_x), rx) = beside_it IsDocumentReading documents zs (record { kind = Project; file = file }) k inside at h in

@@ -3,10 +3,10 @@ use Rattle.std.proofs.Common.{◌≡◌, ◌+◌, ◌<◌, ◌≤◌, ◌∙◌,
 use Rattle.std.proofs.lemmas.Bool.{true≢false}
 use Rattle.std.proofs.lemmas.List.{map-append, take_more}
 use Rattle.std.specs.List.{AllZip}
-use Rattle.pep440_version.specs.ErrorTexts.{error_text, refusal_text}
-use Rattle.pep440_version.specs.Refusals.{Refusal, Refuses}
-use Rattle.pep440_rs.specs.ListErrors.{IsListLifted, lacks_list_memory, list_refusal_of}
-use Rattle.pep440_rs.specs.ListGrammar.{PieceRefusal, RefusesList}
+use Rattle.pep440_version.specs.ErrorTexts.{error_text, rejection_text}
+use Rattle.pep440_version.specs.Rejections.{Rejection, Rejects}
+use Rattle.pep440_rs.specs.Lists.ListErrors.{IsListLifted, lacks_list_memory, list_rejection_of}
+use Rattle.pep440_rs.specs.Lists.ListGrammar.{PieceRejection, RejectsList}
 use Rattle.pep440_rs.specs.declared.list.error.SpecifiersErrorKind.{SpecifiersErrorKind}
 use Rattle.toml.specs.Data.{Data}
 use Rattle.toml.specs.View.{items_of, members_view}
@@ -48,25 +48,25 @@ refusal None e = absurd (true≢false e)
 refusal (Some f) e = (f, refl)
 
 -- the reason of the refusal is printed
-pub version_reason_is : (f : Refusal) (s : List ℕ) → error_text (Some f) ≡ Some (refusal_text f) → IfSome (error_text (Some f)) (λ t. s ≡ t) → s ≡ refusal_text f
+pub version_reason_is : (f : Rejection) (s : List ℕ) → error_text (Some f) ≡ Some (rejection_text f) → IfSome (error_text (Some f)) (λ t. s ≡ t) → s ≡ rejection_text f
 version_reason_is f s told is = subst (λ (o : Option (List ℕ)). IfSome o (λ t. s ≡ t)) told is
 
 -- a list that is no want of memory has a reason
-reason_by : (kind : SpecifiersErrorKind) (o : Option PieceRefusal) → list_refusal_of kind ≡ o → lacks_list_memory kind ≡ false → IsListLifted kind → (f : PieceRefusal) × (o ≡ Some f)
+reason_by : (kind : SpecifiersErrorKind) (o : Option PieceRejection) → list_rejection_of kind ≡ o → lacks_list_memory kind ≡ false → IsListLifted kind → (f : PieceRejection) × (o ≡ Some f)
 reason_by kind None is some lifted = absurd (true≢false (sym (ap lacks_list_memory (lifted is)) ∙ some))
 reason_by kind (Some f) is some lifted = (f, refl)
 
-pub list_reason : (kind : SpecifiersErrorKind) → lacks_list_memory kind ≡ false → IsListLifted kind → (f : PieceRefusal) × (list_refusal_of kind ≡ Some f)
-list_reason kind some lifted = reason_by kind (list_refusal_of kind) refl some lifted
+pub list_reason : (kind : SpecifiersErrorKind) → lacks_list_memory kind ≡ false → IsListLifted kind → (f : PieceRejection) × (list_rejection_of kind ≡ Some f)
+list_reason kind some lifted = reason_by kind (list_rejection_of kind) refl some lifted
 
 -- a string is no list for its reason
-pub list_read : {Y E : Type 0} (r : Result Y E) (o : Option PieceRefusal) (text : List ℕ) (A Q : Y → Type 0) → IfSome o (RefusesList text) → IfOk r (λ y. (f : PieceRefusal) × (o ≡ Some f) × Q y)
-    → IfOk r (λ y. A y ⊎ ((f : PieceRefusal) × RefusesList text f × Q y))
-list_read (Ok y) o text A Q refuses (f, some, q) = inr (f, subst (λ (p : Option PieceRefusal). IfSome p (RefusesList text)) some refuses, q)
+pub list_read : {Y E : Type 0} (r : Result Y E) (o : Option PieceRejection) (text : List ℕ) (A Q : Y → Type 0) → IfSome o (RejectsList text) → IfOk r (λ y. (f : PieceRejection) × (o ≡ Some f) × Q y)
+    → IfOk r (λ y. A y ⊎ ((f : PieceRejection) × RejectsList text f × Q y))
+list_read (Ok y) o text A Q refuses (f, some, q) = inr (f, subst (λ (p : Option PieceRejection). IfSome p (RejectsList text)) some refuses, q)
 list_read (Err e) o text A Q refuses h = tt
 
 -- a string is no version for its reason
-pub version_read : {Y E : Type 0} (r : Result Y E) (o : Option Refusal) (text : List ℕ) (A : Y → Type 0) (Q : Refusal → Y → Type 0) → IfSome o (Refuses text) → IfOk r (λ y. (f : Refusal) × (o ≡ Some f) × Q f y)
-    → IfOk r (λ y. A y ⊎ ((f : Refusal) × Refuses text f × Q f y))
-version_read (Ok y) o text A Q refuses (f, some, q) = inr (f, subst (λ (p : Option Refusal). IfSome p (Refuses text)) some refuses, q)
+pub version_read : {Y E : Type 0} (r : Result Y E) (o : Option Rejection) (text : List ℕ) (A : Y → Type 0) (Q : Rejection → Y → Type 0) → IfSome o (Rejects text) → IfOk r (λ y. (f : Rejection) × (o ≡ Some f) × Q f y)
+    → IfOk r (λ y. A y ⊎ ((f : Rejection) × Rejects text f × Q f y))
+version_read (Ok y) o text A Q refuses (f, some, q) = inr (f, subst (λ (p : Option Rejection). IfSome p (Rejects text)) some refuses, q)
 version_read (Err e) o text A Q refuses h = tt

@@ -3,12 +3,12 @@ use Rattle.std.specs.Prelude.{◌≡◌, ◌⊎◌, ℕ, ◌+◌, List, [], ◌+
 use Rattle.std.specs.List.{AllZip}
 use Rattle.std.specs.Str.{IsUtf8}
 use Rattle.pep440_pick.specs.Names.{normal}
-use Rattle.pep440_rs.specs.ListGrammar.{DerivesList, PieceRefusal, RefusesList}
+use Rattle.pep440_rs.specs.Lists.ListGrammar.{DerivesList, PieceRejection, RejectsList}
 use Rattle.pep440_rs.specs.Specifiers.{Spec}
-use Rattle.pep440_version.specs.ErrorTexts.{refusal_text}
+use Rattle.pep440_version.specs.ErrorTexts.{rejection_text}
 use Rattle.pep440_version.specs.Grammar.{Derives}
 use Rattle.pep440_version.specs.Record.{Record}
-use Rattle.pep440_version.specs.Refusals.{Refusal, Refuses}
+use Rattle.pep440_version.specs.Rejections.{Rejection, Rejects}
 use Rattle.pyver_findings.specs.Demands.{line_demand}
 use Rattle.pyver_findings.specs.FileLines.{File, FileLine}
 use Rattle.pyver_findings.specs.Findings.{Finding, NoRequirement}
@@ -34,7 +34,7 @@ string_line file s = record { file = file.name; number = number_or_one (first_li
 
 -- what a string of this line is that is to be a version
 abbrev pub IsVersionMeaning : FileLine → List ℕ → LineMeaning → Type 0
-IsVersionMeaning line text x = ((r : Record) × Derives text r × (x ≡ AsksNothing)) ⊎ ((f : Refusal) × Refuses text f × (x ≡ IsNone (NoRequirement line (refusal_text f) 0)))
+IsVersionMeaning line text x = ((r : Record) × Derives text r × (x ≡ AsksNothing)) ⊎ ((f : Rejection) × Rejects text f × (x ≡ IsNone (NoRequirement line (rejection_text f) 0)))
 
 -- what the string of this line, which is this text, is in this section of a project with these groups
 abbrev pub IsSectionMeaning : Groups → Section → FileLine → List ℕ → LineMeaning → Type 0
@@ -72,7 +72,7 @@ package_line file p = record { file = file; number = p.line; text = package_text
 abbrev pub IsVersionReading : FileLine → List ℕ → Option (List ℕ) → LockedReading → Type 0
 IsVersionReading line name None y = y ≡ record { line = line; name = normal name; version = None; invalid = None }
 IsVersionReading line name (Some text) y = ((r : Record) × Derives text r × (y ≡ record { line = line; name = normal name; version = Some r; invalid = None }))
-    ⊎ ((f : Refusal) × Refuses text f × (y ≡ record { line = line; name = normal name; version = None; invalid = Some (NoRequirement line (refusal_text f) (length name + 1)) }))
+    ⊎ ((f : Rejection) × Rejects text f × (y ≡ record { line = line; name = normal name; version = None; invalid = Some (NoRequirement line (rejection_text f) (length name + 1)) }))
 
 abbrev pub IsLockedReading : List ℕ → LockedPackage → LockedReading → Type 0
 IsLockedReading file p y = IsVersionReading (package_line file p) p.name p.version y
@@ -86,7 +86,7 @@ requirement_line file q = record { file = file; number = q.line; text = q.requir
 -- what it is: a name with a list, or left out, if the list is none of PEP 440
 abbrev pub IsRequirementReading : List ℕ → LockedRequirement → LineMeaning → Type 0
 IsRequirementReading file q x = ((list : List Spec) × DerivesList q.list list × (x ≡ Asks (line_demand (requirement_line file q) None (record { name = q.name; extras = []; specifiers = list }))))
-    ⊎ ((f : PieceRefusal) × RefusesList q.list f × (x ≡ LeftOut cause.OtherSyntax))
+    ⊎ ((f : PieceRejection) × RejectsList q.list f × (x ≡ LeftOut cause.OtherSyntax))
 
 -- ---- documents
 

@@ -1,7 +1,7 @@
 -- The packages of `Pipfile.lock`, which is JSON.
 use Rattle.std.specs.Prelude.{ℕ, List, [], ◌∷◌, ◌++◌, Bool, true, false, Option, Some, None, bytes_eq, codes, if◌then◌else◌, option_and_then, option_map, unwrap_or}
 use Rattle.std.specs.List.{flat_map}
-use Rattle.pep440_version.specs.ChangeWords.{after}
+use Rattle.pep440_version.specs.Changes.ChangeWords.{after}
 use Rattle.serde_json.specs.Data.{Data, Members, member, no_members}
 use Rattle.serde_json.specs.Find.{as_object, as_str, get}
 use Rattle.pyver_projects.specs.Places.{first_line, number_or_one}

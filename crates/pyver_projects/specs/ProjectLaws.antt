@@ -5,13 +5,13 @@ use Rattle.std.specs.List.{All, AllZip, Contains, filter, flat_map}
 use Rattle.std.specs.Str.{IsUtf8}
 use Rattle.pep440_pick.specs.Names.{same_name}
 use Rattle.pep440_pick.specs.RequirementGrammar.{DerivesRequirement, Needed}
-use Rattle.pep440_rs.specs.ListGrammar.{DerivesList}
+use Rattle.pep440_rs.specs.Lists.ListGrammar.{DerivesList}
 use Rattle.pep440_rs.specs.LiteralMatching.{list_matches_literally}
 use Rattle.pep440_rs.specs.Specifiers.{Spec}
-use Rattle.pep440_version.specs.ErrorTexts.{refusal_text}
+use Rattle.pep440_version.specs.ErrorTexts.{rejection_text}
 use Rattle.pep440_version.specs.Grammar.{Derives}
 use Rattle.pep440_version.specs.Record.{Record}
-use Rattle.pep440_version.specs.Refusals.{Refusal, Refuses}
+use Rattle.pep440_version.specs.Rejections.{Rejection, Rejects}
 use Rattle.pyver_findings.specs.Conflicts.{has_same_name, under}
 use Rattle.pyver_findings.specs.Demands.{Demand}
 use Rattle.pyver_findings.specs.FileLines.{File, FileLine}
@@ -106,11 +106,11 @@ pub record IsInvalidPackage (documents : List Document) (f : Finding) : Type 0 w
   pub file : File
   pub locked : LockedPackage
   pub text : List ℕ
-  pub reason : Refusal
+  pub reason : Rejection
   pub has : HasPackage documents file locked
   pub version : locked.version ≡ Some text
-  pub refuses : Refuses text reason
-  pub is : f ≡ NoRequirement (package_line file.name locked) (refusal_text reason) (length locked.name + 1)
+  pub refuses : Rejects text reason
+  pub is : f ≡ NoRequirement (package_line file.name locked) (rejection_text reason) (length locked.name + 1)
 
 -- the document is not read
 pub record IsUnread (documents : List Document) (f : Finding) : Type 0 where
@@ -194,8 +194,8 @@ AllMet documents = (lock : File) (q : LockedRequirement) (p : LockedPackage) (li
     → DerivesList q.list list → IsTrue (same_name q.name p.name) → p.version ≡ Some text → Derives text v → IsTrue (list_matches_literally list v)
 
 -- where nothing is found, they do
-abbrev pub NoFindingMeansContained : Type 0
-NoFindingMeansContained = (documents : List Document) (r : Report) → IsDocumentsReport documents r → r.findings ≡ [] → AllContained documents × AllMet documents
+abbrev pub NoFindingImpliesContained : Type 0
+NoFindingImpliesContained = (documents : List Document) (r : Report) → IsDocumentsReport documents r → r.findings ≡ [] → AllContained documents × AllMet documents
 
 -- the requirements of the part of each string of each project that have one name, and the same marker or none, have a version in common
 abbrev pub AllSatisfiable : List Document → Type 0
@@ -204,8 +204,8 @@ AllSatisfiable documents = (file : File) (t : Members) (s : ProjectString) (xs :
     → ¬ HaveNone (under m (filter (has_same_name a) (part_demands (groups t).inclusions (section_part s.section) xs)))
 
 -- where nothing is found, they do
-abbrev pub NoFindingMeansSatisfiable : Type 0
-NoFindingMeansSatisfiable = (documents : List Document) (r : Report) → IsDocumentsReport documents r → r.findings ≡ [] → AllSatisfiable documents
+abbrev pub NoFindingImpliesSatisfiable : Type 0
+NoFindingImpliesSatisfiable = (documents : List Document) (r : Report) → IsDocumentsReport documents r → r.findings ≡ [] → AllSatisfiable documents
 
 -- ---- one report
 

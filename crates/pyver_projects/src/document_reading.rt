@@ -1,4 +1,4 @@
-// What documents are to the check.
+//! What documents are to the check.
 ghost use Rattle.std.specs.Prelude.{◌≡◌, IfOk};
 ghost use Rattle.pyver_projects.specs.Locks.{locked, toml_contents};
 ghost use Rattle.pyver_projects.specs.Meanings.{IsBrokenReading, IsContentsReading, IsDocumentReading, IsLockReading, IsProjectReading, IsTextReading};

@@ -1,4 +1,4 @@
-// Groups that include others.
+//! Groups that include others.
 ghost use Rattle.std.specs.Prelude.{◌≡◌, ◌++◌, ◌||◌, ◌&&◌, IfOk, List, bytes_eq, count_by, map, nat_lt, ℕ};
 ghost use Rattle.std.specs.List.{flat_map, list_any};
 ghost use Rattle.pyver_projects.specs.Documents.{group_name, group_names};

@@ -1,5 +1,5 @@
 //! What holds of reports of documents, as the contract of a function that does nothing.
-ghost use Rattle.pyver_projects.specs.ProjectLaws.{DocumentReportsOnce, DocumentFindingsHold, NoFindingMeansContained, NoFindingMeansSatisfiable};
+ghost use Rattle.pyver_projects.specs.ProjectLaws.{DocumentReportsOnce, DocumentFindingsHold, NoFindingImpliesContained, NoFindingImpliesSatisfiable};
 
 /// What is reported by itself is a string of a project that is not what it is to be there, a group that is invalid, a package whose version
 /// is none, a document that is not TOML, or JSON, in UTF-8, or a requirement whose name no package of some lock has. Lines that are
@@ -13,13 +13,13 @@ pub fn findings_hold()
 /// name in a lock, and each requirement of a locked package that is read and is in PEP 440's syntax contains each version of its name in
 /// the same lock.
 pub fn no_finding_means_contained()
-    ensures { NoFindingMeansContained }
+    ensures { NoFindingImpliesContained }
 {}
 
 /// Where nothing is reported, the requirements of a project that hold together, of one name and with the same marker or none, have a version
 /// in common: its dependencies; these with an extra, or with a group and all that it includes; and what its build requires.
 pub fn no_finding_means_satisfiable()
-    ensures { NoFindingMeansSatisfiable }
+    ensures { NoFindingImpliesSatisfiable }
 {}
 
 /// Documents that are TOML, or JSON, in UTF-8 have at most one report.

@@ -1,4 +1,4 @@
-// A project beside a lock, and the requirements of a lock beside its packages.
+//! A project beside a lock, and the requirements of a lock beside its packages.
 ghost use Rattle.std.specs.Prelude.{◌≡◌, ◌∷◌, ◌++◌, [], IfOk, map};
 ghost use Rattle.std.specs.List.{flat_map, list_any};
 ghost use Rattle.pyver_findings.specs.Findings.{Conflicting};

@@ -1,4 +1,4 @@
-// Packages in locks and what they require, as it is written.
+//! Packages in locks and what they require, as it is written.
 ghost use Rattle.std.specs.Prelude.{◌≡◌, IfOk, option_map, string_bytes};
 ghost use Rattle.pyver_projects.specs.PackageRequirements.{package_text};
 

@@ -1,10 +1,10 @@
-// What locked packages are to the check.
+//! What locked packages are to the check.
 ghost use Rattle.std.specs.Prelude.{◌≡◌, ◌+◌, IfOk, IfSome, None, Some, length, map, option_map, string_bytes};
 ghost use Rattle.std.specs.List.{AllZip};
 ghost use Rattle.pep440_pick.specs.Names.{normal};
-ghost use Rattle.pep440_version.specs.Errors.{error_refusal};
-ghost use Rattle.pep440_version.specs.ErrorTexts.{error_text, refusal_text};
-ghost use Rattle.pep440_version.specs.Refusals.{Refusal};
+ghost use Rattle.pep440_version.specs.Errors.{error_rejection};
+ghost use Rattle.pep440_version.specs.ErrorTexts.{error_text, rejection_text};
+ghost use Rattle.pep440_version.specs.Rejections.{Rejection};
 ghost use Rattle.pyver_findings.specs.Findings.{NoRequirement};
 ghost use Rattle.pyver_findings.specs.Views.{file_line_of};
 ghost use Rattle.pyver_projects.specs.Meanings.{IsLockedReading, IsVersionReading, package_line};
@@ -70,8 +70,8 @@ fn reject_version(
     name: &str,
     error: &VersionParseError,
 ) -> Result<LockedReading, AllocError>
-    requires { IfSome (error_refusal error.now) (λ f. error_text (error_refusal error.now) ≡ Some (refusal_text f)) }
-    ensures { IfOk result (λ y. (f : Refusal) × (error_refusal error.now ≡ Some f) × (locked_reading_of y ≡ record { line = file_line_of line; name = normal name.now; version = None; invalid = Some (NoRequirement (file_line_of line) (refusal_text f) (length name.now + 1)) })) }
+    requires { IfSome (error_rejection error.now) (λ f. error_text (error_rejection error.now) ≡ Some (rejection_text f)) }
+    ensures { IfOk result (λ y. (f : Rejection) × (error_rejection error.now ≡ Some f) × (locked_reading_of y ≡ record { line = file_line_of line; name = normal name.now; version = None; invalid = Some (NoRequirement (file_line_of line) (rejection_text f) (length name.now + 1)) })) }
 {
     let reason = version_reason(alloc, error)?;
     reject(alloc, line, name, reason)

@@ -1,4 +1,4 @@
-// What locked packages require of one another, as it is written.
+//! What locked packages require of one another, as it is written.
 ghost use Rattle.std.specs.Prelude.{◌≡◌, ◌++◌, IfOk, map, option_map, string_bytes};
 ghost use Rattle.std.specs.List.{flat_map};
 ghost use Rattle.pyver_projects.specs.PackageRequirements.{is_unconditional, item_requirements, lacks, member_requirements, requirement_in, named_requirement, requirements_by, requirements_from, table_requirements, version_requirements};

@@ -1,4 +1,4 @@
-// Where strings and packages stand in a document.
+//! Where strings and packages stand in a document.
 ghost use Rattle.std.specs.Prelude.{◌≡◌, IfOk};
 ghost use Rattle.pyver_findings.specs.Views.{file_line_of};
 ghost use Rattle.pyver_projects.specs.Meanings.{IsBrokenReading, string_line};

@@ -1,4 +1,4 @@
-// Strings of `pyproject.toml`.
+//! Strings of `pyproject.toml`.
 use crate::section::Section;
 
 // A string of `pyproject.toml` that is to be a requirement, a list of specifiers or a version.

@@ -1,4 +1,4 @@
-// The lines on which strings stand in quotes in a document.
+//! The lines on which strings stand in quotes in a document.
 ghost use Rattle.std.specs.Prelude.{◌≡◌, ◌≤◌, ◌==◌, ◌||◌, IfOk, List, length, map, not, option_map, ℕ};
 ghost use Rattle.std.specs.BTreeMap.{get_by};
 ghost use Rattle.std.specs.Cmp.Lexicographic.{slice_cmp};

@@ -1,9 +1,9 @@
-// What the requirements of locked packages are to the check.
+//! What the requirements of locked packages are to the check.
 ghost use Rattle.std.specs.Prelude.{◌≡◌, [], IfOk, None, Some, map, string_bytes};
 ghost use Rattle.std.specs.List.{AllZip};
-ghost use Rattle.pep440_rs.specs.ListAnswers.{list_kind_of};
-ghost use Rattle.pep440_rs.specs.ListErrors.{IsListLifted, list_refusal_of};
-ghost use Rattle.pep440_rs.specs.ListGrammar.{PieceRefusal};
+ghost use Rattle.pep440_rs.specs.Lists.ListResults.{list_kind_of};
+ghost use Rattle.pep440_rs.specs.Lists.ListErrors.{IsListLifted, list_rejection_of};
+ghost use Rattle.pep440_rs.specs.Lists.ListGrammar.{PieceRejection};
 ghost use Rattle.pyver_findings.specs.Demands.{line_demand};
 ghost use Rattle.pyver_findings.specs.LineMeanings.{Asks, LeftOut};
 ghost use Rattle.pyver_findings.specs.declared.cause.Cause.TheVariants as cause;
@@ -58,7 +58,7 @@ fn ask(
 // A requirement whose list has this error is left out, unless an allocation failed.
 fn leave_out(error: &VersionSpecifiersParseError) -> Result<LineMeaning, AllocError>
     requires { IsListLifted (list_kind_of error.now) }
-    ensures { IfOk result (λ x. (f : PieceRefusal) × (list_refusal_of (list_kind_of error.now) ≡ Some f) × (line_meaning_of x ≡ LeftOut cause.OtherSyntax)) }
+    ensures { IfOk result (λ x. (f : PieceRejection) × (list_rejection_of (list_kind_of error.now) ≡ Some f) × (line_meaning_of x ≡ LeftOut cause.OtherSyntax)) }
 {
     if error.is_out_of_memory() {
         return Err(AllocError);

@@ -1,4 +1,4 @@
-// The parts of `pyproject.toml` whose strings are checked.
+//! The parts of `pyproject.toml` whose strings are checked.
 ghost use Rattle.std.specs.Prelude.{◌≡◌};
 ghost use Rattle.pyver_projects.specs.ProjectViews.{section_of};
 

@@ -1,9 +1,9 @@
-// What the strings of `pyproject.toml` are to the check.
+//! What the strings of `pyproject.toml` are to the check.
 ghost use Rattle.std.specs.Prelude.{◌≡◌, IfOk, IfSome, Some, map, string_bytes};
 ghost use Rattle.std.specs.List.{AllZip};
-ghost use Rattle.pep440_version.specs.Errors.{error_refusal};
-ghost use Rattle.pep440_version.specs.ErrorTexts.{error_text, refusal_text};
-ghost use Rattle.pep440_version.specs.Refusals.{Refusal};
+ghost use Rattle.pep440_version.specs.Errors.{error_rejection};
+ghost use Rattle.pep440_version.specs.ErrorTexts.{error_text, rejection_text};
+ghost use Rattle.pep440_version.specs.Rejections.{Rejection};
 ghost use Rattle.pyver_findings.specs.Findings.{NoRequirement};
 ghost use Rattle.pyver_findings.specs.LineMeanings.{IsNone};
 ghost use Rattle.pyver_findings.specs.Views.{file_line_of, line_meaning_of};
@@ -40,8 +40,8 @@ fn reject_version(
     line: &FileLine,
     error: &VersionParseError,
 ) -> Result<LineMeaning, AllocError>
-    requires { IfSome (error_refusal error.now) (λ f. error_text (error_refusal error.now) ≡ Some (refusal_text f)) }
-    ensures { IfOk result (λ x. (f : Refusal) × (error_refusal error.now ≡ Some f) × (line_meaning_of x ≡ IsNone (NoRequirement (file_line_of line.now) (refusal_text f) 0))) }
+    requires { IfSome (error_rejection error.now) (λ f. error_text (error_rejection error.now) ≡ Some (rejection_text f)) }
+    ensures { IfOk result (λ x. (f : Rejection) × (error_rejection error.now ≡ Some f) × (line_meaning_of x ≡ IsNone (NoRequirement (file_line_of line.now) (rejection_text f) 0))) }
 {
     let reason = version_reason(alloc, error)?;
     reject(line, reason)

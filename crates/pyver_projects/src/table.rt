@@ -1,4 +1,4 @@
-// Values in a table of a TOML document.
+//! Values in a table of a TOML document.
 ghost use Rattle.std.specs.Prelude.{◌≡◌, map, option_and_then, option_map};
 ghost use Rattle.pyver_projects.specs.TomlValues.{inside, listed, text_in};
 ghost use Rattle.toml.specs.Data.{as_array, as_table, get_member};

@@ -1,4 +1,4 @@
-// Requirements of a project that hold together.
+//! Requirements of a project that hold together.
 ghost use Rattle.std.specs.Prelude.{◌≡◌, ◌++◌, [], IfOk, List, bytes_eq, map, option_map, ℕ};
 ghost use Rattle.std.specs.List.{All, flat_map, list_any};
 ghost use Rattle.pyver_findings.specs.Demands.{IsSound};

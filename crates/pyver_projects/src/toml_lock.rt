@@ -1,4 +1,4 @@
-// What a TOML lock has.
+//! What a TOML lock has.
 ghost use Rattle.std.specs.Prelude.{◌≡◌, ◌++◌, IfOk, get_or, map, option_map};
 ghost use Rattle.pyver_projects.specs.Documents.{contents, numbered_tables, package_from, package_in, table_contents};
 ghost use Rattle.pyver_projects.specs.Places.{header_lines};

@@ -5,7 +5,7 @@ use Rattle.std.specs.List.{filter, slice_split, suffix_len}
 use Rattle.pep440_rs.specs.Blanks.{opens, trim_blanks}
 use Rattle.pep440_version.specs.Grammar.{starts}
 use Rattle.pep440_version.specs.Reading.{past}
-use Rattle.pep440_version.specs.Refusals.{ends}
+use Rattle.pep440_version.specs.Rejections.{ends}
 
 -- a line, and the number of the first physical line of it
 pub record Line : Type 0 where

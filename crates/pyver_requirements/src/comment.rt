@@ -1,4 +1,4 @@
-// Lines without their comments.
+//! Lines without their comments.
 ghost use Rattle.std.specs.Prelude.{◌≡◌, true};
 ghost use Rattle.pep440_rs.specs.Blanks.{trim_blanks};
 ghost use Rattle.pyver_requirements.specs.LogicalLines.{before_comment, content};

@@ -1,4 +1,4 @@
-// What a logical line is.
+//! What a logical line is.
 ghost use Rattle.std.specs.Prelude.{◌≡◌, ◌≤◌, ◌==◌, ◌||◌, IsTrue, length, not, option_map};
 ghost use Rattle.std.specs.Char.{eq_ignore_ascii_case, is_ascii_whitespace};
 ghost use Rattle.std.specs.List.{ends_with, list_any, prefix_len};

@@ -1,4 +1,4 @@
-// The parts of a line that is a requirement.
+//! The parts of a line that is a requirement.
 ghost use Rattle.std.specs.Prelude.{◌≡◌, ◌≤◌, ◌==◌, length, not, option_map};
 ghost use Rattle.std.specs.List.{prefix_len};
 ghost use Rattle.pep440_rs.specs.Blanks.{trim_blanks};

@@ -1,4 +1,4 @@
-// Why a string is no environment marker.
+//! Why a string is no environment marker.
 ghost use Rattle.std.specs.Prelude.{◌≡◌};
 ghost use Rattle.pyver_requirements.specs.declared.marker_fault.MarkerError.TheVariants.{OutOfMemory};
 

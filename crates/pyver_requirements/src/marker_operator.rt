@@ -1,4 +1,4 @@
-// Operators of environment markers.
+//! Operators of environment markers.
 ghost use Rattle.std.specs.Prelude.{◌≡◌, codes};
 ghost use Rattle.pyver_requirements.specs.MarkerTerms.{mirrored, marker_operator_text};
 

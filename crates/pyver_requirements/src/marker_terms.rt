@@ -1,4 +1,4 @@
-// Environment markers in their normal form.
+//! Environment markers in their normal form.
 ghost use Rattle.std.specs.Prelude.{◌≡◌, ◌==◌, ◌++◌, ◌∷◌, [], IfOk, codes, length};
 ghost use Rattle.std.specs.List.{flat_map, list_any};
 ghost use Rattle.pyver_requirements.specs.MarkerTerms.{All, Any, as_written, comparison_text, exchanged, joined_terms, mirrored, marker_operator_text, quote_around, side_text, terms_text, under_and, under_or, union};

@@ -1,4 +1,4 @@
-// The tokens of environment markers.
+//! The tokens of environment markers.
 ghost use Rattle.std.specs.Prelude.{◌≡◌, ◌≤◌, ◌==◌, bytes_eq, codes, length, option_map};
 ghost use Rattle.std.specs.List.{list_any, prefix_len};
 ghost use Rattle.pep440_version.specs.Grammar.{starts};

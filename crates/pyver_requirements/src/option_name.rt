@@ -1,4 +1,4 @@
-// Names of long options, which `optparse` lets abbreviate.
+//! Names of long options, which `optparse` lets abbreviate.
 ghost use Rattle.std.specs.Prelude.{◌≡◌, ◌≤◌, ◌==◌, bytes_eq, length, nat_eq};
 ghost use Rattle.std.specs.List.{count_by, list_any, prefix_len, starts_with};
 ghost use Rattle.pep440_version.specs.Reading.{lead};

@@ -1,4 +1,4 @@
-// Values of options, as a shell splits them.
+//! Values of options, as a shell splits them.
 ghost use Rattle.std.specs.Prelude.{◌≡◌, ◌==◌, None, drop, option_map};
 ghost use Rattle.pyver_requirements.specs.OptionValues.{first_value, from_long_value, from_value, is_quote, long_value, next_quote, quoted_word, value_column, without_quotes};
 

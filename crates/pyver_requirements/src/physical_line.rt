@@ -1,10 +1,10 @@
-// The physical lines of a string, and which continue.
+//! The physical lines of a string, and which continue.
 ghost use Rattle.std.specs.Prelude.{◌≡◌, ◌<◌, ◌≤◌, ◌==◌, ◌∷◌, [], IfSome, length};
 ghost use Rattle.std.specs.List.{prefix_len, suffix_len};
 ghost use Rattle.std.specs.Option.{option_map_or};
 ghost use Rattle.pep440_rs.specs.Blanks.{opens};
 ghost use Rattle.pep440_version.specs.Grammar.{starts};
-ghost use Rattle.pep440_version.specs.Refusals.{ends};
+ghost use Rattle.pep440_version.specs.Rejections.{ends};
 ghost use Rattle.pyver_requirements.specs.LogicalLines.{added, after_mark, continues, ends_separator, is_comment_line, is_line_end, is_utf16, line_end, physical_lines, trim_backslashes};
 
 // The text without a byte order mark at the start.

@@ -7,7 +7,7 @@ use Rattle.pyver_findings.specs.ReportTexts.{summary_text}
 use Rattle.pyver_findings.specs.Reports.{Report}
 use Rattle.pyver_tool.proofs.FileReads.{stops_at_once}
 use Rattle.pyver_tool.specs.Checks.{summary, together_note}
-use Rattle.pyver_tool.specs.RequirementFiles.{StopsInFiles, word_file}
+use Rattle.pyver_tool.specs.RequirementFiles.{FailsInFiles, word_file}
 use Rattle.pyver_tool.specs.declared.check.CheckOptions.{CheckOptions}
 use Rattle.pyver_tool.specs.declared.file_kind.FileKind.{FileKind}
 
@@ -18,9 +18,9 @@ some_source (name ∷ names) = (name, names, refl)
 
 module _ {R : Type 0} (kind : FileKind) (files : List ℕ → KnownFile) (paths : List ℕ → Option (List ℕ)) (remaining : R → Option (List ℕ)) where
   -- an allocation failed before anything was read
-  pub group_stops_at_once : (words : List (List ℕ)) (reader : R) → StopsInFiles kind files paths remaining (source_names words) reader reader run_failure.OutOfMemory
+  pub group_stops_at_once : (words : List (List ℕ)) (reader : R) → FailsInFiles kind files paths remaining (source_names words) reader reader run_failure.OutOfMemory
   group_stops_at_once words reader = let first = some_source words in
-      subst (λ w. StopsInFiles kind files paths remaining w reader reader run_failure.OutOfMemory) (sym first.2)
+      subst (λ w. FailsInFiles kind files paths remaining w reader reader run_failure.OutOfMemory) (sym first.2)
       (stops_at_once kind files paths remaining (map word_file (first.0 ∷ first.1)) (word_file first.0) (map word_file first.1) reader refl)
 
 -- a last write, of which this comes

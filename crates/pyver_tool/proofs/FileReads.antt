@@ -5,9 +5,9 @@ use Rattle.std.proofs.lemmas.Grind.{flat_map-append}
 use Rattle.std.specs.List.{flat_map}
 use Rattle.std.specs.Str.{IsUtf8}
 use Rattle.pyver_commands.proofs.SourceReads.{stops_before}
-use Rattle.pyver_tool.specs.FileSteps.{GainsFile, GainsUnopened, HasNames, HasReads, OpensStep, ReadsStep, StepsOrRefused, names_in, names_of_files, read_of}
-use Rattle.pyver_tool.specs.RequirementFiles.{FilesRead, HasPath, ReadsFilesInTurn, ReadsNames, ReadsNext, StopsInNames, file_with, has_path, none_read, with_unopened}
-use Rattle.pyver_commands.specs.Sources.SourceTexts.{StopsInText}
+use Rattle.pyver_tool.specs.FileSteps.{GainsFile, GainsUnopened, HasNames, HasReads, OpensStep, ReadsStep, StepsOrFailsOpening, names_in, names_of_files, read_of}
+use Rattle.pyver_tool.specs.RequirementFiles.{FilesRead, HasPath, ReadsFilesInTurn, ReadsNames, ReadsNext, FailsInNames, file_with, has_path, none_read, with_unopened}
+use Rattle.pyver_commands.specs.Sources.SourceTexts.{FailsInText}
 use Rattle.pyver_commands.specs.Sources.{KnownFile, ReadsWhole}
 use Rattle.pyver_tool.specs.declared.file_kind.FileKind.{FileKind}
 use Rattle.pyver_tool.specs.declared.file_kind.FileKind.TheVariants as file_kind
@@ -43,7 +43,7 @@ module _ {R : Type 0} (kind : FileKind) (files : List ℕ → KnownFile) (paths 
 
   -- it was read
   pub step_opened : (name path text : List ℕ) (a b : RequirementFiles) (reader reader' : R) → IsUtf8 name → HasPath kind files paths remaining name path → has_path (read_of a) path ≡ false → ReadsWhole files remaining name reader reader' text
-      → GainsFile (kind_by_name kind name) a b (file_with name text) path → a.read_count < b.read_count → HasReads b → StepsOrRefused kind files paths remaining name a b reader reader' None
+      → GainsFile (kind_by_name kind name) a b (file_with name text) path → a.read_count < b.read_count → HasReads b → StepsOrFailsOpening kind files paths remaining name a b reader reader' None
   step_opened name path text a b reader reader' utf8 is new reads gains more has = record {
     next = (utf8, path, is, inr (new, (text, reads, gains.read)));
     names = λ first h. names_gain (kind_by_name kind name) first a b (file_with name text) path h gains;
@@ -54,10 +54,10 @@ module _ {R : Type 0} (kind : FileKind) (files : List ℕ → KnownFile) (paths 
   }
 
   -- the source was read unless it had been before, or it was not opened
-  pub step_read : (named : NamedFile) (a b : RequirementFiles) (reader reader' : R) → StepsOrRefused kind files paths remaining named.name a b reader reader' None → ReadsStep kind files paths remaining named a b reader reader'
+  pub step_read : (named : NamedFile) (a b : RequirementFiles) (reader reader' : R) → StepsOrFailsOpening kind files paths remaining named.name a b reader reader' None → ReadsStep kind files paths remaining named a b reader reader'
   step_read named a b reader reader' step = record { next = inl step.next; names = step.names; more = step.more; behind = step.behind; advances = step.advances; reads = step.reads }
 
-  pub step_refused : (named : NamedFile) (why : OpenFailure) (a b c : RequirementFiles) (reader reader' : R) → HasReads a → StepsOrRefused kind files paths remaining named.name a b reader reader' (Some why) → GainsUnopened b c named why
+  pub step_refused : (named : NamedFile) (why : OpenFailure) (a b c : RequirementFiles) (reader reader' : R) → HasReads a → StepsOrFailsOpening kind files paths remaining named.name a b reader reader' (Some why) → GainsUnopened b c named why
       → ReadsStep kind files paths remaining named a c reader reader'
   step_refused named why a b c reader reader' reads (refuses, same, kept) gains =
       let names : c.names ≡ a.names = gains.names ∙ ap (λ (x : RequirementFiles). x.names) same in
@@ -74,7 +74,7 @@ module _ {R : Type 0} (kind : FileKind) (files : List ℕ → KnownFile) (paths 
       }
 
   -- an allocation failed after it was not opened
-  pub stops_refused : (name : List ℕ) (why : OpenFailure) (a b : RequirementFiles) (reader reader' : R) → StepsOrRefused kind files paths remaining name a b reader reader' (Some why) → StopsInText files remaining name reader reader' run_failure.OutOfMemory
+  pub stops_refused : (name : List ℕ) (why : OpenFailure) (a b : RequirementFiles) (reader reader' : R) → StepsOrFailsOpening kind files paths remaining name a b reader reader' (Some why) → FailsInText files remaining name reader reader' run_failure.OutOfMemory
   stops_refused name why a b reader reader' (refuses, same, kept) = inl (refl, kept)
 
   -- ---- one source after another
@@ -90,7 +90,7 @@ module _ {R : Type 0} (kind : FileKind) (files : List ℕ → KnownFile) (paths 
     pub each_more : (b : RequirementFiles) → ReadsStep kind files paths remaining named a b middle reader' → ReadsFilesInTurn kind files paths remaining (front ++ named ∷ []) none_read (read_of b) reader reader'
     each_more b step = each_last front named none_read (read_of a) (read_of b) reader middle reader' k step.next
 
-    pub ends_stopped : HasNames first a → (why : RunFailure) → StopsInText files remaining named.name middle reader' why → StopsInNames kind files paths remaining first reader reader' why
+    pub ends_stopped : HasNames first a → (why : RunFailure) → FailsInText files remaining named.name middle reader' why → FailsInNames kind files paths remaining first reader reader' why
     ends_stopped h why part = record {
       done = front;
       named = named;
@@ -108,7 +108,7 @@ module _ {R : Type 0} (kind : FileKind) (files : List ℕ → KnownFile) (paths 
   ends_whole first a reader reader' h k = subst (λ n. ReadsFilesInTurn kind files paths remaining n none_read (read_of a) reader reader') h k
 
   -- an allocation failed before anything was read
-  pub stops_at_once : (first : List NamedFile) (named : NamedFile) (left : List NamedFile) (reader : R) → first ≡ named ∷ left → StopsInNames kind files paths remaining first reader reader run_failure.OutOfMemory
+  pub stops_at_once : (first : List NamedFile) (named : NamedFile) (left : List NamedFile) (reader : R) → first ≡ named ∷ left → FailsInNames kind files paths remaining first reader reader run_failure.OutOfMemory
   stops_at_once first named left reader is = record {
     done = [];
     named = named;

@@ -2,12 +2,12 @@
 use Rattle.std.proofs.Common.{◌≡◌, ◌∙◌, ℕ, List, [], ◌∷◌, Bool, true, false, Option, Some, None, inl, inr, refl, sym, ap, subst, arith}
 use Rattle.std.specs.List.{AllZip}
 use Rattle.pep440_rs.proofs.Reading.OneMeaning.{not_both_list, one_list, one_list_refusal}
-use Rattle.pep440_rs.specs.ListErrorTexts.{list_refusal_text}
-use Rattle.pep440_rs.specs.ListGrammar.{PieceRefusal}
+use Rattle.pep440_rs.specs.Lists.ListErrorTexts.{list_rejection_text}
+use Rattle.pep440_rs.specs.Lists.ListGrammar.{PieceRejection}
 use Rattle.pep440_rs.specs.Specifiers.{Spec}
 use Rattle.pep440_version.proofs.Reading.Agreement.{one_record}
-use Rattle.pep440_version.proofs.Refusals.ExactlyOne.{not_both, one_refusal}
-use Rattle.pep440_version.specs.ErrorTexts.{refusal_text}
+use Rattle.pep440_version.proofs.Rejections.ExactlyOne.{not_both, one_refusal}
+use Rattle.pep440_version.specs.ErrorTexts.{rejection_text}
 use Rattle.pyver_commands.specs.BumpInputs.{BumpsOnly}
 use Rattle.pyver_commands.specs.Bumps.{Bumps, bump_outcome}
 use Rattle.pyver_commands.proofs.Choosing.{one_newest}
@@ -52,13 +52,13 @@ reading_once : (text : List ℕ) (x y : Reading) → Reads text x → Reads text
 reading_once text (Denotes r) (Denotes q) h k = ap Denotes (one_record text r q h k)
 reading_once text (Denotes r) (Fails m) h (f, e, is) = absurd (not_both text r f h e)
 reading_once text (Fails m) (Denotes r) (f, e, is) h = absurd (not_both text r f h e)
-reading_once text (Fails m) (Fails n) (f, d, is) (g, e, so) = ap Fails (is ∙ ap refusal_text (one_refusal text f g d e) ∙ sym so)
+reading_once text (Fails m) (Fails n) (f, d, is) (g, e, so) = ap Fails (is ∙ ap rejection_text (one_refusal text f g d e) ∙ sym so)
 
 specifiers_once : (text : List ℕ) (x y : SpecifiersReading) → ReadsSpecifiers text x → ReadsSpecifiers text y → x ≡ y
 specifiers_once text (DenotesList l) (DenotesList m) h k = ap DenotesList (one_list text l m h k)
 specifiers_once text (DenotesList l) (ListFails n) h (f, e, is) = absurd (not_both_list text l f h e)
 specifiers_once text (ListFails m) (DenotesList l) (f, e, is) h = absurd (not_both_list text l f h e)
-specifiers_once text (ListFails m) (ListFails n) (f, d, is) (g, e, so) = ap ListFails (is ∙ ap (λ (x : PieceRefusal). list_refusal_text x text) (one_list_refusal text f g d e) ∙ sym so)
+specifiers_once text (ListFails m) (ListFails n) (f, d, is) (g, e, so) = ap ListFails (is ∙ ap (λ (x : PieceRejection). list_rejection_text x text) (one_list_refusal text f g d e) ∙ sym so)
 
 compare_once : (left : List ℕ) (operator : Comparison) (right : List ℕ) (a b : Outcome) → Compares left operator right a → Compares left operator right b → a ≡ b
 compare_once left operator right a b (x, y, hx, hy, is) (u, v, hu, hv, so) =

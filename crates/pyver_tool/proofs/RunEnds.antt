@@ -3,16 +3,16 @@ use Rattle.std.proofs.Common.{◌≡◌, ◌⊎◌, ◌∙◌, ◌≤◌, ℕ, L
 use Rattle.std.proofs.KnownBytes.{Appends-trans}
 use Rattle.std.specs.Io.KnownBytes.{Appends}
 use Rattle.std.specs.Prelude.{Bool, Err, IfErr, IfOk, Ok, Result}
-use Rattle.cli_io.specs.Runs.{AtOnce, Begun, InParts, Nothing, Outcome}
+use Rattle.cli_io.specs.Runs.{AtOnce, OutputProgress, InParts, Nothing, Outcome}
 use Rattle.cli_io.specs.Streams.{WroteBeginning}
 use Rattle.pyver_commands.specs.AnswerViews.{outcome_of}
-use Rattle.pyver_commands.specs.FilterSteps.{FilterFinishes, FilterStops}
+use Rattle.pyver_commands.specs.FilterSteps.{FilterFinishes, FilterFails}
 use Rattle.pyver_commands.specs.Filters.{Filters}
-use Rattle.pyver_commands.specs.Sources.RunFailures.{IsWriteFailure, Reports, StopsUnanswered, memory_message, write_message}
-use Rattle.pyver_commands.specs.Sources.{AnswersSources, FindsOutput, Input, KnownFile, ReadsInput, StopsReading, no_input, output_outcome}
-use Rattle.pyver_commands.specs.WholeInputs.{AnswersInput}
-use Rattle.pyver_tool.specs.Checks.{Checks, StopsCheck}
-use Rattle.pyver_tool.specs.Runs.{EndsBy, FinishesTask, StopsBy, StopsEarly, StopsStream, TaskEnds}
+use Rattle.pyver_commands.specs.Sources.RunFailures.{IsWriteFailure, Reports, FailsWithoutOutcome, memory_message, write_message}
+use Rattle.pyver_commands.specs.Sources.{IsOutcomeOfSources, FindsOutput, Input, KnownFile, ReadsInput, FailsReading, no_input, output_outcome}
+use Rattle.pyver_commands.specs.WholeInputs.{IsOutcomeOfInput}
+use Rattle.pyver_tool.specs.Checks.{Checks, FailsInCheck}
+use Rattle.pyver_tool.specs.Runs.{EndsBy, FinishesTask, MayFailBy, FailsEarly, FailsInStream, TaskEnds}
 use Rattle.pyver_tool.specs.Tasks.{Check, IsOutcome, IsStream, NeedsInput, Task, names_of}
 use Rattle.pyver_tool.specs.WorkViews.{AnswerEnds, IsFailureOf, IsOutcomeOf}
 use Rattle.pyver_tool.specs.declared.check.CheckOptions.{CheckOptions}
@@ -64,7 +64,7 @@ module _ {W E : Type 0} (contents : W → Option (List ℕ)) (error_contents : E
   ends_unanswered why message reports silent errors = inr (record { begun = Nothing; message = message; why = (why, refl, reports); begins = (silent, errors) })
 
   module _ (answer : Result Answer RunFailure) (P : Outcome → Type 0) (Q : RunFailure → Type 0) (L : Outcome → RunFailure → Type 0) (finished : IfOk answer (λ a. P (outcome_of a))) (stopped : IfErr answer Q) where
-    stops_by : (begun : Begun) (message : List ℕ) → StopsBy (IsOutcomeOf answer) (IsFailureOf answer) (λ o why. ⊥) begun status message → StopsBy P Q L begun status message
+    stops_by : (begun : OutputProgress) (message : List ℕ) → MayFailBy (IsOutcomeOf answer) (IsFailureOf answer) (λ o why. ⊥) begun status message → MayFailBy P Q L begun status message
     stops_by Nothing message (why, is, reports) = (why, fails_by answer Q stopped why is, reports)
     stops_by (AtOnce o) message (is, why) = (finishes_by answer P finished o is, why)
     stops_by (InParts o) message (why, is, reports) = absurd is
@@ -88,16 +88,16 @@ module _ {R W E : Type 0} (files : List ℕ → KnownFile) (paths : List ℕ →
   pub ends_by_answer : (a : Answer) → ¬ NeedsInput task → ((input : Input) → IsOutcome task input (outcome_of a)) → AnswerEnds (Ok a) contents error_contents out out' err err' status
       → TaskEnds files paths outputs remaining task reader reader' contents error_contents out out' err err' status
   ends_by_answer a needless is =
-      ends_by contents error_contents out out' err err' status (Ok a) (FinishesTask files paths outputs remaining task reader reader') (StopsEarly files paths outputs remaining task reader reader') (StopsStream files paths outputs remaining task reader reader')
+      ends_by contents error_contents out out' err err' status (Ok a) (FinishesTask files paths outputs remaining task reader reader') (FailsEarly files paths outputs remaining task reader reader') (FailsInStream files paths outputs remaining task reader reader')
       (inl (no_input, (λ n. absurd (needless n)), is no_input)) tt
 
   -- the answer of files that were checked
   pub ends_by_check : (answer : Result Answer RunFailure) (options : CheckOptions) (names : List (List ℕ)) → task ≡ Check options names → IfOk answer (λ a. Checks files paths remaining options names reader reader' (outcome_of a))
-      → IfErr answer (StopsCheck files paths remaining options names reader reader') → AnswerEnds answer contents error_contents out out' err err' status → TaskEnds files paths outputs remaining task reader reader' contents error_contents out out' err err' status
+      → IfErr answer (FailsInCheck files paths remaining options names reader reader') → AnswerEnds answer contents error_contents out out' err err' status → TaskEnds files paths outputs remaining task reader reader' contents error_contents out out' err err' status
   ends_by_check answer options names so finished stopped =
-      ends_by contents error_contents out out' err err' status answer (FinishesTask files paths outputs remaining task reader reader') (StopsEarly files paths outputs remaining task reader reader') (StopsStream files paths outputs remaining task reader reader')
+      ends_by contents error_contents out out' err err' status answer (FinishesTask files paths outputs remaining task reader reader') (FailsEarly files paths outputs remaining task reader reader') (FailsInStream files paths outputs remaining task reader reader')
       (if_ok answer (Checks files paths remaining options names reader reader') (FinishesTask files paths outputs remaining task reader reader') (λ o k. inr (inr (options, names, so, k))) finished)
-      (if_err answer (StopsCheck files paths remaining options names reader reader') (StopsEarly files paths outputs remaining task reader reader') (λ why k. inr (inr (options, names, so, k))) stopped)
+      (if_err answer (FailsInCheck files paths remaining options names reader reader') (FailsEarly files paths outputs remaining task reader reader') (λ why k. inr (inr (options, names, so, k))) stopped)
 
   -- an allocation failed before anything was read or written
   pub ends_at_once : reader' ≡ reader → out' ≡ out → status ≡ 3 → WroteBeginning (error_contents err) (error_contents err') memory_message → TaskEnds files paths outputs remaining task reader reader' contents error_contents out out' err err' status
@@ -105,23 +105,23 @@ module _ {R W E : Type 0} (files : List ℕ → KnownFile) (paths : List ℕ →
 
   module _ (names : List (List ℕ)) (needs : NeedsInput task) (same : names_of task ≡ names) where
     -- the answer to a question of all sources
-    pub ends_by_whole : ¬ IsStream task → (answer : Result Answer RunFailure) (asked : Question) → ((input : Input) (o : Outcome) → AnswersInput asked input o → IsOutcome task input o) → IfOk answer (λ a. AnswersSources files remaining (AnswersInput asked) names reader reader' (outcome_of a))
-        → IfErr answer (StopsUnanswered files remaining names reader reader') → AnswerEnds answer contents error_contents out out' err err' status → TaskEnds files paths outputs remaining task reader reader' contents error_contents out out' err err' status
+    pub ends_by_whole : ¬ IsStream task → (answer : Result Answer RunFailure) (asked : Question) → ((input : Input) (o : Outcome) → IsOutcomeOfInput asked input o → IsOutcome task input o) → IfOk answer (λ a. IsOutcomeOfSources files remaining (IsOutcomeOfInput asked) names reader reader' (outcome_of a))
+        → IfErr answer (FailsWithoutOutcome files remaining names reader reader') → AnswerEnds answer contents error_contents out out' err err' status → TaskEnds files paths outputs remaining task reader reader' contents error_contents out out' err err' status
     ends_by_whole whole answer asked is finished stopped =
-        ends_by contents error_contents out out' err err' status answer (FinishesTask files paths outputs remaining task reader reader') (StopsEarly files paths outputs remaining task reader reader') (StopsStream files paths outputs remaining task reader reader')
-        (if_ok answer (AnswersSources files remaining (AnswersInput asked) names reader reader') (FinishesTask files paths outputs remaining task reader reader')
+        ends_by contents error_contents out out' err err' status answer (FinishesTask files paths outputs remaining task reader reader') (FailsEarly files paths outputs remaining task reader reader') (FailsInStream files paths outputs remaining task reader reader')
+        (if_ok answer (IsOutcomeOfSources files remaining (IsOutcomeOfInput asked) names reader reader') (FinishesTask files paths outputs remaining task reader reader')
         (λ o k. inl (k.input, (λ _. ((λ stream. absurd (whole stream)), subst (λ n. ReadsInput files remaining n reader reader' k.input) (sym same) k.reads)), is k.input o k.is)) finished)
-        (if_err answer (StopsUnanswered files remaining names reader reader') (StopsEarly files paths outputs remaining task reader reader')
-        (λ why k. inr (inl (needs, subst (λ n. StopsUnanswered files remaining n reader reader' why) (sym same) k))) stopped)
+        (if_err answer (FailsWithoutOutcome files remaining names reader reader') (FailsEarly files paths outputs remaining task reader reader')
+        (λ why k. inr (inl (needs, subst (λ n. FailsWithoutOutcome files remaining n reader reader' why) (sym same) k))) stopped)
 
     -- the answer that a source is also the output
     pub ends_by_output : IsStream task → (name : List ℕ) → FindsOutput outputs names (Some name) → (answer : Result Answer RunFailure) → IfOk answer (λ a. outcome_of a ≡ output_outcome name) → IfErr answer (λ why. why ≡ run_failure.OutOfMemory) → reader' ≡ reader
         → AnswerEnds answer contents error_contents out out' err err' status → TaskEnds files paths outputs remaining task reader reader' contents error_contents out out' err err' status
     ends_by_output stream name found answer finished stopped still =
-        ends_by contents error_contents out out' err err' status answer (FinishesTask files paths outputs remaining task reader reader') (StopsEarly files paths outputs remaining task reader reader') (StopsStream files paths outputs remaining task reader reader')
+        ends_by contents error_contents out out' err err' status answer (FinishesTask files paths outputs remaining task reader reader') (FailsEarly files paths outputs remaining task reader reader') (FailsInStream files paths outputs remaining task reader reader')
         (if_ok answer (λ o. o ≡ output_outcome name) (FinishesTask files paths outputs remaining task reader reader')
         (λ o k. inr (inl (name, stream, needs, (λ _. subst (λ n. FindsOutput outputs n (Some name)) (sym same) found), k, still))) finished)
-        (if_err answer (λ why. why ≡ run_failure.OutOfMemory) (StopsEarly files paths outputs remaining task reader reader') (λ why k. inl (k, still)) stopped)
+        (if_err answer (λ why. why ≡ run_failure.OutOfMemory) (FailsEarly files paths outputs remaining task reader reader') (λ why k. inl (k, still)) stopped)
 
     module _ (rule : FilterRule) (is : (input : Input) (o : Outcome) → Filters rule input o → IsOutcome task input o) where
       pub ends_by_filter : FindsOutput outputs names None → FilterFinishes files remaining contents error_contents rule names reader reader' out out' err err' status → TaskEnds files paths outputs remaining task reader reader' contents error_contents out out' err err' status
@@ -135,7 +135,7 @@ module _ {R W E : Type 0} (files : List ℕ → KnownFile) (paths : List ℕ →
       })
 
       -- the last message follows what was written before
-      pub ends_by_filter_stop : (why : RunFailure) (told : E) (message : List ℕ) → IsStream task → FindsOutput outputs names None → FilterStops files remaining contents error_contents rule names reader reader' out out' err told why → Reports why status message
+      pub ends_by_filter_stop : (why : RunFailure) (told : E) (message : List ℕ) → IsStream task → FindsOutput outputs names None → FilterFails files remaining contents error_contents rule names reader reader' out out' err told why → Reports why status message
           → WroteBeginning (error_contents told) (error_contents err') message → TaskEnds files paths outputs remaining task reader reader' contents error_contents out out' err err' status
       ends_by_filter_stop why told message stream apart k reports wrote =
           let s = k.stops in
@@ -150,7 +150,7 @@ module _ {R W E : Type 0} (files : List ℕ → KnownFile) (paths : List ℕ →
                 (λ _. subst (λ n. FindsOutput outputs n None) (sym same) apart),
                 record {
                   input = s.input;
-                  reads = subst (λ n. ReadsInput files remaining n reader reader' s.input ⊎ (StopsReading files remaining (why ≡ run_failure.OutOfMemory) n reader reader' s.input.sources × (s.input.unopened ≡ None))) (sym same) s.reads;
+                  reads = subst (λ n. ReadsInput files remaining n reader reader' s.input ⊎ (FailsReading files remaining (why ≡ run_failure.OutOfMemory) n reader reader' s.input.sources × (s.input.unopened ≡ None))) (sym same) s.reads;
                   is = is s.input k.outcome s.is;
                   stops = s.stops;
                 },

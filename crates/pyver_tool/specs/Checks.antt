@@ -3,7 +3,7 @@ use Rattle.std.specs.Prelude.{◌≡◌, ◌⊎◌, ℕ, List, [], ◌∷◌, �
 use Rattle.std.specs.Fmt.{decimal}
 use Rattle.std.specs.List.{flat_map, list_any}
 use Rattle.cli_io.specs.Runs.{Outcome}
-use Rattle.pyver_tool.specs.RequirementFiles.{FilesRead, ReadsFiles, StopsInFiles, UnopenedFile}
+use Rattle.pyver_tool.specs.RequirementFiles.{FilesRead, ReadsFiles, FailsInFiles, UnopenedFile}
 use Rattle.pyver_commands.specs.Sources.{KnownFile, failure_reason, source_names}
 use Rattle.pyver_tool.specs.declared.check.CheckOptions.{CheckOptions}
 use Rattle.pyver_tool.specs.declared.file_kind.FileKind.{FileKind}
@@ -50,15 +50,15 @@ module _ {R : Type 0} (kind : FileKind) (files : List ℕ → KnownFile) (paths 
   ChecksGroups (words ∷ groups) a b reader reader' = (c : CheckResult) × (middle : R) × ChecksGroup words a c reader middle × ChecksGroups groups c b middle reader'
 
   -- reading the files that the words name stopped, or an allocation failed after it
-  abbrev pub StopsGroup : List (List ℕ) → R → R → RunFailure → Type 0
-  StopsGroup words reader reader' why = StopsInFiles kind files paths remaining words reader reader' why
+  abbrev pub FailsInGroup : List (List ℕ) → R → R → RunFailure → Type 0
+  FailsInGroup words reader reader' why = FailsInFiles kind files paths remaining words reader reader' why
       ⊎ ((why ≡ run_failure.OutOfMemory) × ((read : FilesRead) × ReadsFiles kind files paths remaining words reader reader' read))
 
   -- some groups were checked, and the next one stopped
-  abbrev pub StopsGroups : List (List (List ℕ)) → CheckResult → R → R → RunFailure → Type 0
-  StopsGroups [] a reader reader' why = ⊥
-  StopsGroups (words ∷ groups) a reader reader' why = StopsGroup words reader reader' why
-      ⊎ ((c : CheckResult) × (middle : R) × ChecksGroup words a c reader middle × StopsGroups groups c middle reader' why)
+  abbrev pub FailsInGroups : List (List (List ℕ)) → CheckResult → R → R → RunFailure → Type 0
+  FailsInGroups [] a reader reader' why = ⊥
+  FailsInGroups (words ∷ groups) a reader reader' why = FailsInGroup words reader reader' why
+      ⊎ ((c : CheckResult) × (middle : R) × ChecksGroup words a c reader middle × FailsInGroups groups c middle reader' why)
 
 -- ---- what is written
 
@@ -109,6 +109,6 @@ module _ {R : Type 0} (files : List ℕ → KnownFile) (paths : List ℕ → Opt
   Checks options words reader reader' o = (c : CheckResult) × ChecksGroups options.kind files paths remaining (word_groups options.each words) none_checked c reader reader' × (o ≡ check_outcome options words c)
 
   -- nothing is to be written: reading stopped, or an allocation failed after it
-  abbrev pub StopsCheck : CheckOptions → List (List ℕ) → R → R → RunFailure → Type 0
-  StopsCheck options words reader reader' why = StopsGroups options.kind files paths remaining (word_groups options.each words) none_checked reader reader' why
+  abbrev pub FailsInCheck : CheckOptions → List (List ℕ) → R → R → RunFailure → Type 0
+  FailsInCheck options words reader reader' why = FailsInGroups options.kind files paths remaining (word_groups options.each words) none_checked reader reader' why
       ⊎ ((why ≡ run_failure.OutOfMemory) × ((c : CheckResult) × ChecksGroups options.kind files paths remaining (word_groups options.each words) none_checked c reader reader'))

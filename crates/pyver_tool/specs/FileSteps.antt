@@ -1,7 +1,7 @@
 -- The steps of the reading of requirements files.
 use Rattle.std.specs.Prelude.{◌≡◌, ◌⊎◌, ◌≤◌, ◌<◌, ℕ, List, [], ◌++◌, Option, Some, None, length, map, string_bytes}
 use Rattle.std.specs.List.{flat_map}
-use Rattle.pyver_tool.specs.RequirementFiles.{FilesRead, IsRefused, OpensNext, ReadsNext, UnopenedFile, with_file, with_unopened}
+use Rattle.pyver_tool.specs.RequirementFiles.{FilesRead, FailsOpening, OpensNext, ReadsNext, UnopenedFile, with_file, with_unopened}
 use Rattle.pyver_commands.specs.Sources.{KnownFile}
 use Rattle.pyver_tool.specs.declared.file_kind.FileKind.{FileKind}
 use Rattle.pyver_tool.specs.declared.file_kind.FileKind.TheVariants as file_kind
@@ -69,6 +69,6 @@ module _ {R : Type 0} (kind : FileKind) (files : List ℕ → KnownFile) (paths 
   ReadsStep named a b reader reader' = StepsTo (ReadsNext kind files paths remaining named (read_of a) (read_of b) reader reader') a b
 
   -- a source was read so; or its file was not opened
-  abbrev pub StepsOrRefused : List ℕ → RequirementFiles → RequirementFiles → R → R → Option OpenFailure → Type 0
-  StepsOrRefused name a b reader reader' None = OpensStep name a b reader reader'
-  StepsOrRefused name a b reader reader' (Some why) = IsRefused (files name) name why × (b ≡ a) × (reader' ≡ reader)
+  abbrev pub StepsOrFailsOpening : List ℕ → RequirementFiles → RequirementFiles → R → R → Option OpenFailure → Type 0
+  StepsOrFailsOpening name a b reader reader' None = OpensStep name a b reader reader'
+  StepsOrFailsOpening name a b reader reader' (Some why) = FailsOpening (files name) name why × (b ≡ a) × (reader' ≡ reader)

@@ -2,8 +2,8 @@
 use Rattle.std.specs.Prelude.{◌≡◌, ◌⊎◌, ℕ, List, [], ◌∷◌, ◌++◌, Bool, true, false, Option, None, bytes_eq, map}
 use Rattle.std.specs.List.{flat_map, list_any}
 use Rattle.std.specs.Str.{IsUtf8}
-use Rattle.pyver_commands.specs.Sources.SourceTexts.{StopsInText}
-use Rattle.pyver_commands.specs.Sources.{IsKnownPath, KnownFile, MayRefuse, ReadsWhole, is_input}
+use Rattle.pyver_commands.specs.Sources.SourceTexts.{FailsInText}
+use Rattle.pyver_commands.specs.Sources.{IsKnownPath, KnownFile, MayFailToOpen, ReadsWhole, is_input}
 use Rattle.pyver_tool.specs.declared.file_kind.FileKind.{FileKind}
 use Rattle.pyver_tool.specs.declared.file_kind.FileKind.TheVariants as file_kind
 use Rattle.pyver_commands.specs.declared.sources.open_failure.OpenFailure.{OpenFailure}
@@ -51,8 +51,8 @@ IsSourcePath true known name path = path ≡ name
 IsSourcePath false known name path = IsKnownPath known path
 
 -- the file was not opened, because of this: its name is no UTF-8, or the system does not open it
-abbrev pub IsRefused : KnownFile → List ℕ → OpenFailure → Type 0
-IsRefused file name why = ((¬ IsUtf8 name) × (why ≡ failure.Other)) ⊎ (IsUtf8 name × (is_input name ≡ false) × MayRefuse file why)
+abbrev pub FailsOpening : KnownFile → List ℕ → OpenFailure → Type 0
+FailsOpening file name why = ((¬ IsUtf8 name) × (why ≡ failure.Other)) ⊎ (IsUtf8 name × (is_input name ≡ false) × MayFailToOpen file why)
 
 -- the text of the source with this name
 abbrev pub file_with : List ℕ → List ℕ → File
@@ -74,7 +74,7 @@ module _ {R : Type 0} (kind : FileKind) (files : List ℕ → KnownFile) (paths 
   -- a source with the path of this name had been read, or the source was read; or the file was not opened
   abbrev pub ReadsNext : NamedFile → FilesRead → FilesRead → R → R → Type 0
   ReadsNext named a b reader reader' = OpensNext named.name a b reader reader'
-      ⊎ ((why : OpenFailure) × IsRefused (files named.name) named.name why × (b ≡ with_unopened a named why) × (reader' ≡ reader))
+      ⊎ ((why : OpenFailure) × FailsOpening (files named.name) named.name why × (b ≡ with_unopened a named why) × (reader' ≡ reader))
 
   -- the sources with these names, each in turn
   abbrev pub ReadsFilesInTurn : List NamedFile → FilesRead → FilesRead → R → R → Type 0
@@ -86,7 +86,7 @@ module _ {R : Type 0} (kind : FileKind) (files : List ℕ → KnownFile) (paths 
   ReadsNames first reader reader' read = ReadsFilesInTurn (first ++ flat_map named_files read.requirements) none_read read reader reader'
 
   -- some names were read so, and a part of the source with the next one, or, where an allocation failed, nothing
-  pub record StopsInNames (first : List NamedFile) (reader reader' : R) (why : RunFailure) : Type 0 where
+  pub record FailsInNames (first : List NamedFile) (reader reader' : R) (why : RunFailure) : Type 0 where
     pub done : List NamedFile
     pub named : NamedFile
     pub left : List NamedFile
@@ -94,11 +94,11 @@ module _ {R : Type 0} (kind : FileKind) (files : List ℕ → KnownFile) (paths 
     pub split : first ++ flat_map named_files read.requirements ≡ done ++ named ∷ left
     pub middle : R
     pub each : ReadsFilesInTurn done none_read read reader middle
-    pub part : StopsInText files remaining named.name middle reader' why
+    pub part : FailsInText files remaining named.name middle reader' why
 
   -- of the files that the words name, and those that their lines name, each was read in turn
   abbrev pub ReadsFiles : List (List ℕ) → R → R → FilesRead → Type 0
   ReadsFiles words reader reader' read = ReadsNames (map word_file words) reader reader' read
 
-  abbrev pub StopsInFiles : List (List ℕ) → R → R → RunFailure → Type 0
-  StopsInFiles words reader reader' why = StopsInNames (map word_file words) reader reader' why
+  abbrev pub FailsInFiles : List (List ℕ) → R → R → RunFailure → Type 0
+  FailsInFiles words reader reader' why = FailsInNames (map word_file words) reader reader' why

@@ -1,10 +1,10 @@
 -- How a run of the program may end. `files` is what is known of each file, `paths` what is known of its path, `outputs` of whether it is
 -- the output, and `remaining` are the bytes that the reader has left.
 use Rattle.std.specs.Prelude.{◌≡◌, ◌⊎◌, ℕ, Bool, List, None, Option, Some}
-use Rattle.cli_io.specs.Runs.{AtOnce, Begun, Ends, InParts, Nothing, Outcome}
-use Rattle.pyver_commands.specs.Sources.RunFailures.{IsWriteFailure, Reports, StopsUnanswered, StopsWithin}
+use Rattle.cli_io.specs.Runs.{AtOnce, OutputProgress, Ends, InParts, Nothing, Outcome}
+use Rattle.pyver_commands.specs.Sources.RunFailures.{IsWriteFailure, Reports, FailsWithoutOutcome, FailsWithin}
 use Rattle.pyver_commands.specs.Sources.{FindsOutput, Input, KnownFile, ReadsInput, output_outcome}
-use Rattle.pyver_tool.specs.Checks.{Checks, StopsCheck}
+use Rattle.pyver_tool.specs.Checks.{Checks, FailsInCheck}
 use Rattle.pyver_tool.specs.Tasks.{Check, IsOutcome, IsStream, NeedsInput, Task, names_of}
 use Rattle.pyver_tool.specs.declared.check.CheckOptions.{CheckOptions}
 use Rattle.pyver_commands.specs.declared.sources.stream.RunFailure.{RunFailure}
@@ -12,14 +12,14 @@ use Rattle.pyver_commands.specs.declared.sources.stream.RunFailure.TheVariants a
 
 module _ (Finishes : Outcome → Type 0) (Early : RunFailure → Type 0) (Within : Outcome → RunFailure → Type 0) where
   -- a run may stop before there is an outcome, where a write of an outcome failed, or within the input of an outcome
-  abbrev pub StopsBy : Begun → ℕ → List ℕ → Type 0
-  StopsBy Nothing status message = (why : RunFailure) × Early why × Reports why status message
-  StopsBy (AtOnce o) status message = Finishes o × IsWriteFailure status message
-  StopsBy (InParts o) status message = (why : RunFailure) × Within o why × Reports why status message
+  abbrev pub MayFailBy : OutputProgress → ℕ → List ℕ → Type 0
+  MayFailBy Nothing status message = (why : RunFailure) × Early why × Reports why status message
+  MayFailBy (AtOnce o) status message = Finishes o × IsWriteFailure status message
+  MayFailBy (InParts o) status message = (why : RunFailure) × Within o why × Reports why status message
 
   -- a run finishes with such an outcome, or stops so
   abbrev pub EndsBy : {W E : Type 0} → (W → Option (List ℕ)) → (E → Option (List ℕ)) → W → W → E → E → ℕ → Type 0
-  EndsBy contents error_contents out out' err err' status = Ends contents error_contents Finishes StopsBy out out' err err' status
+  EndsBy contents error_contents out out' err err' status = Ends contents error_contents Finishes MayFailBy out out' err err' status
 
 module _ {R : Type 0} (files : List ℕ → KnownFile) (paths : List ℕ → Option (List ℕ)) (outputs : List ℕ → Option Bool) (remaining : R → Option (List ℕ)) (task : Task) (reader reader' : R) where
   -- this source of a command that prints lines before all are read is also the output, or none is
@@ -34,15 +34,15 @@ module _ {R : Type 0} (files : List ℕ → KnownFile) (paths : List ℕ → Opt
       ⊎ ((options : CheckOptions) × (names : List (List ℕ)) × (task ≡ Check options names) × Checks files paths remaining options names reader reader' o))
 
   -- there is no outcome: an allocation failed before anything was read, or reading stopped, or an allocation failed after it
-  abbrev pub StopsEarly : RunFailure → Type 0
-  StopsEarly why = ((why ≡ run_failure.OutOfMemory) × (reader' ≡ reader))
-      ⊎ ((NeedsInput task × StopsUnanswered files remaining (names_of task) reader reader' why)
-      ⊎ ((options : CheckOptions) × (names : List (List ℕ)) × (task ≡ Check options names) × StopsCheck files paths remaining options names reader reader' why))
+  abbrev pub FailsEarly : RunFailure → Type 0
+  FailsEarly why = ((why ≡ run_failure.OutOfMemory) × (reader' ≡ reader))
+      ⊎ ((NeedsInput task × FailsWithoutOutcome files remaining (names_of task) reader reader' why)
+      ⊎ ((options : CheckOptions) × (names : List (List ℕ)) × (task ≡ Check options names) × FailsInCheck files paths remaining options names reader reader' why))
 
   -- a command that prints lines before all are read stopped, and this is the outcome of those that were read
-  abbrev pub StopsStream : Outcome → RunFailure → Type 0
-  StopsStream o why = IsStream task × NeedsInput task × Meets None × StopsWithin files remaining (IsOutcome task) (names_of task) reader reader' o why
+  abbrev pub FailsInStream : Outcome → RunFailure → Type 0
+  FailsInStream o why = IsStream task × NeedsInput task × Meets None × FailsWithin files remaining (IsOutcome task) (names_of task) reader reader' o why
 
   -- the run finishes or stops so
   abbrev pub TaskEnds : {W E : Type 0} → (W → Option (List ℕ)) → (E → Option (List ℕ)) → W → W → E → E → ℕ → Type 0
-  TaskEnds contents error_contents out out' err err' status = EndsBy FinishesTask StopsEarly StopsStream contents error_contents out out' err err' status
+  TaskEnds contents error_contents out out' err err' status = EndsBy FinishesTask FailsEarly FailsInStream contents error_contents out out' err err' status

@@ -3,7 +3,7 @@ use Rattle.std.specs.Prelude.{◌≡◌, ⊤, ℕ, List, [], ◌∷◌, ◌++◌
 use Rattle.std.specs.Char.{is_ascii_digit}
 use Rattle.std.specs.List.{list_any}
 use Rattle.std.specs.Option.{option_map_or}
-use Rattle.pep440_rs.specs.ListGrammar.{DerivesList}
+use Rattle.pep440_rs.specs.Lists.ListGrammar.{DerivesList}
 use Rattle.pep440_rs.specs.Specifiers.{Spec}
 use Rattle.pyver_commands.specs.BumpInputs.{BumpsInput}
 use Rattle.pyver_commands.specs.Bumps.{Bumps, bump_part_of}

@@ -5,7 +5,7 @@ use Rattle.pyver_commands.specs.Filters.{Filters}
 use Rattle.cli_io.specs.Runs.{Outcome}
 use Rattle.pyver_commands.specs.Sources.{Input, source_names}
 use Rattle.pyver_tool.specs.Tasks.{Check, IsOutcome, IsStream, NeedsInput, Task, names_of}
-use Rattle.pyver_commands.specs.WholeInputs.{AnswersInput}
+use Rattle.pyver_commands.specs.WholeInputs.{IsOutcomeOfInput}
 use Rattle.pyver_commands.specs.declared.answer.Answer.{Answer}
 use Rattle.pyver_commands.specs.declared.sources.stream.RunFailure.{RunFailure}
 use Rattle.pyver_tool.specs.Runs.{EndsBy}
@@ -19,7 +19,7 @@ IsWork task (work.Answer a) = (¬ NeedsInput task) × ((input : Input) → IsOut
 IsWork task (work.Filter rule names) =
     NeedsInput task × IsStream task × (names_of task ≡ source_names (map string_bytes names.now)) × ((input : Input) (o : Outcome) → Filters rule input o → IsOutcome task input o)
 IsWork task (work.Whole question names) =
-    NeedsInput task × (¬ IsStream task) × (names_of task ≡ source_names (map string_bytes names.now)) × ((input : Input) (o : Outcome) → AnswersInput question input o → IsOutcome task input o)
+    NeedsInput task × (¬ IsStream task) × (names_of task ≡ source_names (map string_bytes names.now)) × ((input : Input) (o : Outcome) → IsOutcomeOfInput question input o → IsOutcome task input o)
 IsWork task (work.Check options names) = task ≡ Check options (map string_bytes names.now)
 
 -- this is the outcome of the answer, if there is one

@@ -1,10 +1,10 @@
-// The command `check`: what is wrong in requirements files and documents of a project.
+//! The command `check`: what is wrong in requirements files and documents of a project.
 ghost use Rattle.std.specs.Prelude.{◌≡◌, ◌≤◌, ◌∷◌, ◌++◌, [], IfErr, IfOk, map, option_map, string_bytes, if◌then◌else◌};
 ghost use Rattle.std.specs.Fmt.{decimal};
 ghost use Rattle.std.specs.List.{flat_map, list_any};
 ghost use Rattle.pyver_commands.specs.AnswerViews.{outcome_of};
 ghost use Rattle.pyver_tool.specs.CheckViews.{check_result_of};
-ghost use Rattle.pyver_tool.specs.Checks.{Checks, ChecksGroup, ChecksGroups, StopsCheck, StopsGroup, StopsGroups, are_several, check_outcome, check_status, findings_text, none_checked, position_text, summary, together_note, unopened_text, with_report, word_groups};
+ghost use Rattle.pyver_tool.specs.Checks.{Checks, ChecksGroup, ChecksGroups, FailsInCheck, FailsInGroup, FailsInGroups, are_several, check_outcome, check_status, findings_text, none_checked, position_text, summary, together_note, unopened_text, with_report, word_groups};
 ghost use Rattle.pyver_tool.specs.FileSteps.{unopened_file_of};
 ghost use Rattle.pyver_commands.specs.Sources.{source_names};
 ghost use Rattle.pyver_findings.specs.Reports.{spans_files};
@@ -206,7 +206,7 @@ impl CheckResult {
         input: &mut R,
     ) -> Result<(), RunFailure>
         ensures checked { IfOk result (λ _. ChecksGroup kind (F.known files.old) (F.path files.old) R.remaining (source_names (map string_bytes words.now)) (check_result_of self.old) (check_result_of self.new) input.old input.new) }
-        ensures stopped { IfErr result (StopsGroup kind (F.known files.old) (F.path files.old) R.remaining (source_names (map string_bytes words.now)) input.old input.new) }
+        ensures stopped { IfErr result (FailsInGroup kind (F.known files.old) (F.path files.old) R.remaining (source_names (map string_bytes words.now)) input.old input.new) }
         ensures kept { F.known files.new ≡ F.known files.old }
         ensures kept_paths { F.path files.new ≡ F.path files.old }
     {
@@ -226,7 +226,7 @@ impl CheckResult {
         input: &mut R,
     ) -> Result<(), RunFailure>
         ensures checked { IfOk result (λ _. ChecksGroups kind (F.known files.old) (F.path files.old) R.remaining (map (λ word. word ∷ []) (map string_bytes words.now)) (check_result_of self.old) (check_result_of self.new) input.old input.new) }
-        ensures stopped { IfErr result (StopsGroups kind (F.known files.old) (F.path files.old) R.remaining (map (λ word. word ∷ []) (map string_bytes words.now)) (check_result_of self.old) input.old input.new) }
+        ensures stopped { IfErr result (FailsInGroups kind (F.known files.old) (F.path files.old) R.remaining (map (λ word. word ∷ []) (map string_bytes words.now)) (check_result_of self.old) input.old input.new) }
         ensures kept { F.known files.new ≡ F.known files.old }
         ensures kept_paths { F.path files.new ≡ F.path files.old }
     {
@@ -248,7 +248,7 @@ impl CheckResult {
         input: &mut R,
     ) -> Result<(), RunFailure>
         ensures checked { IfOk result (λ _. ChecksGroups options.kind (F.known files.old) (F.path files.old) R.remaining (word_groups options.each (map string_bytes words.now)) (check_result_of self.old) (check_result_of self.new) input.old input.new) }
-        ensures stopped { IfErr result (StopsGroups options.kind (F.known files.old) (F.path files.old) R.remaining (word_groups options.each (map string_bytes words.now)) (check_result_of self.old) input.old input.new) }
+        ensures stopped { IfErr result (FailsInGroups options.kind (F.known files.old) (F.path files.old) R.remaining (word_groups options.each (map string_bytes words.now)) (check_result_of self.old) input.old input.new) }
         ensures kept { F.known files.new ≡ F.known files.old }
     {
         if !options.each {
@@ -308,7 +308,7 @@ pub(crate) fn check_files<F: Files, R: Read>(
     input: &mut R,
 ) -> Result<Answer, RunFailure>
     ensures finished { IfOk result (λ a. Checks (F.known files.old) (F.path files.old) R.remaining options (map string_bytes words.now) input.old input.new (outcome_of a)) }
-    ensures stopped { IfErr result (StopsCheck (F.known files.old) (F.path files.old) R.remaining options (map string_bytes words.now) input.old input.new) }
+    ensures stopped { IfErr result (FailsInCheck (F.known files.old) (F.path files.old) R.remaining options (map string_bytes words.now) input.old input.new) }
     ensures kept { F.known files.new ≡ F.known files.old }
 {
     let mut found = CheckResult::new(alloc);

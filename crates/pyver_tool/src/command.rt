@@ -1,10 +1,10 @@
-// The command that words ask for, and what it writes.
+//! The command that words ask for, and what it writes.
 ghost use Rattle.std.specs.Prelude.{◌≡◌, [], IfOk, Some, map, option_map, string_bytes};
 ghost use Rattle.pyver_commands.specs.AnswerViews.{outcome_of};
 ghost use Rattle.pyver_tool.specs.TaskViews.{task, words_task};
 ghost use Rattle.pyver_commands.specs.Outcomes.{message_outcome};
 ghost use Rattle.pyver_tool.specs.Settings.{effect, no_settings};
-ghost use Rattle.pyver_tool.specs.SplitViews.{given_of, split_of};
+ghost use Rattle.pyver_tool.specs.SplitViews.{option_with_value, split_of};
 ghost use Rattle.pyver_tool.specs.Tasks.{Check, Filter, Newest, asks_help, begins_with_digit, bump_from_words, bump_operands, bump_parts, bump_word, by_effect, by_last, by_split, has_number, is_json, printed, task_with};
 ghost use Rattle.pyver_tool.specs.TaskViews.{misuse_message};
 ghost use Rattle.pyver_tool.specs.WorkViews.{IsWork};
@@ -251,7 +251,7 @@ fn parse_operands<'a>(topic: Topic, settings: Settings, words: &'a [String]) -> 
 }
 
 fn asks_help(options: &[GivenOption]) -> bool
-    ensures { result ≡ asks_help (map (given_of (λ s. s.now) (λ t. t.now) string_bytes) options.now) }
+    ensures { result ≡ asks_help (map (option_with_value (λ s. s.now) (λ t. t.now) string_bytes) options.now) }
 {
     for given in options {
         if given.0.0.1 == "--help" {
@@ -263,7 +263,7 @@ fn asks_help(options: &[GivenOption]) -> bool
 
 // The command with these options and operands, of which none asks for help.
 fn parse_given<'a>(topic: Topic, options: &'a [GivenOption], operands: &'a [String]) -> Command<'a>
-    ensures { task result ≡ by_effect topic (map string_bytes operands.now) (effect no_settings (map (given_of (λ s. s.now) (λ t. t.now) string_bytes) options.now)) }
+    ensures { task result ≡ by_effect topic (map string_bytes operands.now) (effect no_settings (map (option_with_value (λ s. s.now) (λ t. t.now) string_bytes) options.now)) }
 {
     let mut settings = Settings::none();
     for given in options {

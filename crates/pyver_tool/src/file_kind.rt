@@ -1,4 +1,4 @@
-// What files are read as.
+//! What files are read as.
 ghost use Rattle.std.specs.Prelude.{◌≡◌};
 ghost use Rattle.pyver_tool.specs.FileKinds.{file_kind_of, kind_by_name};
 

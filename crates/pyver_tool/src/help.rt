@@ -1,4 +1,4 @@
-// The help of the program and of its commands.
+//! The help of the program and of its commands.
 ghost use Rattle.std.specs.Prelude.{◌≡◌};
 ghost use Rattle.pyver_tool.specs.Tasks.{help_text, help_words, usage};
 

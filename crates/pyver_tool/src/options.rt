@@ -1,4 +1,4 @@
-// The options of each command, which the parser and its messages read.
+//! The options of each command, which the parser and its messages read.
 ghost use Rattle.std.specs.Prelude.{◌≡◌};
 ghost use Rattle.pyver_tool.specs.Options.{options, rows_of};
 

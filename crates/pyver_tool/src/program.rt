@@ -1,4 +1,4 @@
-// The program over any reader and any writers.
+//! The program over any reader and any writers.
 ghost use Rattle.std.specs.Prelude.{◌≡◌, ◌⊎◌, List, Ok, ℕ, map, string_bytes};
 ghost use Rattle.cli_io.specs.Streams.{WroteBeginning};
 ghost use Rattle.pyver_commands.specs.Sources.RunFailures.{IsWriteFailure, Reports, memory_message};

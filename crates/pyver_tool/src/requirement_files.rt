@@ -1,7 +1,7 @@
-// The files that `check` reads, those that the words name and those that the lines of requirements files name.
+//! The files that `check` reads, those that the words name and those that the lines of requirements files name.
 ghost use Rattle.std.specs.Prelude.{◌≡◌, ◌∷◌, ◌++◌, [], IfErr, IfOk, map, string_bytes};
 ghost use Rattle.pyver_tool.specs.FileSteps.{read_of};
-ghost use Rattle.pyver_tool.specs.RequirementFiles.{IsSourcePath, ReadsFiles, StopsInFiles, word_file};
+ghost use Rattle.pyver_tool.specs.RequirementFiles.{IsSourcePath, ReadsFiles, FailsInFiles, word_file};
 ghost use Rattle.pyver_commands.specs.Sources.{is_input, source_names};
 ghost use Rattle.pyver_findings.specs.Views.{named_file_of};
 
@@ -81,9 +81,9 @@ fn source_path<F: Files>(alloc: Global, name: &str, files: &mut F) -> Result<Str
 
 impl RequirementFiles {
     ghost use Rattle.pyver_tool.specs.FileKinds.{kind_by_name};
-    ghost use Rattle.pyver_tool.specs.FileSteps.{GainsFile, GainsUnopened, HasReads, ReadsStep, StepsOrRefused, names_of_files};
-    ghost use Rattle.pyver_tool.specs.RequirementFiles.{ReadsNames, StopsInNames, file_with, has_path, none_read};
-    ghost use Rattle.pyver_commands.specs.Sources.SourceTexts.{StopsInText};
+    ghost use Rattle.pyver_tool.specs.FileSteps.{GainsFile, GainsUnopened, HasReads, ReadsStep, StepsOrFailsOpening, names_of_files};
+    ghost use Rattle.pyver_tool.specs.RequirementFiles.{ReadsNames, FailsInNames, file_with, has_path, none_read};
+    ghost use Rattle.pyver_commands.specs.Sources.SourceTexts.{FailsInText};
 
     // Nothing was read yet.
     fn new(alloc: Global, names: Vec<NamedFile>) -> RequirementFiles
@@ -149,8 +149,8 @@ impl RequirementFiles {
         input: &mut R,
     ) -> Result<Option<OpenFailure>, RunFailure>
         requires { HasReads self.old }
-        ensures read { IfOk result (StepsOrRefused kind (F.known files.old) (F.path files.old) R.remaining name.now self.old self.new input.old input.new) }
-        ensures stopped { IfErr result (StopsInText (F.known files.old) R.remaining name.now input.old input.new) }
+        ensures read { IfOk result (StepsOrFailsOpening kind (F.known files.old) (F.path files.old) R.remaining name.now self.old self.new input.old input.new) }
+        ensures stopped { IfErr result (FailsInText (F.known files.old) R.remaining name.now input.old input.new) }
         ensures kept { F.known files.new ≡ F.known files.old }
         ensures kept_paths { F.path files.new ≡ F.path files.old }
     {
@@ -177,8 +177,8 @@ impl RequirementFiles {
         input: &mut R,
     ) -> Result<Option<OpenFailure>, RunFailure>
         requires { HasReads self.old }
-        ensures read { IfOk result (StepsOrRefused kind (F.known files.old) (F.path files.old) R.remaining name.now self.old self.new input.old input.new) }
-        ensures stopped { IfErr result (StopsInText (F.known files.old) R.remaining name.now input.old input.new) }
+        ensures read { IfOk result (StepsOrFailsOpening kind (F.known files.old) (F.path files.old) R.remaining name.now self.old self.new input.old input.new) }
+        ensures stopped { IfErr result (FailsInText (F.known files.old) R.remaining name.now input.old input.new) }
         ensures kept { F.known files.new ≡ F.known files.old }
         ensures kept_paths { F.path files.new ≡ F.path files.old }
     {
@@ -207,7 +207,7 @@ impl RequirementFiles {
     ) -> Result<(), RunFailure>
         requires { HasReads self.old }
         ensures read { IfOk result (λ _. ReadsStep kind (F.known files.old) (F.path files.old) R.remaining (named_file_of named) self.old self.new input.old input.new) }
-        ensures stopped { IfErr result (StopsInText (F.known files.old) R.remaining (named_file_of named).name input.old input.new) }
+        ensures stopped { IfErr result (FailsInText (F.known files.old) R.remaining (named_file_of named).name input.old input.new) }
         ensures kept { F.known files.new ≡ F.known files.old }
         ensures kept_paths { F.path files.new ≡ F.path files.old }
     {
@@ -227,7 +227,7 @@ impl RequirementFiles {
     ) -> Result<(), RunFailure>
         requires new { (read_of self.old ≡ none_read) × (self.old.read_count ≡ 0) }
         ensures read { IfOk result (λ _. ReadsNames kind (F.known files.old) (F.path files.old) R.remaining (names_of_files self.old) input.old input.new (read_of self.new)) }
-        ensures stopped { IfErr result (StopsInNames kind (F.known files.old) (F.path files.old) R.remaining (names_of_files self.old) input.old input.new) }
+        ensures stopped { IfErr result (FailsInNames kind (F.known files.old) (F.path files.old) R.remaining (names_of_files self.old) input.old input.new) }
         ensures kept { F.known files.new ≡ F.known files.old }
         ensures kept_paths { F.path files.new ≡ F.path files.old }
     {
@@ -252,7 +252,7 @@ pub(crate) fn read_files<F: Files, R: Read>(
     input: &mut R,
 ) -> Result<RequirementFiles, RunFailure>
     ensures read { IfOk result (λ state. ReadsFiles kind (F.known files.old) (F.path files.old) R.remaining (source_names (map string_bytes words.now)) input.old input.new (read_of state)) }
-    ensures stopped { IfErr result (StopsInFiles kind (F.known files.old) (F.path files.old) R.remaining (source_names (map string_bytes words.now)) input.old input.new) }
+    ensures stopped { IfErr result (FailsInFiles kind (F.known files.old) (F.path files.old) R.remaining (source_names (map string_bytes words.now)) input.old input.new) }
     ensures kept { F.known files.new ≡ F.known files.old }
     ensures kept_paths { F.path files.new ≡ F.path files.old }
 {

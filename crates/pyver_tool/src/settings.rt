@@ -1,4 +1,4 @@
-// What options set.
+//! What options set.
 ghost use Rattle.std.specs.Prelude.{◌≡◌};
 ghost use Rattle.pyver_tool.specs.Settings.{delimiter_of, field_number_of, no_settings, with_line_option, with_option};
 

@@ -1,8 +1,8 @@
-// Words as options and operands.
+//! Words as options and operands.
 ghost use Rattle.std.specs.Prelude.{◌≡◌, ◌++◌, IfOk, None, map, string_bytes};
 ghost use Rattle.std.specs.Option.{option_copied, option_map};
 ghost use Rattle.pyver_tool.specs.Options.{row_of, rows_of};
-ghost use Rattle.pyver_tool.specs.SplitViews.{end_of, given_of, split_of};
+ghost use Rattle.pyver_tool.specs.SplitViews.{end_of, option_with_value, split_of};
 ghost use Rattle.pyver_tool.specs.SplitWords.{first_letter, is_option, letter_options, named, named_options, split_words, value_behind, value_in, word_options};
 
 use crate::options::OptionRow;
@@ -97,7 +97,7 @@ fn push_letters(
     rows: &[OptionRow],
     letters: &str,
 ) -> Result<WordEnd, AllocError>
-    ensures options { IfOk result (λ _. map (given_of (λ s. s.now) (λ t. t.now) string_bytes) options.new.items ≡ map (given_of (λ s. s.now) (λ t. t.now) string_bytes) options.old.items ++ (letter_options (rows_of (λ s. s.now) (λ t. t.now) rows.now) letters.now).0) }
+    ensures options { IfOk result (λ _. map (option_with_value (λ s. s.now) (λ t. t.now) string_bytes) options.new.items ≡ map (option_with_value (λ s. s.now) (λ t. t.now) string_bytes) options.old.items ++ (letter_options (rows_of (λ s. s.now) (λ t. t.now) rows.now) letters.now).0) }
     ensures end { IfOk result (λ end. end_of end ≡ (letter_options (rows_of (λ s. s.now) (λ t. t.now) rows.now) letters.now).1) }
 {
     let mut left = letters;
@@ -126,7 +126,7 @@ fn push_named(
     rows: &[OptionRow],
     word: &str,
 ) -> Result<WordEnd, AllocError>
-    ensures options { IfOk result (λ _. map (given_of (λ s. s.now) (λ t. t.now) string_bytes) options.new.items ≡ map (given_of (λ s. s.now) (λ t. t.now) string_bytes) options.old.items ++ (named_options (rows_of (λ s. s.now) (λ t. t.now) rows.now) word.now).0) }
+    ensures options { IfOk result (λ _. map (option_with_value (λ s. s.now) (λ t. t.now) string_bytes) options.new.items ≡ map (option_with_value (λ s. s.now) (λ t. t.now) string_bytes) options.old.items ++ (named_options (rows_of (λ s. s.now) (λ t. t.now) rows.now) word.now).0) }
     ensures end { IfOk result (λ end. end_of end ≡ (named_options (rows_of (λ s. s.now) (λ t. t.now) rows.now) word.now).1) }
 {
     match find_named(rows, word) {
@@ -155,7 +155,7 @@ fn push_word(
     rows: &[OptionRow],
     word: &str,
 ) -> Result<WordEnd, AllocError>
-    ensures options { IfOk result (λ _. map (given_of (λ s. s.now) (λ t. t.now) string_bytes) options.new.items ≡ map (given_of (λ s. s.now) (λ t. t.now) string_bytes) options.old.items ++ (word_options (rows_of (λ s. s.now) (λ t. t.now) rows.now) word.now).0) }
+    ensures options { IfOk result (λ _. map (option_with_value (λ s. s.now) (λ t. t.now) string_bytes) options.new.items ≡ map (option_with_value (λ s. s.now) (λ t. t.now) string_bytes) options.old.items ++ (word_options (rows_of (λ s. s.now) (λ t. t.now) rows.now) word.now).0) }
     ensures end { IfOk result (λ end. end_of end ≡ (word_options (rows_of (λ s. s.now) (λ t. t.now) rows.now) word.now).1) }
 {
     if value_behind("--", word).is_some() {

@@ -1,4 +1,4 @@
-// The words of a call, split by the options of their command.
+//! The words of a call, split by the options of their command.
 ghost use Rattle.std.specs.Prelude.{◌≡◌, IfOk, map, string_bytes};
 ghost use Rattle.pyver_tool.specs.TaskViews.{words_task};
 ghost use Rattle.pyver_tool.specs.Tasks.{help_task, is_program_word, named_task, task_of, topic_of};

@@ -1,30 +1,30 @@
 //! Kinds and errors are equal exactly if their values are, wherever their strings lie in memory.
 ghost use Rattle.std.specs.Prelude.{◌≡◌, ◌↔◌, true};
-ghost use Rattle.pep440_version.specs.Errors.{kind_of, pattern_kind_of, pattern_refusal_of, refusal_of};
+ghost use Rattle.pep440_version.specs.Errors.{kind_of, pattern_kind_of, pattern_rejection_of, rejection_of};
 
 use pep440_version::{ErrorKind, PatternErrorKind, VersionParseError, VersionPatternParseError};
 use std::test::Fail;
 
 fn kinds_equal(a: &ErrorKind, b: &ErrorKind) -> bool
-    ensures { (result ≡ true) ↔ (refusal_of a.now ≡ refusal_of b.now) }
+    ensures { (result ≡ true) ↔ (rejection_of a.now ≡ rejection_of b.now) }
 {
     *a == *b
 }
 
 fn errors_equal(a: &VersionParseError, b: &VersionParseError) -> bool
-    ensures { (result ≡ true) ↔ (refusal_of (kind_of a.now) ≡ refusal_of (kind_of b.now)) }
+    ensures { (result ≡ true) ↔ (rejection_of (kind_of a.now) ≡ rejection_of (kind_of b.now)) }
 {
     *a == *b
 }
 
 fn pattern_kinds_equal(a: &PatternErrorKind, b: &PatternErrorKind) -> bool
-    ensures { (result ≡ true) ↔ (pattern_refusal_of a.now ≡ pattern_refusal_of b.now) }
+    ensures { (result ≡ true) ↔ (pattern_rejection_of a.now ≡ pattern_rejection_of b.now) }
 {
     *a == *b
 }
 
 fn pattern_errors_equal(a: &VersionPatternParseError, b: &VersionPatternParseError) -> bool
-    ensures { (result ≡ true) ↔ (pattern_refusal_of (pattern_kind_of a.now) ≡ pattern_refusal_of (pattern_kind_of b.now)) }
+    ensures { (result ≡ true) ↔ (pattern_rejection_of (pattern_kind_of a.now) ≡ pattern_rejection_of (pattern_kind_of b.now)) }
 {
     *a == *b
 }

@@ -5,7 +5,7 @@ use Rattle.std.proofs.lemmas.List.Sums.{sum_by-append}
 use Rattle.std.specs.List.{All, Any, list_all}
 use Rattle.std.specs.Option.{option_map_or}
 use Rattle.std.specs.Prelude.{IfOk, count_by}
-use Rattle.pep440_rs.specs.Agreement.{HasOperand, IsCandidate, IsReleaseComparable, ListAgrees, GivesRanges, GivesFew, HoldsInEach, HasFewSegments, RefusedByAMember}
+use Rattle.pep440_rs.specs.Agreement.{HasOperand, IsCandidate, IsReleaseComparable, ListAgrees, ConversionsAreRanges, ConversionsHaveFewSegments, HoldsInEach, HasFewSegments, FailsByAMember}
 use Rattle.pep440_rs.specs.Operators.{is_exclusion}
 use Rattle.pep440_rs.specs.Bounds.{Segments, range_of, release_range_of, range_from, list_range, full}
 use Rattle.pep440_rs.specs.Matching.{matches, list_matches}
@@ -16,7 +16,7 @@ use Rattle.pep440_ranges.proofs.Laws.{overlaps_are_range, overlaps_hold_both, ov
 use Rattle.pep440_ranges.specs.Intersection.{overlaps}
 use Rattle.pep440_ranges.specs.RangeSegments.{contains, IsRange}
 use Rattle.pep440_version.specs.Key.{record_cmp}
-use Rattle.pep440_version.specs.KeyLaws.{record_total}
+use Rattle.pep440_version.specs.Key.KeyLaws.{record_total}
 use Rattle.pep440_version.specs.Record.{Record}
 use Rattle.pep440_rs.proofs.Agreement.Prefix.{some_is}
 use Rattle.pep440_rs.proofs.Agreement.Releases.{release_agrees}
@@ -81,7 +81,7 @@ module _ (conversion : Operator → Record → Option Segments) where
   one_more true = refl
   one_more false = refl
 
-  few_from : GivesRanges conversion → GivesFew conversion → (now : Segments) (members : List Spec) (range : Segments) → IsRange record_cmp now →
+  few_from : ConversionsAreRanges conversion → ConversionsHaveFewSegments conversion → (now : Segments) (members : List Spec) (range : Segments) → IsRange record_cmp now →
       range_from conversion now members ≡ Some range → length range ≤ length now + exclusions members
   few_from apart few now [] range k h = rw (some_is now range h) (omega arith)
   few_from apart few now (m ∷ members) range k h =
@@ -90,7 +90,7 @@ module _ (conversion : Operator → Record → Option Segments) where
       let rest = few_from apart few (overlaps record_cmp now b.0) members range (overlaps_are_range record_total now b.0 k valid) b.2 in
       omega (arith, rest, overlaps_are_few record_total now b.0 k valid, few m.operator m.version b.0 b.1, one_more (is_exclusion m.operator), counted m members)
 
-  pub has_few_segments : GivesRanges conversion → GivesFew conversion → (members : List Spec) (range : Segments) → list_range conversion members ≡ Some range → HasFewSegments members range
+  pub has_few_segments : ConversionsAreRanges conversion → ConversionsHaveFewSegments conversion → (members : List Spec) (range : Segments) → list_range conversion members ≡ Some range → HasFewSegments members range
   has_few_segments apart few members range h = few_from apart few full members range (refl, tt) h
 
   -- the range so far makes no difference to a refusal
@@ -115,7 +115,7 @@ module _ (conversion : Operator → Record → Option Segments) where
       go (Some r) e zero l i rest = absurd (some_none r (sym e ∙ ap (λ (x : Spec). conversion x.operator x.version) i ∙ a.4))
       go (Some r) e (suc k) l i rest = rest r (k, a.1, omega (arith, l), i, a.4)
 
-  pub refused_by_a_member : (members : List Spec) → RefusedByAMember conversion members
+  pub refused_by_a_member : (members : List Spec) → FailsByAMember conversion members
   refused_by_a_member members = (refused_some full members, some_refused full members)
 
 -- what follows from being the list's range, as a call answers it; given are the members as they were taken out

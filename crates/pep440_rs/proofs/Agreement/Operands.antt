@@ -10,11 +10,11 @@ use Rattle.pep440_version.specs.Grammar.{Derives}
 use Rattle.pep440_version.specs.Patterns.{DerivesPattern}
 use Rattle.pep440_version.specs.Record.{Record, LocalSegmentValue, epoch_and_release}
 use Rattle.pep440_rs.specs.Agreement.{HasOperand, HasNoLocalOrSentinel}
-use Rattle.pep440_rs.specs.Build.{BuildRefusal, CompatibleRelease, OperatorLocalCombo, built, built_pattern, is_compatible}
-use Rattle.pep440_rs.specs.ListGrammar.{DerivesList, pieces}
+use Rattle.pep440_rs.specs.Build.{BuildRejection, CompatibleRelease, OperatorLocalCombo, built, built_pattern, is_compatible}
+use Rattle.pep440_rs.specs.Lists.ListGrammar.{DerivesList, pieces}
 use Rattle.pep440_rs.specs.Matching.{has_local}
 use Rattle.pep440_rs.specs.Operators.{allows_local, is_star}
-use Rattle.pep440_rs.specs.SpecifierGrammar.{DerivesSpecifier, HasText}
+use Rattle.pep440_rs.specs.Specifiers.SpecifierGrammar.{DerivesSpecifier, IsDenotedSpecifier}
 use Rattle.pep440_rs.specs.Specifiers.{Spec}
 use Rattle.pep440_rs.specs.declared.list.error.VersionSpecifiersParseError.{VersionSpecifiersParseError}
 use Rattle.pep440_rs.specs.declared.specifier.operator.Operator.{Operator}
@@ -24,7 +24,7 @@ use Rattle.pep440_rs.proofs.Reread.Again.{built_is}
 
 -- ---- no local part beside an operator that does not allow it
 
-passed : (a allowed b : Bool) (x y : BuildRefusal) (v s : Spec) → (let z : Result Spec BuildRefusal = if a && not allowed then Err x else if b then Err y else Ok v in z) ≡ Ok s → allowed ≡ false → a ≡ false
+passed : (a allowed b : Bool) (x y : BuildRejection) (v s : Spec) → (let z : Result Spec BuildRejection = if a && not allowed then Err x else if b then Err y else Ok v in z) ≡ Ok s → allowed ≡ false → a ≡ false
 passed true true b x y v s e h = cc h
 passed true false b x y v s e h = cc e
 passed false allowed b x y v s e h = refl
@@ -88,8 +88,8 @@ members_give P gives text list (inr (some, members, each, arranged)) = All-permu
 pub list_gives : (text : List ℕ) (list : List Spec) → DerivesList text list → All HasOperand list
 list_gives = members_give HasOperand text_gives
 
-pub list_has_texts : (text : List ℕ) (list : List Spec) → DerivesList text list → All HasText list
-list_has_texts = members_give HasText (λ text s d. (text, d))
+pub list_has_texts : (text : List ℕ) (list : List Spec) → DerivesList text list → All IsDenotedSpecifier list
+list_has_texts = members_give IsDenotedSpecifier (λ text s d. (text, d))
 
 -- ---- of an answer
 

@@ -17,7 +17,7 @@ use Rattle.pep440_ranges.proofs.Laws.{one_segment_holds_between, one_segment_is_
 use Rattle.pep440_ranges.specs.Complement.{gaps}
 use Rattle.pep440_ranges.specs.RangeSegments.{contains}
 use Rattle.pep440_version.specs.Key.{record_cmp, release_cmp}
-use Rattle.pep440_version.specs.KeyLaws.{record_total}
+use Rattle.pep440_version.specs.Key.KeyLaws.{record_total}
 use Rattle.pep440_version.specs.Record.{from_release}
 
 -- no suffix is there that matching of `<` and `>` asks for

@@ -18,7 +18,7 @@ use Rattle.pep440_rs.specs.declared.specifier.operator.Operator.TheVariants.{Equ
 use Rattle.pep440_ranges.specs.Complement.{gaps}
 use Rattle.pep440_ranges.specs.RangeSegments.{contains}
 use Rattle.pep440_version.specs.Key.{record_cmp}
-use Rattle.pep440_version.specs.KeyLaws.{record_total}
+use Rattle.pep440_version.specs.Key.KeyLaws.{record_total}
 use Rattle.pep440_version.specs.Record.{Record, epoch_and_release}
 
 -- a candidate without local part is compared as it is

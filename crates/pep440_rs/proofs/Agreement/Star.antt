@@ -15,7 +15,7 @@ use Rattle.pep440_ranges.proofs.Laws.{one_segment_holds_between, one_segment_is_
 use Rattle.pep440_ranges.specs.Complement.{gaps}
 use Rattle.pep440_ranges.specs.RangeSegments.{contains}
 use Rattle.pep440_version.specs.Key.{suffix_cmp, record_cmp, release_cmp}
-use Rattle.pep440_version.specs.KeyLaws.{record_total}
+use Rattle.pep440_version.specs.Key.KeyLaws.{record_total}
 use Rattle.pep440_version.specs.Record.{Record, from_parts, epoch_and_release}
 
 pub lt_base : (B S : Ordering) → is_lt S ≡ false → is_lt (ordering_then B (ordering_then S ord.Equal)) ≡ is_lt B

@@ -7,7 +7,7 @@ use Rattle.std.specs.declared.cmp.Ordering.TheVariants as ord
 use Rattle.pep440_rs.specs.Agreement.{HasNoLocalOrSentinel}
 use Rattle.pep440_rs.specs.Matching.{same_release}
 use Rattle.pep440_version.specs.Key.{base_cmp, suffix_cmp, key, record_cmp, release_cmp, stage_cmp, post_cmp, dev_cmp, local_cmp}
-use Rattle.pep440_version.specs.KeyLaws.{record_total}
+use Rattle.pep440_version.specs.Key.KeyLaws.{record_total}
 use Rattle.pep440_version.specs.Record.{Record, from_parts}
 
 -- ---- by parts

@@ -11,9 +11,9 @@ use Rattle.pep440_rs.proofs.Reread.Again.{built_is}
 use Rattle.pep440_rs.specs.Bounds.{Segments, full, list_range, range_from}
 use Rattle.pep440_rs.specs.Build.{built, built_pattern}
 use Rattle.pep440_rs.specs.Cover.{Covers, IsCoverable, IsDenoted, ListCovers, cover_of}
-use Rattle.pep440_rs.specs.ListGrammar.{DerivesList}
+use Rattle.pep440_rs.specs.Lists.ListGrammar.{DerivesList}
 use Rattle.pep440_rs.specs.Matching.{list_matches, matches}
-use Rattle.pep440_rs.specs.SpecifierGrammar.{DerivesSpecifier, HasText}
+use Rattle.pep440_rs.specs.Specifiers.SpecifierGrammar.{DerivesSpecifier, IsDenotedSpecifier}
 use Rattle.pep440_rs.specs.Specifiers.{Spec}
 use Rattle.pep440_rs.specs.declared.list.error.VersionSpecifiersParseError.{VersionSpecifiersParseError}
 use Rattle.pep440_rs.specs.declared.specifier.operator.Operator.{Operator}
@@ -60,13 +60,13 @@ denoted GreaterThanEqual r true s text h is = cc is
 version_denoted : (text : List ℕ) (s : Spec) → DerivesSpecifier text s → IsDenoted s.version
 version_denoted text s (c, o, r, star, reads, is, end) = denoted o r star s (encode_utf8_all c.version) reads.version is
 
-pub is_coverable : (s : Spec) → HasText s → IsCoverable s
+pub is_coverable : (s : Spec) → IsDenotedSpecifier s → IsCoverable s
 is_coverable s (text, d) = (has_operand s (text, d), version_denoted text s d)
 
-pub text_covers : (s : Spec) (cover : Segments) → cover_of s.operator s.version ≡ Some cover → HasText s → Covers s cover
+pub text_covers : (s : Spec) (cover : Segments) → cover_of s.operator s.version ≡ Some cover → IsDenotedSpecifier s → Covers s cover
 text_covers s cover is given = covers s cover is (is_coverable s given)
 
-pub list_text_covers : (members : List Spec) (cover : Segments) → list_range cover_of members ≡ Some cover → All HasText members → ListCovers members cover
+pub list_text_covers : (members : List Spec) (cover : Segments) → list_range cover_of members ≡ Some cover → All IsDenotedSpecifier members → ListCovers members cover
 list_text_covers members cover is given = list_covers members cover is (λ k m lt. is_coverable _ (given k m lt))
 
 pub answered_coverable : (text : List ℕ) (result : Result (List Spec) VersionSpecifiersParseError) → IfOk result (λ list. DerivesList text list) → IfOk result (λ list. All IsCoverable list)

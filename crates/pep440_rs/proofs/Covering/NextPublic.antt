@@ -12,7 +12,7 @@ use Rattle.pep440_rs.proofs.Agreement.VersionOrder.{by_parts}
 use Rattle.pep440_rs.specs.Bounds.{next_number}
 use Rattle.pep440_rs.specs.Cover.{after_devs, after_locals}
 use Rattle.pep440_version.specs.Key.{base_cmp, suffix_cmp, Stage, Pre, record_cmp, release_cmp, rank_cmp, stage_rank, post_rank, stage_of, post_of, stage_cmp, post_cmp}
-use Rattle.pep440_version.specs.KeyLaws.{record_total, release_total}
+use Rattle.pep440_version.specs.Key.KeyLaws.{record_total, release_total}
 use Rattle.pep440_version.specs.Record.{Record, from_parts}
 use Rattle.pep440_version.specs.declared.prerelease.Prerelease.{Prerelease}
 

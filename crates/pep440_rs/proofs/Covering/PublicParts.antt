@@ -11,7 +11,7 @@ use Rattle.pep440_ranges.proofs.Laws.{one_segment_holds_between}
 use Rattle.pep440_ranges.specs.RangeSegments.{contains}
 use Rattle.pep440_version.specs.Grammar.{Derives}
 use Rattle.pep440_version.specs.Key.{base_cmp, suffix_cmp, record_cmp, local_cmp}
-use Rattle.pep440_version.specs.KeyLaws.{record_total}
+use Rattle.pep440_version.specs.Key.KeyLaws.{record_total}
 use Rattle.pep440_version.specs.Record.{Record, LocalSegmentValue, from_parts}
 
 -- a version without sentinels

@@ -30,7 +30,7 @@ use Rattle.pep440_version.proofs.Reading.Agreement.{one_record}
 use Rattle.pep440_version.proofs.RoundTrip.PrintIsRead.{derived_again}
 use Rattle.pep440_version.specs.Grammar.{Derives}
 use Rattle.pep440_version.specs.Key.{base_cmp, suffix_cmp, record_cmp}
-use Rattle.pep440_version.specs.KeyLaws.{record_total}
+use Rattle.pep440_version.specs.Key.KeyLaws.{record_total}
 use Rattle.pep440_version.specs.Print.{print}
 use Rattle.pep440_version.specs.Record.{Record, LocalSegmentValue, epoch_and_release}
 use Rattle.pep440_version.specs.declared.prerelease.Prerelease.{Prerelease}

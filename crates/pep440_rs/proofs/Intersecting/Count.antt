@@ -5,7 +5,7 @@ use Rattle.std.specs.Ordering.{is_le}
 use Rattle.std.specs.declared.ops.Bound.{Bound}
 use Rattle.std.specs.declared.ops.Bound.TheVariants.{Included, Excluded, Unbounded}
 use Rattle.pep440_rs.proofs.Agreement.Prefix.{mapped, some_is}
-use Rattle.pep440_rs.specs.Agreement.{GivesRanges, GivesFew}
+use Rattle.pep440_rs.specs.Agreement.{ConversionsAreRanges, ConversionsHaveFewSegments}
 use Rattle.pep440_rs.specs.Operators.{is_exclusion}
 use Rattle.pep440_rs.specs.Bounds.{Segments, range_of, release_range_of, release_up_to, alone, less, greater, compatible_end, star, star_end, next_number, raise_last, from_to}
 use Rattle.pep440_rs.specs.Cover.{below_post, cover_of, less_cover, next_public, with_locals}
@@ -17,7 +17,7 @@ use Rattle.pep440_ranges.specs.BoundOrder.{is_valid}
 use Rattle.pep440_ranges.specs.Complement.{gaps}
 use Rattle.pep440_ranges.specs.RangeSegments.{Segment, IsRange, one_segment}
 use Rattle.pep440_version.specs.Key.{record_cmp}
-use Rattle.pep440_version.specs.KeyLaws.{record_total}
+use Rattle.pep440_version.specs.Key.KeyLaws.{record_total}
 use Rattle.pep440_version.specs.Record.{Record, epoch_and_release, from_release}
 
 -- a range of at most n segments
@@ -118,13 +118,13 @@ limit_is GreaterThan s range k = k.few
 limit_is EqualStar s range k = k.few
 limit_is NotEqualStar s range k = k.few
 
-pub gives_ranges : GivesRanges range_of
+pub gives_ranges : ConversionsAreRanges range_of
 gives_ranges op s range h = (whole op s range h).apart
 
-pub gives_few : GivesFew range_of
+pub gives_few : ConversionsHaveFewSegments range_of
 gives_few op s range h = limit_is op s range (whole op s range h)
 
-pub gives_covers : GivesRanges cover_of
+pub gives_covers : ConversionsAreRanges cover_of
 gives_covers Equal s range h = rw (some_is _ range h) (with_locals_is_range s)
 gives_covers LessThanEqual s range h = rw (some_is _ range h) (refl, tt)
 gives_covers LessThan s range h = rw (some_is _ range h) (less_cover_is_range s)
@@ -136,8 +136,8 @@ gives_covers TildeEqual s range h = gives_ranges TildeEqual s range h
 gives_covers GreaterThan s range h = gives_ranges GreaterThan s range h
 gives_covers GreaterThanEqual s range h = gives_ranges GreaterThanEqual s range h
 
-pub gives_release_ranges : GivesRanges release_range_of
+pub gives_release_ranges : ConversionsAreRanges release_range_of
 gives_release_ranges op s range h = (by_release op s range h).apart
 
-pub gives_few_by_release : GivesFew release_range_of
+pub gives_few_by_release : ConversionsHaveFewSegments release_range_of
 gives_few_by_release op s range h = limit_is op s range (by_release op s range h)

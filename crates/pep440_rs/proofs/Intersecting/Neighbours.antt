@@ -7,7 +7,7 @@ use Rattle.pep440_ranges.specs.Intersection.{overlaps}
 use Rattle.pep440_rs.specs.Bounds.{Segments}
 use Rattle.pep440_rs.proofs.Intersecting.Associates.{overlaps_assoc}
 use Rattle.pep440_version.specs.Key.{record_cmp}
-use Rattle.pep440_version.specs.KeyLaws.{record_total}
+use Rattle.pep440_version.specs.Key.KeyLaws.{record_total}
 
 abbrev pub met : Segments → List Segments → Segments
 met now ranges = fold (overlaps record_cmp) now ranges

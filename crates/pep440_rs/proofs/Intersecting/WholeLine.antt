@@ -6,15 +6,15 @@ use Rattle.std.specs.declared.ops.Bound.TheVariants.{Included, Excluded, Unbound
 use Rattle.pep440_ranges.specs.BoundOrder.{is_valid, starts_before, ends_before}
 use Rattle.pep440_ranges.specs.Intersection.{overlap, overlaps, overlaps_with, is_valid_segment}
 use Rattle.pep440_ranges.specs.RangeSegments.{Segment, IsRange, IsRangeAfter}
-use Rattle.pep440_rs.specs.Agreement.{GivesRanges}
+use Rattle.pep440_rs.specs.Agreement.{ConversionsAreRanges}
 use Rattle.pep440_rs.specs.Bounds.{Segments, full}
-use Rattle.pep440_rs.specs.Conversions.{converted, IsKept}
+use Rattle.pep440_rs.specs.Conversions.{converted, IsUnchangedByFull}
 use Rattle.pep440_rs.specs.declared.range.list.Conversion.{Conversion}
 use Rattle.pep440_rs.specs.declared.range.list.Conversion.TheVariants.{WholeOrder, ReleaseOnly, Cover}
 use Rattle.pep440_rs.proofs.Intersecting.Associates.{overlaps_assoc}
 use Rattle.pep440_rs.proofs.Intersecting.Count.{gives_covers, gives_ranges, gives_release_ranges}
 use Rattle.pep440_version.specs.Key.{record_cmp}
-use Rattle.pep440_version.specs.KeyLaws.{record_total}
+use Rattle.pep440_version.specs.Key.KeyLaws.{record_total}
 use Rattle.pep440_version.specs.Record.{Record}
 
 starts : (b : Bound Record) → (if starts_before record_cmp Unbounded b then b else Unbounded) ≡ b
@@ -40,20 +40,20 @@ each : (end : Bound Record) (ss : Segments) → IsRangeAfter record_cmp end ss �
 each end [] h = refl
 each end (s ∷ ss) h = one s ss h.1 (each s.1 ss h.2)
 
-pub kept : (range : Segments) → IsRange record_cmp range → IsKept range
+pub kept : (range : Segments) → IsRange record_cmp range → IsUnchangedByFull range
 kept [] h = refl
 kept (s ∷ ss) h = append-nil _ ∙ one s ss h.0 (each s.1 ss h.1)
 
-gives : (c : Conversion) → GivesRanges (converted c)
+gives : (c : Conversion) → ConversionsAreRanges (converted c)
 gives WholeOrder = gives_ranges
 gives ReleaseOnly = gives_release_ranges
 gives Cover = gives_covers
 
 -- what a conversion gives
-pub converted_kept : (c : Conversion) (op : _) (s : Record) (range : Segments) → converted c op s ≡ Some range → IsKept range
+pub converted_kept : (c : Conversion) (op : _) (s : Record) (range : Segments) → converted c op s ≡ Some range → IsUnchangedByFull range
 converted_kept c op s range is = kept range (gives c op s range is)
 
 -- what two ranges share
-pub shared_kept : (x y both : Segments) → both ≡ overlaps record_cmp x y → IsKept x → IsKept both
+pub shared_kept : (x y both : Segments) → both ≡ overlaps record_cmp x y → IsUnchangedByFull x → IsUnchangedByFull both
 shared_kept x y both is h =
     ap (overlaps record_cmp full) is ∙ sym (overlaps_assoc record_total full x y) ∙ ap (λ r. overlaps record_cmp r y) h ∙ sym is

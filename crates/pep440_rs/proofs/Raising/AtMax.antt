@@ -5,7 +5,7 @@ use Rattle.std.specs.List.{list_any}
 use Rattle.std.specs.Prelude.{IfOk, IsErrOf}
 use Rattle.std.specs.Option.{option_eq}
 use Rattle.pep440_rs.specs.Bounds.{Segments}
-use Rattle.pep440_rs.specs.Refused.{RefusedAtMax, TellsMax, raises_max}
+use Rattle.pep440_rs.specs.RaisedNumbers.{FailsAtMax, ReportsMax, raises_max}
 use Rattle.pep440_rs.specs.Specifiers.{Spec, IsSpec}
 use Rattle.pep440_rs.specs.declared.specifier.operator.Operator.{Operator}
 use Rattle.pep440_rs.specs.declared.range.error.RangeError.{RangeError}
@@ -25,16 +25,16 @@ not_at_max : (o : Option ℕ) → (o ≡ Some 18446744073709551615 → ⊥) → 
 not_at_max None h = refl
 not_at_max (Some n) h = grind (arith, nat_tests)
 
-module _ (conversion : Operator → Record → Option Segments) (number : Operator → Record → Option ℕ) (refused : RefusedAtMax conversion number) where
+module _ (conversion : Operator → Record → Option Segments) (number : Operator → Record → Option ℕ) (refused : FailsAtMax conversion number) where
   tells : (s : Spec) → IsSpec s → (result : Result Segments RangeError) → IfOk result (λ r. conversion s.operator s.version ≡ Some r)
-      → (IsErrOf result NumberAtMax → conversion s.operator s.version ≡ None) → TellsMax (raises_max number s) result
+      → (IsErrOf result NumberAtMax → conversion s.operator s.version ≡ None) → ReportsMax (raises_max number s) result
   tells s valid (Ok range) is none = not_at_max (number s.operator s.version) (λ g. some_none range (sym is ∙ (refused s valid).1 g))
   tells s valid (Err NumberAtMax) is none = at_max (number s.operator s.version) ((refused s valid).0 (none refl))
   tells s valid (Err OutOfMemory) is none = tt
 
   -- as a call has it: p are the parts that were converted
   pub tells_max : (s : Spec) → IsSpec s → (p : Operator × Record) → p ≡ (s.operator, s.version) → (result : Result Segments RangeError)
-      → IfOk result (λ r. conversion p.0 p.1 ≡ Some r) → (IsErrOf result NumberAtMax → conversion p.0 p.1 ≡ None) → TellsMax (raises_max number s) result
+      → IfOk result (λ r. conversion p.0 p.1 ≡ Some r) → (IsErrOf result NumberAtMax → conversion p.0 p.1 ≡ None) → ReportsMax (raises_max number s) result
   tells_max s valid p parts result is none =
       tells s valid result (subst (λ (q : Operator × Record). IfOk result (λ r. conversion q.0 q.1 ≡ Some r)) parts is)
       (subst (λ (q : Operator × Record). IsErrOf result NumberAtMax → conversion q.0 q.1 ≡ None) parts none)

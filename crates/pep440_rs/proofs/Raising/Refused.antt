@@ -6,7 +6,7 @@ use Rattle.std.specs.Option.{option_or}
 use Rattle.pep440_rs.specs.Bounds.{range_of, release_range_of, release_up_to, greater, star, star_end, next_number, raise_last}
 use Rattle.pep440_rs.specs.Cover.{cover_of}
 use Rattle.pep440_rs.specs.Matching.{without_last}
-use Rattle.pep440_rs.specs.Refused.{raised_number, raised_release_number, RefusedAtMax}
+use Rattle.pep440_rs.specs.RaisedNumbers.{raised_number, raised_release_number, FailsAtMax}
 use Rattle.pep440_rs.specs.Specifiers.{IsSpec}
 use Rattle.pep440_rs.specs.declared.specifier.operator.Operator.{Operator}
 use Rattle.pep440_rs.specs.declared.specifier.operator.Operator.TheVariants.{Equal, EqualStar, ExactEqual, NotEqual, NotEqualStar, TildeEqual, LessThan, LessThanEqual, GreaterThan, GreaterThanEqual}
@@ -78,7 +78,7 @@ end_refused s None None h = chain (through _ (raise_last s.release)) (raised_ref
 star_refused : (s : Record) → 1 ≤ length s.release → IsNone (star s) ↔ IsMax (raised_by s.post s.pre s.release)
 star_refused s h = chain (through _ (star_end s s.post s.pre)) (end_refused s s.post s.pre h)
 
-pub refused_at_max : RefusedAtMax range_of raised_number
+pub refused_at_max : FailsAtMax range_of raised_number
 refused_at_max s valid = at s.operator s.version (omega (arith, valid.0)) (λ e. let two = valid.1 e in omega (arith, two))
   where
     at : (o : Operator) (r : Record) → 1 ≤ length r.release → (o ≡ TildeEqual → 2 ≤ length r.release) → IsNone (range_of o r) ↔ IsMax (raised_number o r)
@@ -95,7 +95,7 @@ refused_at_max s valid = at s.operator s.version (omega (arith, valid.0)) (λ e.
     at NotEqualStar r one two = chain (through _ (star r)) (star_refused r one)
 
 -- a cover raises what the range does
-pub cover_refused_at_max : RefusedAtMax cover_of raised_number
+pub cover_refused_at_max : FailsAtMax cover_of raised_number
 cover_refused_at_max s valid = at s.operator s.version valid
   where
     at : (o : Operator) (r : Record) → IsSpec (record { operator = o; version = r }) → IsNone (cover_of o r) ↔ IsMax (raised_number o r)
@@ -113,7 +113,7 @@ cover_refused_at_max s valid = at s.operator s.version valid
 up_to_refused : (release numbers : List ℕ) → 1 ≤ length numbers → IsNone (release_up_to release numbers) ↔ IsMax (last_or None numbers)
 up_to_refused release numbers h = chain (through _ (raise_last numbers)) (raised_refused numbers h)
 
-pub release_refused_at_max : RefusedAtMax release_range_of raised_release_number
+pub release_refused_at_max : FailsAtMax release_range_of raised_release_number
 release_refused_at_max s valid = at s.operator s.version (omega (arith, valid.0)) (λ e. let two = valid.1 e in omega (arith, two))
   where
     at : (o : Operator) (r : Record) → 1 ≤ length r.release → (o ≡ TildeEqual → 2 ≤ length r.release) → IsNone (release_range_of o r) ↔ IsMax (raised_release_number o r)

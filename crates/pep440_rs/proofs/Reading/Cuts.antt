@@ -6,8 +6,8 @@ use Rattle.pep440_version.specs.Grammar.{starts}
 use Rattle.pep440_version.specs.Reading.{lead, past}
 use Rattle.pep440_version.proofs.Reading.ReadIsDerived.{split}
 use Rattle.pep440_version.proofs.Reading.Prefixes.{lead-all, lead-run, past-run, past-stops}
-use Rattle.pep440_rs.specs.SpecifierGrammar.{SpecifierParts, IsRun, is_operator_char}
-use Rattle.pep440_rs.specs.SpecifierReading.{from_operator, from_rest, from_version, meaning, read_specifier}
+use Rattle.pep440_rs.specs.Specifiers.SpecifierGrammar.{SpecifierParts, IsRun, is_operator_char}
+use Rattle.pep440_rs.specs.Specifiers.SpecifierReading.{from_operator, from_rest, from_version, read_parts, read_specifier}
 
 -- the longest run at the front, where whole is what was left
 longest : (test : ℕ → Bool) (whole tail : List ℕ) → tail ≡ past test whole → IsRun test (lead test whole) tail
@@ -47,7 +47,7 @@ run_tail : (test : ℕ → Bool) (whole part tail : List ℕ) → whole ≡ part
 run_tail test whole part tail e h = ap (past test) e ∙ past-run test part tail h.0 h.1
 
 -- reading a text is reading the parts of any cut of it
-pub read_by_split : (text : List ℕ) (c : SpecifierParts text) → read_specifier text ≡ meaning (encode_utf8_all c.operator) (encode_utf8_all c.version) (encode_utf8_all c.rest)
+pub read_by_split : (text : List ℕ) (c : SpecifierParts text) → read_specifier text ≡ read_parts (encode_utf8_all c.operator) (encode_utf8_all c.version) (encode_utf8_all c.rest)
 read_by_split text c =
     let t1 = run_tail is_whitespace (chars text) c.before _ c.decomposition c.before_run in
     let operator = run_part is_operator_char (from_operator text) c.operator _ t1 c.operator_run in
@@ -56,4 +56,4 @@ read_by_split text c =
     let version = run_part is_not_whitespace (from_version text) c.version _ t3 c.version_run in
     let t4 = run_tail is_not_whitespace (from_version text) c.version _ t3 c.version_run in
     let rest = run_tail is_whitespace (past is_not_whitespace (from_version text)) c.after c.rest t4 c.after_run in
-    λ i. meaning (encode_utf8_all (operator i)) (encode_utf8_all (version i)) (encode_utf8_all (rest i))
+    λ i. read_parts (encode_utf8_all (operator i)) (encode_utf8_all (version i)) (encode_utf8_all (rest i))

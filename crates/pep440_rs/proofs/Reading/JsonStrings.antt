@@ -1,8 +1,8 @@
 -- What holds of a JSON string's reader, from what holds of the reader of its text.
 use Rattle.std.proofs.Common.{◌≡◌, ℕ, List, Option, Some, None, Result, Ok, Err, refl}
 use Rattle.std.specs.Prelude.{IfErr, IfOk, IfSome, IsErrAnd, IsSomeAnd, MatchOption, MatchResult}
-use Rattle.pep440_version.specs.Errors.{Answers}
-use Rattle.pep440_rs.specs.Json.{IfText, JsonAnswers}
+use Rattle.pep440_version.specs.Errors.{ReturnsOutcome}
+use Rattle.pep440_rs.specs.Json.{IfParserError, ReturnsFromJson}
 use Rattle.pep440_rs.specs.declared.json.error.JsonError.{JsonError}
 use Rattle.pep440_rs.specs.declared.json.error.JsonError.TheVariants.{Text, OutOfMemory}
 
@@ -20,34 +20,34 @@ module _ {E F : Type 0} (refusal : E → Option F) where
   IsMade e j = MatchOption (refusal e) (j ≡ OutOfMemory) (λ _. j ≡ Text e)
 
   refuses : (e : E) (Q : F → Type 0) (o : Option F) → refusal e ≡ o → (j : JsonError E) → MatchOption o (j ≡ OutOfMemory) (λ _. j ≡ Text e) → IfSome o Q
-      → IfText j (λ inner. IsSomeAnd (refusal inner) Q)
+      → IfParserError j (λ inner. IsSomeAnd (refusal inner) Q)
   refuses e Q None is j made fact = rw made tt
   refuses e Q (Some f) is j made fact = rw (made, is) fact
 
   -- the error of the text within is a refusal, and what it says still holds
-  still_refused : (e : E) (Q : F → Type 0) (j : JsonError E) → IsMade e j → IfSome (refusal e) Q → IfText j (λ inner. IsSomeAnd (refusal inner) Q)
+  still_refused : (e : E) (Q : F → Type 0) (j : JsonError E) → IsMade e j → IfSome (refusal e) Q → IfParserError j (λ inner. IsSomeAnd (refusal inner) Q)
   still_refused e Q j made fact = refuses e Q (refusal e) refl j made fact
 
   answers : {X : Type 0} (e : E) (outcome : Result X F) (o : Option F) → refusal e ≡ o → (j : JsonError E) → MatchOption o (j ≡ OutOfMemory) (λ _. j ≡ Text e)
-      → IfSome o (λ f. outcome ≡ Err f) → JsonAnswers refusal (Err j) outcome
+      → IfSome o (λ f. outcome ≡ Err f) → ReturnsFromJson refusal (Err j) outcome
   answers e outcome None is j made fact = rw made tt
   answers e outcome (Some f) is j made fact = rw (made, is) fact
 
   -- the outcome of the text is still the answer
-  still_answers : {X : Type 0} (e : E) (outcome : Result X F) (j : JsonError E) → IsMade e j → IfSome (refusal e) (λ f. outcome ≡ Err f) → JsonAnswers refusal (Err j) outcome
+  still_answers : {X : Type 0} (e : E) (outcome : Result X F) (j : JsonError E) → IsMade e j → IfSome (refusal e) (λ f. outcome ≡ Err f) → ReturnsFromJson refusal (Err j) outcome
   still_answers e outcome j made fact = answers e outcome (refusal e) refl j made fact
 
   -- what the reader of the text answers, its error made one of JSON
   abbrev Made : {X : Type 0} → Result X E → Result X (JsonError E) → Type 0
   Made read made = MatchResult read (λ x. made ≡ Ok x) (λ e. IsErrAnd made (IsMade e))
 
-  pub made_answers : {X : Type 0} (read : Result X E) (made : Result X (JsonError E)) (outcome : Result X F) → Made read made → Answers refusal read outcome → JsonAnswers refusal made outcome
+  pub made_answers : {X : Type 0} (read : Result X E) (made : Result X (JsonError E)) (outcome : Result X F) → Made read made → ReturnsOutcome refusal read outcome → ReturnsFromJson refusal made outcome
   made_answers (Ok x) made outcome is fact = rw is fact
   made_answers (Err e) (Ok x) outcome is fact = absurd is
   made_answers (Err e) (Err j) outcome is fact = still_answers e outcome j is fact
 
   pub made_refused : {X : Type 0} (read : Result X E) (made : Result X (JsonError E)) (Q : F → Type 0) → Made read made → IfErr read (λ e. IfSome (refusal e) Q)
-      → IfErr made (λ e. IfText e (λ inner. IsSomeAnd (refusal inner) Q))
+      → IfErr made (λ e. IfParserError e (λ inner. IsSomeAnd (refusal inner) Q))
   made_refused (Ok x) made Q is fact = rw is tt
   made_refused (Err e) (Ok x) Q is fact = absurd is
   made_refused (Err e) (Err j) Q is fact = still_refused e Q j is fact
@@ -58,11 +58,11 @@ module _ {E F : Type 0} (refusal : E → Option F) where
   made_found (Err e) (Err j) P Q all is fact = tt
 
   -- what holds of the error of the text
-  text_of_made : (e : E) (P : E → Type 0) (o : Option F) (j : JsonError E) → MatchOption o (j ≡ OutOfMemory) (λ _. j ≡ Text e) → IfSome o (λ _. P e) → IfText j P
+  text_of_made : (e : E) (P : E → Type 0) (o : Option F) (j : JsonError E) → MatchOption o (j ≡ OutOfMemory) (λ _. j ≡ Text e) → IfSome o (λ _. P e) → IfParserError j P
   text_of_made e P None j is fact = rw is tt
   text_of_made e P (Some f) j is fact = rw is fact
 
-  pub made_error : {X : Type 0} (read : Result X E) (made : Result X (JsonError E)) (P : E → Type 0) → Made read made → IfErr read (λ e. IfSome (refusal e) (λ _. P e)) → IfErr made (λ e. IfText e P)
+  pub made_error : {X : Type 0} (read : Result X E) (made : Result X (JsonError E)) (P : E → Type 0) → Made read made → IfErr read (λ e. IfSome (refusal e) (λ _. P e)) → IfErr made (λ e. IfParserError e P)
   made_error (Ok x) made P is fact = rw is tt
   made_error (Err e) (Ok x) P is fact = absurd is
   made_error (Err e) (Err j) P is fact = text_of_made e P (refusal e) j is fact

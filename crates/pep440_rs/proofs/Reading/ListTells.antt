@@ -5,12 +5,12 @@ use Rattle.std.proofs.lemmas.List.Sums.{sum_by-append}
 use Rattle.std.specs.List.{AllZip}
 use Rattle.std.specs.Prelude.{IfErr, IfOk, IfSome, sum_by}
 use Rattle.pep440_rs.specs.Arrangement.{Arranges}
-use Rattle.pep440_rs.specs.ListAnswers.{ListAnswers, ListReads, list_kind_of}
-use Rattle.pep440_rs.specs.ListErrors.{list_refusal_of}
-use Rattle.pep440_rs.specs.ListGrammar.{DerivesList, PieceRefusal, RefusesList, pieces}
-use Rattle.pep440_rs.specs.ListReading.{after_piece, read_members, read_pieces}
-use Rattle.pep440_rs.specs.SpecifierGrammar.{DerivesSpecifier, RefusesSpecifier, SpecifierRefusal}
-use Rattle.pep440_rs.specs.SpecifierReading.{read_specifier}
+use Rattle.pep440_rs.specs.Lists.ListResults.{ReturnsList, ListReads, list_kind_of}
+use Rattle.pep440_rs.specs.Lists.ListErrors.{list_rejection_of}
+use Rattle.pep440_rs.specs.Lists.ListGrammar.{DerivesList, PieceRejection, RejectsList, pieces}
+use Rattle.pep440_rs.specs.Lists.ListReading.{after_piece, read_members, read_pieces}
+use Rattle.pep440_rs.specs.Specifiers.SpecifierGrammar.{DerivesSpecifier, RejectsSpecifier, SpecifierRejection}
+use Rattle.pep440_rs.specs.Specifiers.SpecifierReading.{read_specifier}
 use Rattle.pep440_rs.specs.Specifiers.{Spec}
 use Rattle.pep440_rs.specs.declared.list.error.VersionSpecifiersParseError.{VersionSpecifiersParseError}
 use Rattle.pep440_rs.proofs.Reading.Answered.{told_by}
@@ -34,22 +34,22 @@ bytes_are (p ∷ rest) = sum_by-append (λ q. length q + 1) (p ∷ []) rest ∙ 
     from_zero n = omega arith
 
 -- the first refused piece, where the first of all begins at k
-pub record FirstRefused (k : ℕ) (ps : List (List ℕ)) (f : PieceRefusal) : Type 0 where
+pub record FirstRefused (k : ℕ) (ps : List (List ℕ)) (f : PieceRejection) : Type 0 where
   pub before : List (List ℕ)
   pub piece : List ℕ
   pub after : List (List ℕ)
   pub split : ps ≡ before ++ (piece ∷ after)
   pub members : List Spec
   pub derived : DerivesEach before members
-  pub refused : RefusesSpecifier piece f.error
+  pub refused : RejectsSpecifier piece f.error
   pub start : f.start ≡ k + bytes_of before
   pub stop : f.stop ≡ f.start + length piece
 
-abbrev pub PiecesTell : ℕ → List (List ℕ) → Result (List Spec) PieceRefusal → Type 0
+abbrev pub PiecesTell : ℕ → List (List ℕ) → Result (List Spec) PieceRejection → Type 0
 PiecesTell k ps (Ok members) = DerivesEach ps members
 PiecesTell k ps (Err f) = FirstRefused k ps f
 
-first_tells : (k : ℕ) (p : List ℕ) (ps : List (List ℕ)) (x : Result Spec SpecifierRefusal) (y : Result (List Spec) PieceRefusal) → Tells p x → PiecesTell (k + length p + 1) ps y → PiecesTell k (p ∷ ps) (after_piece k p x y)
+first_tells : (k : ℕ) (p : List ℕ) (ps : List (List ℕ)) (x : Result Spec SpecifierRejection) (y : Result (List Spec) PieceRejection) → Tells p x → PiecesTell (k + length p + 1) ps y → PiecesTell k (p ∷ ps) (after_piece k p x y)
 first_tells k p ps (Err f) y h g = record { before = []; piece = p; after = ps; split = refl; members = []; derived = tt; refused = h; start = omega arith; stop = refl }
 first_tells k p ps (Ok s) (Ok rest) h g = (h, g)
 first_tells k p ps (Ok s) (Err f) h g = record {
@@ -79,7 +79,7 @@ derived_read k [] (s ∷ list) h = elim h [ ]
 derived_read k (p ∷ ps) [] h = elim h [ ]
 derived_read k (p ∷ ps) (s ∷ list) h = λ i. after_piece k p (decides p (Ok s) h.0 i) (derived_read (k + length p + 1) ps list h.1 i)
 
-refused_read : (k : ℕ) (before : List (List ℕ)) (members : List Spec) (piece : List ℕ) (after : List (List ℕ)) (f : PieceRefusal) → DerivesEach before members → RefusesSpecifier piece f.error
+refused_read : (k : ℕ) (before : List (List ℕ)) (members : List Spec) (piece : List ℕ) (after : List (List ℕ)) (f : PieceRejection) → DerivesEach before members → RejectsSpecifier piece f.error
     → f.start ≡ k + bytes_of before → f.stop ≡ f.start + length piece → read_pieces k (before ++ (piece ∷ after)) ≡ Err f
 unfolding read_pieces
 refused_read k [] [] piece after f each refused start stop =
@@ -98,7 +98,7 @@ refused_read k (p ∷ before) (s ∷ list) piece after f each refused start stop
 some_bytes : (b : ℕ) (t : List ℕ) → (length (b ∷ t) == 0) ≡ false
 some_bytes b t = grind (arith, nat_tests)
 
-nothing_read : (members list : List Spec) (read : Result (List Spec) PieceRefusal) → read ≡ Ok [] → read ≡ Ok members → Arranges members list → list ≡ []
+nothing_read : (members list : List Spec) (read : Result (List Spec) PieceRejection) → read ≡ Ok [] → read ≡ Ok members → Arranges members list → list ≡ []
 nothing_read members list read none e h =
     let same : members ≡ [] = cc in
     one_arrangement [] list [] (subst (λ m. Arranges m list) same h) (arranged_again [] (λ k d low high. absurd (omega (arith, high))))
@@ -116,7 +116,7 @@ pub derived_members : (text : List ℕ) (list : List Spec) → DerivesList text 
 derived_members text list (inl h) = ([], ap read_members h.0, subst (λ l. Arranges [] l) (sym h.1) (arranged_again [] (λ k d low high. absurd (omega (arith, high)))))
 derived_members text list (inr (some, members, each, h)) = (members, members_from text (nonempty text some) ∙ derived_read 0 (pieces text) members each, h)
 
-pub list_refusal : (text : List ℕ) (f : PieceRefusal) → read_members text ≡ Err f → RefusesList text f
+pub list_refusal : (text : List ℕ) (f : PieceRejection) → read_members text ≡ Err f → RejectsList text f
 list_refusal [] f e = cc e
 list_refusal (b ∷ t) f e =
     let x : FirstRefused 0 (pieces (b ∷ t)) f = subst (PiecesTell 0 (pieces (b ∷ t))) (sym (members_from (b ∷ t) (some_bytes b t)) ∙ e) (pieces_tell 0 (pieces (b ∷ t))) in
@@ -136,7 +136,7 @@ list_refusal (b ∷ t) f e =
     from_zero : (s start : ℕ) → start ≡ 0 + s → start ≡ s
     from_zero s start e = omega (arith, e)
 
-pub list_decides : (text : List ℕ) (f : PieceRefusal) → RefusesList text f → read_members text ≡ Err f
+pub list_decides : (text : List ℕ) (f : PieceRejection) → RejectsList text f → read_members text ≡ Err f
 list_decides text f h =
     members_from text (nonempty text h.some) ∙ ap (read_pieces 0) h.split
     ∙ refused_read 0 h.before h.members h.piece h.after f h.derived h.refused (to_zero (bytes_of h.before) f.start (h.start ∙ bytes_are h.before)) h.stop
@@ -150,24 +150,24 @@ pub is_list_found : (text : List ℕ) (result : Result (List Spec) VersionSpecif
 is_list_found text (Ok list) (members, e, h) = list_found text list members e h
 is_list_found text (Err error) h = tt
 
-answers_from : (o : Option PieceRefusal) (read out : Result (List Spec) PieceRefusal) → ((f : PieceRefusal) → read ≡ Err f → out ≡ Err f) → IfSome o (λ f. read ≡ Err f) → IfSome o (λ f. out ≡ Err f)
+answers_from : (o : Option PieceRejection) (read out : Result (List Spec) PieceRejection) → ((f : PieceRejection) → read ≡ Err f → out ≡ Err f) → IfSome o (λ f. read ≡ Err f) → IfSome o (λ f. out ≡ Err f)
 answers_from None read out all h = tt
 answers_from (Some f) read out all h = all f h
 
-pub is_list_only : (text : List ℕ) (result : Result (List Spec) VersionSpecifiersParseError) → ListReads result (read_members text) → (list : List Spec) → DerivesList text list → ListAnswers result (Ok list)
+pub is_list_only : (text : List ℕ) (result : Result (List Spec) VersionSpecifiersParseError) → ListReads result (read_members text) → (list : List Spec) → DerivesList text list → ReturnsList result (Ok list)
 is_list_only text (Ok x) (members, e, h) list d =
     let there = derived_members text list d in
     let same : members ≡ there.0 = cc (e, there.1) in
     ap Ok (one_arrangement there.0 list x there.2 (subst (λ m. Arranges m x) same h))
 is_list_only text (Err error) h list d =
     let there = derived_members text list d in
-    answers_from (list_refusal_of (list_kind_of error)) (read_members text) (Ok list) (λ f e. cc (e, there.1)) h
+    answers_from (list_rejection_of (list_kind_of error)) (read_members text) (Ok list) (λ f e. cc (e, there.1)) h
 
 pub is_list_refused : (text : List ℕ) (result : Result (List Spec) VersionSpecifiersParseError) → ListReads result (read_members text)
-    → IfErr result (λ e. IfSome (list_refusal_of (list_kind_of e)) (RefusesList text))
+    → IfErr result (λ e. IfSome (list_rejection_of (list_kind_of e)) (RejectsList text))
 is_list_refused text (Ok list) h = tt
-is_list_refused text (Err error) h = told_by (list_refusal_of (list_kind_of error)) (read_members text) (RefusesList text) (list_refusal text) h
+is_list_refused text (Err error) h = told_by (list_rejection_of (list_kind_of error)) (read_members text) (RejectsList text) (list_refusal text) h
 
-pub is_list_decided : (text : List ℕ) (result : Result (List Spec) VersionSpecifiersParseError) → ListReads result (read_members text) → (f : PieceRefusal) → RefusesList text f → ListAnswers result (Err f)
+pub is_list_decided : (text : List ℕ) (result : Result (List Spec) VersionSpecifiersParseError) → ListReads result (read_members text) → (f : PieceRejection) → RejectsList text f → ReturnsList result (Err f)
 is_list_decided text (Ok list) (members, e, h) f refused = let there = list_decides text f refused in cc (e, there)
-is_list_decided text (Err error) h f refused = let there = list_decides text f refused in subst (λ x. IfSome (list_refusal_of (list_kind_of error)) (λ g. x ≡ Err g)) there h
+is_list_decided text (Err error) h f refused = let there = list_decides text f refused in subst (λ x. IfSome (list_rejection_of (list_kind_of error)) (λ g. x ≡ Err g)) there h

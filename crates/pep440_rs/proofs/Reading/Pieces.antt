@@ -8,12 +8,12 @@ use Rattle.std.specs.Prelude.{IfSome}
 use Rattle.std.specs.Str.{IsCharBoundary, IsUtf8}
 use Rattle.pep440_version.specs.Reading.{EndsWith}
 use Rattle.pep440_version.proofs.Reading.Endings.{ends_then, seam}
-use Rattle.pep440_rs.specs.Errors.{parse_kind_of, specifier_refusal_of}
-use Rattle.pep440_rs.specs.ListErrors.{IsSpan, PieceGives, list_refusal_of}
-use Rattle.pep440_rs.specs.ListGrammar.{PieceRefusal, pieces}
-use Rattle.pep440_rs.specs.ListReading.{after_piece, read_members, read_pieces}
-use Rattle.pep440_rs.specs.SpecifierGrammar.{SpecifierRefusal}
-use Rattle.pep440_rs.specs.SpecifierReading.{read_specifier}
+use Rattle.pep440_rs.specs.Errors.{parse_kind_of, specifier_rejection_of}
+use Rattle.pep440_rs.specs.Lists.ListErrors.{IsSpan, ParsesPiece, list_rejection_of}
+use Rattle.pep440_rs.specs.Lists.ListGrammar.{PieceRejection, pieces}
+use Rattle.pep440_rs.specs.Lists.ListReading.{after_piece, read_members, read_pieces}
+use Rattle.pep440_rs.specs.Specifiers.SpecifierGrammar.{SpecifierRejection}
+use Rattle.pep440_rs.specs.Specifiers.SpecifierReading.{read_specifier}
 use Rattle.pep440_rs.specs.Specifiers.{Spec}
 use Rattle.pep440_rs.specs.declared.list.error.SpecifiersErrorKind.{SpecifiersErrorKind}
 use Rattle.pep440_rs.specs.declared.list.error.SpecifiersErrorKind.TheVariants.{Piece, OutOfMemory}
@@ -56,11 +56,11 @@ comma_boundary text bytes i e utf8 inside comma =
     IsCharBoundary-after_ascii text i utf8 (subst (λ t. i < length t) e inside) (subst (λ t. get_or t i 0 < 128) e (omega (arith, comma)))
 
 -- members that were read before what is still to be read
-abbrev pub with_members : List Spec → Result (List Spec) PieceRefusal → Result (List Spec) PieceRefusal
+abbrev pub with_members : List Spec → Result (List Spec) PieceRejection → Result (List Spec) PieceRejection
 with_members prefix (Ok rest) = Ok (prefix ++ rest)
 with_members prefix (Err f) = Err f
 
-one_more : (prefix : List Spec) (s : Spec) (k : ℕ) (p : List ℕ) (later : Result (List Spec) PieceRefusal) → with_members prefix (after_piece k p (Ok s) later) ≡ with_members (prefix ++ s ∷ []) later
+one_more : (prefix : List Spec) (s : Spec) (k : ℕ) (p : List ℕ) (later : Result (List Spec) PieceRejection) → with_members prefix (after_piece k p (Ok s) later) ≡ with_members (prefix ++ s ∷ []) later
 one_more prefix s k p (Ok rest) = ap Ok (sym (append_assoc prefix (s ∷ []) rest))
 one_more prefix s k p (Err f) = refl
 
@@ -76,39 +76,39 @@ here : (k : ℕ) (rest piece : List ℕ) (tail : List (List ℕ)) → pieces res
 unfolding read_pieces
 here k rest piece tail e = ap (read_pieces k) e
 
-pub goes_on : (prefix : List Spec) (s : Spec) (out : Result (List Spec) PieceRefusal) (text rest piece later : List ℕ) → EndsWith text rest → rest ≡ piece ++ (44 ∷ later) → pieces rest ≡ piece ∷ pieces later → read_specifier piece ≡ Ok s
+pub goes_on : (prefix : List Spec) (s : Spec) (out : Result (List Spec) PieceRejection) (text rest piece later : List ℕ) → EndsWith text rest → rest ≡ piece ++ (44 ∷ later) → pieces rest ≡ piece ∷ pieces later → read_specifier piece ≡ Ok s
     → out ≡ with_members prefix (read_pieces (length text - length rest) (pieces rest)) → out ≡ with_members (prefix ++ s ∷ []) (read_pieces (length text - length later) (pieces later))
 goes_on prefix s out text rest piece later h e split read is =
     is ∙ ap (with_members prefix) (here (length text - length rest) rest piece (pieces later) split
     ∙ ap (λ x. after_piece (length text - length rest) piece x (read_pieces (length text - length rest + length piece + 1) (pieces later))) read)
     ∙ one_more prefix s (length text - length rest) piece (read_pieces (length text - length rest + length piece + 1) (pieces later)) ∙ ap (λ k. with_members (prefix ++ s ∷ []) (read_pieces k (pieces later))) (sym (steps text rest piece later h e))
 
-pub stops_here : (prefix : List Spec) (f : SpecifierRefusal) (out : Result (List Spec) PieceRefusal) (k : ℕ) (rest piece : List ℕ) (tail : List (List ℕ)) → pieces rest ≡ piece ∷ tail → read_specifier piece ≡ Err f
+pub stops_here : (prefix : List Spec) (f : SpecifierRejection) (out : Result (List Spec) PieceRejection) (k : ℕ) (rest piece : List ℕ) (tail : List (List ℕ)) → pieces rest ≡ piece ∷ tail → read_specifier piece ≡ Err f
     → out ≡ with_members prefix (read_pieces k (pieces rest)) → out ≡ Err (record { error = f; start = k; stop = k + length piece })
 stops_here prefix f out k rest piece tail split read is =
     is ∙ ap (with_members prefix) (here k rest piece tail split ∙ ap (λ x. after_piece k piece x (read_pieces (k + length piece + 1) tail)) read)
 
 -- ---- the last piece
 
-pub ends_here : (prefix : List Spec) (s : Spec) (out : Result (List Spec) PieceRefusal) (k : ℕ) (rest piece : List ℕ) → pieces rest ≡ piece ∷ [] → read_specifier piece ≡ Ok s
+pub ends_here : (prefix : List Spec) (s : Spec) (out : Result (List Spec) PieceRejection) (k : ℕ) (rest piece : List ℕ) → pieces rest ≡ piece ∷ [] → read_specifier piece ≡ Ok s
     → out ≡ with_members prefix (read_pieces k (pieces rest)) → out ≡ Ok (prefix ++ s ∷ [])
 unfolding read_pieces
 ends_here prefix s out k rest piece split read is = is ∙ ap (with_members prefix) (here k rest piece [] split ∙ ap (λ x. after_piece k piece x (Ok [])) read)
 
 -- ---- the error of a piece
 
-pub piece_refused : (kind : SpecifiersErrorKind) (k : ℕ) (p : List ℕ) (read : Result Spec SpecifierRefusal) (out : Result (List Spec) PieceRefusal) → PieceGives k p (Err kind) read
-    → ((f : SpecifierRefusal) → read ≡ Err f → out ≡ Err (record { error = f; start = k; stop = k + length p })) → IfSome (list_refusal_of kind) (λ f. out ≡ Err f)
+pub piece_refused : (kind : SpecifiersErrorKind) (k : ℕ) (p : List ℕ) (read : Result Spec SpecifierRejection) (out : Result (List Spec) PieceRejection) → ParsesPiece k p (Err kind) read
+    → ((f : SpecifierRejection) → read ≡ Err f → out ≡ Err (record { error = f; start = k; stop = k + length p })) → IfSome (list_rejection_of kind) (λ f. out ≡ Err f)
 piece_refused OutOfMemory k p read out h all = tt
-piece_refused (Piece error begin end) k p read out (told, b, e) all = by_refusal (specifier_refusal_of (parse_kind_of error)) told
+piece_refused (Piece error begin end) k p read out (told, b, e) all = by_refusal (specifier_rejection_of (parse_kind_of error)) told
   where
-    by_refusal : (o : Option SpecifierRefusal) → IfSome o (λ f. read ≡ Err f) → IfSome (option_map (λ f. record { error = f; start = begin; stop = end }) o) (λ f. out ≡ Err f)
+    by_refusal : (o : Option SpecifierRejection) → IfSome o (λ f. read ≡ Err f) → IfSome (option_map (λ f. record { error = f; start = begin; stop = end }) o) (λ f. out ≡ Err f)
     by_refusal None h = tt
     by_refusal (Some f) h = all f h ∙ (λ i. Err (record { error = f; start = sym b i; stop = sym e i }))
 
 -- the piece lies in the text where the error says
-pub piece_span : (kind : SpecifiersErrorKind) (text rest piece tail : List ℕ) (read : Result Spec SpecifierRefusal) → IsUtf8 text → IsUtf8 rest → IsCharBoundary rest (length piece) → EndsWith text rest → rest ≡ piece ++ tail
-    → PieceGives (length text - length rest) piece (Err kind) read → IsSpan text kind
+pub piece_span : (kind : SpecifiersErrorKind) (text rest piece tail : List ℕ) (read : Result Spec SpecifierRejection) → IsUtf8 text → IsUtf8 rest → IsCharBoundary rest (length piece) → EndsWith text rest → rest ≡ piece ++ tail
+    → ParsesPiece (length text - length rest) piece (Err kind) read → IsSpan text kind
 piece_span OutOfMemory text rest piece tail read u v w h e given = record { in_order = omega arith; starts = IsCharBoundary-start text u; stops = IsCharBoundary-start text u }
 piece_span (Piece error begin end) text rest piece tail read u v w h e (told, b, s) =
     let long = ap length h.1 ∙ length-append h.0 rest in

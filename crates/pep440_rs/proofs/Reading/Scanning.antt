@@ -6,7 +6,7 @@ use Rattle.std.proofs.lemmas.Str.{IsUtf8-drop, chars-nil, chars_past_char, encod
 use Rattle.std.specs.Char.{encode_utf8, is_ascii}
 use Rattle.std.specs.Str.{IsCharBoundary, IsUtf8, chars, encode_utf8_all}
 use Rattle.pep440_version.specs.Reading.{EndsWith, lead, past}
-use Rattle.pep440_version.proofs.Refusals.LongerTexts.{past_one}
+use Rattle.pep440_version.proofs.Rejections.LongerTexts.{past_one}
 use Rattle.pep440_version.proofs.Reading.Endings.{ends_then}
 use Rattle.pep440_version.proofs.Reading.ReadIsDerived.{split}
 

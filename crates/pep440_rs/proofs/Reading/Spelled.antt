@@ -3,7 +3,7 @@ use Rattle.std.proofs.Common.{◌≡◌, ◌==◌, ℕ, List, Bool, true, false,
 use Rattle.std.proofs.lemmas.Slice.Eq.{bytes_eq-Decides}
 use Rattle.std.specs.Str.{bytes_eq}
 use Rattle.pep440_rs.specs.Operators.{Spells}
-use Rattle.pep440_rs.specs.SpecifierReading.{read_operator}
+use Rattle.pep440_rs.specs.Specifiers.SpecifierReading.{read_operator}
 use Rattle.pep440_rs.specs.declared.specifier.operator.Operator.{Operator}
 use Rattle.pep440_rs.specs.declared.specifier.operator.Operator.TheVariants.{Equal, EqualStar, ExactEqual, NotEqual, NotEqualStar, TildeEqual, LessThan, LessThanEqual, GreaterThan, GreaterThanEqual}
 

@@ -11,13 +11,13 @@ use Rattle.pep440_version.specs.Patterns.{DerivesPattern, DerivesStar}
 use Rattle.pep440_version.specs.Print.{print}
 use Rattle.pep440_version.specs.Record.{Record}
 use Rattle.pep440_version.proofs.RoundTrip.PrintIsRead.{derived_again, derived_record, derived_rereads}
-use Rattle.pep440_version.proofs.Refusals.ZeroForDigits.{starts_not}
+use Rattle.pep440_version.proofs.Rejections.ZeroForDigits.{starts_not}
 use Rattle.pep440_version.proofs.Reading.Prefixes.{both_first}
-use Rattle.pep440_rs.specs.Build.{BuildRefusal, CompatibleRelease, OperatorLocalCombo, built, built_pattern, is_compatible}
+use Rattle.pep440_rs.specs.Build.{BuildRejection, CompatibleRelease, OperatorLocalCombo, built, built_pattern, is_compatible}
 use Rattle.pep440_rs.specs.Matching.{has_local}
 use Rattle.pep440_rs.specs.Operators.{allows_local, is_star, operator_text}
-use Rattle.pep440_rs.specs.SpecifierGrammar.{SpecifierParts, DerivesSpecifier, is_operator_char}
-use Rattle.pep440_rs.specs.Specifiers.{Spec, spec_print}
+use Rattle.pep440_rs.specs.Specifiers.SpecifierGrammar.{SpecifierParts, DerivesSpecifier, is_operator_char}
+use Rattle.pep440_rs.specs.Specifiers.{Spec, print_spec}
 use Rattle.pep440_rs.specs.declared.specifier.operator.Operator.{Operator}
 use Rattle.pep440_rs.specs.declared.specifier.operator.Operator.TheVariants.{Equal, EqualStar, ExactEqual, NotEqual, NotEqualStar, TildeEqual, LessThan, LessThanEqual, GreaterThan, GreaterThanEqual}
 use Rattle.pep440_rs.proofs.Reread.Plain.{all_ascii, all_joined, all_later, all_weaker, is_shown, operator_bytes}
@@ -108,7 +108,7 @@ bare v o r star s plain shown begins h is =
 
 -- ---- the specifier that was built
 
-chosen : (a b : Bool) (x y : BuildRefusal) (v s : Spec) → (let z : Result Spec BuildRefusal = if a then Err x else if b then Err y else Ok v in z) ≡ Ok s → v ≡ s
+chosen : (a b : Bool) (x y : BuildRejection) (v s : Spec) → (let z : Result Spec BuildRejection = if a then Err x else if b then Err y else Ok v in z) ≡ Ok s → v ≡ s
 chosen true b x y v s e = cc e
 chosen false true x y v s e = cc e
 chosen false false x y v s e = cc e
@@ -117,18 +117,18 @@ pub built_is : (o : Operator) (r : Record) (s : Spec) → built o r ≡ Ok s →
 built_is o r s e = chosen (has_local r && not (allows_local o)) (is_compatible o && nat_lt (length r.release) 2) (OperatorLocalCombo o r) CompatibleRelease _ s e
 
 again_star : (o p : Operator) (r : Record) (s : Spec) (u : List ℕ) → is_star o ≡ false → DerivesStar u r → built_pattern o r true ≡ Ok s → built p r ≡ Ok s
-    → operator_text o ++ (print r ++ codes ".*") ≡ spec_print (record { operator = p; version = r }) → DerivesSpecifier (spec_print s) s
+    → operator_text o ++ (print r ++ codes ".*") ≡ print_spec (record { operator = p; version = r }) → DerivesSpecifier (print_spec s) s
 again_star o p r s u plain h is same text =
     let before = unstar u r h in
     let fits = derived_record _ r before in
     let shown = all_joined is_shown (print r) (codes ".*") (print_shown r fits (derived_rereads _ r before)) refl in
-    subst (λ t. DerivesSpecifier t s) (text ∙ ap spec_print (built_is p r s same))
+    subst (λ t. DerivesSpecifier t s) (text ∙ ap print_spec (built_is p r s same))
     (bare (print r ++ codes ".*") o r true s plain shown (begins_still is_ascii_digit (print r) (codes ".*") (print_begins r fits)) (star_print u r h) is)
 
-again_built : (o : Operator) (r : Record) (star : Bool) (s : Spec) (u : List ℕ) → is_star o ≡ false → DerivesPattern u r star → built_pattern o r star ≡ Ok s → DerivesSpecifier (spec_print s) s
+again_built : (o : Operator) (r : Record) (star : Bool) (s : Spec) (u : List ℕ) → is_star o ≡ false → DerivesPattern u r star → built_pattern o r star ≡ Ok s → DerivesSpecifier (print_spec s) s
 again_built o r false s u plain h is =
     let fits = derived_record u r h in
-    subst (λ t. DerivesSpecifier t s) (unstarred (record { operator = o; version = r }) _ _ refl refl plain ∙ ap spec_print (built_is o r s is))
+    subst (λ t. DerivesSpecifier t s) (unstarred (record { operator = o; version = r }) _ _ refl refl plain ∙ ap print_spec (built_is o r s is))
     (bare (print r) o r false s plain (print_shown r fits (derived_rereads u r h)) (print_begins r fits) (derived_again u r h) is)
 again_built Equal r true s u plain h is = again_star Equal EqualStar r s u plain h is is refl
 again_built NotEqual r true s u plain h is = again_star NotEqual NotEqualStar r s u plain h is is refl
@@ -141,5 +141,5 @@ again_built LessThanEqual r true s u plain h is = cc is
 again_built GreaterThan r true s u plain h is = cc is
 again_built GreaterThanEqual r true s u plain h is = cc is
 
-pub printed_again : (text : List ℕ) (s : Spec) → DerivesSpecifier text s → DerivesSpecifier (spec_print s) s
+pub printed_again : (text : List ℕ) (s : Spec) → DerivesSpecifier text s → DerivesSpecifier (print_spec s) s
 printed_again text s (c, o, r, star, reads, is, end) = again_built o r star s (encode_utf8_all c.version) reads.operator.1 reads.version is

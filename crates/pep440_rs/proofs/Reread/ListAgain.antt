@@ -14,13 +14,13 @@ use Rattle.pep440_version.proofs.RoundTrip.PrintIsRead.{derived_record, derived_
 use Rattle.pep440_version.proofs.Reading.Prefixes.{both_first, both_second}
 use Rattle.pep440_rs.specs.Arrangement.{Arranges}
 use Rattle.pep440_rs.specs.Build.{built_pattern}
-use Rattle.pep440_rs.specs.ListAnswers.{ListAnswers, ListReads}
-use Rattle.pep440_rs.specs.ListGrammar.{DerivesList, pieces}
-use Rattle.pep440_rs.specs.ListReading.{read_members}
+use Rattle.pep440_rs.specs.Lists.ListResults.{ReturnsList, ListReads}
+use Rattle.pep440_rs.specs.Lists.ListGrammar.{DerivesList, pieces}
+use Rattle.pep440_rs.specs.Lists.ListReading.{read_members}
 use Rattle.pep440_rs.specs.Lists.{joined}
 use Rattle.pep440_rs.specs.Operators.{is_star, operator_text}
-use Rattle.pep440_rs.specs.SpecifierGrammar.{SpecifierParts, DerivesSpecifier, is_operator_char}
-use Rattle.pep440_rs.specs.Specifiers.{Spec, spec_print}
+use Rattle.pep440_rs.specs.Specifiers.SpecifierGrammar.{SpecifierParts, DerivesSpecifier, is_operator_char}
+use Rattle.pep440_rs.specs.Specifiers.{Spec, print_spec}
 use Rattle.pep440_rs.specs.declared.list.error.VersionSpecifiersParseError.{VersionSpecifiersParseError}
 use Rattle.pep440_rs.specs.declared.specifier.operator.Operator.{Operator}
 use Rattle.pep440_rs.specs.declared.specifier.operator.Operator.TheVariants.{Equal, EqualStar, ExactEqual, NotEqual, NotEqualStar, TildeEqual, LessThan, LessThanEqual, GreaterThan, GreaterThanEqual}
@@ -67,7 +67,7 @@ star_shown LessThanEqual = refl
 star_shown GreaterThan = refl
 star_shown GreaterThanEqual = refl
 
-member_shown : (u : List ℕ) (s : Spec) → DerivesSpecifier u s → list_all is_shown (spec_print s) ≡ true
+member_shown : (u : List ℕ) (s : Spec) → DerivesSpecifier u s → list_all is_shown (print_spec s) ≡ true
 member_shown u s (c, o, r, star, reads, is, end) =
     all_joined is_shown (operator_text s.operator) _ (all_weaker is_operator_char is_shown operator_shown (operator_text s.operator) (operator_chars s.operator))
     (all_joined is_shown (print s.version) (star_text s.operator) (record_shown o r star s _ reads.version is) (star_shown s.operator))
@@ -119,7 +119,7 @@ abbrev pub IsGap : List ℕ → Type 0
 IsGap gap = (list_all is_not_comma gap ≡ true) × ((u : List ℕ) (s : Spec) → DerivesSpecifier u s → DerivesSpecifier (gap ++ u) s)
 
 pieces_of : (gap : List ℕ) → IsGap gap → (first : List ℕ) → list_all is_not_comma first ≡ true → (rest : List Spec) → All IsMeant rest
-    → pieces (first ++ flat_map (λ t. 44 ∷ (gap ++ spec_print t)) rest) ≡ first ∷ map (λ t. gap ++ spec_print t) rest
+    → pieces (first ++ flat_map (λ t. 44 ∷ (gap ++ print_spec t)) rest) ≡ first ∷ map (λ t. gap ++ print_spec t) rest
 pieces_of gap h first plain [] meant = ap pieces (append_nil first) ∙ pieces_whole first (no_comma first plain)
   where
     append_nil : (t : List ℕ) → t ++ [] ≡ t
@@ -127,19 +127,19 @@ pieces_of gap h first plain [] meant = ap pieces (append_nil first) ∙ pieces_w
     append_nil (b ∷ t) = ap (λ l. b ∷ l) (append_nil t)
 pieces_of gap h first plain (s ∷ rest) meant =
     let one = meant 0 s (omega arith) in
-    let shown = all_joined is_not_comma gap (spec_print s) h.0 (all_weaker is_shown is_not_comma shown_not_comma (spec_print s) (member_shown one.0 s one.1)) in
-    let later = pieces_of gap h (gap ++ spec_print s) shown rest (λ k d lt. meant (suc k) d (omega (arith, lt))) in
-    pieces_split first ((gap ++ spec_print s) ++ flat_map (λ t. 44 ∷ (gap ++ spec_print t)) rest) (no_comma first plain) ∙ ap (λ l. first ∷ l) later
+    let shown = all_joined is_not_comma gap (print_spec s) h.0 (all_weaker is_shown is_not_comma shown_not_comma (print_spec s) (member_shown one.0 s one.1)) in
+    let later = pieces_of gap h (gap ++ print_spec s) shown rest (λ k d lt. meant (suc k) d (omega (arith, lt))) in
+    pieces_split first ((gap ++ print_spec s) ++ flat_map (λ t. 44 ∷ (gap ++ print_spec t)) rest) (no_comma first plain) ∙ ap (λ l. first ∷ l) later
 
-each_after : (gap : List ℕ) → IsGap gap → (rest : List Spec) → All IsMeant rest → DerivesEach (map (λ t. gap ++ spec_print t) rest) rest
+each_after : (gap : List ℕ) → IsGap gap → (rest : List Spec) → All IsMeant rest → DerivesEach (map (λ t. gap ++ print_spec t) rest) rest
 each_after gap h [] meant = tt
 each_after gap h (s ∷ rest) meant =
     let one = meant 0 s (omega arith) in
-    (h.1 (spec_print s) s (printed_again one.0 s one.1), each_after gap h rest (λ k d lt. meant (suc k) d (omega (arith, lt))))
+    (h.1 (print_spec s) s (printed_again one.0 s one.1), each_after gap h rest (λ k d lt. meant (suc k) d (omega (arith, lt))))
 
-some_print : (s : Spec) (rest : List ℕ) → 0 < length (spec_print s ++ rest)
+some_print : (s : Spec) (rest : List ℕ) → 0 < length (print_spec s ++ rest)
 some_print s rest =
-    let a = length-append (spec_print s) rest in
+    let a = length-append (print_spec s) rest in
     let b = length-append (operator_text s.operator) (print s.version ++ star_text s.operator) in
     let c = some_operator s.operator in
     omega (arith, a, b, c)
@@ -161,11 +161,11 @@ meant_again gap h [] meant arranged = inl (refl, refl)
 meant_again gap h (s ∷ rest) meant arranged =
     let one = meant 0 s (omega arith) in
     let later : All IsMeant rest = λ k d lt. meant (suc k) d (omega (arith, lt)) in
-    let plain = all_weaker is_shown is_not_comma shown_not_comma (spec_print s) (member_shown one.0 s one.1) in
+    let plain = all_weaker is_shown is_not_comma shown_not_comma (print_spec s) (member_shown one.0 s one.1) in
     inr (
       some_print s _,
       s ∷ rest,
-      subst (λ ps. DerivesEach ps (s ∷ rest)) (sym (pieces_of gap h (spec_print s) plain rest later)) (printed_again one.0 s one.1, each_after gap h rest later),
+      subst (λ ps. DerivesEach ps (s ∷ rest)) (sym (pieces_of gap h (print_spec s) plain rest later)) (printed_again one.0 s one.1, each_after gap h rest later),
       arranged,
     )
 
@@ -187,9 +187,9 @@ blank_gap : IsGap (32 ∷ [])
 blank_gap = (refl, after_blank)
 
 pub is_list_again : (text : List ℕ) (result : Result (List Spec) VersionSpecifiersParseError) → ListReads result (read_members text) → (t : List ℕ) (list : List Spec) → DerivesList t list
-    → text ≡ joined (codes ", ") list → ListAnswers result (Ok list)
+    → text ≡ joined (codes ", ") list → ReturnsList result (Ok list)
 is_list_again text result h t list d printed = is_list_only text result h list (subst (λ x. DerivesList x list) (sym printed) (derived_list_again (32 ∷ []) blank_gap t list d))
 
 pub is_list_joined : (text : List ℕ) (result : Result (List Spec) VersionSpecifiersParseError) → ListReads result (read_members text) → (t : List ℕ) (list : List Spec) → DerivesList t list
-    → text ≡ joined (codes ",") list → ListAnswers result (Ok list)
+    → text ≡ joined (codes ",") list → ReturnsList result (Ok list)
 is_list_joined text result h t list d printed = is_list_only text result h list (subst (λ x. DerivesList x list) (sym printed) (derived_list_again [] no_gap t list d))

@@ -7,7 +7,7 @@ use Rattle.std.specs.List.{list_all}
 use Rattle.std.specs.Str.{IsAscii, encode_utf8_all}
 use Rattle.pep440_version.proofs.Reading.Prefixes.{both_first, both_second}
 use Rattle.std.specs.Char.{is_ascii}
-use Rattle.pep440_rs.specs.SpecifierGrammar.{is_operator_char}
+use Rattle.pep440_rs.specs.Specifiers.SpecifierGrammar.{is_operator_char}
 
 abbrev pub is_shown : ℕ → Bool
 is_shown b = nat_lt 32 b && nat_lt b 127 && not (b == 44)

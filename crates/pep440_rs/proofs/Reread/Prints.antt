@@ -5,14 +5,14 @@ use Rattle.std.specs.List.{flat_map}
 use Rattle.std.specs.Prelude.{IfSome}
 use Rattle.pep440_version.specs.Print.{print}
 use Rattle.pep440_rs.specs.Operators.{is_star, operator_text}
-use Rattle.pep440_rs.specs.Specifiers.{Spec, spec_print}
-use Rattle.pep440_rs.specs.Lists.{list_print}
+use Rattle.pep440_rs.specs.Specifiers.{Spec, print_spec}
+use Rattle.pep440_rs.specs.Lists.{print_list}
 
-pub unstarred : (s : Spec) (o v : List ℕ) → o ≡ operator_text s.operator → v ≡ print s.version → is_star s.operator ≡ false → o ++ v ≡ spec_print s
+pub unstarred : (s : Spec) (o v : List ℕ) → o ≡ operator_text s.operator → v ≡ print s.version → is_star s.operator ≡ false → o ++ v ≡ print_spec s
 unstarred s o v eo ev e = rw (eo, ev, e, append-nil (print s.version)) refl
 
 list_prefix_text : (xs : List Spec) (d : Spec) → 1 ≤ length xs
-    → spec_print (get_or xs 0 d) ++ flat_map (λ s. codes ", " ++ spec_print s) (take (length xs - 1) (drop 1 xs)) ≡ list_print xs
+    → print_spec (get_or xs 0 d) ++ flat_map (λ s. codes ", " ++ print_spec s) (take (length xs - 1) (drop 1 xs)) ≡ print_list xs
 list_prefix_text [] d some = absurd (omega arith)
 list_prefix_text (x ∷ xs) d some =
     let count : length (x ∷ xs) - 1 ≡ length xs = omega arith in
@@ -20,8 +20,8 @@ list_prefix_text (x ∷ xs) d some =
 
 -- the first member and, after commas, the others
 pub list_prefix : (xs : List Spec) (x : Spec) → x ≡ get_or xs 0 x → 1 ≤ length xs
-    → spec_print x ++ flat_map (λ s. codes ", " ++ spec_print s) (take (length xs - 1) (drop 1 xs)) ≡ list_print xs
-list_prefix xs x is some = ap (λ y. spec_print y ++ flat_map (λ s. codes ", " ++ spec_print s) (take (length xs - 1) (drop 1 xs))) is ∙ list_prefix_text xs x some
+    → print_spec x ++ flat_map (λ s. codes ", " ++ print_spec s) (take (length xs - 1) (drop 1 xs)) ≡ print_list xs
+list_prefix xs x is some = ap (λ y. print_spec y ++ flat_map (λ s. codes ", " ++ print_spec s) (take (length xs - 1) (drop 1 xs))) is ∙ list_prefix_text xs x some
 
 replicate_suc : (n x : ℕ) → replicate n x ++ x ∷ [] ≡ replicate (suc n) x
 replicate_suc zero x = refl

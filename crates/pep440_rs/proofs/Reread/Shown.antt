@@ -7,16 +7,16 @@ use Rattle.std.specs.Char.{is_ascii_digit, is_whitespace, is_not_whitespace, is_
 use Rattle.std.specs.Fmt.{decimal}
 use Rattle.std.specs.List.{All, flat_map, list_all}
 use Rattle.pep440_version.specs.Grammar.{starts}
-use Rattle.pep440_version.specs.Print.{dotted, epoch_text, prerelease_kind_text, local_text, labelled, pre_text, print, segment_print}
+use Rattle.pep440_version.specs.Print.{dotted, epoch_text, prerelease_kind_text, local_text, labelled, pre_text, print, print_segment}
 use Rattle.pep440_version.specs.Record.{Fits, IsRecord, Number, Record, LocalSegmentValue, SegmentFits, Text}
-use Rattle.pep440_version.specs.RoundTrip.{RoundTrips, SegmentRereads, is_lower}
+use Rattle.pep440_version.specs.RoundTrip.{RoundTrips, SegmentRoundTrips, is_lower}
 use Rattle.pep440_version.specs.declared.prerelease.Prerelease.{Prerelease}
 use Rattle.pep440_version.specs.declared.prerelease.PrereleaseKind.{PrereleaseKind}
 use Rattle.pep440_version.specs.declared.prerelease.PrereleaseKind.TheVariants.{Alpha, Beta, Rc}
 use Rattle.pep440_version.proofs.Reading.Prefixes.{both_first}
 use Rattle.pep440_version.proofs.Reading.Digits.{digits_model}
 use Rattle.pep440_version.proofs.RoundTrip.PrintIsRead.{fits_at}
-use Rattle.pep440_rs.specs.SpecifierGrammar.{is_operator_char}
+use Rattle.pep440_rs.specs.Specifiers.SpecifierGrammar.{is_operator_char}
 use Rattle.pep440_rs.proofs.Reread.Plain.{all_joined, all_weaker, is_shown}
 
 digit_shown : (b : ℕ) → is_ascii_digit b ≡ true → is_shown b ≡ true
@@ -63,7 +63,7 @@ numbers_shown [] fits k d lt = absurd (omega (arith, lt))
 numbers_shown (n ∷ ns) fits zero d lt = decimal_shown n (fits 0)
 numbers_shown (n ∷ ns) fits (suc k) d lt = numbers_shown ns (λ i. fits (suc i)) k d (omega (arith, lt))
 
-segment_shown : (s : LocalSegmentValue) → SegmentFits s → SegmentRereads s → list_all is_shown (segment_print s) ≡ true
+segment_shown : (s : LocalSegmentValue) → SegmentFits s → SegmentRoundTrips s → list_all is_shown (print_segment s) ≡ true
 segment_shown (Text t) fits h = all_weaker is_lower is_shown lower_shown t h.1
 segment_shown (Number n) fits h = decimal_shown n fits
 
@@ -86,10 +86,10 @@ marked_shown : (mark : List ℕ) → list_all is_shown mark ≡ true → (o : Op
 marked_shown mark h None fits = refl
 marked_shown mark h (Some n) fits = all_joined is_shown mark (decimal n) h (decimal_shown n fits)
 
-local_shown : (local : List LocalSegmentValue) → All SegmentFits local → All SegmentRereads local → list_all is_shown (local_text local) ≡ true
+local_shown : (local : List LocalSegmentValue) → All SegmentFits local → All SegmentRoundTrips local → list_all is_shown (local_text local) ≡ true
 local_shown [] fits h = refl
-local_shown (s ∷ rest) fits h = all_joined is_shown (codes "+") (dotted segment_print (s ∷ rest)) refl
-    (dotted_shown segment_print (s ∷ rest) (λ k d lt. segment_shown _ (fits k d lt) (h k d lt)))
+local_shown (s ∷ rest) fits h = all_joined is_shown (codes "+") (dotted print_segment (s ∷ rest)) refl
+    (dotted_shown print_segment (s ∷ rest) (λ k d lt. segment_shown _ (fits k d lt) (h k d lt)))
 
 pub print_shown : (r : Record) → IsRecord r → RoundTrips r → list_all is_shown (print r) ≡ true
 print_shown r h again =

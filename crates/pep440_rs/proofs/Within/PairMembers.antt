@@ -20,7 +20,7 @@ use Rattle.pep440_ranges.proofs.Places.{below, start_place, end_place, value_pla
 use Rattle.pep440_ranges.specs.BoundOrder.{is_valid, is_from_start, is_up_to_end}
 use Rattle.pep440_ranges.specs.RangeSegments.{Segment, lies_in}
 use Rattle.pep440_version.specs.Key.{record_cmp}
-use Rattle.pep440_version.specs.KeyLaws.{record_total}
+use Rattle.pep440_version.specs.Key.KeyLaws.{record_total}
 use Rattle.pep440_version.specs.Record.{Record, from_release}
 
 and_true : (b : Bool) → b && true ≡ b

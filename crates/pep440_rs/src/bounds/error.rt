@@ -2,7 +2,7 @@
 ghost use Rattle.std.specs.Prelude.{◌≡◌, Some, codes};
 ghost use Rattle.std.specs.Option.{option_map_or};
 ghost use Rattle.pep440_rs.specs.ErrorTexts.{build_text};
-ghost use Rattle.pep440_rs.specs.BoundErrors.{bound_refusal_of};
+ghost use Rattle.pep440_rs.specs.BoundErrors.{bound_rejection_of};
 ghost use Rattle.pep440_rs.specs.declared.bounds.error.BoundError.TheVariants.{OutOfMemory};
 
 use crate::specifier::error::VersionSpecifierBuildError;
@@ -21,7 +21,7 @@ pub enum BoundError {
 }
 
 impl Clone for BoundError {
-    ghost is_clone = { λ error copy. bound_refusal_of copy ≡ bound_refusal_of error };
+    ghost is_clone = { λ error copy. bound_rejection_of copy ≡ bound_rejection_of error };
 
     fn clone(&self) -> Result<BoundError, AllocError> {
         match self {
@@ -40,9 +40,9 @@ impl From<AllocError> for BoundError {
 }
 
 impl fmt::Display for BoundError {
-    ghost output = { λ e. Some (option_map_or build_text (bound_refusal_of e) (codes "out of memory")) };
+    ghost output = { λ e. Some (option_map_or build_text (bound_rejection_of e) (codes "out of memory")) };
 
-    ghost styled_output = { λ e _. Some (option_map_or build_text (bound_refusal_of e) (codes "out of memory")) };
+    ghost styled_output = { λ e _. Some (option_map_or build_text (bound_rejection_of e) (codes "out of memory")) };
 
     fn fmt<W: fmt::Write>(&self, f: &mut fmt::Formatter<W>) -> fmt::Result {
         match self {

@@ -1,7 +1,7 @@
 //! Specifiers from bounds on releases.
 ghost use Rattle.std.specs.Prelude.{◌≡◌, ◌++◌, IfOk, OnOk};
 ghost use Rattle.pep440_rs.specs.Members.{is_next, lower_member, upper_member, pair_members, gap_members, list_members, without_locals};
-ghost use Rattle.pep440_rs.specs.BoundErrors.{BoundAnswers};
+ghost use Rattle.pep440_rs.specs.BoundErrors.{ReturnsBound};
 
 use crate::bounds::error::BoundError;
 use crate::bounds::release_bounds::ReleaseBounds;
@@ -135,7 +135,7 @@ pub(crate) fn convert_pairs(
 pub(crate) fn reject_local(
     member: Option<VersionSpecifier>,
 ) -> Result<Option<VersionSpecifier>, BoundError>
-    ensures { BoundAnswers result (without_locals member) }
+    ensures { ReturnsBound result (without_locals member) }
 {
     match member {
         Some(member) => {

@@ -1,10 +1,10 @@
 //! Why a string is no list of specifiers, and the error's message, which is the same whatever width and fill are asked for.
 ghost use Rattle.std.specs.Prelude.{◌≡◌, ◌<◌, ◌≤◌, ◌⊎◌, ◌++◌, [], IsCharBoundary, codes, length, option_map, replicate, string_bytes};
 ghost use Rattle.std.specs.Fmt.{DisplaysStyledOnOk, WritesStyledOnOk};
-ghost use Rattle.pep440_rs.specs.Errors.{parse_kind_of, specifier_refusal_of};
+ghost use Rattle.pep440_rs.specs.Errors.{parse_kind_of, specifier_rejection_of};
 ghost use Rattle.pep440_rs.specs.ErrorTexts.{specifier_error_text};
-ghost use Rattle.pep440_rs.specs.ListErrors.{IsSpan, lacks_list_memory, list_refusal_of, span_of};
-ghost use Rattle.pep440_rs.specs.ListErrorTexts.{caret_line, list_text_of, piece_text};
+ghost use Rattle.pep440_rs.specs.Lists.ListErrors.{IsSpan, lacks_list_memory, list_rejection_of, span_of};
+ghost use Rattle.pep440_rs.specs.Lists.ListErrorTexts.{caret_line, list_text_of, piece_text};
 ghost use Rattle.pep440_rs.specs.declared.list.error.SpecifiersErrorKind.TheVariants.{OutOfMemory};
 
 use crate::specifier::error::{VersionSpecifierParseError, write_parse_kind};
@@ -30,7 +30,7 @@ pub enum SpecifiersErrorKind {
 }
 
 impl Clone for SpecifiersErrorKind {
-    ghost is_clone = { λ kind copy. (list_refusal_of copy ≡ list_refusal_of kind) × (span_of copy ≡ span_of kind) };
+    ghost is_clone = { λ kind copy. (list_rejection_of copy ≡ list_rejection_of kind) × (span_of copy ≡ span_of kind) };
 
     fn clone(&self) -> Result<SpecifiersErrorKind, AllocError> {
         match self {
@@ -72,7 +72,7 @@ pub struct VersionSpecifiersParseError {
 }
 
 impl VersionSpecifiersParseError {
-    ghost use Rattle.pep440_rs.specs.ListAnswers.{line_for, line_of, list_kind_of};
+    ghost use Rattle.pep440_rs.specs.Lists.ListResults.{line_for, line_of, list_kind_of};
 
     /// Why: the kind of the error, with what it holds.
     pub fn kind(&self) -> &SpecifiersErrorKind
@@ -127,9 +127,9 @@ impl VersionSpecifiersParseError {
 }
 
 impl Clone for VersionSpecifiersParseError {
-    ghost use Rattle.pep440_rs.specs.ListAnswers.{line_of, list_kind_of};
+    ghost use Rattle.pep440_rs.specs.Lists.ListResults.{line_of, list_kind_of};
 
-    ghost is_clone = { λ error copy. (list_refusal_of (list_kind_of copy) ≡ list_refusal_of (list_kind_of error)) × (line_of copy ≡ line_of error) };
+    ghost is_clone = { λ error copy. (list_rejection_of (list_kind_of copy) ≡ list_rejection_of (list_kind_of error)) × (line_of copy ≡ line_of error) };
 
     fn clone(&self) -> Result<VersionSpecifiersParseError, AllocError> {
         Ok(VersionSpecifiersParseError {
@@ -202,7 +202,7 @@ fn write_piece<W: fmt::Write>(
     requires stops { IsCharBoundary line.now stop }
     ensures { DisplaysStyledOnOk W.write_str_gives f.old result
         (option_map (λ inner. piece_text inner line.now start stop)
-        (specifier_error_text (specifier_refusal_of (parse_kind_of error.now)))) f.new }
+        (specifier_error_text (specifier_rejection_of (parse_kind_of error.now)))) f.new }
 {
     f.write_str("Failed to parse version: ")?;
     write_parse_kind(f, error.kind())?;
@@ -210,7 +210,7 @@ fn write_piece<W: fmt::Write>(
 }
 
 impl fmt::Display for VersionSpecifiersParseError {
-    ghost use Rattle.pep440_rs.specs.ListAnswers.{line_of, list_kind_of};
+    ghost use Rattle.pep440_rs.specs.Lists.ListResults.{line_of, list_kind_of};
 
     ghost output = { λ e. list_text_of (list_kind_of e) (line_of e) };
 

@@ -1,10 +1,10 @@
 //! The parser of lists, piece by piece.
 ghost use Rattle.std.specs.Prelude.{◌<◌, ◌+◌, ◌^◌, ◌≡◌, ◌++◌, ◌∷◌, [], length, Ok, IfOk, Err, IfErr, IsCharBoundary};
 ghost use Rattle.std.specs.Option.{option_map_or};
-ghost use Rattle.pep440_rs.specs.ListErrors.{IsListLifted, IsSpan, MembersGive, PieceGives};
-ghost use Rattle.pep440_rs.specs.ListGrammar.{pieces};
-ghost use Rattle.pep440_rs.specs.ListReading.{read_members};
-ghost use Rattle.pep440_rs.specs.SpecifierReading.{read_specifier};
+ghost use Rattle.pep440_rs.specs.Lists.ListErrors.{IsListLifted, IsSpan, ParsesMembers, ParsesPiece};
+ghost use Rattle.pep440_rs.specs.Lists.ListGrammar.{pieces};
+ghost use Rattle.pep440_rs.specs.Lists.ListReading.{read_members};
+ghost use Rattle.pep440_rs.specs.Specifiers.SpecifierReading.{read_specifier};
 ghost use Rattle.pep440_rs.specs.Specifiers.{Spec};
 
 use crate::list::error::SpecifiersErrorKind;
@@ -21,7 +21,7 @@ fn parse_piece(
     piece: &str,
 ) -> Result<VersionSpecifier, SpecifiersErrorKind>
     requires { start + length piece.now < 2 ^ 64 }
-    ensures value { PieceGives start piece.now result (read_specifier piece.now) }
+    ensures value { ParsesPiece start piece.now result (read_specifier piece.now) }
     ensures lifted { IfErr result IsListLifted }
 {
     match parse_specifier(alloc, piece) {
@@ -45,7 +45,7 @@ fn add_piece(
 ) -> Result<(), SpecifiersErrorKind>
     requires { start + length text.now < 2 ^ 64 }
     ensures added { IfOk result (λ _. (s : Spec) × (read_specifier text.now ≡ Ok s) × (members.new.items ≡ members.old.items ++ s ∷ [])) }
-    ensures refused { IfErr result (λ kind. PieceGives start text.now (Err kind) (read_specifier text.now)) }
+    ensures refused { IfErr result (λ kind. ParsesPiece start text.now (Err kind) (read_specifier text.now)) }
     ensures lifted { IfErr result IsListLifted }
 {
     let member = parse_piece(alloc, start, text)?;
@@ -74,7 +74,7 @@ pub(crate) fn parse_members(
     alloc: Global,
     text: &str,
 ) -> Result<Vec<VersionSpecifier>, SpecifiersErrorKind>
-    ensures value { MembersGive (λ v. v.items) result (read_members text.now) }
+    ensures value { ParsesMembers (λ v. v.items) result (read_members text.now) }
     ensures lifted { IfErr result IsListLifted }
     ensures span { IfErr result (IsSpan text.now) }
 {

@@ -1,7 +1,7 @@
 //! The cover of a specifier: a range that holds every version that the specifier contains.
 ghost use Rattle.std.specs.Prelude.{◌≡◌, ◌≤◌, length, IfOk, IsErrOf, Some, None};
 ghost use Rattle.pep440_rs.specs.Cover.{Covers, IsCoverable, after_devs, below_post, cover_of, less_cover, next_public, with_locals};
-ghost use Rattle.pep440_rs.specs.Refused.{TellsMax, raised_number, raises_max};
+ghost use Rattle.pep440_rs.specs.RaisedNumbers.{ReportsMax, raised_number, raises_max};
 
 use crate::range::error::RangeError;
 use crate::range::whole_order::{convert, convert_less};
@@ -131,7 +131,7 @@ pub fn specifier_to_cover(
     ensures cover { IfOk result (λ r. cover_of specifier.operator specifier.version ≡ Some r) }
     ensures refused { IsErrOf result RangeError.NumberAtMax → cover_of specifier.operator specifier.version ≡ None }
     // `NumberAtMax` exactly where the number to be raised is the greatest there is, unless an allocation fails.
-    ensures at_max { TellsMax (raises_max raised_number specifier) result }
+    ensures at_max { ReportsMax (raises_max raised_number specifier) result }
     // Of a version that a string can give beside the operator it holds every version that the specifier contains.
     ensures holds { IsCoverable specifier → IfOk result (Covers specifier) }
 {

@@ -3,7 +3,7 @@ ghost use Rattle.std.specs.Prelude.{◌≡◌, ◌<◌, IfOk, List, fold, length
 ghost use Rattle.pep440_ranges.specs.Intersection.{overlaps};
 ghost use Rattle.std.specs.List.{All};
 ghost use Rattle.pep440_rs.specs.Bounds.{Segments, full};
-ghost use Rattle.pep440_rs.specs.Conversions.{IsKept};
+ghost use Rattle.pep440_rs.specs.Conversions.{IsUnchangedByFull};
 ghost use Rattle.pep440_version.specs.Key.{record_cmp};
 
 use pep440_ranges::Ranges;
@@ -18,7 +18,7 @@ fn intersect_pairs(
     ensures same { IfOk result (λ v. (now : Segments)
         → fold (overlaps record_cmp) now v.items ≡ fold (overlaps record_cmp) now ranges.now) }
     ensures fewer { 1 < length ranges.now → IfOk result (λ v. length v.items < length ranges.now) }
-    ensures kept { All IsKept ranges.now → IfOk result (λ v. All IsKept v.items) }
+    ensures kept { All IsUnchangedByFull ranges.now → IfOk result (λ v. All IsUnchangedByFull v.items) }
 {
     let mut pairs = Vec::new(alloc);
     let mut rest = ranges;
@@ -45,7 +45,7 @@ pub fn intersect_all(
     alloc: Global,
     ranges: Vec<Ranges<Version>>,
 ) -> Result<Ranges<Version>, AllocError>
-    requires { All IsKept ranges.items }
+    requires { All IsUnchangedByFull ranges.items }
     ensures { IfOk result (λ r. r ≡ fold (overlaps record_cmp) full ranges.items) }
 {
     let mut level = ranges;

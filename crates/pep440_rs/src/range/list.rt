@@ -5,7 +5,7 @@ ghost use Rattle.pep440_rs.specs.Agreement.{HasOperand, IsCandidate, IsReleaseCo
 ghost use Rattle.pep440_rs.specs.Bounds.{range_of, release_range_of, list_range};
 ghost use Rattle.pep440_rs.specs.Cover.{IsCoverable, ListCovers, cover_of};
 ghost use Rattle.pep440_rs.specs.Conversions.{converted, raised_by};
-ghost use Rattle.pep440_rs.specs.Refused.{TellsMax, raised_number, raised_release_number, raises_max};
+ghost use Rattle.pep440_rs.specs.RaisedNumbers.{ReportsMax, raised_number, raised_release_number, raises_max};
 
 use crate::list::VersionSpecifiers;
 use crate::range::cover::specifier_to_cover;
@@ -34,7 +34,7 @@ impl Conversion {
     ) -> Result<Ranges<Version>, RangeError>
         ensures range { IfOk result (λ r. converted self specifier.operator specifier.version ≡ Some r) }
         ensures refused { IsErrOf result RangeError.NumberAtMax → converted self specifier.operator specifier.version ≡ None }
-        ensures at_max { TellsMax (raises_max (raised_by self) specifier) result }
+        ensures at_max { ReportsMax (raises_max (raised_by self) specifier) result }
     {
         match self {
             Conversion::WholeOrder => specifier_to_range(alloc, specifier),
@@ -53,7 +53,7 @@ fn convert_members(
 ) -> Result<Ranges<Version>, RangeError>
     ensures range { IfOk result (λ r. list_range (converted conversion) members.items ≡ Some r) }
     ensures refused { IsErrOf result RangeError.NumberAtMax → list_range (converted conversion) members.items ≡ None }
-    ensures at_max { TellsMax (list_any (raises_max (raised_by conversion)) members.items) result }
+    ensures at_max { ReportsMax (list_any (raises_max (raised_by conversion)) members.items) result }
 {
     let mut ranges = Vec::new(alloc);
     for member in members {
@@ -76,7 +76,7 @@ pub fn specifiers_to_ranges(
     ensures range { IfOk result (λ r. list_range range_of specifiers ≡ Some r) }
     ensures refused { IsErrOf result RangeError.NumberAtMax → list_range range_of specifiers ≡ None }
     // `NumberAtMax` exactly where some member has to raise the greatest number there is, unless an allocation fails.
-    ensures at_max { TellsMax (list_any (raises_max raised_number) specifiers) result }
+    ensures at_max { ReportsMax (list_any (raises_max raised_number) specifiers) result }
     // Where each member's version is one that a string can have beside its operator, it holds exactly what the list
     // contains, as far as range and matching of each can be compared.
     ensures agrees { All HasOperand specifiers → IfOk result (ListAgrees IsCandidate specifiers) }
@@ -101,7 +101,7 @@ pub fn release_specifiers_to_ranges(
     ensures range { IfOk result (λ r. list_range release_range_of specifiers ≡ Some r) }
     ensures refused { IsErrOf result RangeError.NumberAtMax → list_range release_range_of specifiers ≡ None }
     // `NumberAtMax` exactly where some member has to raise the greatest number there is, unless an allocation fails.
-    ensures at_max { TellsMax (list_any (raises_max raised_release_number) specifiers) result }
+    ensures at_max { ReportsMax (list_any (raises_max raised_release_number) specifiers) result }
     // It holds exactly the releases that the list contains.
     ensures agrees { IfOk result (λ r. ListAgrees IsReleaseComparable specifiers r) }
     // It holds what the range of each member holds.
@@ -124,7 +124,7 @@ pub fn specifiers_to_cover(
     ensures cover { IfOk result (λ r. list_range cover_of specifiers ≡ Some r) }
     ensures refused { IsErrOf result RangeError.NumberAtMax → list_range cover_of specifiers ≡ None }
     // `NumberAtMax` exactly where some member has to raise the greatest number there is, unless an allocation fails.
-    ensures at_max { TellsMax (list_any (raises_max raised_number) specifiers) result }
+    ensures at_max { ReportsMax (list_any (raises_max raised_number) specifiers) result }
     // Of members whose versions strings can give it holds every version that the list contains.
     ensures holds { All IsCoverable specifiers → IfOk result (ListCovers specifiers) }
     // It holds what the cover of each member holds.

@@ -2,7 +2,7 @@
 ghost use Rattle.std.specs.Prelude.{◌≡◌, ◌≤◌, ◌<◌, length, IfOk, IsErrOf, Some, None};
 ghost use Rattle.pep440_rs.specs.Agreement.{Agrees, IsReleaseComparable};
 ghost use Rattle.pep440_rs.specs.Bounds.{release_range_of, release_up_to};
-ghost use Rattle.pep440_rs.specs.Refused.{TellsMax, raised_release_number, raises_max};
+ghost use Rattle.pep440_rs.specs.RaisedNumbers.{ReportsMax, raised_release_number, raises_max};
 ghost use Rattle.pep440_version.specs.Record.{Record, from_release};
 
 use crate::range::error::RangeError;
@@ -88,7 +88,7 @@ pub fn release_specifier_to_range(
     ensures range { IfOk result (λ r. release_range_of specifier.operator specifier.version ≡ Some r) }
     ensures refused { IsErrOf result RangeError.NumberAtMax → release_range_of specifier.operator specifier.version ≡ None }
     // `NumberAtMax` exactly where the number to be raised is the greatest there is, unless an allocation fails.
-    ensures at_max { TellsMax (raises_max raised_release_number specifier) result }
+    ensures at_max { ReportsMax (raises_max raised_release_number specifier) result }
     // It holds exactly the releases that the specifier contains.
     ensures agrees { IfOk result (Agrees IsReleaseComparable specifier) }
 {

@@ -2,7 +2,7 @@
 ghost use Rattle.std.specs.Prelude.{◌≡◌, ◌≤◌, length, IfOk, IsErrOf, Some, None};
 ghost use Rattle.pep440_rs.specs.Agreement.{Agrees, IsCandidate, HasOperand, HoldsOnlyMatches, HoldsAllMatches};
 ghost use Rattle.pep440_rs.specs.Bounds.{range_of, less, greater, compatible_end, star, star_end};
-ghost use Rattle.pep440_rs.specs.Refused.{TellsMax, raised_number, raises_max};
+ghost use Rattle.pep440_rs.specs.RaisedNumbers.{ReportsMax, raised_number, raises_max};
 ghost use Rattle.pep440_version.specs.Record.{Record};
 
 use crate::range::error::RangeError;
@@ -139,7 +139,7 @@ pub fn specifier_to_range(
     ensures range { IfOk result (λ r. range_of specifier.operator specifier.version ≡ Some r) }
     ensures refused { IsErrOf result RangeError.NumberAtMax → range_of specifier.operator specifier.version ≡ None }
     // `NumberAtMax` exactly where the number to be raised is the greatest there is, unless an allocation fails.
-    ensures at_max { TellsMax (raises_max raised_number specifier) result }
+    ensures at_max { ReportsMax (raises_max raised_number specifier) result }
     // Where the version is one that a string can have beside the operator, it holds exactly what the specifier
     // contains, as far as the two can be compared.
     ensures agrees { HasOperand specifier → IfOk result (Agrees IsCandidate specifier) }

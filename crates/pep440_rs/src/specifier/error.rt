@@ -2,13 +2,13 @@
 //! with its error and its message, which is the same whatever width and fill are asked for.
 ghost use Rattle.std.specs.Prelude.{◌≡◌, ◌++◌, Some, codes, map, option_map};
 ghost use Rattle.std.specs.Fmt.{DisplaysStyledOnOk, HasWrittenStyled, IsFlush, WritesStyledOnOk};
-ghost use Rattle.pep440_version.specs.Errors.{pattern_kind_of, pattern_refusal_of};
-ghost use Rattle.pep440_version.specs.Print.{dotted, segment_print};
+ghost use Rattle.pep440_version.specs.Errors.{pattern_kind_of, pattern_rejection_of};
+ghost use Rattle.pep440_version.specs.Print.{dotted, print_segment};
 ghost use Rattle.pep440_version.specs.Segments.{segment};
-ghost use Rattle.pep440_rs.specs.Errors.{operator_kind_of, unknown_of, build_kind_of, build_refusal_of, parse_kind_of, specifier_refusal_of, IsLifted};
+ghost use Rattle.pep440_rs.specs.Errors.{operator_kind_of, unknown_of, build_kind_of, build_rejection_of, parse_kind_of, specifier_rejection_of, IsLifted};
 ghost use Rattle.pep440_rs.specs.ErrorTexts.{build_text, operator_error_text, specifier_error_text};
 ghost use Rattle.pep440_rs.specs.Operators.{operator_text};
-ghost use Rattle.pep440_rs.specs.SpecifierGrammar.{InvalidOperator, InvalidVersion};
+ghost use Rattle.pep440_rs.specs.Specifiers.SpecifierGrammar.{InvalidOperator, InvalidVersion};
 ghost use Rattle.pep440_rs.specs.declared.specifier.error.ParseErrorKind.TheVariants.{InvalidSpecifier, OutOfMemory};
 
 use crate::specifier::operator::Operator;
@@ -144,7 +144,7 @@ pub enum BuildErrorKind {
 }
 
 impl Clone for BuildErrorKind {
-    ghost is_clone = { λ kind copy. build_refusal_of copy ≡ build_refusal_of kind };
+    ghost is_clone = { λ kind copy. build_rejection_of copy ≡ build_rejection_of kind };
 
     fn clone(&self) -> Result<BuildErrorKind, AllocError> {
         match self {
@@ -180,7 +180,7 @@ impl VersionSpecifierBuildError {
 }
 
 impl Clone for VersionSpecifierBuildError {
-    ghost is_clone = { λ error copy. build_refusal_of (build_kind_of copy) ≡ build_refusal_of (build_kind_of error) };
+    ghost is_clone = { λ error copy. build_rejection_of (build_kind_of copy) ≡ build_rejection_of (build_kind_of error) };
 
     fn clone(&self) -> Result<VersionSpecifierBuildError, AllocError> {
         Ok(VersionSpecifierBuildError {
@@ -213,7 +213,7 @@ fn write_incompatible<W: fmt::Write>(
 ) -> fmt::Result
     ensures { WritesStyledOnOk W.write_str_gives f.old result
         (codes " is incompatible with versions containing non-empty local segments (`+"
-        ++ (dotted segment_print (map segment local.now) ++ codes "`)")) f.new }
+        ++ (dotted print_segment (map segment local.now) ++ codes "`)")) f.new }
 {
     f.write_str(" is incompatible with versions containing non-empty local segments (`+")?;
     write_local_segments(f, local)?;
@@ -230,7 +230,7 @@ fn write_local_combo<W: fmt::Write>(
     ensures { WritesStyledOnOk W.write_str_gives f.old result
         (codes "Operator " ++ (operator_text operator
         ++ (codes " is incompatible with versions containing non-empty local segments (`+"
-        ++ (dotted segment_print (map segment local.now) ++ codes "`)")))) f.new }
+        ++ (dotted print_segment (map segment local.now) ++ codes "`)")))) f.new }
 {
     f.write_str("Operator ")?;
     f.write_str(operator.as_str())?;
@@ -238,7 +238,7 @@ fn write_local_combo<W: fmt::Write>(
 }
 
 fn write_build_kind<W: fmt::Write>(f: &mut fmt::Formatter<W>, kind: &BuildErrorKind) -> fmt::Result
-    ensures { WritesStyledOnOk W.write_str_gives f.old result (build_text (build_refusal_of kind.now)) f.new }
+    ensures { WritesStyledOnOk W.write_str_gives f.old result (build_text (build_rejection_of kind.now)) f.new }
 {
     match kind {
         BuildErrorKind::OperatorLocalCombo { operator, version } => {
@@ -260,9 +260,9 @@ fn write_build_kind<W: fmt::Write>(f: &mut fmt::Formatter<W>, kind: &BuildErrorK
 }
 
 impl fmt::Display for VersionSpecifierBuildError {
-    ghost output = { λ e. Some (build_text (build_refusal_of (build_kind_of e))) };
+    ghost output = { λ e. Some (build_text (build_rejection_of (build_kind_of e))) };
 
-    ghost styled_output = { λ e _. Some (build_text (build_refusal_of (build_kind_of e))) };
+    ghost styled_output = { λ e _. Some (build_text (build_rejection_of (build_kind_of e))) };
 
     fn fmt<W: fmt::Write>(&self, f: &mut fmt::Formatter<W>) -> fmt::Result {
         write_build_kind(f, self.kind())
@@ -293,7 +293,7 @@ pub enum ParseErrorKind {
 }
 
 impl Clone for ParseErrorKind {
-    ghost is_clone = { λ kind copy. specifier_refusal_of copy ≡ specifier_refusal_of kind };
+    ghost is_clone = { λ kind copy. specifier_rejection_of copy ≡ specifier_rejection_of kind };
 
     fn clone(&self) -> Result<ParseErrorKind, AllocError> {
         Ok(match self {
@@ -331,7 +331,7 @@ impl From<VersionSpecifierBuildError> for ParseErrorKind {
 impl ParseErrorKind {
     // The error of the operator, or out of memory.
     pub(crate) fn from_operator_error(error: OperatorParseError) -> ParseErrorKind
-        ensures refusal { specifier_refusal_of result ≡ option_map InvalidOperator (unknown_of (operator_kind_of error)) }
+        ensures refusal { specifier_rejection_of result ≡ option_map InvalidOperator (unknown_of (operator_kind_of error)) }
         ensures lifted { IsLifted result }
     {
         match error.kind() {
@@ -342,7 +342,7 @@ impl ParseErrorKind {
 
     // The error of the version, or out of memory.
     pub(crate) fn from_version_error(error: VersionPatternParseError) -> ParseErrorKind
-        ensures refusal { specifier_refusal_of result ≡ option_map InvalidVersion (pattern_refusal_of (pattern_kind_of error)) }
+        ensures refusal { specifier_rejection_of result ≡ option_map InvalidVersion (pattern_rejection_of (pattern_kind_of error)) }
         ensures lifted { IsLifted result }
     {
         if error.is_out_of_memory() {
@@ -369,7 +369,7 @@ impl VersionSpecifierParseError {
 }
 
 impl Clone for VersionSpecifierParseError {
-    ghost is_clone = { λ error copy. specifier_refusal_of (parse_kind_of copy) ≡ specifier_refusal_of (parse_kind_of error) };
+    ghost is_clone = { λ error copy. specifier_rejection_of (parse_kind_of copy) ≡ specifier_rejection_of (parse_kind_of error) };
 
     fn clone(&self) -> Result<VersionSpecifierParseError, AllocError> {
         Ok(VersionSpecifierParseError {
@@ -391,7 +391,7 @@ pub(crate) fn write_parse_kind<W: fmt::Write>(
     f: &mut fmt::Formatter<W>,
     kind: &ParseErrorKind,
 ) -> fmt::Result
-    ensures { DisplaysStyledOnOk W.write_str_gives f.old result (specifier_error_text (specifier_refusal_of kind.now)) f.new }
+    ensures { DisplaysStyledOnOk W.write_str_gives f.old result (specifier_error_text (specifier_rejection_of kind.now)) f.new }
 {
     match kind {
         ParseErrorKind::MissingOperator => f.write_str(
@@ -414,9 +414,9 @@ pub(crate) fn write_parse_kind<W: fmt::Write>(
 }
 
 impl fmt::Display for VersionSpecifierParseError {
-    ghost output = { λ e. specifier_error_text (specifier_refusal_of (parse_kind_of e)) };
+    ghost output = { λ e. specifier_error_text (specifier_rejection_of (parse_kind_of e)) };
 
-    ghost styled_output = { λ e _. specifier_error_text (specifier_refusal_of (parse_kind_of e)) };
+    ghost styled_output = { λ e _. specifier_error_text (specifier_rejection_of (parse_kind_of e)) };
 
     fn fmt<W: fmt::Write>(&self, f: &mut fmt::Formatter<W>) -> fmt::Result {
         write_parse_kind(f, self.kind())

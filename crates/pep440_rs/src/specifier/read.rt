@@ -1,11 +1,11 @@
 //! The parser of specifiers.
 ghost use Rattle.std.specs.Prelude.{◌==◌, length, Err, if◌then◌else◌};
-ghost use Rattle.pep440_version.specs.Errors.{Answers, pattern_error_refusal};
+ghost use Rattle.pep440_version.specs.Errors.{ReturnsOutcome, pattern_error_rejection};
 ghost use Rattle.pep440_version.specs.Whole.{read_pattern};
 ghost use Rattle.pep440_rs.specs.Build.{built_pattern};
-ghost use Rattle.pep440_rs.specs.Errors.{SpecifierGives};
-ghost use Rattle.pep440_rs.specs.SpecifierGrammar.{MissingVersion};
-ghost use Rattle.pep440_rs.specs.SpecifierReading.{ended, read_specifier, with_pattern};
+ghost use Rattle.pep440_rs.specs.Errors.{ParsesSpecifier};
+ghost use Rattle.pep440_rs.specs.Specifiers.SpecifierGrammar.{MissingVersion};
+ghost use Rattle.pep440_rs.specs.Specifiers.SpecifierReading.{ended, read_specifier, with_pattern};
 
 use crate::specifier::VersionSpecifier;
 use crate::specifier::error::ParseErrorKind;
@@ -21,7 +21,7 @@ fn build_specifier(
     pattern: VersionPattern,
     rest: &str,
 ) -> Result<VersionSpecifier, ParseErrorKind>
-    ensures { SpecifierGives result (ended (built_pattern operator pattern.0 pattern.1) rest.now) }
+    ensures { ParsesSpecifier result (ended (built_pattern operator pattern.0 pattern.1) rest.now) }
 {
     let specifier = VersionSpecifier::from_pattern(operator, pattern)?;
     if rest.is_empty() {
@@ -32,7 +32,7 @@ fn build_specifier(
 
 // What the string parses to, by the contract of the parser of patterns.
 fn parse_pattern(alloc: Global, text: &str) -> Result<VersionPattern, VersionPatternParseError>
-    ensures { Answers pattern_error_refusal result (read_pattern text.now) }
+    ensures { ReturnsOutcome pattern_error_rejection result (read_pattern text.now) }
 {
     VersionPattern::from_str(alloc, text)
 }
@@ -44,7 +44,7 @@ fn parse_version(
     version: &str,
     rest: &str,
 ) -> Result<VersionSpecifier, ParseErrorKind>
-    ensures { SpecifierGives result (if length version.now == 0 then Err MissingVersion else with_pattern operator
+    ensures { ParsesSpecifier result (if length version.now == 0 then Err MissingVersion else with_pattern operator
         (read_pattern version.now) rest.now) }
 {
     if version.is_empty() {
@@ -56,7 +56,7 @@ fn parse_version(
 
 // What the string parses to.
 pub(crate) fn parse_specifier(alloc: Global, text: &str) -> Result<VersionSpecifier, ParseErrorKind>
-    ensures { SpecifierGives result (read_specifier text.now) }
+    ensures { ParsesSpecifier result (read_specifier text.now) }
 {
     let (spelled, behind) = split_run(skip_white_space(text), Run::Operator);
     if spelled.is_empty() {

@@ -3,7 +3,7 @@ ghost use Rattle.std.specs.Prelude.{◌≡◌};
 ghost use Rattle.std.specs.Char.{is_whitespace};
 ghost use Rattle.std.specs.Str.{chars, encode_utf8_all};
 ghost use Rattle.pep440_version.specs.Reading.{lead, past, EndsWith};
-ghost use Rattle.pep440_rs.specs.SpecifierReading.{passes};
+ghost use Rattle.pep440_rs.specs.Specifiers.SpecifierReading.{passes};
 
 // What a run is made of.
 #[derive(Clone, Copy)]

@@ -2,7 +2,7 @@
 use Rattle.std.proofs.Common.{Bor, ◌≡◌, ◌+◌, ◌<◌, ℕ, List, [], ◌∷◌, ◌++◌, length, drop, get_or, map, Option, Some, None, refl, sym, ap, ◌∙◌, append_assoc, option_and_then}
 use Rattle.std.specs.Option.{option_map}
 use Rattle.std.proofs.lemmas.List.{drop_more, get_or-map, length-map}
-use Rattle.pep440_version.specs.ChangeWords.{all_of}
+use Rattle.pep440_version.specs.Changes.ChangeWords.{all_of}
 
 -- items that were found, and then the rest
 abbrev pub before : {A : Type 0} → List A → Option (List A) → Option (List A)

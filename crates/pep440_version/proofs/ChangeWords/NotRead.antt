@@ -1,7 +1,7 @@
 -- A part that is not read leaves the whole unread.
 use Rattle.std.proofs.Common.{◌≡◌, Option, None, Result, Ok, Err, sym, subst}
 use Rattle.std.specs.Prelude.{IsErrAnd}
-use Rattle.pep440_version.specs.ChangeWordResults.{Lacks, ReadsAs}
+use Rattle.pep440_version.specs.Changes.ChangeWordResults.{Lacks, ReadsAs}
 use Rattle.pep440_version.specs.declared.change_word.ChangeWordError.{ChangeWordError}
 use Rattle.pep440_version.specs.declared.change_word.ChangeWordError.TheVariants as no
 

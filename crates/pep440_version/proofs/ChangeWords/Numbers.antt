@@ -6,7 +6,7 @@ use Rattle.std.specs.List.{list_all}
 use Rattle.std.specs.Result.{result_ok}
 use Rattle.std.specs.Str.Parse.{digits_value, ParsesUnsigned}
 use Rattle.pep440_version.proofs.Reading.Digits.{value_of}
-use Rattle.pep440_version.specs.ChangeWords.{is_run, number_of}
+use Rattle.pep440_version.specs.Changes.ChangeWords.{is_run, number_of}
 
 both : (a b : Bool) → (a && b) ≡ true → (a ≡ true) × (b ≡ true)
 both true b e = (refl, e)

@@ -4,7 +4,7 @@ use Rattle.std.specs.Option.{option_copied, MatchOption}
 use Rattle.std.specs.Str.{IsCharBoundary}
 use Rattle.std.specs.Str.Pattern.{FindsTextPrefix, StripsPrefix}
 use Rattle.std.proofs.lemmas.Str.Pattern.{starts_text}
-use Rattle.pep440_version.specs.ChangeWords.{after}
+use Rattle.pep440_version.specs.Changes.ChangeWords.{after}
 use Rattle.std.proofs.Common.{Bor}
 
 -- `strip_prefix` of a string

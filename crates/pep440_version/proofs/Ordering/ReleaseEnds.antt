@@ -6,9 +6,9 @@ use Rattle.std.specs.Cmp.Lexicographic.{slice_cmp}
 use Rattle.std.specs.declared.cmp.Ordering.TheVariants.{Equal}
 use Rattle.pep440_version.specs.Feed.{feed}
 use Rattle.pep440_version.specs.Key.{record_cmp, release_cmp}
-use Rattle.pep440_version.specs.KeyLaws.{release_cmp-trim, record_total}
+use Rattle.pep440_version.specs.Key.KeyLaws.{release_cmp-trim, record_total}
 use Rattle.pep440_version.specs.Record.{Record}
-use Rattle.pep440_version.specs.Trim.{trim}
+use Rattle.pep440_version.specs.Key.Trim.{trim}
 
 pub zeros_tie : (r : Record) (numbers : List ℕ) → trim numbers ≡ trim r.release
     → (record_cmp (record r { release = numbers }) r ≡ Equal) × (feed (record r { release = numbers }) ≡ feed r)

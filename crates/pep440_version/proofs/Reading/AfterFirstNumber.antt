@@ -5,7 +5,7 @@ use Rattle.std.proofs.lemmas.List.{append_assoc, append-nil, length-append}
 use Rattle.std.specs.Char.{is_ascii_digit}
 use Rattle.pep440_version.specs.Grammar.{starts}
 use Rattle.pep440_version.specs.Reading.{Read, ◌>>=◌, starts_with_number, parse_number, has_next_number, parse_release, parse_more_numbers, parse_release_from}
-use Rattle.pep440_version.specs.Refusals.{Refusal}
+use Rattle.pep440_version.specs.Rejections.{Rejection}
 use Rattle.pep440_version.specs.Whole.{parse_release_after_first, parse_epoch_and_release}
 use Rattle.pep440_version.proofs.Reading.Prefixes.{both_first, both_second}
 use Rattle.pep440_version.proofs.Reading.ReadIsDerived.{drop_one, number_takes}
@@ -70,7 +70,7 @@ more_on k rest after prefix n g e = rw (g, e) (elim (cases_Bool (has_next_number
 pub more_end : (k : ℕ) (rest prefix : List ℕ) → has_next_number rest ≡ false → with_prefix prefix (parse_more_numbers k rest) ≡ Ok (prefix, rest)
 more_end k rest prefix g = rw g (ap (λ l. Ok (l, rest)) (append-nil prefix))
 
-pub more_err : (k : ℕ) (rest prefix : List ℕ) (f : Refusal) → has_next_number rest ≡ true → parse_number (drop 1 rest) ≡ Err f → with_prefix prefix (parse_more_numbers (suc k) rest) ≡ Err f
+pub more_err : (k : ℕ) (rest prefix : List ℕ) (f : Rejection) → has_next_number rest ≡ true → parse_number (drop 1 rest) ≡ Err f → with_prefix prefix (parse_more_numbers (suc k) rest) ≡ Err f
 unfolding parse_release
 more_err k rest prefix f g e = rw (g, e) refl
 
@@ -84,7 +84,7 @@ more_shorter k rest after n g e h =
     let dot = past_dot rest g in
     omega (arith, down, dot, h)
 
-release_err : (t : List ℕ) (f : Refusal) → starts is_ascii_digit t ≡ true → parse_number t ≡ Err f → parse_release (length t) t ≡ Err f
+release_err : (t : List ℕ) (f : Rejection) → starts is_ascii_digit t ≡ true → parse_number t ≡ Err f → parse_release (length t) t ≡ Err f
 unfolding parse_release
 release_err [] f s e = cc s
 release_err (b ∷ t) f s e = rw e refl
@@ -100,6 +100,6 @@ pub prefix_epoch : (t after behind : List ℕ) (n first : ℕ) → starts_with_n
 unfolding parse_epoch_and_release
 prefix_epoch t after behind n first s e bang d g = rw (s, e, bang, d) (ap (λ (r : Read (List ℕ × List ℕ)). r >>= λ x. Ok ((n, x.0), x.1)) (release_split (drop 1 after) behind first d g))
 
-pub prefix_err : (t after : List ℕ) (n : ℕ) (f : Refusal) → starts_with_number t ≡ true → parse_number t ≡ Ok (n, after) → starts (λ b. b == 33) after ≡ true → starts_with_number (drop 1 after) ≡ true → parse_number (drop 1 after) ≡ Err f → parse_epoch_and_release t ≡ Err f
+pub prefix_err : (t after : List ℕ) (n : ℕ) (f : Rejection) → starts_with_number t ≡ true → parse_number t ≡ Ok (n, after) → starts (λ b. b == 33) after ≡ true → starts_with_number (drop 1 after) ≡ true → parse_number (drop 1 after) ≡ Err f → parse_epoch_and_release t ≡ Err f
 unfolding parse_epoch_and_release
 prefix_err t after n f s e bang d g = rw (s, e, bang, d) (ap (λ (r : Read (List ℕ × List ℕ)). r >>= λ x. Ok ((n, x.0), x.1)) (release_err (drop 1 after) f d g))

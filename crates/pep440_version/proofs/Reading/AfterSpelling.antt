@@ -3,7 +3,7 @@ use Rattle.std.proofs.Common.{◌≡◌, ℕ, List, refl, ap, drop, Ok, Err, Opt
 use Rattle.pep440_version.specs.declared.prerelease.PrereleaseKind.{PrereleaseKind}
 use Rattle.pep440_version.specs.Grammar.{Spellings, pre_spellings, post_spellings}
 use Rattle.pep440_version.specs.Reading.{◌>>=◌}
-use Rattle.pep440_version.specs.Refusals.{Refusal}
+use Rattle.pep440_version.specs.Rejections.{Rejection}
 use Rattle.pep440_version.specs.Suffixes.{spelled, skip_separator, parse_count, after_spelling, parse_suffix, parse_pre, suffix_prerelease, suffix_number, parse_spelled_post}
 use Rattle.pep440_version.proofs.Reading.ReadIsSpelled.{some}
 
@@ -19,7 +19,7 @@ suffix_ok {A} table t after rest a n h e = by (spelled table (skip_separator t))
         let left : drop x.1 (skip_separator t) ≡ after = ap (λ (p : A × List ℕ). p.1) same in
         rw (left, e, which) refl
 
-suffix_err : {A : Type 0} (table : Spellings A) (t after : List ℕ) (f : Refusal) → option_map (λ x. drop x.1 (skip_separator t)) (spelled table (skip_separator t)) ≡ Some after
+suffix_err : {A : Type 0} (table : Spellings A) (t after : List ℕ) (f : Rejection) → option_map (λ x. drop x.1 (skip_separator t)) (spelled table (skip_separator t)) ≡ Some after
     → parse_count (skip_separator after) ≡ Err f → parse_suffix table t ≡ Err f
 suffix_err {A} table t after f h e = by (spelled table (skip_separator t)) h
   where
@@ -35,10 +35,10 @@ pub pre_ok : (t after rest : List ℕ) (k : PrereleaseKind) (n : ℕ) → option
     → parse_count (skip_separator after) ≡ Ok (n, rest) → parse_pre t ≡ Ok (Some (record { kind = k; number = n }), rest)
 pre_ok t after rest k n h e = ap (λ r. r >>= λ x. Ok (suffix_prerelease x.0, x.1)) (suffix_ok pre_spellings t after rest k n h e)
 
-pub pre_err : (t after : List ℕ) (k : PrereleaseKind) (f : Refusal) → option_map {U = PrereleaseKind × List ℕ} (λ x. (x.0, drop x.1 (skip_separator t))) (spelled pre_spellings (skip_separator t)) ≡ Some (k, after)
+pub pre_err : (t after : List ℕ) (k : PrereleaseKind) (f : Rejection) → option_map {U = PrereleaseKind × List ℕ} (λ x. (x.0, drop x.1 (skip_separator t))) (spelled pre_spellings (skip_separator t)) ≡ Some (k, after)
     → parse_count (skip_separator after) ≡ Err f → parse_pre t ≡ Err f
 pre_err t after k f h e = ap (λ r. r >>= λ x. Ok (suffix_prerelease x.0, x.1)) (suffix_err pre_spellings t after f (forget (skip_separator t) after k (spelled pre_spellings (skip_separator t)) h) e)
 
-pub post_err : (t after : List ℕ) (a : Unit {0}) (f : Refusal) → option_map {U = Unit {0} × List ℕ} (λ x. (x.0, drop x.1 (skip_separator t))) (spelled post_spellings (skip_separator t)) ≡ Some (a, after)
+pub post_err : (t after : List ℕ) (a : Unit {0}) (f : Rejection) → option_map {U = Unit {0} × List ℕ} (λ x. (x.0, drop x.1 (skip_separator t))) (spelled post_spellings (skip_separator t)) ≡ Some (a, after)
     → parse_count (skip_separator after) ≡ Err f → parse_spelled_post t ≡ Err f
 post_err t after a f h e = ap (λ r. r >>= λ x. Ok (suffix_number x.0, x.1)) (suffix_err post_spellings t after f (forget (skip_separator t) after a (spelled post_spellings (skip_separator t)) h) e)

@@ -6,7 +6,7 @@ use Rattle.pep440_version.specs.Grammar.{IsNumber, IsRelease, IsEpoch, IsLeading
 use Rattle.pep440_version.specs.Patterns.{DerivesStar, DerivesPattern}
 use Rattle.pep440_version.specs.Reading.{EndsWith, Read, lead, past, starts_with_number, skip_v, parse_number, has_next_number, parse_release}
 use Rattle.pep440_version.specs.Record.{Record, epoch_and_release}
-use Rattle.pep440_version.specs.Refusals.{PatternRefusal, OfVersion, WildcardNotTrailing}
+use Rattle.pep440_version.specs.Rejections.{PatternRejection, OfVersion, WildcardNotTrailing}
 use Rattle.pep440_version.specs.Whole.{parse_release_after_epoch, parse_epoch_and_release, parse_through_release, parse_parts, parse_end, parse_after_release, starts_with_star, without_star, pattern_from, read_pattern, version_of, read_version}
 use Rattle.pep440_version.proofs.Reading.Prefixes.{both_first, both_second, past-run, lead-all}
 use Rattle.pep440_version.proofs.Reading.ReadIsDerived.{bind_ok, chosen, inside, split, number_takes, release_takes, drop_one, v_takes, blank_end}
@@ -114,8 +114,8 @@ closing_takes text x r o e =
     let last = end_takes text parts.0 r parts.2 in
     subst (Derives text) last.0 (derived text parts.0.1 x.0.0 x.0.1 x.1 parts.0.0 (opening_takes text x o) (parts_take x.0.0 x.0.1 x.1 parts.0 parts.1) last.1)
 
-pub sure : (x y : Record × Bool) → (let z : Result (Record × Bool) PatternRefusal = Ok x in z) ≡ Ok y → x ≡ y
-sure x y e = ap (λ (z : Result (Record × Bool) PatternRefusal). elim z as (λ _. Record × Bool) [ Ok u ↦ u | Err f ↦ x ]) e
+pub sure : (x y : Record × Bool) → (let z : Result (Record × Bool) PatternRejection = Ok x in z) ≡ Ok y → x ≡ y
+sure x y e = ap (λ (z : Result (Record × Bool) PatternRejection). elim z as (λ _. Record × Bool) [ Ok u ↦ u | Err f ↦ x ]) e
 
 pub without_star_is : (read : Read Record) (r : Record) (star : Bool) → without_star read ≡ Ok (r, star) → (read ≡ Ok r) × (false ≡ star)
 without_star_is (Ok q) r star e = let same = sure _ _ e in (ap (λ (p : Record × Bool). (let y : Read Record = Ok p.0 in y)) same, ap (λ (p : Record × Bool). p.1) same)
@@ -180,9 +180,9 @@ found_pattern text r star e = by (parse_through_release text) refl e
       | inr h ↦ let s = without_star_is (parse_after_release text x) r star h.1 in subst (DerivesPattern text r) s.1 (closing_takes text x r o s.0)
     ]
 
-pub version_is : (p : Result (Record × Bool) PatternRefusal) (r : Record) → version_of p ≡ Ok r → p ≡ Ok (r, false)
+pub version_is : (p : Result (Record × Bool) PatternRejection) (r : Record) → version_of p ≡ Ok r → p ≡ Ok (r, false)
 version_is (Ok (q, true)) r e = cc e
-version_is (Ok (q, false)) r e = ap (λ (x : Record). (let y : Result (Record × Bool) PatternRefusal = Ok (x, false) in y)) (inside _ _ e)
+version_is (Ok (q, false)) r e = ap (λ (x : Record). (let y : Result (Record × Bool) PatternRejection = Ok (x, false) in y)) (inside _ _ e)
 version_is (Err (OfVersion f)) r e = cc e
 version_is (Err WildcardNotTrailing) r e = cc e
 
@@ -248,7 +248,7 @@ star_again text r (prefix, h, decomposition, none, plain) =
     let f = prefix_again h.e h.n (46 ∷ 42 ∷ []) r.epoch r.release h.epoch h.release refl refl refl in
     let whole : text ≡ h.w1 ++ (h.v ++ (h.e ++ (h.n ++ (46 ∷ 42 ∷ [])))) = decomposition ∙ ap (λ t. t ++ (46 ∷ 42 ∷ [])) (ends_at_release prefix r h none plain) ∙ sym (four h.w1 h.v h.e h.n (46 ∷ 42 ∷ [])) in
     let o : parse_through_release text ≡ Ok ((r.epoch, r.release), 46 ∷ 42 ∷ []) = opening_again text h.w1 h.v (h.e ++ (h.n ++ (46 ∷ 42 ∷ []))) whole h.blanks h.letter f.0 ∙ f.1 in
-    ap (pattern_from text) o ∙ ap (λ (x : Record). (let y : Result (Record × Bool) PatternRefusal = Ok (x, true) in y)) (sym plain)
+    ap (pattern_from text) o ∙ ap (λ (x : Record). (let y : Result (Record × Bool) PatternRejection = Ok (x, true) in y)) (sym plain)
 
 pub only_pattern : (text : List ℕ) (r : Record) (star : Bool) → DerivesPattern text r star → read_pattern text ≡ Ok (r, star)
 only_pattern text r true h = star_again text r h

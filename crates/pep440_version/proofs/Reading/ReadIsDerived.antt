@@ -7,10 +7,10 @@ use Rattle.std.specs.List.{list_all, prefix_len}
 use Rattle.std.specs.Str.Parse.{digits_value}
 use Rattle.pep440_version.specs.Grammar.{IsNumber, IsRelease, IsLeadingV, AreBlanks, starts}
 use Rattle.pep440_version.specs.Reading.{◌>>=◌, lead, past, skip_v, parse_number, has_next_number, parse_release}
-use Rattle.pep440_version.specs.Refusals.{Refusal}
+use Rattle.pep440_version.specs.Rejections.{Rejection}
 use Rattle.pep440_version.proofs.Reading.Prefixes.{both_first, both_second, lead-all, past-stops}
 
-pub bind_ok : {A B : Type 0} (r : Result A Refusal) (f : A → Result B Refusal) (y : B) → (r >>= f) ≡ Ok y → (x : A) × (r ≡ Ok x) × (f x ≡ Ok y)
+pub bind_ok : {A B : Type 0} (r : Result A Rejection) (f : A → Result B Rejection) (y : B) → (r >>= f) ≡ Ok y → (x : A) × (r ≡ Ok x) × (f x ≡ Ok y)
 bind_ok (Ok x) f y e = (x, refl, e)
 bind_ok (Err d) f y e = cc e
 
@@ -18,8 +18,8 @@ pub chosen : {A : Type 0} (b : Bool) (x y z : A) → cond b x y ≡ z → ((b �
 chosen true x y z e = inl (refl, e)
 chosen false x y z e = inr (refl, e)
 
-pub inside : {A : Type 0} (x y : A) → (let r : Result A Refusal = Ok x in r) ≡ Ok y → x ≡ y
-inside {A} x y e = ap (λ (r : Result A Refusal). elim r as (λ _. A) [ Ok z ↦ z | Err f ↦ x ]) e
+pub inside : {A : Type 0} (x y : A) → (let r : Result A Rejection = Ok x in r) ≡ Ok y → x ≡ y
+inside {A} x y e = ap (λ (r : Result A Rejection). elim r as (λ _. A) [ Ok z ↦ z | Err f ↦ x ]) e
 
 pub lead-some : (p : ℕ → Bool) (t : List ℕ) → starts p t ≡ true → 0 < length (lead p t)
 lead-some p [] s = cc s

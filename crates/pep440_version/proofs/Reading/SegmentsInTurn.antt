@@ -8,7 +8,7 @@ use Rattle.pep440_version.specs.Grammar.{is_separator, parse_segment, starts}
 use Rattle.pep440_version.specs.Locals.{first_byte, parse_segments}
 use Rattle.pep440_version.specs.Reading.{Read, ◌>>=◌, lead, past}
 use Rattle.pep440_version.specs.Record.{LocalSegmentValue}
-use Rattle.pep440_version.specs.Refusals.{LocalEmpty}
+use Rattle.pep440_version.specs.Rejections.{LocalEmpty}
 use Rattle.pep440_version.proofs.Reading.ReadIsDerived.{lead-some}
 use Rattle.pep440_version.proofs.Reading.ReadIsSpelled.{some}
 

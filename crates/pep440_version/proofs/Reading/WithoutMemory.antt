@@ -7,7 +7,7 @@ use Rattle.pep440_version.specs.Grammar.{is_separator, starts, parse_segment}
 use Rattle.pep440_version.specs.Locals.{first_byte, parse_segments, parse_local}
 use Rattle.pep440_version.specs.Reading.{Read, ◌>>=◌, lead, past, starts_with_number, parse_number, has_next_number, parse_more_numbers, parse_release_from}
 use Rattle.pep440_version.specs.Record.{Record, LocalSegmentValue, epoch_and_release, from_parts}
-use Rattle.pep440_version.specs.Refusals.{Refusal}
+use Rattle.pep440_version.specs.Rejections.{Rejection}
 use Rattle.pep440_version.specs.Suffixes.{parse_pre, parse_post, parse_dev}
 use Rattle.pep440_version.specs.Whole.{parse_release_after_first, parse_epoch_and_release, parse_through_release, parse_parts, parse_end, parse_after_release, starts_with_star, pattern_from, read_pattern}
 use Rattle.pep440_version.specs.Word.{is_packed}
@@ -19,7 +19,7 @@ use Rattle.pep440_version.proofs.Reading.ReadIsDerived.{bind_ok, chosen, inside}
 use Rattle.pep440_version.proofs.Words.Packed.{packed}
 
 -- where a fault of a part is a fault of the whole, and the whole is read, the part is read
-pub read_too : {X Y : Type 0} (read : Read X) (out : Read Y) → ((f : Refusal) → read ≡ Err f → out ≡ Err f) → (y : Y) → out ≡ Ok y → (x : X) × (read ≡ Ok x)
+pub read_too : {X Y : Type 0} (read : Read X) (out : Read Y) → ((f : Rejection) → read ≡ Err f → out ≡ Err f) → (y : Y) → out ≡ Ok y → (x : X) × (read ≡ Ok x)
 read_too (Ok x) out on y e = (x, refl)
 read_too (Err f) out on y e = cc (sym (on f refl) ∙ e)
 

@@ -13,9 +13,9 @@ use Rattle.pep440_version.specs.declared.prerelease.PrereleaseKind.{PrereleaseKi
 use Rattle.pep440_version.specs.declared.prerelease.PrereleaseKind.TheVariants.{Alpha, Beta, Rc}
 use Rattle.pep440_version.specs.declared.prerelease.Prerelease.{Prerelease}
 use Rattle.pep440_version.specs.Grammar.{starts, IsNumber, IsRelease, IsEpoch, Spellings, IsSpelling, IsSpelled, IsSeparator, IsCount, pre_spellings, post_spellings, dev_spellings, IsPre, IsPost, IsDev, parse_segment, IsSegment, AreSegments, IsLocal, Derives, is_numeral}
-use Rattle.pep440_version.specs.Print.{dotted, epoch_text, prerelease_kind_text, pre_text, labelled, segment_print, local_text, print}
+use Rattle.pep440_version.specs.Print.{dotted, epoch_text, prerelease_kind_text, pre_text, labelled, print_segment, local_text, print}
 use Rattle.pep440_version.specs.Record.{Record, LocalSegmentValue, Text, Number, Fits, SegmentFits, IsRecord}
-use Rattle.pep440_version.specs.RoundTrip.{is_lower, SegmentRereads, RoundTrips}
+use Rattle.pep440_version.specs.RoundTrip.{is_lower, SegmentRoundTrips, RoundTrips}
 use Rattle.pep440_version.proofs.Reading.Prefixes.{both_first, both_second}
 use Rattle.pep440_version.proofs.Reading.Digits.{digits_model}
 
@@ -125,7 +125,7 @@ digits_kept : (t : List ℕ) → list_all is_ascii_digit (map to_ascii_lowercase
 digits_kept [] = refl
 digits_kept (b ∷ t) = rw (digit_kept b, digits_kept t) refl
 
-pub segment_reads : (s : LocalSegmentValue) → SegmentFits s → SegmentRereads s → IsSegment (segment_print s) s
+pub segment_reads : (s : LocalSegmentValue) → SegmentFits s → SegmentRoundTrips s → IsSegment (print_segment s) s
 segment_reads (Number n) fits h =
     let digits : list_all is_ascii_digit (decimal n) ≡ true = digits_decimal digits_model n fits in (
       decimal_nonempty n fits,
@@ -134,11 +134,11 @@ segment_reads (Number n) fits h =
     )
 segment_reads (Text t) fits h = (h.0, all_pass is_lower is_ascii_alphanumeric lower_alphanumeric t h.1, rw (h.2, all_kept t h.1) refl)
 
-segments_read : (s : LocalSegmentValue) (rest : List LocalSegmentValue) → All SegmentFits (s ∷ rest) → All SegmentRereads (s ∷ rest) → AreSegments (dotted segment_print (s ∷ rest)) (s ∷ rest)
-segments_read s [] fits h = subst (λ t. IsSegment t s) (sym (append-nil (segment_print s))) (segment_reads s (fits 0 s (omega arith)) (h 0 s (omega arith)))
+segments_read : (s : LocalSegmentValue) (rest : List LocalSegmentValue) → All SegmentFits (s ∷ rest) → All SegmentRoundTrips (s ∷ rest) → AreSegments (dotted print_segment (s ∷ rest)) (s ∷ rest)
+segments_read s [] fits h = subst (λ t. IsSegment t s) (sym (append-nil (print_segment s))) (segment_reads s (fits 0 s (omega arith)) (h 0 s (omega arith)))
 segments_read s (t ∷ rest) fits h = (
-  segment_print s,
-  dotted segment_print (t ∷ rest),
+  print_segment s,
+  dotted print_segment (t ∷ rest),
   46,
   segment_reads s (fits 0 s (omega arith)) (h 0 s (omega arith)),
   refl,
@@ -146,9 +146,9 @@ segments_read s (t ∷ rest) fits h = (
   refl,
 )
 
-local_reads : (local : List LocalSegmentValue) → All SegmentFits local → All SegmentRereads local → IsLocal (local_text local) local
+local_reads : (local : List LocalSegmentValue) → All SegmentFits local → All SegmentRoundTrips local → IsLocal (local_text local) local
 local_reads [] fits h = refl
-local_reads (s ∷ rest) fits h = (dotted segment_print (s ∷ rest), segments_read s rest fits h, refl)
+local_reads (s ∷ rest) fits h = (dotted print_segment (s ∷ rest), segments_read s rest fits h, refl)
 
 pub reread : (r : Record) → IsRecord r → RoundTrips r → Derives (print r) r
 reread r h again =
@@ -184,7 +184,7 @@ reread r h again =
 
 -- ---- what is read
 
-read_text : (t : List ℕ) → 0 < length t → list_all is_ascii_alphanumeric t ≡ true → is_numeral t ≡ false → SegmentRereads (Text (map to_ascii_lowercase t))
+read_text : (t : List ℕ) → 0 < length t → list_all is_ascii_alphanumeric t ≡ true → is_numeral t ≡ false → SegmentRoundTrips (Text (map to_ascii_lowercase t))
 read_text t some all none = (subst (λ n. 0 < n) (sym (length-map t to_ascii_lowercase)) some, all_lowered t all, numeral)
   where
     numeral : is_numeral (map to_ascii_lowercase t) ≡ false
@@ -193,7 +193,7 @@ read_text t some all none = (subst (λ n. 0 < n) (sym (length-map t to_ascii_low
       | inr e ↦ rw (digits_kept t, e) refl
     ]
 
-of_text : (t : List ℕ) → 0 < length t → list_all is_ascii_alphanumeric t ≡ true → SegmentFits (parse_segment t) × SegmentRereads (parse_segment t)
+of_text : (t : List ℕ) → 0 < length t → list_all is_ascii_alphanumeric t ≡ true → SegmentFits (parse_segment t) × SegmentRoundTrips (parse_segment t)
 of_text t some all = elim (cases_Bool (is_numeral t)) [
   | inl e ↦ rw e (ltb_fits t (both_second (list_all is_ascii_digit t) _ e), tt)
   | inr e ↦ rw e (tt, read_text t some all e)
@@ -202,8 +202,8 @@ of_text t some all = elim (cases_Bool (is_numeral t)) [
     ltb_fits : (t : List ℕ) → nat_lt (digits_value 10 t) (2 ^ 64) ≡ true → Fits (digits_value 10 t)
     ltb_fits t e = grind (arith, nat_tests)
 
-segment_is : (text : List ℕ) (s : LocalSegmentValue) → IsSegment text s → SegmentFits s × SegmentRereads s
-segment_is text s h = subst (λ x. SegmentFits x × SegmentRereads x) (sym h.2) (of_text text h.0 h.1)
+segment_is : (text : List ℕ) (s : LocalSegmentValue) → IsSegment text s → SegmentFits s × SegmentRoundTrips s
+segment_is text s h = subst (λ x. SegmentFits x × SegmentRoundTrips x) (sym h.2) (of_text text h.0 h.1)
 
 -- what holds of the first and of the others holds of all
 all_more : {A : Type 0} (P : A → Type 0) (x : A) (xs : List A) → P x → All P xs → All P (x ∷ xs)
@@ -213,18 +213,18 @@ all_more P x xs one more (suc k) d lt = more k d (omega (arith, lt))
 pub none_all : {A : Type 0} (P : A → Type 0) → All P []
 none_all P k d lt = absurd (omega (arith, lt))
 
-segments_are : (text : List ℕ) (local : List LocalSegmentValue) → AreSegments text local → All SegmentFits local × All SegmentRereads local
+segments_are : (text : List ℕ) (local : List LocalSegmentValue) → AreSegments text local → All SegmentFits local × All SegmentRoundTrips local
 segments_are text [] h = elim h [ ]
 segments_are text (s ∷ []) h =
     let one = segment_is text s h in
-    (all_more SegmentFits s [] one.0 (none_all SegmentFits), all_more SegmentRereads s [] one.1 (none_all SegmentRereads))
+    (all_more SegmentFits s [] one.0 (none_all SegmentFits), all_more SegmentRoundTrips s [] one.1 (none_all SegmentRoundTrips))
 segments_are text (s ∷ t ∷ rest) (first, after, b, h, sep, more, decomposition) =
     let one = segment_is first s h in
     let others = segments_are after (t ∷ rest) more in
-    (all_more SegmentFits s (t ∷ rest) one.0 others.0, all_more SegmentRereads s (t ∷ rest) one.1 others.1)
+    (all_more SegmentFits s (t ∷ rest) one.0 others.0, all_more SegmentRoundTrips s (t ∷ rest) one.1 others.1)
 
-pub local_is : (part : List ℕ) (local : List LocalSegmentValue) → IsLocal part local → All SegmentFits local × All SegmentRereads local
-local_is part [] h = (none_all SegmentFits, none_all SegmentRereads)
+pub local_is : (part : List ℕ) (local : List LocalSegmentValue) → IsLocal part local → All SegmentFits local × All SegmentRoundTrips local
+local_is part [] h = (none_all SegmentFits, none_all SegmentRoundTrips)
 local_is part (s ∷ rest) (text, h, decomposition) = segments_are text (s ∷ rest) h
 
 number_fits : (digits : List ℕ) (n : ℕ) → IsNumber digits n → Fits n

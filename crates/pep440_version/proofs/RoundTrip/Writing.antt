@@ -13,7 +13,7 @@ use Rattle.std.specs.Fmt.{HasWrittenStyled, IsFlush, WritesInCalls}
 use Rattle.std.specs.Fmt.InlineText.{inline_text, IsIntact, AppendsIfIntact}
 use Rattle.std.proofs.Output.{has_written_styled_append}
 use Rattle.pep440_version.specs.declared.segment.LocalSegment.{LocalSegment}
-use Rattle.pep440_version.specs.Print.{dotted, segment_print, local_text}
+use Rattle.pep440_version.specs.Print.{dotted, print_segment, local_text}
 use Rattle.pep440_version.specs.Segments.{segment}
 
 pub flat_map_take : {X A : Type 0} (f : X → List A) (xs : List X) (i : ℕ) (d : X) → i < length xs → flat_map f (take i xs) ++ f (get_or xs i d) ≡ flat_map f (take (i + 1) xs)
@@ -38,14 +38,14 @@ dotted_map g text [] = refl
 dotted_map g text (x ∷ xs) = ap (λ l. text (g x) ++ l) (sym (flat_map-map (λ y. codes "." ++ text y) g xs))
 
 pub segments_prefix : (xs : List LocalSegment) (x : LocalSegment) → x ≡ get_or xs 0 x → 1 ≤ length xs
-    → segment_print (segment x) ++ flat_map (λ s. codes "." ++ segment_print (segment s)) (take (length xs - 1) (drop 1 xs)) ≡ dotted segment_print (map segment xs)
+    → print_segment (segment x) ++ flat_map (λ s. codes "." ++ print_segment (segment s)) (take (length xs - 1) (drop 1 xs)) ≡ dotted print_segment (map segment xs)
 segments_prefix xs x is some =
-    ap (λ y. segment_print (segment y) ++ flat_map (λ s. codes "." ++ segment_print (segment s)) (take (length xs - 1) (drop 1 xs))) is
-    ∙ dotted_items (λ s. segment_print (segment s)) xs x some
-    ∙ dotted_map segment segment_print xs
+    ap (λ y. print_segment (segment y) ++ flat_map (λ s. codes "." ++ print_segment (segment s)) (take (length xs - 1) (drop 1 xs))) is
+    ∙ dotted_items (λ s. print_segment (segment s)) xs x some
+    ∙ dotted_map segment print_segment xs
 
 -- a plus before the segments, where there are some
-pub with_plus : (xs : List LocalSegment) → (length xs == 0) ≡ false → codes "+" ++ dotted segment_print (map segment xs) ≡ local_text (map segment xs)
+pub with_plus : (xs : List LocalSegment) → (length xs == 0) ≡ false → codes "+" ++ dotted print_segment (map segment xs) ≡ local_text (map segment xs)
 with_plus [] some = absurd (true≢false some)
 with_plus (x ∷ xs) some = refl
 

@@ -2,11 +2,11 @@
 ghost use Rattle.std.specs.Prelude.{◌≡◌, ◌<◌, ◌++◌, ◌∷◌, ℕ, List, [], Ok, IsOk, OnOk, true, length, map, IfOk, Some};
 ghost use Rattle.std.specs.Char.{is_ascii_alphanumeric};
 ghost use Rattle.std.specs.List.{list_all};
-ghost use Rattle.pep440_version.specs.Errors.{AnswersBy, refusal_of};
+ghost use Rattle.pep440_version.specs.Errors.{ReturnsOutcomeBy, rejection_of};
 ghost use Rattle.pep440_version.specs.Grammar.{parse_segment};
 ghost use Rattle.pep440_version.specs.Locals.{parse_segments, parse_local};
 ghost use Rattle.pep440_version.specs.Record.{LocalSegmentValue};
-ghost use Rattle.pep440_version.specs.Refusals.{LocalEmpty};
+ghost use Rattle.pep440_version.specs.Rejections.{LocalEmpty};
 ghost use Rattle.pep440_version.specs.Segments.{segment};
 
 use super::scan;
@@ -28,7 +28,7 @@ fn parse_segment(alloc: Global, text: &str) -> Result<LocalSegment, AllocError>
 }
 
 fn make_local_empty(precursor: u8) -> ErrorKind
-    ensures { refusal_of result ≡ Some (LocalEmpty precursor) }
+    ensures { rejection_of result ≡ Some (LocalEmpty precursor) }
 {
     ErrorKind::LocalEmpty {
         precursor: char::from(precursor),
@@ -43,7 +43,7 @@ fn push_segment(segments: &mut Vec<LocalSegment>, part: LocalSegment) -> Result<
 
 // The leading segments, and the rest.
 fn parse_segments(alloc: Global, text: &str) -> Result<(Vec<LocalSegment>, &str), ErrorKind>
-    ensures { AnswersBy (λ x. (map segment x.0.items, x.1.now)) result (parse_segments (length text.now) 43 text.now) }
+    ensures { ReturnsOutcomeBy (λ x. (map segment x.0.items, x.1.now)) result (parse_segments (length text.now) 43 text.now) }
 {
     let mut segments = Vec::new(alloc);
     let mut precursor = b'+';
@@ -64,7 +64,7 @@ fn parse_segments(alloc: Global, text: &str) -> Result<(Vec<LocalSegment>, &str)
 }
 
 pub(crate) fn parse_local(alloc: Global, text: &str) -> Result<(Vec<LocalSegment>, &str), ErrorKind>
-    ensures reads { AnswersBy (λ x. (map segment x.0.items, x.1.now)) result (parse_local text.now) }
+    ensures reads { ReturnsOutcomeBy (λ x. (map segment x.0.items, x.1.now)) result (parse_local text.now) }
     ensures memory { (x : List LocalSegmentValue × List ℕ) → parse_local text.now ≡ Ok x → x.0 ≡ [] → IsOk result }
 {
     if scan::starts_with(text, b'+') {

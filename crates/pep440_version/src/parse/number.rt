@@ -1,8 +1,8 @@
 //! The parsers of numbers and releases.
 ghost use Rattle.std.specs.Prelude.{◌≡◌, ◌<◌, ◌≤◌, ◌==◌, ℕ, List, Ok, IfSome, IsOk, true, length};
-ghost use Rattle.pep440_version.specs.Errors.{AnswersBy, refusal_of};
+ghost use Rattle.pep440_version.specs.Errors.{ReturnsOutcomeBy, rejection_of};
 ghost use Rattle.pep440_version.specs.Grammar.{starts};
-ghost use Rattle.pep440_version.specs.Refusals.{NumberTooBig};
+ghost use Rattle.pep440_version.specs.Rejections.{NumberTooBig};
 ghost use Rattle.pep440_version.specs.Reading.{parse_release_from, parse_number, has_next_number, starts_with_number};
 
 use super::scan;
@@ -22,7 +22,7 @@ pub(crate) fn starts_with_number(text: &str) -> bool
 // The error for digits whose value does not fit; not inlined, so that parsing a number stays short.
 #[inline(never)]
 fn make_number_too_big(alloc: Global, digits: &str) -> ErrorKind
-    ensures { IfSome (refusal_of result) (λ f. f ≡ NumberTooBig digits.now) }
+    ensures { IfSome (rejection_of result) (λ f. f ≡ NumberTooBig digits.now) }
 {
     match Vec::from_slice(alloc, digits.as_bytes()) {
         Ok(bytes) => ErrorKind::NumberTooBig { bytes },
@@ -35,7 +35,7 @@ fn make_number_too_big(alloc: Global, digits: &str) -> ErrorKind
 #[tactic(auto, unfolding(crate::specs::Reading::parse_number))]
 pub(crate) fn parse_number(alloc: Global, text: &str) -> Result<(u64, &str), ErrorKind>
     requires { starts_with_number text.now ≡ true }
-    ensures reads { AnswersBy (λ x. (x.0, x.1.now)) result (parse_number text.now) }
+    ensures reads { ReturnsOutcomeBy (λ x. (x.0, x.1.now)) result (parse_number text.now) }
     ensures memory { (x : ℕ × List ℕ) → parse_number text.now ≡ Ok x → IsOk result }
 {
     let (digits, rest) = scan::split_digits(text);
@@ -57,7 +57,7 @@ pub(crate) fn parse_release_from(
     first: u64,
     text: &str,
 ) -> Result<(Release, &str), ErrorKind>
-    ensures reads { AnswersBy (λ x. (x.0, x.1.now)) result (parse_release_from first text.now) }
+    ensures reads { ReturnsOutcomeBy (λ x. (x.0, x.1.now)) result (parse_release_from first text.now) }
     ensures memory { (x : List ℕ × List ℕ) → parse_release_from first text.now ≡ Ok x → length x.0 ≤ 4 → IsOk result }
 {
     let mut numbers = Release::from_number(first);

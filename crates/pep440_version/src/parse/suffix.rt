@@ -3,7 +3,7 @@ ghost use Rattle.std.specs.Prelude.{◌≡◌, ℕ, List, Ok, IsOk, Option, drop
 ghost use Rattle.std.specs.List.{list_all};
 ghost use Rattle.pep440_version.specs.declared.prerelease.Prerelease.{Prerelease};
 ghost use Rattle.pep440_version.specs.declared.prerelease.PrereleaseKind.{PrereleaseKind};
-ghost use Rattle.pep440_version.specs.Errors.{AnswersBy};
+ghost use Rattle.pep440_version.specs.Errors.{ReturnsOutcomeBy};
 ghost use Rattle.pep440_version.specs.Grammar.{pre_spellings, post_spellings, dev_spellings};
 ghost use Rattle.pep440_version.specs.Suffixes.{parse_spelled_post, spelled, parse_count, skip_separator, parse_pre, parse_post, parse_dev, is_implicit_post};
 
@@ -48,7 +48,7 @@ fn parse_spelling<'a, A: Copy>(text: &'a str, table: &[(&str, A)]) -> Option<(A,
 
 // The number after a spelling, and the rest.
 fn parse_count(alloc: Global, text: &str) -> Result<(u64, &str), ErrorKind>
-    ensures reads { AnswersBy (λ x. (x.0, x.1.now)) result (parse_count (skip_separator text.now)) }
+    ensures reads { ReturnsOutcomeBy (λ x. (x.0, x.1.now)) result (parse_count (skip_separator text.now)) }
     ensures memory { (x : ℕ × List ℕ) → parse_count (skip_separator text.now) ≡ Ok x → IsOk result }
 {
     let rest = scan::skip_separator(text);
@@ -60,7 +60,7 @@ fn parse_count(alloc: Global, text: &str) -> Result<(u64, &str), ErrorKind>
 }
 
 pub(crate) fn parse_pre(alloc: Global, text: &str) -> Result<(Option<Prerelease>, &str), ErrorKind>
-    ensures reads { AnswersBy (λ x. (x.0, x.1.now)) result (parse_pre text.now) }
+    ensures reads { ReturnsOutcomeBy (λ x. (x.0, x.1.now)) result (parse_pre text.now) }
     ensures memory { (x : Option Prerelease × List ℕ) → parse_pre text.now ≡ Ok x → IsOk result }
 {
     match parse_spelling(scan::skip_separator(text), &PRE_SPELLINGS) {
@@ -80,7 +80,7 @@ fn is_implicit_post(text: &str) -> bool
 
 // A post-release with a spelling.
 fn parse_spelled_post(alloc: Global, text: &str) -> Result<(Option<u64>, &str), ErrorKind>
-    ensures reads { AnswersBy (λ x. (x.0, x.1.now)) result (parse_spelled_post text.now) }
+    ensures reads { ReturnsOutcomeBy (λ x. (x.0, x.1.now)) result (parse_spelled_post text.now) }
     ensures memory { (x : Option ℕ × List ℕ) → parse_spelled_post text.now ≡ Ok x → IsOk result }
 {
     match parse_spelling(scan::skip_separator(text), &POST_SPELLINGS) {
@@ -93,7 +93,7 @@ fn parse_spelled_post(alloc: Global, text: &str) -> Result<(Option<u64>, &str), 
 }
 
 pub(crate) fn parse_post(alloc: Global, text: &str) -> Result<(Option<u64>, &str), ErrorKind>
-    ensures reads { AnswersBy (λ x. (x.0, x.1.now)) result (parse_post text.now) }
+    ensures reads { ReturnsOutcomeBy (λ x. (x.0, x.1.now)) result (parse_post text.now) }
     ensures memory { (x : Option ℕ × List ℕ) → parse_post text.now ≡ Ok x → IsOk result }
 {
     if is_implicit_post(text) {
@@ -104,7 +104,7 @@ pub(crate) fn parse_post(alloc: Global, text: &str) -> Result<(Option<u64>, &str
 }
 
 pub(crate) fn parse_dev(alloc: Global, text: &str) -> Result<(Option<u64>, &str), ErrorKind>
-    ensures reads { AnswersBy (λ x. (x.0, x.1.now)) result (parse_dev text.now) }
+    ensures reads { ReturnsOutcomeBy (λ x. (x.0, x.1.now)) result (parse_dev text.now) }
     ensures memory { (x : Option ℕ × List ℕ) → parse_dev text.now ≡ Ok x → IsOk result }
 {
     match parse_spelling(scan::skip_separator(text), &DEV_SPELLINGS) {

@@ -1,7 +1,7 @@
 -- Why a run stops, and the status and the last message that it then has.
 use Rattle.std.specs.Prelude.{◌≡◌, ◌⊎◌, ⊤, ℕ, List, [], Option, None, Some, codes}
 use Rattle.cli_io.specs.Runs.{Outcome}
-use Rattle.pyver_commands.specs.Sources.{Input, KnownFile, ReadsInput, StopsReading, input_name, last_name, read_message}
+use Rattle.pyver_commands.specs.Sources.{Input, KnownFile, ReadsInput, FailsReading, input_name, last_name, read_message}
 use Rattle.pyver_commands.specs.declared.sources.stream.RunFailure.{RunFailure}
 use Rattle.pyver_commands.specs.declared.sources.stream.RunFailure.TheVariants as run_failure
 
@@ -48,14 +48,14 @@ Reports (run_failure.Errors failure) status message = IsWriteFailure status mess
 
 module _ {R : Type 0} (files : List ℕ → KnownFile) (remaining : R → Option (List ℕ)) where
   -- some was read and a read failed, or an allocation failed after some or all was read, and there is no outcome
-  pub record StopsUnanswered (names : List (List ℕ)) (reader reader' : R) (why : RunFailure) : Type 0 where
+  pub record FailsWithoutOutcome (names : List (List ℕ)) (reader reader' : R) (why : RunFailure) : Type 0 where
     pub input : Input
-    pub reads : StopsReading files remaining (why ≡ run_failure.OutOfMemory) names reader reader' input.sources ⊎ ((why ≡ run_failure.OutOfMemory) × ReadsInput files remaining names reader reader' input)
+    pub reads : FailsReading files remaining (why ≡ run_failure.OutOfMemory) names reader reader' input.sources ⊎ ((why ≡ run_failure.OutOfMemory) × ReadsInput files remaining names reader reader' input)
     pub stops : IsRunFailureOf (last_name input.sources) why
 
   -- some was read or all, of which this is the outcome
-  pub record StopsWithin (Gives : Input → Outcome → Type 0) (names : List (List ℕ)) (reader reader' : R) (o : Outcome) (why : RunFailure) : Type 0 where
+  pub record FailsWithin (Prints : Input → Outcome → Type 0) (names : List (List ℕ)) (reader reader' : R) (o : Outcome) (why : RunFailure) : Type 0 where
     pub input : Input
-    pub reads : ReadsInput files remaining names reader reader' input ⊎ (StopsReading files remaining (why ≡ run_failure.OutOfMemory) names reader reader' input.sources × (input.unopened ≡ None))
-    pub is : Gives input o
+    pub reads : ReadsInput files remaining names reader reader' input ⊎ (FailsReading files remaining (why ≡ run_failure.OutOfMemory) names reader reader' input.sources × (input.unopened ≡ None))
+    pub is : Prints input o
     pub stops : IsRunFailureOf (last_name input.sources) why

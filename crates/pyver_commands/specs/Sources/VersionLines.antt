@@ -70,7 +70,7 @@ invalid_outcome how found = record { output = []; errors = line_messages how fou
 
 -- what is written of lines that were read: this of all, or, where invalid ones are an error and there are some, their messages
 abbrev pub OfFound : InvalidLines → (InputParts → Outcome → Type 0) → List ReadLine → Outcome → Type 0
-OfFound how Gives found o = ((lines_status how (length (faults found)) ≡ 0) × Gives (input_parts how found) o)
+OfFound how Prints found o = ((lines_status how (length (faults found)) ≡ 0) × Prints (input_parts how found) o)
     ⊎ ((0 < lines_status how (length (faults found))) × (o ≡ invalid_outcome how found))
 
 -- a file was not opened: this is the only message
@@ -79,9 +79,9 @@ unopened_outcome file = record { output = []; errors = unopened_message (Some fi
 
 -- what is written of the lines of the sources, or of the file at which reading ended
 abbrev pub OfSources : LineOptions → (InputParts → Outcome → Type 0) → List Source → Option UnopenedSource → Outcome → Type 0
-OfSources options Gives sources None o = (found : List ReadLine) × AllZip (IsRead options) (filled_lines sources) found × OfFound options.invalid Gives found o
-OfSources options Gives sources (Some file) o = o ≡ unopened_outcome file
+OfSources options Prints sources None o = (found : List ReadLine) × AllZip (IsRead options) (filled_lines sources) found × OfFound options.invalid Prints found o
+OfSources options Prints sources (Some file) o = o ≡ unopened_outcome file
 
 -- what is written of what was read
 abbrev pub OfVersions : LineOptions → (InputParts → Outcome → Type 0) → Input → Outcome → Type 0
-OfVersions options Gives input o = OfSources options Gives input.sources input.unopened o
+OfVersions options Prints input o = OfSources options Prints input.sources input.unopened o

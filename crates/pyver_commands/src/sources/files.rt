@@ -1,7 +1,7 @@
-// The files that a run reads by their names, so that a test can hold them in memory.
+//! The files that a run reads by their names, so that a test can hold them in memory.
 ghost use Rattle.std.specs.Prelude.{◌≡◌, ◌⊎◌, Bool, List, None, Option, ℕ, IfErr, IfOk, map, option_map, string_bytes};
 ghost use Rattle.pyver_commands.specs.AnswerViews.{outcome_of};
-ghost use Rattle.pyver_commands.specs.Sources.{FindsOutput, IsKnownOutput, IsKnownPath, KnownFile, MayOpen, MayRefuse, Unknown, output_outcome, source_names};
+ghost use Rattle.pyver_commands.specs.Sources.{FindsOutput, IsKnownOutput, IsKnownPath, KnownFile, MayOpen, MayFailToOpen, Unknown, output_outcome, source_names};
 
 use crate::answer::Answer;
 use crate::sources::open_failure::{OpenFailure, push_file_fault};
@@ -30,7 +30,7 @@ pub trait Files {
     /// the file is not opened.
     fn open(&mut self, alloc: Global, name: &str) -> Result<Self::File, OpenFailure>
         ensures opened { IfOk result (λ file. MayOpen (known self.old name.now) (Self.File.remaining file)) }
-        ensures refused { IfErr result (λ failure. (failure ≡ OpenFailure.OutOfMemory) ⊎ MayRefuse (known self.old name.now) failure) }
+        ensures refused { IfErr result (λ failure. (failure ≡ OpenFailure.OutOfMemory) ⊎ MayFailToOpen (known self.old name.now) failure) }
         ensures kept { known self.new ≡ known self.old }
         ensures kept_paths { path self.new ≡ path self.old };
 

@@ -1,4 +1,4 @@
-// What is done with invalid lines, by the option `--invalid`.
+//! What is done with invalid lines, by the option `--invalid`.
 ghost use Rattle.std.specs.Prelude.{◌≡◌, ◌≤◌, ◌-◌, ◌++◌, ◌∷◌, [], IfOk, take};
 ghost use Rattle.std.specs.List.{concat};
 ghost use Rattle.pyver_commands.specs.Sources.InvalidLines.{invalid_lines_of, last_message, lines_status, message_limit};

@@ -1,4 +1,4 @@
-// The options of the commands that read lines.
+//! The options of the commands that read lines.
 ghost use Rattle.std.specs.Prelude.{◌≡◌};
 
 use crate::sources::invalid_lines::InvalidLines;

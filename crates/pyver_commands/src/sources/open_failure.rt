@@ -1,4 +1,4 @@
-// Why a file is not opened, and messages of files.
+//! Why a file is not opened, and messages of files.
 ghost use Rattle.std.specs.Prelude.{◌≡◌, ◌++◌, IfOk};
 ghost use Rattle.pyver_commands.specs.AnswerViews.{outcome_of};
 ghost use Rattle.pyver_commands.specs.Messages.{file_message};

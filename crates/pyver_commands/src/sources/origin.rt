@@ -1,4 +1,4 @@
-// Where lines come from.
+//! Where lines come from.
 ghost use Rattle.std.specs.Prelude.{◌≡◌};
 ghost use Rattle.pyver_commands.specs.Sources.{is_input};
 

@@ -1,4 +1,4 @@
-// Lines of the input as text, and what they are read as.
+//! Lines of the input as text, and what they are read as.
 ghost use Rattle.std.specs.Prelude.{◌≡◌, IfOk, if◌then◌else◌, ◌==◌, string_bytes};
 ghost use Rattle.std.specs.Option.{option_map};
 ghost use Rattle.std.specs.Str.Lines.{strip_carriage_return};

@@ -1,11 +1,11 @@
-// The texts of sources that are read to their ends, one after another.
+//! The texts of sources that are read to their ends, one after another.
 ghost use Rattle.std.specs.Prelude.{◌≡◌, ◌+◌, ◌<◌, ◌≤◌, ◌*◌, [], IfErr, IfOk, List, MatchResult, ℕ, length, map, string_bytes};
 ghost use Rattle.std.specs.Io.KnownBytes.{Consumes, IsAtEnd};
 ghost use Rattle.std.specs.Option.{option_map};
 ghost use Rattle.pyver_commands.specs.Sources.{IsUnopened, ReadsInput, ReadsWhole, source_names};
 ghost use Rattle.pyver_commands.specs.Sources.SourceViews.{origin_of, unopened_of};
 ghost use Rattle.pyver_commands.specs.Sources.RunFailures.{IsReadingFailure};
-ghost use Rattle.pyver_commands.specs.Sources.SourceTexts.{GainsSource, HasRoom, StopsInSource, StopsInSources, StopsInText, sources_of};
+ghost use Rattle.pyver_commands.specs.Sources.SourceTexts.{GainsSource, HasBoundedSize, FailsInSource, FailsInSources, FailsInText, sources_of};
 
 use crate::sources::files::Files;
 use crate::sources::open_failure::{OpenFailure, UnopenedSource};
@@ -58,7 +58,7 @@ pub fn read_by_name<F: Files, R: Read>(
 ) -> Result<Result<Vec<u8>, OpenFailure>, RunFailure>
     ensures read { IfOk result (λ read. MatchResult read (λ text. ReadsWhole (F.known files.old) R.remaining name.now input.old input.new text.items) (IsUnopened (F.known files.old) R.remaining name.now input.old input.new)) }
     ensures limits { IfOk result (λ read. MatchResult read (λ text. (length text.items + 8192 * read_count.old < 8192 * read_count.new) × (read_count.new ≤ 562949953421312)) (λ _. read_count.new ≡ read_count.old)) }
-    ensures stopped { IfErr result (StopsInText (F.known files.old) R.remaining name.now input.old input.new) }
+    ensures stopped { IfErr result (FailsInText (F.known files.old) R.remaining name.now input.old input.new) }
     ensures kept { F.known files.new ≡ F.known files.old }
     ensures kept_paths { F.path files.new ≡ F.path files.old }
 {
@@ -80,10 +80,10 @@ fn open_and_read<'a, F: Files, R: Read>(
     files: &mut F,
     input: &mut R,
 ) -> Result<Option<OpenFailure>, RunFailure>
-    requires { HasRoom state.old }
+    requires { HasBoundedSize state.old }
     ensures read { IfOk result (GainsSource (F.known files.old) R.remaining (origin_of origin.entry) (sources_of state.old) (sources_of state.new) input.old input.new) }
-    ensures limits { IfOk result (λ _. HasRoom state.new) }
-    ensures stopped { IfErr result (StopsInSource (F.known files.old) R.remaining (origin_of origin.entry) input.old input.new) }
+    ensures limits { IfOk result (λ _. HasBoundedSize state.new) }
+    ensures stopped { IfErr result (FailsInSource (F.known files.old) R.remaining (origin_of origin.entry) input.old input.new) }
     ensures kept { F.known files.new ≡ F.known files.old }
 {
     match read_by_name(alloc, origin.name, &mut state.read_count, files, input)? {
@@ -105,8 +105,8 @@ fn read_all<'a, F: Files, R: Read>(
 ) -> Result<Option<UnopenedSource<'a>>, RunFailure>
     requires new { (state.old.texts.items ≡ []) × (state.old.read_count ≡ 0) }
     ensures read { IfOk result (λ unopened. ReadsInput (F.known files.old) R.remaining (map string_bytes names.now) input.old input.new (record { sources = sources_of state.new; unopened = option_map unopened_of unopened })) }
-    ensures limits { IfOk result (λ _. HasRoom state.new) }
-    ensures stopped { IfErr result (StopsInSources (F.known files.old) R.remaining (map string_bytes names.now) input.old input.new) }
+    ensures limits { IfOk result (λ _. HasBoundedSize state.new) }
+    ensures stopped { IfErr result (FailsInSources (F.known files.old) R.remaining (map string_bytes names.now) input.old input.new) }
     ensures kept { F.known files.new ≡ F.known files.old }
 {
     let mut is_first = true;
@@ -131,8 +131,8 @@ pub(crate) fn read_sources<'a, F: Files, R: Read>(
 ) -> Result<Option<UnopenedSource<'a>>, RunFailure>
     requires new { (state.old.texts.items ≡ []) × (state.old.read_count ≡ 0) }
     ensures read { IfOk result (λ unopened. ReadsInput (F.known files.old) R.remaining (source_names (map string_bytes names.now)) input.old input.new (record { sources = sources_of state.new; unopened = option_map unopened_of unopened })) }
-    ensures limits { IfOk result (λ _. HasRoom state.new) }
-    ensures stopped { IfErr result (StopsInSources (F.known files.old) R.remaining (source_names (map string_bytes names.now)) input.old input.new) }
+    ensures limits { IfOk result (λ _. HasBoundedSize state.new) }
+    ensures stopped { IfErr result (FailsInSources (F.known files.old) R.remaining (source_names (map string_bytes names.now)) input.old input.new) }
     ensures kept { F.known files.new ≡ F.known files.old }
 {
     if !names.is_empty() {

@@ -1,4 +1,4 @@
-// Why a run stops, and writing to both outputs.
+//! Why a run stops, and writing to both outputs.
 ghost use Rattle.std.specs.Prelude.{◌≡◌, IfErr, List, OnOk, Option, Some, ℕ};
 ghost use Rattle.std.specs.Io.KnownBytes.{Appends};
 ghost use Rattle.cli_io.specs.Streams.{WroteBeginning};

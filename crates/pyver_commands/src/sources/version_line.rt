@@ -1,4 +1,4 @@
-// The lines of sources by what they are: the header, versions, and others.
+//! The lines of sources by what they are: the header, versions, and others.
 ghost use Rattle.std.specs.Prelude.{◌≡◌, ◌<◌, ◌≤◌, ◌∷◌, ◌++◌, [], IfOk, length, map};
 ghost use Rattle.cli_io.specs.Newlines.{input_lines};
 ghost use Rattle.pyver_commands.specs.Sources.VersionLines.{kept_text};

@@ -1,7 +1,7 @@
 use Rattle.std.proofs.Common.{◌∙◌, ℕ, List, inl, inr, string_bytes, subst}
-use Rattle.pep440_rs.specs.Errors.{parse_kind_of, specifier_refusal_of}
+use Rattle.pep440_rs.specs.Errors.{parse_kind_of, specifier_rejection_of}
 use Rattle.pep440_rs.specs.ErrorTexts.{specifier_error_text}
-use Rattle.pep440_rs.specs.SpecifierGrammar.{DerivesSpecifier}
+use Rattle.pep440_rs.specs.Specifiers.SpecifierGrammar.{DerivesSpecifier}
 use Rattle.pep440_calls.proofs.OneSpecifier.{tells_specifier}
 use Rattle.pep440_calls.proofs.messages.explain_specifier.Goals as goal
 
@@ -16,6 +16,6 @@ returns-in-Ok-from_str c = inl (
 )
 
 pub returns : goal.returns
-returns c = inr (tells_specifier c.args.bytes.now c.in-Ok.text.now (string_bytes c.in_ok-to_string-in-Err.field-0) (specifier_refusal_of (parse_kind_of c.in-Err.error))
-    (specifier_error_text (specifier_refusal_of (parse_kind_of c.in-Err.error))) c.in-Ok.ensures.cases.0 c.in-Ok.ensures.cases.1
+returns c = inr (tells_specifier c.args.bytes.now c.in-Ok.text.now (string_bytes c.in_ok-to_string-in-Err.field-0) (specifier_rejection_of (parse_kind_of c.in-Err.error))
+    (specifier_error_text (specifier_rejection_of (parse_kind_of c.in-Err.error))) c.in-Ok.ensures.cases.0 c.in-Ok.ensures.cases.1
     (λ none. c.in_default-kind.not-OutOfMemory (c.kind.ensures ∙ c.in-Err.ensures.lifted none)) c.in-Err.ensures.refused c.in-Err.ensures.message c.in_ok-to_string-in-Err.ensures.ok)

@@ -1,10 +1,10 @@
 use Rattle.std.proofs.Common.{◌∙◌, inr, string_bytes, sym}
-use Rattle.pep440_version.specs.Errors.{kind_of, refusal_of}
+use Rattle.pep440_version.specs.Errors.{kind_of, rejection_of}
 use Rattle.pep440_version.specs.ErrorTexts.{error_text}
 use Rattle.pep440_calls.proofs.Refused.{tells}
 use Rattle.pep440_calls.proofs.messages.explain_string.Goals as goal
 
 pub returns : goal.returns
-returns c = inr (tells c.args.bytes.now c.in-Ok.text.now (string_bytes c.in_ok-to_string-in-Err.field-0) (refusal_of (kind_of c.in-Err.error)) (error_text (refusal_of (kind_of c.in-Err.error)))
+returns c = inr (tells c.args.bytes.now c.in-Ok.text.now (string_bytes c.in_ok-to_string-in-Err.field-0) (rejection_of (kind_of c.in-Err.error)) (error_text (rejection_of (kind_of c.in-Err.error)))
     c.in-Ok.ensures.cases.0 c.in-Ok.ensures.cases.1 (sym c.is_out_of_memory.ensures ∙ c.if-is_out_of_memory.false) c.in-Err.ensures.refused
     c.in-Err.ensures.message c.in_ok-to_string-in-Err.ensures.ok)

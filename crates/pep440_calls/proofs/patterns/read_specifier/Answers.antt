@@ -1,6 +1,6 @@
 use Rattle.std.proofs.Common.{◌∙◌, ℕ, List, subst}
-use Rattle.pep440_rs.specs.Errors.{parse_kind_of, specifier_refusal_of}
-use Rattle.pep440_rs.specs.SpecifierGrammar.{DerivesSpecifier}
+use Rattle.pep440_rs.specs.Errors.{parse_kind_of, specifier_rejection_of}
+use Rattle.pep440_rs.specs.Specifiers.SpecifierGrammar.{DerivesSpecifier}
 use Rattle.pep440_calls.proofs.OneSpecifier.{no_specifier_text, refuses_specifier}
 use Rattle.pep440_calls.proofs.patterns.read_specifier.Goals as goal
 
@@ -14,5 +14,5 @@ returns-in-Ok-from_str c = (
 )
 
 pub returns-in_default-kind : goal.returns-in_default-kind
-returns-in_default-kind c = refuses_specifier c.args.bytes.now c.in-Ok.text.now (specifier_refusal_of (parse_kind_of c.in-Err.error)) c.in-Ok.ensures.cases.0 c.in-Ok.ensures.cases.1
+returns-in_default-kind c = refuses_specifier c.args.bytes.now c.in-Ok.text.now (specifier_rejection_of (parse_kind_of c.in-Err.error)) c.in-Ok.ensures.cases.0 c.in-Ok.ensures.cases.1
     (λ none. c.in_default-kind.not-OutOfMemory (c.kind.ensures ∙ c.in-Err.ensures.lifted none)) c.in-Err.ensures.refused

@@ -7,7 +7,7 @@ use Rattle.pep440_compiled.proofs.Rewritten.{coded_again, none_coded, one_coded}
 use Rattle.pep440_compiled.proofs.checked_version.check_release.Goals as goal
 use Rattle.pep440_keys.specs.SortKeys.{number_bytes}
 use Rattle.pep440_version.specs.Record.{Fits}
-use Rattle.pep440_version.specs.Trim.{trim}
+use Rattle.pep440_version.specs.Key.Trim.{trim}
 
 pub loop-first-init : goal.loop-first-init
 loop-first-init c = record {

@@ -6,21 +6,21 @@ use Rattle.pep440_compiled.proofs.Rewritten.{coded_again, text_again}
 use Rattle.pep440_compiled.proofs.checked_version.check_segment.Goals as goal
 use Rattle.pep440_keys.proofs.Order.{no_zero}
 use Rattle.pep440_version.specs.Record.{Fits, LocalSegmentValue, Number, Text}
-use Rattle.pep440_version.specs.RoundTrip.{SegmentRereads}
+use Rattle.pep440_version.specs.RoundTrip.{SegmentRoundTrips}
 
 pub returns-in_default-clause-found : goal.returns-in_default-clause-found
 returns-in_default-clause-found c s rest fits rereads e =
     let one : c.args.first ≡ 1 = omega (arith, c.requires, c.if-first-gt1.false) in
     let text = after_text c.args.first c.args.bytes.now rest s (no_zero s rereads) one e in
     let found = c.in_ok-text.ensures.found text.0 rest text.1 text.3 in
-    absurd (c.in_default.ensures.cases.0 (subst IsUtf8 (sym found.0) (lower_utf8 text.0 (subst (λ (s : LocalSegmentValue). SegmentRereads s) text.2 rereads).1)))
+    absurd (c.in_default.ensures.cases.0 (subst IsUtf8 (sym found.0) (lower_utf8 text.0 (subst (λ (s : LocalSegmentValue). SegmentRoundTrips s) text.2 rereads).1)))
 
 pub returns-then-not-is_normal_string-clause-found : goal.returns-then-not-is_normal_string-clause-found
 returns-then-not-is_normal_string-clause-found c s rest fits rereads e =
     let one : c.args.first ≡ 1 = omega (arith, c.requires, c.if-first-gt1.false) in
     let text = after_text c.args.first c.args.bytes.now rest s (no_zero s rereads) one e in
     let found = c.in_ok-text.ensures.found text.0 rest text.1 text.3 in
-    let normal : SegmentRereads (Text c.in-Ok.text.now) = subst (λ (s : LocalSegmentValue). SegmentRereads s) (text.2 ∙ ap Text (sym (c.in-Ok.ensures.cases.0 ∙ found.0))) rereads in
+    let normal : SegmentRoundTrips (Text c.in-Ok.text.now) = subst (λ (s : LocalSegmentValue). SegmentRoundTrips s) (text.2 ∙ ap Text (sym (c.in-Ok.ensures.cases.0 ∙ found.0))) rereads in
     absurd (true≢false (sym (c.is_normal_string.ensures.1 normal) ∙ c.if-not-is_normal_string.true))
 
 pub returns-clause-found : goal.returns-clause-found

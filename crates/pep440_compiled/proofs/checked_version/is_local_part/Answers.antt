@@ -9,9 +9,9 @@ use Rattle.pep440_compiled.proofs.Rewritten.{none_coded, one_coded}
 use Rattle.pep440_compiled.proofs.checked_version.is_local_part.Goals as goal
 use Rattle.pep440_keys.specs.SortKeys.{segment_bytes}
 use Rattle.pep440_version.specs.Record.{LocalSegmentValue, SegmentFits}
-use Rattle.pep440_version.specs.RoundTrip.{SegmentRereads}
+use Rattle.pep440_version.specs.RoundTrip.{SegmentRoundTrips}
 
-each : (local : List LocalSegmentValue) → All SegmentFits local → All SegmentRereads local → AllByRecursion IsParsedSegment local
+each : (local : List LocalSegmentValue) → All SegmentFits local → All SegmentRoundTrips local → AllByRecursion IsParsedSegment local
 each local fits rereads = recursion_from_All IsParsedSegment local (λ k d below. (fits k d below, rereads k d below))
 
 pub loop-first-init : goal.loop-first-init

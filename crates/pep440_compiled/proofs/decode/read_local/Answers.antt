@@ -8,13 +8,13 @@ use Rattle.pep440_compiled.proofs.Rewritten.{none_coded, one_coded}
 use Rattle.pep440_compiled.proofs.decode.read_local.Goals as goal
 use Rattle.pep440_keys.specs.SortKeys.{segment_bytes}
 use Rattle.pep440_version.specs.Record.{LocalSegmentValue, SegmentFits}
-use Rattle.pep440_version.specs.RoundTrip.{SegmentRereads}
+use Rattle.pep440_version.specs.RoundTrip.{SegmentRoundTrips}
 use Rattle.pep440_version.specs.Segments.{segment}
 
 abbrev IsParsedSegment : LocalSegmentValue → Type 0
-IsParsedSegment s = SegmentFits s × SegmentRereads s
+IsParsedSegment s = SegmentFits s × SegmentRoundTrips s
 
-each : (local : List LocalSegmentValue) → All SegmentFits local → All SegmentRereads local → AllByRecursion IsParsedSegment local
+each : (local : List LocalSegmentValue) → All SegmentFits local → All SegmentRoundTrips local → AllByRecursion IsParsedSegment local
 each local fits rereads = recursion_from_All IsParsedSegment local (λ k d below. (fits k d below, rereads k d below))
 
 pub returns-then-first-eq0-clause-found : goal.returns-then-first-eq0-clause-found

@@ -6,7 +6,7 @@ use Rattle.pep440_compiled.proofs.Rewritten.{release_written}
 use Rattle.pep440_compiled.proofs.Zeros.{trim_again}
 use Rattle.pep440_compiled.proofs.decode.read_release.Goals as goal
 use Rattle.pep440_keys.specs.SortKeys.{number_bytes}
-use Rattle.pep440_version.specs.Trim.{trim}
+use Rattle.pep440_version.specs.Key.Trim.{trim}
 
 pub returns-in_default-clause-found : goal.returns-in_default-clause-found
 returns-in_default-clause-found c release rest all some z e = absurd (rw c.in_default.is at (c.in_ok-numbers.ensures.found (trim release) rest all e))

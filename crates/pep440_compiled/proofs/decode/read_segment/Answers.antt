@@ -7,14 +7,14 @@ use Rattle.pep440_compiled.proofs.Rewritten.{coded_again, text_again}
 use Rattle.pep440_compiled.proofs.decode.read_segment.Goals as goal
 use Rattle.pep440_keys.proofs.Order.{no_zero}
 use Rattle.pep440_version.specs.Record.{LocalSegmentValue, Text}
-use Rattle.pep440_version.specs.RoundTrip.{SegmentRereads}
+use Rattle.pep440_version.specs.RoundTrip.{SegmentRoundTrips}
 
 pub returns-in_default-from_utf8-clause-found : goal.returns-in_default-from_utf8-clause-found
 returns-in_default-from_utf8-clause-found c s rest fits rereads e =
     let one : c.args.first ≡ 1 = omega (arith, c.requires, c.if-first-gt1.false) in
     let text = after_text c.args.first c.args.bytes.now rest s (no_zero s rereads) one e in
     let found = c.in-Some-split_text.ensures.found text.0 rest text.1 text.3 in
-    c.in_default-from_utf8.ensures.cases.0 (subst IsUtf8 (sym found.0) (lower_utf8 text.0 (subst (λ (s : LocalSegmentValue). SegmentRereads s) text.2 rereads).1))
+    c.in_default-from_utf8.ensures.cases.0 (subst IsUtf8 (sym found.0) (lower_utf8 text.0 (subst (λ (s : LocalSegmentValue). SegmentRoundTrips s) text.2 rereads).1))
 
 pub returns-clause-found : goal.returns-clause-found
 returns-clause-found c s rest fits rereads e =

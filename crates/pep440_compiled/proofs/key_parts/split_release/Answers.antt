@@ -4,7 +4,7 @@ use Rattle.pep440_compiled.proofs.Loops.{up_to}
 use Rattle.pep440_compiled.proofs.key_parts.split_release.Goals as goal
 use Rattle.pep440_compiled.specs.KeyParts.{base_bytes}
 use Rattle.pep440_keys.specs.SortKeys.{number_bytes}
-use Rattle.pep440_version.specs.Trim.{trim}
+use Rattle.pep440_version.specs.Key.Trim.{trim}
 
 pub returns-in_err-numbers-clause-found : goal.returns-in_err-numbers-clause-found
 returns-in_err-numbers-clause-found c epoch numbers rest e =

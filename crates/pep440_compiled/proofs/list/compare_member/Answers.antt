@@ -5,7 +5,7 @@ use Rattle.pep440_compiled.proofs.list.compare_member.Goals as goal
 use Rattle.pep440_compiled.specs.Version.{zero_bytes}
 use Rattle.pep440_keys.specs.SortKeys.{key_bytes}
 use Rattle.pep440_rs.specs.Matching.{matches}
-use Rattle.pep440_version.specs.Trim.{trim}
+use Rattle.pep440_version.specs.Key.Trim.{trim}
 
 pub returns-then-branch-clause-found : goal.returns-then-branch-clause-found
 returns-then-branch-clause-found c s v rest first p k o e =

@@ -8,7 +8,7 @@ use Rattle.pep440_compiled.specs.KeyParts.{ending_zeros}
 use Rattle.pep440_compiled.specs.Version.{zero_bytes}
 use Rattle.pep440_keys.specs.SortKeys.{key_bytes}
 use Rattle.pep440_rs.specs.Matching.{has_prefix}
-use Rattle.pep440_version.specs.Trim.{trim}
+use Rattle.pep440_version.specs.Key.Trim.{trim}
 
 -- whether a star form matches, by whether it excludes what begins as its version
 abbrev met : Bool → Bool → Bool

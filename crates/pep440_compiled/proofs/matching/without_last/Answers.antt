@@ -6,7 +6,7 @@ use Rattle.pep440_compiled.proofs.Prefixes.{numbers_code}
 use Rattle.pep440_compiled.proofs.Zeros.{trim_fits, zeros_none}
 use Rattle.pep440_compiled.proofs.matching.without_last.Goals as goal
 use Rattle.pep440_keys.specs.SortKeys.{needed_bytes}
-use Rattle.pep440_version.specs.Trim.{trim}
+use Rattle.pep440_version.specs.Key.Trim.{trim}
 use Rattle.pep440_compiled.specs.KeyParts.{ending_zeros, base_bytes}
 use Rattle.pep440_rs.specs.Matching.{without_last}
 

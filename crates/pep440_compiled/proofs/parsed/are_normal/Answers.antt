@@ -2,7 +2,7 @@ use Rattle.std.proofs.Common.{◌≡◌, refl, sym, subst, true, true≢false, L
 use Rattle.std.specs.List.{All}
 use Rattle.pep440_compiled.proofs.Decoded.{one_of}
 use Rattle.pep440_compiled.proofs.parsed.are_normal.Goals as goal
-use Rattle.pep440_version.specs.RoundTrip.{SegmentRereads}
+use Rattle.pep440_version.specs.RoundTrip.{SegmentRoundTrips}
 use Rattle.pep440_version.specs.Segments.{segment}
 use Rattle.pep440_version.specs.declared.segment.LocalSegment.{LocalSegment}
 
@@ -16,6 +16,6 @@ returns-then-not-is_normal c = (
 
 pub returns : goal.returns
 returns c = (
-  λ e. subst (λ (l : List LocalSegment). All SegmentRereads (map segment l)) (take_all c.loop-part.part-index c.args.local.now c.loop-part-test.false) c.loop-part.invariant,
+  λ e. subst (λ (l : List LocalSegment). All SegmentRoundTrips (map segment l)) (take_all c.loop-part.part-index c.args.local.now c.loop-part-test.false) c.loop-part.invariant,
   λ all. refl,
 )

@@ -8,7 +8,7 @@ use Rattle.pep440_compiled.proofs.views.view_key.Goals as goal
 use Rattle.pep440_compiled.specs.KeyParts.{public_bytes}
 use Rattle.pep440_compiled.specs.Version.{zero_bytes}
 use Rattle.pep440_keys.specs.SortKeys.{key_bytes, local_bytes, segment_bytes}
-use Rattle.pep440_version.specs.Trim.{trim}
+use Rattle.pep440_version.specs.Key.Trim.{trim}
 
 pub returns-in-Some : goal.returns-in-Some
 returns-in-Some c r p e =

@@ -9,7 +9,7 @@ use Rattle.pep440_compiled.specs.KeyParts.{public_bytes}
 use Rattle.pep440_compiled.specs.Version.{version_bytes, zero_bytes}
 use Rattle.pep440_keys.specs.SortKeys.{key_bytes, local_bytes}
 use Rattle.pep440_version.specs.Record.{Record}
-use Rattle.pep440_version.specs.Trim.{trim}
+use Rattle.pep440_version.specs.Key.Trim.{trim}
 
 with_public : (r : Record) (rest : List ℕ) → version_bytes r ++ rest ≡ public_bytes r ++ (local_bytes r.local ++ (zero_bytes r.release ++ rest))
 with_public r rest =

@@ -5,7 +5,7 @@ use Rattle.pep440_keys.proofs.Capacity.{capacity_for_key}
 use Rattle.pep440_keys.specs.SortKeys.{local_bytes, number_bytes, rank_bytes}
 use Rattle.pep440_keys.proofs.parts_key.push_parts_key.Goals as goal
 use Rattle.pep440_version.specs.Key.{dev_of, dev_rank, post_of, post_rank, stage_of, stage_rank}
-use Rattle.pep440_version.specs.Trim.{trim}
+use Rattle.pep440_version.specs.Key.Trim.{trim}
 
 pub returns-in_err-push_number-clause-fits : goal.returns-in_err-push_number-clause-fits
 returns-in_err-push_number-clause-fits g c = λ local more capacity.

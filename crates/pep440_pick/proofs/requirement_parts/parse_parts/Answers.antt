@@ -4,7 +4,7 @@ use Rattle.pep440_version.proofs.Reading.Prefixes.{lead-all}
 use Rattle.pep440_pick.specs.Names.{is_name_byte}
 use Rattle.pep440_pick.specs.RequirementGrammar.{HasNoMarkerOrUrl}
 use Rattle.pep440_pick.specs.RequirementReading.{prefix_after_name}
-use Rattle.pep440_pick.specs.Requirements.{FrontGives}
+use Rattle.pep440_pick.specs.Requirements.{ParsesPrefix}
 use Rattle.pep440_pick.proofs.Positions.{name_read, rest_read}
 use Rattle.pep440_pick.proofs.Tells.{plain_read}
 use Rattle.pep440_pick.proofs.requirement_parts.parse_parts.Goals as goal
@@ -22,4 +22,4 @@ returns-clause-value c =
     let plain : HasNoMarkerOrUrl text = record { marker = sym c.has_byte.ensures ∙ c.if-has_byte.false; url = sym c.has_byte-2.ensures ∙ c.if-has_byte-2.false } in
     let name = name_read text start c.split_name.result.0.now c.trim_ascii_start.ensures.value c.split_name.ensures.prefix in
     let rest = rest_read text start c.split_name.result.1.now c.trim_ascii_start-2.result.now c.trim_ascii_start.ensures.value c.split_name.ensures.back c.trim_ascii_start-2.ensures.value in
-    subst (FrontGives c.parse_after_name.result) ((λ i. prefix_after_name (name i) (rest i)) ∙ sym (plain_read text plain)) c.parse_after_name.ensures.value
+    subst (ParsesPrefix c.parse_after_name.result) ((λ i. prefix_after_name (name i) (rest i)) ∙ sym (plain_read text plain)) c.parse_after_name.ensures.value

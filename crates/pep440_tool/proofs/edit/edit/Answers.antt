@@ -1,14 +1,14 @@
 use Rattle.std.proofs.Common.{◌≡◌, ◌∙◌, ap, inl, inr, map, string_bytes}
 use Rattle.std.specs.List.{enumerate_from}
 use Rattle.pep440_version.specs.Changes.{apply_edits, edit}
-use Rattle.pep440_tool.specs.Answers.{AsksChange, EditAnswer, RejectsChange, RejectsFirst, edited_answer}
+use Rattle.pep440_tool.specs.Answers.{DenotesChange, EditAnswer, RejectsChange, RejectsFirst, edited_answer}
 use Rattle.pep440_tool.proofs.Rejected.{answered_weaker, stopped}
 use Rattle.pep440_tool.proofs.edit.edit.Goals as goal
 
 pub returns-in_err-changes : goal.returns-in_err-changes
 returns-in_err-changes c =
     let words = map string_bytes c.args.words.now in
-    stopped _ (RejectsFirst AsksChange RejectsChange (enumerate_from 1 words)) (EditAnswer c.args.word.now words) (λ a h. inl (c.in_ok-version.version, c.in_ok-version.ensures, inr h))
+    stopped _ (RejectsFirst DenotesChange RejectsChange (enumerate_from 1 words)) (EditAnswer c.args.word.now words) (λ a h. inl (c.in_ok-version.version, c.in_ok-version.ensures, inr h))
     c.in_err-changes.field-0.0 c.in_err-changes.ensures c.from_residual-in_err-changes.result c.from_residual-in_err-changes.ensures.1
 
 pub returns : goal.returns

@@ -1,8 +1,8 @@
 use Rattle.std.proofs.Common.{inl, inr, string_bytes}
 use Rattle.pep440_version.specs.Grammar.{Derives}
-use Rattle.pep440_version.specs.Refusals.{Refuses}
+use Rattle.pep440_version.specs.Rejections.{Rejects}
 use Rattle.pep440_tool.specs.Answers.{RejectsFirst}
-use Rattle.pep440_tool.specs.Lines.{FilterAnswer, LineMeans, RejectsLine, numbered_lines, refused_version}
+use Rattle.pep440_tool.specs.Lines.{FilterAnswer, LineDenotes, RejectsLine, numbered_lines, shown_version_error}
 use Rattle.pep440_tool.specs.AnswerValues.{answer_value}
 use Rattle.pep440_tool.proofs.Each.{shows_contained}
 use Rattle.pep440_tool.proofs.Rejected.{stopped}
@@ -23,5 +23,5 @@ returns c = inl (
 
 pub returns-in_err-versions : goal.returns-in_err-versions
 returns-in_err-versions c =
-    stopped _ (RejectsFirst (LineMeans Derives) (RejectsLine Refuses refused_version) (numbered_lines c.args.input.now)) (FilterAnswer c.args.word.now c.args.input.now)
+    stopped _ (RejectsFirst (LineDenotes Derives) (RejectsLine Rejects shown_version_error) (numbered_lines c.args.input.now)) (FilterAnswer c.args.word.now c.args.input.now)
     (λ a h. inl (c.in_ok-list.list, c.in_ok-list.ensures, inr h)) c.in_err-versions.field-0.0 c.in_err-versions.ensures c.from_residual-in_err-versions.result c.from_residual-in_err-versions.ensures.1

@@ -1,8 +1,8 @@
 use Rattle.std.proofs.Common.{◌∙◌, codes, inl, inr, map, refl, string_bytes, sym}
-use Rattle.pep440_pick.specs.RequirementGrammar.{DerivesRequirement, RefusesRequirement}
+use Rattle.pep440_pick.specs.RequirementGrammar.{DerivesRequirement, RejectsRequirement}
 use Rattle.pep440_tool.specs.Answers.{RejectsFirst}
-use Rattle.pep440_tool.specs.Lines.{LineMeans, RejectsLine, numbered_lines}
-use Rattle.pep440_tool.specs.Picks.{PickAnswer, refused_requirement}
+use Rattle.pep440_tool.specs.Lines.{LineDenotes, RejectsLine, numbered_lines}
+use Rattle.pep440_tool.specs.Picks.{PickAnswer, shown_requirement_error}
 use Rattle.pep440_tool.specs.AnswerValues.{answer_value}
 use Rattle.pep440_tool.proofs.Each.{picked}
 use Rattle.pep440_tool.proofs.Rejected.{stopped}
@@ -13,7 +13,7 @@ returns-then-not-is_name c = λ lacks. (codes "name: not a valid name", refl, in
 
 pub returns-in_err-lists : goal.returns-in_err-lists
 returns-in_err-lists c =
-    stopped _ (RejectsFirst (LineMeans DerivesRequirement) (RejectsLine RefusesRequirement refused_requirement) (numbered_lines c.args.input.now)) (PickAnswer c.args.name.now (map string_bytes c.args.candidates.now) c.args.input.now)
+    stopped _ (RejectsFirst (LineDenotes DerivesRequirement) (RejectsLine RejectsRequirement shown_requirement_error) (numbered_lines c.args.input.now)) (PickAnswer c.args.name.now (map string_bytes c.args.candidates.now) c.args.input.now)
     (λ a h. inr (sym c.is_name.ensures ∙ c.if-not-is_name.false, inl (c.in_ok-versions.versions.items, c.in_ok-versions.ensures, inr h))) c.in_err-lists.field-0.0 c.in_err-lists.ensures
     c.from_residual-in_err-lists.result c.from_residual-in_err-lists.ensures.1
 

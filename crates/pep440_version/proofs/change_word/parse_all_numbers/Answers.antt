@@ -1,6 +1,6 @@
 use Rattle.std.proofs.Common.{◌∙◌, get_or, refl, sym}
 use Rattle.pep440_version.proofs.ChangeWords.Items.{more, no_text, stop}
-use Rattle.pep440_version.specs.ChangeWords.{number_of}
+use Rattle.pep440_version.specs.Changes.ChangeWords.{number_of}
 use Rattle.pep440_version.proofs.change_word.parse_all_numbers.Goals as goal
 
 pub returns-in_default : goal.returns-in_default

@@ -1,6 +1,6 @@
 use Rattle.std.proofs.Common.{◌≡◌, drop, map}
 use Rattle.pep440_version.proofs.ChangeWords.Items.{before}
-use Rattle.pep440_version.specs.ChangeWords.{all_of, number_of}
+use Rattle.pep440_version.specs.Changes.ChangeWords.{all_of, number_of}
 use Rattle.pep440_version.proofs.change_word.parse_all_numbers.Given as goal
 
 abbrev pub invariant-loop-i : goal.invariant-loop-i

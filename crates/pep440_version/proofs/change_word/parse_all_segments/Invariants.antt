@@ -1,7 +1,7 @@
 use Rattle.std.proofs.Common.{◌≡◌, drop, map}
 use Rattle.pep440_version.specs.Segments.{segment}
 use Rattle.pep440_version.proofs.ChangeWords.Items.{before}
-use Rattle.pep440_version.specs.ChangeWords.{all_of, local_segment_of}
+use Rattle.pep440_version.specs.Changes.ChangeWords.{all_of, local_segment_of}
 use Rattle.pep440_version.proofs.change_word.parse_all_segments.Given as goal
 
 abbrev pub invariant-loop-i : goal.invariant-loop-i

@@ -4,8 +4,8 @@ use Rattle.pep440_version.specs.declared.change.Change.{Change}
 use Rattle.pep440_version.specs.declared.change.Change.TheVariants as change
 use Rattle.pep440_version.specs.declared.change_word.ChangeWordError.{ChangeWordError}
 use Rattle.pep440_version.specs.Changes.{Edit, edit, Release, Local}
-use Rattle.pep440_version.specs.ChangeWords.{field_change}
-use Rattle.pep440_version.specs.ChangeWordResults.{ReadsAs}
+use Rattle.pep440_version.specs.Changes.ChangeWords.{field_change}
+use Rattle.pep440_version.specs.Changes.ChangeWordResults.{ReadsAs}
 use Rattle.pep440_version.proofs.ChangeWords.NotRead.{not_read}
 use Rattle.pep440_version.proofs.change_word.parse_field_change.Goals as goal
 

@@ -1,5 +1,5 @@
 use Rattle.std.proofs.Common.{◌≡◌, ◌≤◌, length, take}
-use Rattle.pep440_version.specs.Trim.{trim}
+use Rattle.pep440_version.specs.Key.Trim.{trim}
 use Rattle.pep440_version.proofs.key.trim_trailing_zeros.Given as goal
 
 abbrev pub invariant-loop-end : goal.invariant-loop-end

@@ -1,5 +1,5 @@
 use Rattle.pep440_version.proofs.Reading.Agreement.{only, only_pattern}
-use Rattle.pep440_version.proofs.Refusals.ExactlyOne.{decides, decides_pattern}
+use Rattle.pep440_version.proofs.Rejections.ExactlyOne.{decides, decides_pattern}
 use Rattle.pep440_version.proofs.laws.reading_agrees.Goals as goal
 
 pub returns-clause-version : goal.returns-clause-version

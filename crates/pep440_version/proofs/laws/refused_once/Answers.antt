@@ -1,4 +1,4 @@
-use Rattle.pep440_version.proofs.Refusals.ExactlyOne.{one_refusal, one_pattern_refusal, not_both, not_both_pattern, one_or_other, one_or_other_pattern}
+use Rattle.pep440_version.proofs.Rejections.ExactlyOne.{one_refusal, one_pattern_refusal, not_both, not_both_pattern, one_or_other, one_or_other_pattern}
 use Rattle.pep440_version.proofs.laws.refused_once.Goals as goal
 
 pub returns-clause-version : goal.returns-clause-version

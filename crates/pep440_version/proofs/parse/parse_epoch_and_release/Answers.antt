@@ -1,6 +1,6 @@
 use Rattle.std.proofs.Common.{◌≡◌, ◌∙◌, sym, true, drop}
 use Rattle.std.proofs.lemmas.Result.{err_from_is_err_and}
-use Rattle.pep440_version.specs.Errors.{refusal_of}
+use Rattle.pep440_version.specs.Errors.{rejection_of}
 use Rattle.pep440_version.specs.Reading.{parse_number, starts_with_number}
 use Rattle.pep440_version.specs.Whole.{parse_epoch_and_release}
 use Rattle.pep440_version.proofs.Reading.NumbersInTurn.{fault_on}
@@ -21,7 +21,7 @@ returns-in_err-first-clause-reads c =
     let first = sym c.starts_with_number.ensures ∙ c.if-not-starts_with_number.false in
     let bang = sym c.starts_with.ensures ∙ c.if-not-starts_with.false in
     let second : starts_with_number (drop 1 c.in_ok-number.after.now) ≡ true = rw (sym c.skip_ascii-rest.ensures) (sym c.starts_with_number-2.ensures ∙ c.if-not-starts_with_number-2.false) in
-    rw (p.1, p.2) (fault_on (refusal_of c.in_err-first.field-0.0) (parse_number c.skip_ascii-rest.result.now) (parse_epoch_and_release text)
+    rw (p.1, p.2) (fault_on (rejection_of c.in_err-first.field-0.0) (parse_number c.skip_ascii-rest.result.now) (parse_epoch_and_release text)
     (λ f h. prefix_err text c.in_ok-number.after.now c.in_ok-number.number f first c.in_ok-number.ensures.reads bang second (rw (sym c.skip_ascii-rest.ensures) h)) c.in_err-first.ensures.reads)
 
 pub returns-clause-reads : goal.returns-clause-reads

@@ -1,5 +1,5 @@
 use Rattle.std.proofs.Common.{◌∙◌, ◌/◌, length, sym}
-use Rattle.pep440_version.specs.KeyLaws.{record_total}
+use Rattle.pep440_version.specs.Key.KeyLaws.{record_total}
 use Rattle.pep440_ranges.proofs.Searching.{first_half, last_half}
 use Rattle.pep440_witness.proofs.search.+is_within.Goals as goal
 

@@ -1,7 +1,7 @@
 use Rattle.std.proofs.Common.{arith, ◌+◌, ◌∙◌, None, Some, ap, drop, map, refl, string_bytes, subst, sym, take, take_all}
 use Rattle.std.proofs.lemmas.Result.{err_from_is_err_and}
 use Rattle.pyver_commands.proofs.SourceFilters.{GoesOn, goes_on_ends, goes_on_more, goes_on_none, goes_on_refused, goes_on_stops, names_more, names_split, not_none, same_reads, same_refuses, same_stops}
-use Rattle.pyver_commands.specs.FilterSteps.{AllFinish, AllStop}
+use Rattle.pyver_commands.specs.FilterSteps.{AllFinish, AllFail}
 use Rattle.pyver_commands.specs.Sources.{is_none}
 use Rattle.pyver_commands.proofs.filter_sources.filter_all.Goals as goal
 
@@ -15,7 +15,7 @@ returns-in_err-open_and_filter-clause-stopped g c =
     let read = map string_bytes (take c.loop-name.name-index c.args.names.now) in
     let left = map string_bytes (drop (c.loop-name.name-index + 1) c.args.names.now) in
     let text = c.as_str-name.result.now in
-    rw (p.1, p.2) (subst (λ n. AllStop (g.F.Files.known c.args.files.now) g.R.Read.remaining g.W.Write.contents g.E.Write.contents c.args.rule.now n c.args.input.now c.open_and_filter.new.input c.args.out.now c.open_and_filter.new.out c.args.err.now c.open_and_filter.new.err why)
+    rw (p.1, p.2) (subst (λ n. AllFail (g.F.Files.known c.args.files.now) g.R.Read.remaining g.W.Write.contents g.E.Write.contents c.args.rule.now n c.args.input.now c.open_and_filter.new.input c.args.out.now c.open_and_filter.new.out c.args.err.now c.open_and_filter.new.err why)
     (sym (names_split string_bytes c.args.names.now c.loop-name.name-index c.name-item.result _ text c.loop-name-test.true c.name-item.is c.as_str-name.ensures.value))
     (goes_on_stops _ _ _ _ c.args.rule.now read c.loop-name.state c.args.input.now c.loop-name.input c.open_and_filter.new.input c.args.out.now c.loop-name.out c.open_and_filter.new.out c.args.err.now c.loop-name.err c.open_and_filter.new.err
     c.loop-name.invariant.0 text left why

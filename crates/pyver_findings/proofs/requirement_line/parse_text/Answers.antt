@@ -1,6 +1,6 @@
 use Rattle.std.proofs.Common.{IfSome, List, ℕ, subst}
-use Rattle.pep440_pick.specs.RequirementGrammar.{RefusesRequirement}
-use Rattle.pep440_pick.specs.Requirements.{requirement_refusal_of}
+use Rattle.pep440_pick.specs.RequirementGrammar.{RejectsRequirement}
+use Rattle.pep440_pick.specs.Requirements.{requirement_rejection_of}
 use Rattle.pyver_findings.specs.Views.{file_line_of}
 use Rattle.pyver_requirements.specs.LinePartViews.{line_parts_of}
 use Rattle.pyver_findings.proofs.Reasons.{error_read}
@@ -9,4 +9,4 @@ use Rattle.pyver_findings.proofs.requirement_line.parse_text.Goals as goal
 pub returns-in-Err : goal.returns-in-Err
 returns-in-Err c =
     error_read c.reject_error.result (file_line_of c.args.line.now) (line_parts_of c.args.parts) c.in-Err.error.kind c.requires.plain
-    (subst (λ (t : List ℕ). IfSome (requirement_refusal_of c.in-Err.error.kind) (RefusesRequirement t)) c.requires.same c.in-Err.ensures.refused) c.reject_error.ensures
+    (subst (λ (t : List ℕ). IfSome (requirement_rejection_of c.in-Err.error.kind) (RejectsRequirement t)) c.requires.same c.in-Err.ensures.refused) c.reject_error.ensures

@@ -1,7 +1,7 @@
 use Rattle.std.proofs.Common.{◌≡◌, ◌+◌, None, Some, length}
 use Rattle.pep440_pick.specs.Names.{normal}
-use Rattle.pep440_version.specs.ErrorTexts.{refusal_text}
-use Rattle.pep440_version.specs.Errors.{error_refusal}
+use Rattle.pep440_version.specs.ErrorTexts.{rejection_text}
+use Rattle.pep440_version.specs.Errors.{error_rejection}
 use Rattle.pep440_version.specs.Grammar.{Derives}
 use Rattle.pep440_version.specs.Record.{Record}
 use Rattle.pyver_findings.specs.Findings.{NoRequirement}
@@ -14,6 +14,6 @@ pub returns-in-Err : goal.returns-in-Err
 returns-in-Err c =
     let l = file_line_of c.args.line in
     let name = c.args.name.now in
-    version_read c.reject_version.result (error_refusal c.in-Err.error) c.args.version.now
+    version_read c.reject_version.result (error_rejection c.in-Err.error) c.args.version.now
     (λ y. (r : Record) × Derives c.args.version.now r × (locked_reading_of y ≡ record { line = l; name = normal name; version = Some r; invalid = None }))
-    (λ f y. locked_reading_of y ≡ record { line = l; name = normal name; version = None; invalid = Some (NoRequirement l (refusal_text f) (length name + 1)) }) c.in-Err.ensures.refused c.reject_version.ensures
+    (λ f y. locked_reading_of y ≡ record { line = l; name = normal name; version = None; invalid = Some (NoRequirement l (rejection_text f) (length name + 1)) }) c.in-Err.ensures.refused c.reject_version.ensures

@@ -1,8 +1,8 @@
 use Rattle.std.proofs.Common.{◌≡◌, ◌∙◌, ◌+◌, IfSome, List, Option, None, Some, length, string_bytes, subst, ℕ}
 use Rattle.std.proofs.lemmas.Result.{IfOk-weaker}
-use Rattle.pep440_version.specs.ErrorTexts.{error_text, refusal_text}
-use Rattle.pep440_version.specs.Errors.{error_refusal}
-use Rattle.pep440_version.specs.Refusals.{Refusal}
+use Rattle.pep440_version.specs.ErrorTexts.{error_text, rejection_text}
+use Rattle.pep440_version.specs.Errors.{error_rejection}
+use Rattle.pep440_version.specs.Rejections.{Rejection}
 use Rattle.pep440_pick.specs.Names.{normal}
 use Rattle.pyver_findings.specs.Findings.{NoRequirement}
 use Rattle.pyver_findings.specs.Views.{file_line_of}
@@ -15,7 +15,7 @@ returns c =
     let e = c.args.error.now in
     let l = file_line_of c.args.line in
     let s = string_bytes c.in_ok-reason.reason in
-    let f = refusal (error_refusal e) c.in_ok-reason.ensures.memory in
-    let told : error_text (Some f.0) ≡ Some (refusal_text f.0) = subst (λ (o : Option Refusal). IfSome o (λ g. error_text o ≡ Some (refusal_text g))) f.1 c.requires in
-    let why : s ≡ refusal_text f.0 = version_reason_is f.0 s told (subst (λ (o : Option Refusal). IfSome (error_text o) (λ (t : List ℕ). s ≡ t)) f.1 c.in_ok-reason.ensures.text) in
-    IfOk-weaker c.reject.result (λ y. locked_reading_of y ≡ record { line = l; name = normal c.args.name.now; version = None; invalid = Some (NoRequirement l s (length c.args.name.now + 1)) }) (λ y. (g : Refusal) × (error_refusal e ≡ Some g) × (locked_reading_of y ≡ record { line = l; name = normal c.args.name.now; version = None; invalid = Some (NoRequirement l (refusal_text g) (length c.args.name.now + 1)) })) (λ x is. (f.0, f.1, is ∙ (λ j. record { line = l; name = normal c.args.name.now; version = None; invalid = Some (NoRequirement l (why j) (length c.args.name.now + 1)) }))) c.reject.ensures
+    let f = refusal (error_rejection e) c.in_ok-reason.ensures.memory in
+    let told : error_text (Some f.0) ≡ Some (rejection_text f.0) = subst (λ (o : Option Rejection). IfSome o (λ g. error_text o ≡ Some (rejection_text g))) f.1 c.requires in
+    let why : s ≡ rejection_text f.0 = version_reason_is f.0 s told (subst (λ (o : Option Rejection). IfSome (error_text o) (λ (t : List ℕ). s ≡ t)) f.1 c.in_ok-reason.ensures.text) in
+    IfOk-weaker c.reject.result (λ y. locked_reading_of y ≡ record { line = l; name = normal c.args.name.now; version = None; invalid = Some (NoRequirement l s (length c.args.name.now + 1)) }) (λ y. (g : Rejection) × (error_rejection e ≡ Some g) × (locked_reading_of y ≡ record { line = l; name = normal c.args.name.now; version = None; invalid = Some (NoRequirement l (rejection_text g) (length c.args.name.now + 1)) })) (λ x is. (f.0, f.1, is ∙ (λ j. record { line = l; name = normal c.args.name.now; version = None; invalid = Some (NoRequirement l (why j) (length c.args.name.now + 1)) }))) c.reject.ensures

@@ -1,8 +1,8 @@
 use Rattle.std.proofs.Common.{◌≡◌, drop, map, string_bytes}
-use Rattle.pyver_tool.specs.SplitViews.{given_of}
+use Rattle.pyver_tool.specs.SplitViews.{option_with_value}
 use Rattle.pyver_tool.specs.Tasks.{asks_help}
 use Rattle.pyver_tool.proofs.command.asks_help.Given as goal
 
 abbrev pub invariant-loop-given : goal.invariant-loop-given
 invariant-loop-given l =
-    asks_help (map (given_of (λ s. s.now) (λ t. t.now) string_bytes) l.options) ≡ asks_help (map (given_of (λ s. s.now) (λ t. t.now) string_bytes) (drop l.given-index l.options))
+    asks_help (map (option_with_value (λ s. s.now) (λ t. t.now) string_bytes) l.options) ≡ asks_help (map (option_with_value (λ s. s.now) (λ t. t.now) string_bytes) (drop l.given-index l.options))

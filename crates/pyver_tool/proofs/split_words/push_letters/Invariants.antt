@@ -2,14 +2,14 @@ use denote.Shadow.{shadow}
 use denote.Text.{Utf8}
 use Rattle.std.proofs.Common.{◌≡◌, ◌++◌, length, map, string_bytes}
 use Rattle.pyver_tool.specs.Options.{rows_of}
-use Rattle.pyver_tool.specs.SplitViews.{given_of}
+use Rattle.pyver_tool.specs.SplitViews.{option_with_value}
 use Rattle.pyver_tool.specs.SplitWords.{letter_options}
 use Rattle.pyver_tool.proofs.split_words.push_letters.Given as goal
 
 abbrev pub invariant-loop-row : goal.invariant-loop-row
 invariant-loop-row l =
-    (map (given_of (λ s. s.now) (λ t. t.now) string_bytes) l.options.items ++ (letter_options (rows_of (λ s. s.now) (λ t. t.now) l.rows) l.left).0
-    ≡ map (given_of (λ s. s.now) (λ t. t.now) string_bytes) l.fn.options.items ++ (letter_options (rows_of (λ s. s.now) (λ t. t.now) l.rows) l.letters).0)
+    (map (option_with_value (λ s. s.now) (λ t. t.now) string_bytes) l.options.items ++ (letter_options (rows_of (λ s. s.now) (λ t. t.now) l.rows) l.left).0
+    ≡ map (option_with_value (λ s. s.now) (λ t. t.now) string_bytes) l.fn.options.items ++ (letter_options (rows_of (λ s. s.now) (λ t. t.now) l.rows) l.letters).0)
     × ((letter_options (rows_of (λ s. s.now) (λ t. t.now) l.rows) l.left).1 ≡ (letter_options (rows_of (λ s. s.now) (λ t. t.now) l.rows) l.letters).1)
     × shadow (Utf8 l.left)
 

@@ -3,14 +3,14 @@ use Rattle.std.proofs.lemmas.List.{map-append}
 use Rattle.std.specs.Option.{option_map}
 use Rattle.pyver_tool.proofs.SplitWords.{awaits_next, first_word, operand_next, operands_before, options_before, whole_next}
 use Rattle.pyver_tool.specs.Options.{rows_of}
-use Rattle.pyver_tool.specs.SplitViews.{given_of, named_of}
+use Rattle.pyver_tool.specs.SplitViews.{option_with_value, named_of}
 use Rattle.pyver_tool.specs.SplitWords.{Awaits, Whole, before, is_option, split_words, word_options}
 use Rattle.pyver_tool.proofs.split_words.split_words.Goals as goal
 
 pub loop-left-preserved-in-Some : goal.loop-left-preserved-in-Some
 loop-left-preserved-in-Some c =
     let rows = rows_of (λ s. s.now) (λ t. t.now) c.args.rows.now in
-    let given = given_of (λ s. s.now) (λ t. t.now) string_bytes in
+    let given = option_with_value (λ s. s.now) (λ t. t.now) string_bytes in
     let left = c.loop-left.left.now in
     let word = c.as_str-word.result.now in
     let rest = map string_bytes (take (length left - 1) (drop 1 left)) in
@@ -31,7 +31,7 @@ loop-left-preserved-in_ok-push-2 c =
     let word = c.as_str-word.result.now in
     let rest = map string_bytes (take (length left - 1) (drop 1 left)) in
     let operands = map string_bytes c.loop-left.operands.items in
-    let options = map (given_of (λ s. s.now) (λ t. t.now) string_bytes) c.loop-left.options.items in
+    let options = map (option_with_value (λ s. s.now) (λ t. t.now) string_bytes) c.loop-left.options.items in
     let same : string_bytes c.in_ok-to_string-2.field-0 ≡ word = search rules in
     let goes_on : bytes_eq word (codes "--") ≡ false = search rules in
     let none : is_option word ≡ false = search rules in
@@ -50,7 +50,7 @@ loop-left-preserved-in-Whole c =
     let word = c.as_str-word.result.now in
     let rest = map string_bytes (take (length left - 1) (drop 1 left)) in
     let operands = map string_bytes c.loop-left.operands.items in
-    let options = map (given_of (λ s. s.now) (λ t. t.now) string_bytes) c.loop-left.options.items in
+    let options = map (option_with_value (λ s. s.now) (λ t. t.now) string_bytes) c.loop-left.options.items in
     let more = (word_options rows word).0 in
     let goes_on : bytes_eq word (codes "--") ≡ false = search rules in
     let one : is_option word ≡ true = search rules in
@@ -70,7 +70,7 @@ loop-left-preserved c =
     let word = c.as_str-word.result.now in
     let rest = map string_bytes (take (length left - 1) (drop 1 left)) in
     let operands = map string_bytes c.loop-left.operands.items in
-    let options = map (given_of (λ s. s.now) (λ t. t.now) string_bytes) c.loop-left.options.items in
+    let options = map (option_with_value (λ s. s.now) (λ t. t.now) string_bytes) c.loop-left.options.items in
     let more = (word_options rows word).0 in
     let option = named_of (λ s. s.now) (λ t. t.now) c.in-Awaits.option in
     let goes_on : bytes_eq word (codes "--") ≡ false = search rules in

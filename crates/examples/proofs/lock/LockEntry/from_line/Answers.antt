@@ -1,10 +1,10 @@
 use Rattle.std.proofs.Common.{◌≡◌, ℕ, List, IfErr, IfSome, Result, Ok, Err, subst, sym}
 use Rattle.std.specs.Result.{IsErrAnd}
-use Rattle.pep440_version.specs.Errors.{error_refusal}
-use Rattle.pep440_version.specs.Refusals.{Refuses}
+use Rattle.pep440_version.specs.Errors.{error_rejection}
+use Rattle.pep440_version.specs.Rejections.{Rejects}
 use Rattle.pep440_version.specs.declared.error.VersionParseError.{VersionParseError}
 use Rattle.examples.specs.Lock.{IsFault}
-use Rattle.pep440_rs.specs.ListGrammar.{DerivesList}
+use Rattle.pep440_rs.specs.Lists.ListGrammar.{DerivesList}
 use Rattle.pep440_rs.specs.Specifiers.{Spec}
 use Rattle.examples.specs.LockParts.{IsShort, list_part, version_part}
 use Rattle.examples.specs.declared.lock.LockEntry.{LockEntry}
@@ -14,10 +14,10 @@ use Rattle.examples.proofs.lock.LockEntry.from_line.Goals as goal
 
 -- an error of the third part is the fault of a line whose second part is a list
 third : (line text : List ℕ) (list : List Spec) (e : VersionParseError) (r : Result LockEntry LockError) → text ≡ version_part line → ¬ IsShort line → DerivesList (list_part line) list → IsErrAnd r (λ of. of ≡ Version e)
-    → IfSome (error_refusal e) (Refuses text) → IfErr r (IsFault line)
+    → IfSome (error_rejection e) (Rejects text) → IfErr r (IsFault line)
 third line text list e (Ok locked) is long derived made why = absurd made
 third line text list e (Err of) is long derived made why =
-    subst (IsFault line) (sym made) (long, (list, derived), subst (λ (t : List ℕ). IfSome (error_refusal e) (Refuses t)) is why)
+    subst (IsFault line) (sym made) (long, (list, derived), subst (λ (t : List ℕ). IfSome (error_rejection e) (Rejects t)) is why)
 
 pub returns-in_err-from_str-3-clause-refused : goal.returns-in_err-from_str-3-clause-refused
 returns-in_err-from_str-3-clause-refused c =

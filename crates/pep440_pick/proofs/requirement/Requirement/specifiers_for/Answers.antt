@@ -1,20 +1,20 @@
 use Rattle.std.proofs.Common.{◌∙◌, false, refl, sym, true}
 use Rattle.pep440_rs.proofs.Reading.Passed.{passed}
-use Rattle.pep440_pick.specs.Requirements.{prefix_of, requirement_refusal_of}
-use Rattle.pep440_pick.specs.RequirementGrammar.{Needed, RefusesRequirement}
+use Rattle.pep440_pick.specs.Requirements.{prefix_of, requirement_rejection_of}
+use Rattle.pep440_pick.specs.RequirementGrammar.{Needed, RejectsRequirement}
 use Rattle.std.specs.Prelude.{IfErr, IfSome}
 use Rattle.pep440_pick.proofs.Whole.{prefix_err_refused, list_err_refused, list_ok_found, of_name}
 use Rattle.pep440_pick.proofs.requirement.Requirement.specifiers_for.Goals as goal
 
 pub returns-in_err-parts-clause-refused : goal.returns-in_err-parts-clause-refused
 returns-in_err-parts-clause-refused c =
-    passed (λ r. IfErr r (λ e. IfSome (requirement_refusal_of e) (RefusesRequirement c.args.text.now))) c.from_residual.result c.in_err-parts.field-0.0.kind c.from_residual.ensures.1
-    (prefix_err_refused c.args.text.now (requirement_refusal_of c.in_err-parts.field-0.0.kind) c.in_err-parts.ensures.value)
+    passed (λ r. IfErr r (λ e. IfSome (requirement_rejection_of e) (RejectsRequirement c.args.text.now))) c.from_residual.result c.in_err-parts.field-0.0.kind c.from_residual.ensures.1
+    (prefix_err_refused c.args.text.now (requirement_rejection_of c.in_err-parts.field-0.0.kind) c.in_err-parts.ensures.value)
 
 pub returns-in_err-specifiers-clause-refused : goal.returns-in_err-specifiers-clause-refused
 returns-in_err-specifiers-clause-refused c =
-    passed (λ r. IfErr r (λ e. IfSome (requirement_refusal_of e) (RefusesRequirement c.args.text.now))) c.from_residual-in_err-specifiers.result c.in_err-specifiers.field-0.0.kind c.from_residual-in_err-specifiers.ensures.1
-    (list_err_refused c.args.text.now (prefix_of c.in_ok-parts.parts) c.in_ok-parts.ensures.value (requirement_refusal_of c.in_err-specifiers.field-0.0.kind) c.in_err-specifiers.ensures.refused)
+    passed (λ r. IfErr r (λ e. IfSome (requirement_rejection_of e) (RejectsRequirement c.args.text.now))) c.from_residual-in_err-specifiers.result c.in_err-specifiers.field-0.0.kind c.from_residual-in_err-specifiers.ensures.1
+    (list_err_refused c.args.text.now (prefix_of c.in_ok-parts.parts) c.in_ok-parts.ensures.value (requirement_rejection_of c.in_err-specifiers.field-0.0.kind) c.in_err-specifiers.ensures.refused)
 
 pub returns-then-same_name-clause-found : goal.returns-then-same_name-clause-found
 returns-then-same_name-clause-found c =

@@ -1,7 +1,7 @@
 use Rattle.std.proofs.Common.{◌≡◌, ◌∙◌, ◌++◌, ◌∷◌, [], ap, refl, replicate}
 use Rattle.std.specs.Prelude.{slice_range}
 use Rattle.std.proofs.Output.{has_written_styled_append, has_written_styled_of_eq}
-use Rattle.pep440_rs.specs.ListErrorTexts.{columns}
+use Rattle.pep440_rs.specs.Lists.ListErrorTexts.{columns}
 use Rattle.pep440_rs.proofs.list.error.write_caret_line.Goals as goal
 
 pub returns : goal.returns

@@ -2,10 +2,10 @@ use Rattle.std.proofs.Common.{◌++◌, ◌-◌, ◌∙◌, ◌∷◌, [], ap, a
 use Rattle.std.proofs.lemmas.List.{append_assoc, length-append}
 use Rattle.pep440_version.proofs.Reading.Endings.{ends_then}
 use Rattle.std.specs.Prelude.{IfErr}
-use Rattle.pep440_rs.specs.ListErrors.{IsSpan, MembersGive}
-use Rattle.pep440_rs.specs.ListGrammar.{pieces}
-use Rattle.pep440_rs.specs.ListReading.{read_members, read_pieces}
-use Rattle.pep440_rs.specs.SpecifierReading.{read_specifier}
+use Rattle.pep440_rs.specs.Lists.ListErrors.{IsSpan, ParsesMembers}
+use Rattle.pep440_rs.specs.Lists.ListGrammar.{pieces}
+use Rattle.pep440_rs.specs.Lists.ListReading.{read_members, read_pieces}
+use Rattle.pep440_rs.specs.Specifiers.SpecifierReading.{read_specifier}
 use Rattle.pep440_rs.proofs.Reading.Passed.{passed}
 use Rattle.pep440_rs.proofs.Reading.Pieces.{after_comma, ends_here, goes_on, members_from, piece_refused, piece_span, stops_here, with_members}
 use Rattle.pep440_rs.proofs.list.read.parse_members.Goals as goal
@@ -14,7 +14,7 @@ pub returns-in_err-add_piece-clause-value : goal.returns-in_err-add_piece-clause
 returns-in_err-add_piece-clause-value c =
     let some = sym c.is_empty.ensures ∙ c.if-is_empty.false in
     let k = length c.args.text.now - length c.loop-members.rest.now in
-    passed (λ r. MembersGive (λ v. v.items) r (read_members c.args.text.now)) c.from_residual.result c.in_err-add_piece.field-0.0 c.from_residual.ensures.1
+    passed (λ r. ParsesMembers (λ v. v.items) r (read_members c.args.text.now)) c.from_residual.result c.in_err-add_piece.field-0.0 c.from_residual.ensures.1
     (piece_refused c.in_err-add_piece.field-0.0 k c.split_piece.result.0.now (read_specifier c.split_piece.result.0.now) (read_members c.args.text.now) c.in_err-add_piece.ensures.refused
     (λ f told. members_from c.args.text.now some
     ∙ stops_here c.loop-members.members.items f (read_pieces 0 (pieces c.args.text.now)) k c.loop-members.rest.now c.split_piece.result.0.now _ c.split_piece.ensures.pieces told c.loop-members.invariant.2))

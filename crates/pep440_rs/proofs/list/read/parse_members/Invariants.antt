@@ -1,7 +1,7 @@
 use Rattle.std.proofs.Common.{◌≡◌, ◌-◌, length}
 use Rattle.pep440_version.specs.Reading.{EndsWith}
-use Rattle.pep440_rs.specs.ListGrammar.{pieces}
-use Rattle.pep440_rs.specs.ListReading.{read_pieces}
+use Rattle.pep440_rs.specs.Lists.ListGrammar.{pieces}
+use Rattle.pep440_rs.specs.Lists.ListReading.{read_pieces}
 use Rattle.pep440_rs.proofs.Reading.Pieces.{with_members}
 use denote.Shadow.{shadow}
 use denote.Text.{Utf8}

@@ -4,7 +4,7 @@ use Rattle.std.proofs.lemmas.List.Elements.{All-more}
 use Rattle.std.proofs.lemmas.List.Splits.{slice_split_none}
 use Rattle.std.proofs.lemmas.Str.{IsCharBoundary-end}
 use Rattle.std.specs.Str.{IsCharBoundary}
-use Rattle.pep440_rs.specs.ListGrammar.{pieces}
+use Rattle.pep440_rs.specs.Lists.ListGrammar.{pieces}
 use Rattle.pep440_rs.proofs.Reading.Pieces.{at_comma, comma_boundary, piece_boundary, piece_read}
 use Rattle.pep440_rs.proofs.list.read.split_piece.Goals as goal
 

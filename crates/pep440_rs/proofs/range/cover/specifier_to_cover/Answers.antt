@@ -4,7 +4,7 @@ use Rattle.pep440_rs.proofs.Covering.Single.{covers}
 use Rattle.pep440_rs.proofs.Raising.AtMax.{tells_max}
 use Rattle.pep440_rs.proofs.Raising.Refused.{cover_refused_at_max}
 use Rattle.pep440_rs.specs.Cover.{Covers, cover_of}
-use Rattle.pep440_rs.specs.Refused.{raised_number}
+use Rattle.pep440_rs.specs.RaisedNumbers.{raised_number}
 use Rattle.pep440_rs.proofs.range.cover.specifier_to_cover.Goals as goal
 
 pub returns-clause-holds : goal.returns-clause-holds

@@ -2,7 +2,7 @@ use Rattle.std.proofs.Common.{◌≡◌, Some, rules}
 use Rattle.std.proofs.lemmas.Result.{IfOk-weaker}
 use Rattle.pep440_rs.specs.Agreement.{Agrees, IsReleaseComparable}
 use Rattle.pep440_rs.specs.Bounds.{release_range_of}
-use Rattle.pep440_rs.specs.Refused.{raised_release_number}
+use Rattle.pep440_rs.specs.RaisedNumbers.{raised_release_number}
 use Rattle.pep440_rs.proofs.Raising.AtMax.{tells_max}
 use Rattle.pep440_rs.proofs.Raising.Refused.{release_refused_at_max}
 use Rattle.pep440_rs.proofs.Agreement.Releases.{release_agrees}

@@ -2,7 +2,7 @@ use Rattle.std.proofs.Common.{◌≡◌, Some, rules}
 use Rattle.std.proofs.lemmas.Result.{IfOk-weaker}
 use Rattle.pep440_rs.specs.Agreement.{Agrees, HoldsAllMatches, HoldsOnlyMatches, IsCandidate}
 use Rattle.pep440_rs.specs.Bounds.{range_of}
-use Rattle.pep440_rs.specs.Refused.{raised_number}
+use Rattle.pep440_rs.specs.RaisedNumbers.{raised_number}
 use Rattle.pep440_rs.proofs.Raising.AtMax.{tells_max}
 use Rattle.pep440_rs.proofs.Raising.Refused.{refused_at_max}
 use Rattle.pep440_rs.proofs.Agreement.Single.{agrees, holds_only_matches, holds_all_matches}

@@ -1,24 +1,24 @@
 use Rattle.pep440_rs.proofs.Reading.JsonStrings.{made_answers, made_found, made_refused, from_text, one_text, with_texts}
-use Rattle.pep440_rs.specs.Errors.{parse_kind_of, specifier_refusal_of}
+use Rattle.pep440_rs.specs.Errors.{parse_kind_of, specifier_rejection_of}
 use Rattle.pep440_rs.specs.Json.{text_of}
-use Rattle.pep440_rs.specs.SpecifierGrammar.{DerivesSpecifier, RefusesSpecifier}
+use Rattle.pep440_rs.specs.Specifiers.SpecifierGrammar.{DerivesSpecifier, RejectsSpecifier}
 use Rattle.pep440_rs.proofs.specifier.VersionSpecifier.from_json.Goals as goal
 
 pub returns-clause-only : goal.returns-clause-only
-returns-clause-only c = λ t s is means. made_answers (λ e. specifier_refusal_of (parse_kind_of e)) c.from_str.result c.map_err.result _ c.map_err.ensures.cases
+returns-clause-only c = λ t s is means. made_answers (λ e. specifier_rejection_of (parse_kind_of e)) c.from_str.result c.map_err.result _ c.map_err.ensures.cases
     (c.from_str.ensures.only s (from_text DerivesSpecifier c.in_ok-text.text.now t (text_of c.args.value.now) s c.in_ok-text.ensures is means))
 
 pub returns-clause-again : goal.returns-clause-again
-returns-clause-again c = λ t s means is. made_answers (λ e. specifier_refusal_of (parse_kind_of e)) c.from_str.result c.map_err.result _ c.map_err.ensures.cases
+returns-clause-again c = λ t s means is. made_answers (λ e. specifier_rejection_of (parse_kind_of e)) c.from_str.result c.map_err.result _ c.map_err.ensures.cases
     (c.from_str.ensures.again t s means (one_text _ _ (text_of c.args.value.now) c.in_ok-text.ensures is))
 
 pub returns-clause-refused : goal.returns-clause-refused
-returns-clause-refused c = made_refused (λ e. specifier_refusal_of (parse_kind_of e)) c.from_str.result c.map_err.result _ c.map_err.ensures.cases
-    (with_texts (λ e. specifier_refusal_of (parse_kind_of e)) RefusesSpecifier c.in_ok-text.text.now (text_of c.args.value.now) c.from_str.result c.in_ok-text.ensures c.from_str.ensures.refused)
+returns-clause-refused c = made_refused (λ e. specifier_rejection_of (parse_kind_of e)) c.from_str.result c.map_err.result _ c.map_err.ensures.cases
+    (with_texts (λ e. specifier_rejection_of (parse_kind_of e)) RejectsSpecifier c.in_ok-text.text.now (text_of c.args.value.now) c.from_str.result c.in_ok-text.ensures c.from_str.ensures.refused)
 
 pub returns-clause-decided : goal.returns-clause-decided
-returns-clause-decided c = λ t f is means. made_answers (λ e. specifier_refusal_of (parse_kind_of e)) c.from_str.result c.map_err.result _ c.map_err.ensures.cases
-    (c.from_str.ensures.decided f (from_text RefusesSpecifier c.in_ok-text.text.now t (text_of c.args.value.now) f c.in_ok-text.ensures is means))
+returns-clause-decided c = λ t f is means. made_answers (λ e. specifier_rejection_of (parse_kind_of e)) c.from_str.result c.map_err.result _ c.map_err.ensures.cases
+    (c.from_str.ensures.decided f (from_text RejectsSpecifier c.in_ok-text.text.now t (text_of c.args.value.now) f c.in_ok-text.ensures is means))
 
 pub returns-clause-found : goal.returns-clause-found
-returns-clause-found c = made_found (λ e. specifier_refusal_of (parse_kind_of e)) c.from_str.result c.map_err.result _ _ (λ s means. (c.in_ok-text.text.now, c.in_ok-text.ensures, means)) c.map_err.ensures.cases c.from_str.ensures.found
+returns-clause-found c = made_found (λ e. specifier_rejection_of (parse_kind_of e)) c.from_str.result c.map_err.result _ _ (λ s means. (c.in_ok-text.text.now, c.in_ok-text.ensures, means)) c.map_err.ensures.cases c.from_str.ensures.found

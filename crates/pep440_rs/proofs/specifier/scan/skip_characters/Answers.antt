@@ -1,6 +1,6 @@
 use Rattle.std.proofs.Common.{◌++◌, ◌∙◌, ap, sym}
 use Rattle.std.specs.Char.{encode_utf8}
-use Rattle.pep440_rs.specs.SpecifierReading.{passes}
+use Rattle.pep440_rs.specs.Specifiers.SpecifierReading.{passes}
 use Rattle.pep440_rs.proofs.Reading.Scanning.{ends_further, run_goes_on, run_stops}
 use Rattle.pep440_rs.proofs.specifier.scan.skip_characters.Goals as goal
 

@@ -3,7 +3,7 @@ use Rattle.std.proofs.lemmas.Str.{IsCharBoundary-after_ascii, IsCharBoundary-sta
 use Rattle.std.specs.Str.{chars}
 use Rattle.pep440_version.proofs.Reading.Endings.{ends_then}
 use Rattle.pep440_version.specs.Reading.{past}
-use Rattle.pep440_rs.specs.SpecifierReading.{passes}
+use Rattle.pep440_rs.specs.Specifiers.SpecifierReading.{passes}
 use Rattle.pep440_rs.proofs.Reading.Scanning.{ascii_at, byte_passes, byte_stops, ends_at, no_run_left}
 use Rattle.pep440_rs.proofs.specifier.scan.skip_run.Goals as goal
 

@@ -1,7 +1,7 @@
 use Rattle.std.proofs.Common.{◌≡◌, drop}
 use Rattle.std.specs.Str.{IsCharBoundary, chars}
 use Rattle.pep440_version.specs.Reading.{past}
-use Rattle.pep440_rs.specs.SpecifierReading.{passes}
+use Rattle.pep440_rs.specs.Specifiers.SpecifierReading.{passes}
 use Rattle.pep440_rs.proofs.specifier.scan.skip_run.Given as goal
 
 abbrev pub invariant-loop-at : goal.invariant-loop-at

@@ -1,7 +1,7 @@
 use Rattle.std.proofs.Common.{◌∙◌, ap}
 use Rattle.std.specs.Str.{chars}
 use Rattle.pep440_version.proofs.Reading.Endings.{seam}
-use Rattle.pep440_rs.specs.SpecifierReading.{passes}
+use Rattle.pep440_rs.specs.Specifiers.SpecifierReading.{passes}
 use Rattle.pep440_rs.proofs.Reading.Scanning.{rest_bytes, run_bytes}
 use Rattle.pep440_rs.proofs.specifier.scan.split_run.Goals as goal
 

@@ -1,6 +1,6 @@
 use Rattle.std.proofs.Common.{◌≡◌, ◌-◌, ◌+◌, ◌∙◌, ℕ, suc, sym, arith, length, rules}
 use Rattle.std.proofs.lemmas.Result.{err_from_is_err_and}
-use Rattle.pep440_version.specs.Errors.{refusal_of}
+use Rattle.pep440_version.specs.Errors.{rejection_of}
 use Rattle.pep440_version.specs.Reading.{parse_number, parse_release_from}
 use Rattle.pep440_version.proofs.Reading.NumbersInTurn.{fault_on}
 use Rattle.pep440_version.proofs.Reading.AfterFirstNumber.{more_on, more_err, more_shorter}
@@ -13,7 +13,7 @@ returns-in_err-number-clause-reads c =
     let left : ℕ = length c.args.text.now - (c.loop-round.round + 1) in
     let fuel : length c.args.text.now - c.loop-round.round ≡ suc left = omega arith in
     let go = sym c.has_next_number.ensures ∙ c.if-not-has_next_number.false in
-    rw (p.1, p.2) (fault_on (refusal_of c.in_err-number.field-0.0) (parse_number c.skip_ascii.result.now) (parse_release_from c.args.first c.args.text.now)
+    rw (p.1, p.2) (fault_on (rejection_of c.in_err-number.field-0.0) (parse_number c.skip_ascii.result.now) (parse_release_from c.args.first c.args.text.now)
     (λ f h. sym c.loop-round.invariant.2 ∙ rw fuel (more_err left c.loop-round.rest.now c.loop-round.numbers f go (rw (sym c.skip_ascii.ensures) h))) c.in_err-number.ensures.reads)
 
 pub loop-round-preserved : goal.loop-round-preserved

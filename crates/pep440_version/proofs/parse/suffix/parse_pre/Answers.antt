@@ -1,7 +1,7 @@
 use Rattle.std.proofs.Common.{◌≡◌, ℕ, List, refl, sym, Some, drop, option_map}
 use Rattle.std.proofs.lemmas.Result.{err_from_is_err_and}
 use Rattle.pep440_version.specs.declared.prerelease.PrereleaseKind.{PrereleaseKind}
-use Rattle.pep440_version.specs.Errors.{refusal_of}
+use Rattle.pep440_version.specs.Errors.{rejection_of}
 use Rattle.pep440_version.specs.Grammar.{pre_spellings}
 use Rattle.pep440_version.specs.Suffixes.{spelled, skip_separator, parse_count, parse_pre}
 use Rattle.pep440_version.proofs.Reading.NumbersInTurn.{fault_on}
@@ -14,7 +14,7 @@ returns-in_err-number-in-Some-clause-reads c =
     let p = err_from_is_err_and c.from_residual.result c.from_residual.ensures.1 in
     let text = c.args.text.now in
     let h : option_map {U = PrereleaseKind × List ℕ} (λ x. (x.0, drop x.1 (skip_separator text))) (spelled pre_spellings (skip_separator text)) ≡ Some (c.in-Some.kind, c.in-Some.after.now) = rw (sym c.skip_separator.ensures) (sym c.in-Some.ensures) in
-    rw (p.1, p.2) (fault_on (refusal_of c.in_err-number-in-Some.field-0.0) (parse_count (skip_separator c.in-Some.after.now)) (parse_pre text)
+    rw (p.1, p.2) (fault_on (rejection_of c.in_err-number-in-Some.field-0.0) (parse_count (skip_separator c.in-Some.after.now)) (parse_pre text)
     (λ f e. pre_err text c.in-Some.after.now c.in-Some.kind f h e) c.in_err-number-in-Some.ensures.reads)
 
 pub returns-in_ok-number-in-Some-clause-reads : goal.returns-in_ok-number-in-Some-clause-reads

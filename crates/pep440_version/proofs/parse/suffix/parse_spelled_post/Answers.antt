@@ -1,6 +1,6 @@
 use Rattle.std.proofs.Common.{◌≡◌, ℕ, List, sym, Some, drop, option_map}
 use Rattle.std.proofs.lemmas.Result.{err_from_is_err_and}
-use Rattle.pep440_version.specs.Errors.{refusal_of}
+use Rattle.pep440_version.specs.Errors.{rejection_of}
 use Rattle.pep440_version.specs.Grammar.{post_spellings}
 use Rattle.pep440_version.specs.Suffixes.{spelled, skip_separator, parse_count, parse_spelled_post}
 use Rattle.pep440_version.proofs.Reading.NumbersInTurn.{fault_on}
@@ -13,7 +13,7 @@ returns-in_err-number-in-Some-clause-reads c =
     let p = err_from_is_err_and c.from_residual.result c.from_residual.ensures.1 in
     let text = c.args.text.now in
     let h : option_map {U = Unit {0} × List ℕ} (λ x. (x.0, drop x.1 (skip_separator text))) (spelled post_spellings (skip_separator text)) ≡ Some (c.in-Some.field-0-0, c.in-Some.after.now) = rw (sym c.skip_separator.ensures) (sym c.in-Some.ensures) in
-    rw (p.1, p.2) (fault_on (refusal_of c.in_err-number-in-Some.field-0.0) (parse_count (skip_separator c.in-Some.after.now)) (parse_spelled_post text)
+    rw (p.1, p.2) (fault_on (rejection_of c.in_err-number-in-Some.field-0.0) (parse_count (skip_separator c.in-Some.after.now)) (parse_spelled_post text)
     (λ f e. post_err text c.in-Some.after.now c.in-Some.field-0-0 f h e) c.in_err-number-in-Some.ensures.reads)
 
 pub returns-in_err-number-in-Some-clause-memory : goal.returns-in_err-number-in-Some-clause-memory

@@ -2,7 +2,7 @@ use Rattle.std.proofs.Common.{arith, ◌+◌, ◌∙◌, None, Some, ap, drop, m
 use Rattle.std.proofs.lemmas.Result.{err_from_is_err_and}
 use Rattle.pyver_commands.proofs.SourceFilters.{names_more, names_split, not_none}
 use Rattle.pyver_commands.proofs.SourceReads.{all_ends, all_more, all_refused, all_stopped}
-use Rattle.pyver_commands.specs.Sources.SourceTexts.{StopsInSources, GainsSource, StopsInSource, size_of, source_of, sources_of}
+use Rattle.pyver_commands.specs.Sources.SourceTexts.{FailsInSources, GainsSource, FailsInSource, size_of, source_of, sources_of}
 use Rattle.pyver_commands.specs.Sources.{ReadsAll, ReadsInput, is_none}
 use Rattle.pyver_commands.proofs.sources.source_texts.read_all.Goals as goal
 
@@ -16,10 +16,10 @@ returns-in_err-open_and_read-clause-stopped g c =
     let read = map string_bytes (take c.loop-name.name-index c.args.names.now) in
     let left = map string_bytes (drop (c.loop-name.name-index + 1) c.args.names.now) in
     let text = c.as_str-name.result.now in
-    rw (p.1, p.2) (subst (λ n. StopsInSources (g.F.Files.known c.args.files.now) g.R.Read.remaining n c.args.input.now c.open_and_read.new.input why)
+    rw (p.1, p.2) (subst (λ n. FailsInSources (g.F.Files.known c.args.files.now) g.R.Read.remaining n c.args.input.now c.open_and_read.new.input why)
     (sym (names_split string_bytes c.args.names.now c.loop-name.name-index c.name-item.result _ text c.loop-name-test.true c.name-item.is c.as_str-name.ensures.value))
     (all_stopped _ _ read c.loop-name.is_first text _ (sources_of c.loop-name.state) c.args.input.now c.loop-name.input c.open_and_read.new.input c.loop-name.invariant.3 c.loop-name.invariant.0 left why
-    (subst (λ f. StopsInSource f g.R.Read.remaining (record { is_first = c.loop-name.is_first; name = text }) c.loop-name.input c.open_and_read.new.input why) c.loop-name.invariant.1 c.in_err-open_and_read.ensures.stopped)))
+    (subst (λ f. FailsInSource f g.R.Read.remaining (record { is_first = c.loop-name.is_first; name = text }) c.loop-name.input c.open_and_read.new.input why) c.loop-name.invariant.1 c.in_err-open_and_read.ensures.stopped)))
 
 pub returns-in-Some-clause-read : goal.returns-in-Some-clause-read
 returns-in-Some-clause-read g c =

@@ -6,7 +6,7 @@ use Rattle.pyver_commands.proofs.SourceFilters.{names_split}
 use Rattle.pyver_commands.proofs.SourceReads.{stops_before}
 use Rattle.pyver_tool.specs.FileSteps.{ReadsStep, names_of_files, read_of}
 use Rattle.pyver_tool.specs.RequirementFiles.{ReadsFilesInTurn, none_read}
-use Rattle.pyver_commands.specs.Sources.SourceTexts.{StopsInText}
+use Rattle.pyver_commands.specs.Sources.SourceTexts.{FailsInText}
 use Rattle.pyver_findings.specs.Views.{named_file_of}
 use Rattle.pyver_tool.proofs.requirement_files.RequirementFiles.read_all.Goals as goal
 
@@ -35,7 +35,7 @@ returns-in_err-read_file-clause-stopped g c =
     let split = names_split named_file_of here.self.names.items here.index c.index.result.now _ named (omega (arith, c.loop-index-test.true, here.invariant.5)) c.index.ensures c.in_ok-named.ensures.cases in
     let each = subst (λ f. ReadsFilesInTurn c.args.kind known paths g.R.Read.remaining f none_read (read_of here.self) c.args.input.now here.input) (take-map named_file_of here.index here.self.names.items) here.invariant.0 in
     rw (p.1, p.2) (ends_stopped c.args.kind known paths g.R.Read.remaining (names_of_files c.args.self.now) here.self c.args.input.now here.input c.read_file.new.input front _ named split each here.invariant.1 why
-    (subst (λ f. StopsInText f g.R.Read.remaining named.name here.input c.read_file.new.input why) here.invariant.2 c.in_err-read_file.ensures.stopped))
+    (subst (λ f. FailsInText f g.R.Read.remaining named.name here.input c.read_file.new.input why) here.invariant.2 c.in_err-read_file.ensures.stopped))
 
 pub loop-index-preserved : goal.loop-index-preserved
 loop-index-preserved g c =
