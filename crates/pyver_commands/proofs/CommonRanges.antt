@@ -1,13 +1,15 @@
 -- What lists have in common, and that `no version` is printed exactly where no version is in all of them.
-use Rattle.std.proofs.Common.{◌≡◌, ◌+◌, ◌<◌, ◌≤◌, ◌∙◌, ℕ, List, [], ◌∷◌, ◌++◌, ◌&&◌, Bool, true, false, IfSome, IsTrue, Option, Some, None, length, get_or, take, take_all, map, refl, sym, ap, subst, arith, if◌then◌else◌}
-use Rattle.std.proofs.lemmas.Bool.{true≢false}
+use Rattle.std.proofs.Common.{◌≡◌, ◌+◌, ◌<◌, ◌≤◌, ◌∙◌, ◌==◌, ℕ, List, [], ◌∷◌, ◌++◌, ◌&&◌, Bool, true, false, IfSome, IsTrue, Option, Some, None, append_assoc, codes, inl, inr, length, get_or, take, take_all, map, refl, sym, ap, subst, arith, if◌then◌else◌}
+use Rattle.std.proofs.lemmas.Bool.{cases_Bool, true≢false}
 use Rattle.std.proofs.lemmas.Cmp.{nat_cmp_total}
 use Rattle.std.proofs.lemmas.List.{append-nil, map-append, take_more}
 use Rattle.std.proofs.lemmas.List.Concat.{flat_map-append}
 use Rattle.std.proofs.lemmas.List.Elements.{All-append, All-cons, All-head, All-tail}
 use Rattle.std.proofs.lemmas.List.Folds.{list_all-append}
 use Rattle.std.proofs.lemmas.List.Sorted.{All-permutation, IsPermutation-sym, ranks_by}
+use Rattle.std.specs.Char.{is_ascii_digit}
 use Rattle.std.specs.Cmp.{IsStrictWeakOrder}
+use Rattle.std.specs.Fmt.{decimal}
 use Rattle.std.specs.List.{All, AllZip, flat_map}
 use Rattle.std.specs.Ordering.{is_lt}
 use Rattle.pep440_ranges.specs.RangeSegments.{contains}
@@ -17,21 +19,25 @@ use Rattle.pep440_rs.proofs.Covering.Lists.{is_coverable}
 use Rattle.pep440_rs.proofs.Reading.OneMeaning.{one_list}
 use Rattle.pep440_rs.specs.Arrangement.{Arranges}
 use Rattle.pep440_rs.specs.Bounds.{Segments}
-use Rattle.pep440_rs.specs.Cover.{IsCoverable}
+use Rattle.pep440_rs.specs.Cover.{IsCoverable, IsDenoted}
 use Rattle.pep440_rs.specs.Lists.ListGrammar.{DerivesList}
 use Rattle.pep440_rs.specs.LiteralMatching.{list_matches_literally, matches_literally}
 use Rattle.pep440_rs.specs.Specifiers.{Spec}
 use Rattle.pep440_version.specs.Key.{record_cmp}
-use Rattle.pep440_version.specs.Record.{Record}
+use Rattle.pep440_version.specs.Grammar.{starts}
+use Rattle.pep440_version.specs.Print.{dotted, print}
+use Rattle.pep440_version.specs.Record.{Fits, IsRecord, Record}
 use Rattle.pyver_commands.specs.CommonRanges.{ArrangesAll, FindsCommon, ListReading, PrintsLists, ReadsMembers, length_cmp, lines_outcome, members_in, messages_in, named_outcome, set_outcome}
 use Rattle.pyver_commands.specs.Matches.{DenotesList, ListFails}
 use Rattle.cli_io.specs.Runs.{Outcome}
-use Rattle.pyver_commands.specs.RangeLaws.{AllowsVersion, NoVersionIsCommon, VersionIsCommon}
-use Rattle.pep440_version.proofs.RoundTrip.PrintIsRead.{none_all}
-use Rattle.pep440_sets.proofs.CommonVersions.{common_matches, none_in_common}
+use Rattle.pyver_commands.specs.RangeLaws.{AllowsVersion, NoVersionHasItsStatus, NoVersionIsCommon, VersionIsCommon}
+use Rattle.pep440_version.proofs.Reading.DerivedIsRead.{number_first}
+use Rattle.pep440_version.proofs.RoundTrip.PrintIsRead.{decimal_number, derived_record, none_all}
+use Rattle.pep440_sets.proofs.CommonVersions.{common_is_denoted, common_matches, none_in_common}
 use Rattle.pep440_sets.proofs.Lists.{found_is_in, list_holds, list_is_set}
 use Rattle.pep440_sets.specs.Common.{common_version}
 use Rattle.pep440_sets.specs.Emptiness.{IsUnsatisfiable}
+use Rattle.pep440_sets.specs.SetLines.{is_closed_start}
 use Rattle.pep440_sets.specs.Sets.{has_exact, list_set}
 use Rattle.pep440_sets.specs.Witnesses.{version_between}
 use Rattle.pyver_commands.proofs.InTurn.{all_more}
@@ -61,7 +67,7 @@ found_more view words i w x m n ms ns inside is reads told joined k =
 
 -- all words were read
 pub found_all : {X : Type 0} (view : X → List ℕ) (words : List X) (i : ℕ) (m : List ℕ) (ms : List Spec) (json : Bool) (o : Outcome) → length words ≤ i → PrintsLists json m ms o → Found view words i m ms → FindsCommon json (map view words) o
-found_all view words i m ms options o end is k =
+found_all view words i m ms json o end is k =
     (k.0, subst (λ ws. AllZip ReadsMembers (map view ws) k.0) (take_all i words end) k.1, subst (λ t. PrintsLists json t (members_in k.0) o) k.2 (subst (λ t. PrintsLists json m t o) k.3 is))
 
 -- ---- the arrangement
@@ -202,3 +208,52 @@ version_is_common json words o (xs, h, is) ended =
     let says = outcome_says json list (arranged_all IsCoverable (members_in xs) list left.1.1 (coverable words xs h left.0)) in
     let found = says.some (sym (ap (λ (q : Outcome). q.status) left.1.2) ∙ ended) in
     (found.0, each_contains found.0 words xs h left.0 (from_arranged found.0 (members_in xs) list left.1.1 found.1))
+
+-- ---- no other outcome prints `no version`
+
+-- a printed release begins with a digit
+release_digit : (release after : List ℕ) → 0 < length release → All Fits release → starts is_ascii_digit (dotted decimal release ++ after) ≡ true
+release_digit [] after some fits = absurd (omega (arith, some))
+release_digit (n ∷ ns) after some fits =
+    ap (starts is_ascii_digit) (append_assoc (decimal n) (flat_map (λ m. codes "." ++ decimal m) ns) after) ∙ number_first (decimal n) _ n (decimal_number n (All-head Fits n ns fits))
+
+-- a printed version does
+print_digit : (v : Record) → IsRecord v → (rest : List ℕ) → starts is_ascii_digit (print v ++ rest) ≡ true
+print_digit v h rest = elim (cases_Bool (v.epoch == 0)) [
+  | inl e ↦ rw e (ap (starts is_ascii_digit) (append_assoc (dotted decimal v.release) _ rest) ∙ release_digit v.release _ h.some h.release)
+  | inr e ↦ rw e (ap (starts is_ascii_digit) (append_assoc (decimal v.epoch ++ codes "!") _ rest ∙ append_assoc (decimal v.epoch) (codes "!") _) ∙ number_first (decimal v.epoch) _ v.epoch (decimal_number v.epoch h.epoch))
+]
+
+-- the first byte of `no version`
+is_n : ℕ → Bool
+is_n b = b == 110
+
+bracket_first : (b : Bool) (x y z : List ℕ) → starts is_n ((((if b then codes "[" else codes "(") ++ x) ++ y) ++ z) ≡ false
+bracket_first true x y z = refl
+bracket_first false x y z = refl
+
+lines_status : (json : Bool) (set : Segments) → (lines_outcome json set).output ≡ codes "no version\n" → (lines_outcome json set).status ≡ 1
+lines_status json [] says = refl
+lines_status true (s ∷ set) says = absurd (true≢false (sym (ap (starts is_n) says)))
+lines_status false (s ∷ set) says = absurd (true≢false (sym (ap (starts is_n) says) ∙ bracket_first (is_closed_start s.0) _ _ _))
+
+named_status : (json : Bool) (found : Option Record) → IfSome found IsDenoted → (named_outcome json found).output ≡ codes "no version\n" → (named_outcome json found).status ≡ 1
+named_status json None d says = refl
+named_status true (Some v) d says = absurd (true≢false (sym (ap (starts is_n) says)))
+named_status false (Some v) d says = absurd (true≢false (sym (print_digit v (derived_record d.0 v d.1) (codes "\n")) ∙ ap (starts is_ascii_digit) says))
+
+set_status : (json : Bool) (list : List Spec) → All IsCoverable list → (set_outcome json list).output ≡ codes "no version\n" → (set_outcome json list).status ≡ 1
+set_status json list all = go (has_exact list)
+  where
+    go : (b : Bool) → (if b then named_outcome json (common_version list) else lines_outcome json (list_set list)).output ≡ codes "no version\n"
+        → (if b then named_outcome json (common_version list) else lines_outcome json (list_set list)).status ≡ 1
+    go true says = named_status json (common_version list) (common_is_denoted list all) says
+    go false says = lines_status json (list_set list) says
+
+lists_status : (json : Bool) (messages : List ℕ) (members : List Spec) (o : Outcome) → (messages ≡ [] → All IsCoverable members) → PrintsLists json messages members o → o.output ≡ codes "no version\n" → o.status ≡ 1
+lists_status json [] members o all (list, h, is) says =
+    ap (λ (q : Outcome). q.status) is ∙ set_status json list (arranged_all IsCoverable members list h (all refl)) (sym (ap (λ (q : Outcome). q.output) is) ∙ says)
+lists_status json (b ∷ messages) members o all is says = absurd (true≢false (sym (ap (starts is_n) says) ∙ ap (λ (q : Outcome). starts is_n q.output) is))
+
+pub no_version_has_its_status : NoVersionHasItsStatus
+no_version_has_its_status json words o (xs, h, is) says = lists_status json (messages_in xs) (members_in xs) o (coverable words xs h) is says

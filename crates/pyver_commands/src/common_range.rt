@@ -121,9 +121,9 @@ fn push_version(
     if json {
         let one = Ranges::singleton(alloc, version)?;
         push_segments(alloc, output, &one)?;
-    } else {
-        push_text(output, version.to_string(alloc)?.as_str())?;
+        return push_text(output, "\n");
     }
+    push_text(output, version.to_string(alloc)?.as_str())?;
     push_text(output, "\n")
 }
 
