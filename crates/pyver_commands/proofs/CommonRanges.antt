@@ -225,7 +225,7 @@ print_digit v h rest = elim (cases_Bool (v.epoch == 0)) [
 ]
 
 -- the first byte of `no version`
-is_n : ℕ → Bool
+abbrev is_n : ℕ → Bool
 is_n b = b == 110
 
 bracket_first : (b : Bool) (x y z : List ℕ) → starts is_n ((((if b then codes "[" else codes "(") ++ x) ++ y) ++ z) ≡ false

@@ -55,9 +55,9 @@ ArrangesAll members list = (short : List Spec) × ArrangesBy length_cmp members 
 abbrev pub set_text : Bool → Segments → List ℕ
 set_text json set = if json then json_segments set ++ codes "\n" else set_lines set
 
--- a version as a line, or as a JSON array of the one interval that has it alone
+-- a version, or a JSON array of the one interval that has it alone
 abbrev pub named_version_text : Bool → Record → List ℕ
-named_version_text json v = if json then json_segments (alone v) ++ codes "\n" else print v ++ codes "\n"
+named_version_text json v = if json then json_segments (alone v) else print v
 
 -- the outcome where there is no version; in JSON an array without intervals
 abbrev pub none_outcome : Bool → Outcome
@@ -71,7 +71,7 @@ lines_outcome json (s ∷ set) = record { output = set_text json (s ∷ set); er
 -- the outcome of lists with `===`, which have at most one version
 abbrev pub named_outcome : Bool → Option Record → Outcome
 named_outcome json None = none_outcome json
-named_outcome json (Some v) = record { output = named_version_text json v; errors = []; status = 0 }
+named_outcome json (Some v) = record { output = named_version_text json v ++ codes "\n"; errors = []; status = 0 }
 
 -- the outcome of members: of their set, or with `===` of the version that they have in common
 abbrev pub set_outcome : Bool → List Spec → Outcome

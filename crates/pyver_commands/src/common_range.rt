@@ -1,7 +1,9 @@
 //! The command `range`.
 ghost use Rattle.std.specs.Prelude.{◌≡◌, ◌++◌, [], IfOk, map, string_bytes};
+ghost use Rattle.pep440_rs.specs.Bounds.{alone};
 ghost use Rattle.pyver_commands.specs.AnswerViews.{outcome_of};
 ghost use Rattle.pyver_commands.specs.CommonRanges.{ArrangesAll, FindsCommon, PrintsLists, length_cmp, lines_outcome, named_outcome, none_outcome, set_outcome, set_text, named_version_text};
+ghost use Rattle.pyver_commands.specs.RangeObjects.{json_segments};
 
 use crate::answer::Answer;
 use crate::range_json::push_segments;
@@ -109,7 +111,15 @@ fn print_set(alloc: Global, json: bool, set: &Ranges<Version>) -> Result<Answer,
     Ok(answer)
 }
 
-// The version as a line; as JSON the interval of it alone.
+// The interval of the version alone as an array.
+fn push_alone(alloc: Global, output: &mut Vec<u8>, version: Version) -> Result<(), AllocError>
+    ensures { IfOk result (λ _. output.new.items ≡ output.old.items ++ json_segments (alone version)) }
+{
+    let one = Ranges::singleton(alloc, version)?;
+    push_segments(alloc, output, &one)
+}
+
+// The version; as JSON the interval of it alone.
 fn push_version(
     alloc: Global,
     output: &mut Vec<u8>,
@@ -119,12 +129,9 @@ fn push_version(
     ensures { IfOk result (λ _. output.new.items ≡ output.old.items ++ named_version_text json version) }
 {
     if json {
-        let one = Ranges::singleton(alloc, version)?;
-        push_segments(alloc, output, &one)?;
-        return push_text(output, "\n");
+        return push_alone(alloc, output, version);
     }
-    push_text(output, version.to_string(alloc)?.as_str())?;
-    push_text(output, "\n")
+    push_text(output, version.to_string(alloc)?.as_str())
 }
 
 // The outcome of lists with `===`, which allow at most the version that it names.
@@ -136,6 +143,7 @@ fn print_named(alloc: Global, json: bool, found: Option<Version>) -> Result<Answ
     };
     let mut answer = Answer::silent(alloc, 0);
     push_version(alloc, &mut answer.output, json, version)?;
+    push_text(&mut answer.output, "\n")?;
     Ok(answer)
 }
 
