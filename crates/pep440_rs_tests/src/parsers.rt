@@ -22,10 +22,13 @@ pub fn specifier_argument(alloc: Global, text: &str) -> Result<VersionSpecifier,
 pub fn list_argument(alloc: Global, text: &str) -> Result<VersionSpecifiers, CaseError>
     ensures { IfOk result (λ list. All IsCoverable list) }
 {
-    VersionSpecifiers::from_str(alloc, text).map_err(|error| match error.kind() {
-        SpecifiersErrorKind::OutOfMemory => CaseError::OutOfMemory,
-        _ => CaseError::Unreadable,
-    })
+    match VersionSpecifiers::from_str(alloc, text) {
+        Ok(list) => Ok(list),
+        Err(error) if matches!(error.kind(), SpecifiersErrorKind::OutOfMemory) => {
+            Err(CaseError::OutOfMemory)
+        }
+        Err(_) => Err(CaseError::Unreadable),
+    }
 }
 
 /// The kind's name.
