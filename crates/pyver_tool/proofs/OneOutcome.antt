@@ -34,7 +34,8 @@ use Rattle.pyver_commands.specs.Readings.{Reading, Reads, Denotes, Fails}
 use Rattle.pyver_commands.specs.Shows.{Shows, ShowsWord, show_outcome}
 use Rattle.pyver_commands.specs.Sorts.{SortsParts, sort_outcome}
 use Rattle.pyver_commands.specs.Sources.{Input, UnopenedSource}
-use Rattle.pyver_tool.specs.Tasks.{Help, NameVersion, Compare, Match, Filter, Sort, Newest, Show, Bump, Range, Check, Misused}
+use Rattle.pyver_tool.specs.Tasks.{Help, NameVersion, Compare, Match, Filter, Sort, Newest, Show, Bump, Range, Check, Misused, usage}
+use Rattle.pyver_tool.specs.declared.help.Topic.TheVariants as topic
 use Rattle.pyver_commands.specs.Sources.VersionLines.{InputParts, OfFound, OfSources, OfVersions, input_parts}
 use Rattle.pyver_commands.specs.declared.allowed.MatchOptions.{MatchOptions}
 use Rattle.pyver_commands.specs.declared.bump.BumpPart.{BumpPart}
@@ -173,10 +174,10 @@ pub outcomes_once : OutcomesOnce
 outcomes_once (Help topic) input a b h k = h ∙ sym k
 outcomes_once NameVersion input a b h k = h ∙ sym k
 outcomes_once (Compare left operator right) input a b h k = compare_once left operator right a b h k
-outcomes_once (Match options specifiers words) input a b h k = match_once _ options specifiers words a b h k
-outcomes_once (Filter options specifiers names) input a b h k = filter_once _ options specifiers input a b h k
+outcomes_once (Match options specifiers words) input a b h k = match_once (usage topic.Match) options specifiers words a b h k
+outcomes_once (Filter options specifiers names) input a b h k = filter_once (usage topic.Filter) options specifiers input a b h k
 outcomes_once (Sort options names) input a b h k = of_versions_once options.lines (SortsParts options) (sort_once options) input a b h k
-outcomes_once (Newest options specifiers names) input a b h k = newest_once _ options specifiers input a b h k
+outcomes_once (Newest options specifiers names) input a b h k = newest_once (usage topic.Newest) options specifiers input a b h k
 outcomes_once (Show format words) input a b h k = show_once format words a b h k
 outcomes_once (Bump to parts None) input a b h k = of_versions_once bare_line_options (BumpsOnly to parts) (λ lines a b is so. is ∙ sym so) input a b h k
 outcomes_once (Bump to parts (Some word)) input a b h k = bump_once to parts word a b h k

@@ -23,11 +23,17 @@ returns-in-Ok-filter_sources-clause-ends g c =
     ends_by_filter _ _ _ _ (task_of (map string_bytes c.args.words.now)) c.args.input.now c.filter_sources.new.input _ _ c.args.out.now c.filter_sources.new.out c.args.err.now c.filter_sources.new.err c.in-Ok-filter_sources.status _ is.0 is.2
     c.in-Ok-Filter.rule is.3 (rw c.in_default-find_output.is at c.find_output.ensures) c.in-Ok-filter_sources.ensures.finished
 
+pub returns-in-Some-clause-ends : goal.returns-in-Some-clause-ends
+returns-in-Some-clause-ends g c =
+    let is = subst (λ t. IsWork t (work.Filter c.in-Ok-Filter.rule c.in-Ok-Filter.names)) (c.parse.ensures ∙ c.in-Ok.ensures) (subst (λ w. IsWork (task c.parse.result) w) c.in-Ok-Filter.field-0-is c.in-Ok-Filter.ensures) in
+    ends_by_output _ _ _ _ (task_of (map string_bytes c.args.words.now)) c.args.input.now c.args.input.now _ _ c.args.out.now c.write_result.new.out c.args.err.now c.write_result.new.err c.write_result.result _ is.0 is.2
+    is.1 c.in-Some.name.now (rw c.in-Some.is at c.find_output.ensures) c.report_output.result c.report_output.ensures.answer c.report_output.ensures.memory refl c.write_result.ensures
+
 pub returns-in-Ok-Whole-clause-ends : goal.returns-in-Ok-Whole-clause-ends
 returns-in-Ok-Whole-clause-ends g c =
     let is = subst (λ t. IsWork t (work.Whole c.in-Ok-Whole.question c.in-Ok-Whole.names)) (c.parse.ensures ∙ c.in-Ok.ensures) (subst (λ w. IsWork (task c.parse.result) w) c.in-Ok-Whole.field-0-is c.in-Ok-Whole.ensures) in
-    ends_by_whole _ _ _ _ (task_of (map string_bytes c.args.words.now)) c.args.input.now c.answer_input.new.input _ _ c.args.out.now c.write_result.new.out c.args.err.now c.write_result.new.err c.write_result.result _ is.0 is.2 is.1
-    c.answer_input.result c.in-Ok-Whole.question is.3 c.answer_input.ensures.finished c.answer_input.ensures.stopped c.write_result.ensures
+    ends_by_whole _ _ _ _ (task_of (map string_bytes c.args.words.now)) c.args.input.now c.answer_input.new.input _ _ c.args.out.now c.write_result-in-Ok-Whole.new.out c.args.err.now c.write_result-in-Ok-Whole.new.err c.write_result-in-Ok-Whole.result _ is.0 is.2 is.1
+    c.answer_input.result c.in-Ok-Whole.question is.3 c.answer_input.ensures.finished c.answer_input.ensures.stopped c.write_result-in-Ok-Whole.ensures
 
 pub returns-in-Ok-Check-clause-ends : goal.returns-in-Ok-Check-clause-ends
 returns-in-Ok-Check-clause-ends g c =
