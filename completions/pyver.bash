@@ -26,7 +26,7 @@ _pyver() {
         *,show,*) words='-h --help --part --json' ;;
         *,bump,--to) words='' ;;
         *,bump,*) words='-h --help --to major minor patch stable alpha beta rc post dev' ;;
-        *,range,*) words='-h --help --cover --json' ;;
+        *,range,*) words='-h --help --json' ;;
         *,check,--format) words='requirements pyproject pylock uv poetry pipfile' ;;
         *,check,*) words='-h --help -q --quiet --each --format --json' ;;
     esac

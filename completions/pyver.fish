@@ -57,8 +57,7 @@ complete -c pyver -n '__fish_seen_subcommand_from bump' -a 'major minor patch st
 
 complete -c pyver -n __fish_use_subcommand -a range -d 'print the range that all specifiers allow'
 complete -c pyver -n '__fish_seen_subcommand_from range' -s h -l help -d 'print this help'
-complete -c pyver -n '__fish_seen_subcommand_from range' -l cover -d 'print the cover instead of the range'
-complete -c pyver -n '__fish_seen_subcommand_from range' -l json -d 'print an array of segments; without a range it is [], and the exit status shows whether a version is allowed'
+complete -c pyver -n '__fish_seen_subcommand_from range' -l json -d 'print an array of intervals; without a version it is []'
 
 complete -c pyver -n __fish_use_subcommand -a check -d 'check requirements files, projects and locks'
 complete -c pyver -n '__fish_seen_subcommand_from check' -s h -l help -d 'print this help'
