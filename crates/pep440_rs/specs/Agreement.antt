@@ -1,6 +1,6 @@
 -- When the range of a specifier holds exactly the versions that the specifier contains (PEP 440, "Version
 -- specifiers"), and which inclusion holds where it doesn't.
-use Rattle.std.specs.Prelude.{◌≡◌, ◌≢◌, ◌↔◌, ◌+◌, ◌≤◌, Bool, false, not, ◌||◌, List, [], Option, Some, None, is_some, IsTrue, count_by, length, if◌then◌else◌}
+use Rattle.std.specs.Prelude.{◌≡◌, ◌≢◌, ◌↔◌, ◌+◌, ◌≤◌, false, not, ◌||◌, List, [], Option, Some, None, is_some, IsTrue, count_by, length, if◌then◌else◌}
 use Rattle.std.specs.List.{All, Any, list_all}
 use Rattle.std.specs.Option.{option_map_or}
 use Rattle.pep440_rs.specs.Bounds.{Segments, list_range}

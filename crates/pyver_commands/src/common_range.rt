@@ -135,7 +135,7 @@ fn push_version(
 }
 
 // The outcome of lists with `===`, which allow at most the version that it names.
-fn print_named(alloc: Global, json: bool, found: Option<Version>) -> Result<Answer, AllocError>
+fn print_found(alloc: Global, json: bool, found: Option<Version>) -> Result<Answer, AllocError>
     ensures { IfOk result (λ a. outcome_of a ≡ named_outcome json found) }
 {
     let Some(version) = found else {
@@ -147,7 +147,7 @@ fn print_named(alloc: Global, json: bool, found: Option<Version>) -> Result<Answ
     Ok(answer)
 }
 
-fn print_arranged(alloc: Global, json: bool, list: &VersionSpecifiers) -> Result<Answer, AllocError>
+fn print_list(alloc: Global, json: bool, list: &VersionSpecifiers) -> Result<Answer, AllocError>
     ensures { IfOk result (λ a. outcome_of a ≡ set_outcome json list.now) }
 {
     match specifiers_to_set(alloc, list.as_slice()) {
@@ -155,7 +155,7 @@ fn print_arranged(alloc: Global, json: bool, list: &VersionSpecifiers) -> Result
         Err(SetError::OutOfMemory) => Err(AllocError),
         Err(SetError::ArbitraryEquality) => {
             let found = find_version(alloc, list.as_slice())?;
-            print_named(alloc, json, found)
+            print_found(alloc, json, found)
         }
     }
 }
@@ -168,7 +168,7 @@ fn print_members(
     ensures { IfOk result (λ a. PrintsLists json [] members.items (outcome_of a)) }
 {
     let list = arrange_members(alloc, members)?;
-    let answer = print_arranged(alloc, json, &list)?;
+    let answer = print_list(alloc, json, &list)?;
     Ok(answer)
 }
 

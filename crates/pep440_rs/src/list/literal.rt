@@ -35,7 +35,8 @@ impl VersionSpecifiers {
         prereleases: bool,
         version: &Version,
     ) -> Result<bool, AllocError>
-        ensures { IfOk result (λ b. b ≡ list_allows_literally prereleases self.now version.now) }
+        ensures value { IfOk result (λ b. b ≡ list_allows_literally prereleases self.now version.now) }
+        ensures answered { All (λ m. m.operator ≢ ExactEqual) self.now → IsOk result }
     {
         if !prereleases && version.any_prerelease() {
             return Ok(false);

@@ -13,14 +13,14 @@ returns-in_ok-extend_from_slice c =
     let same : c.in_ok-version.version ≡ c.args.version.now = search rules in
     let text : c.extend_from_slice.new.self.items ≡ c.args.text.now = c.in_ok-extend_from_slice.ensures.items ∙ ap (λ t. t ++ c.args.text.now) c.new-kept.ensures.items in
     λ lines n. subst (λ x. NewestLine (allowed_lines c.args.takes c.args.list.now (lines ++ line ∷ [])) (Some x)) (sym (λ i. record { text = text i; version = same i }))
-    (found_more c.args.takes c.args.list.now lines line c.args.newest.now n (sym c.is_newer.ensures ∙ c.if-is_newer.true) (sym c.in_ok-allows_literally.ensures ∙ c.if-branch.true))
+    (found_more c.args.takes c.args.list.now lines line c.args.newest.now n (sym c.is_newer.ensures ∙ c.if-is_newer.true) (sym c.in_ok-allows_literally.ensures.value ∙ c.if-branch.true))
 
 pub returns-else-is_newer : goal.returns-else-is_newer
 returns-else-is_newer c =
     let line : VersionLine = record { text = c.args.text.now; version = c.args.version.now } in
     elim c.else-is_newer.branch [
       | else-is_newer-via-then-is_newer+in_ok-allows_literally+else-branch w ↦
-          λ lines n. out_more c.args.takes c.args.list.now lines line (option_map kept_line c.args.newest.now) n (sym w.in_ok-allows_literally.ensures ∙ w.if-branch.false)
+          λ lines n. out_more c.args.takes c.args.list.now lines line (option_map kept_line c.args.newest.now) n (sym w.in_ok-allows_literally.ensures.value ∙ w.if-branch.false)
       | else-is_newer-via-else-is_newer w ↦
           λ lines n. below_more c.args.takes c.args.list.now lines line c.args.newest.now n (sym c.is_newer.ensures ∙ w.if-is_newer.false)
     ]
