@@ -9,7 +9,7 @@ use Rattle.pep440_version.specs.RoundTrip.{IsParsed}
 use Rattle.pep440_compiled.specs.declared.error.CompileError.{CompileError}
 use Rattle.pep440_compiled.specs.declared.error.CompileError.TheVariants.{NotParsed, OutOfMemory}
 use Rattle.pep440_rs.proofs.Agreement.Operands.{list_has_texts}
-use Rattle.pep440_rs.proofs.Covering.Lists.{is_coverable}
+use Rattle.pep440_rs.proofs.Denoted.{is_denotable}
 use Rattle.pep440_rs.specs.Specifiers.SpecifierGrammar.{IsDenotedSpecifier}
 use Rattle.pep440_rs.specs.Specifiers.{Spec}
 use Rattle.pep440_version.specs.Grammar.{Derives}
@@ -25,7 +25,7 @@ abbrev pub IsParsedSpec : Spec → Type 0
 IsParsedSpec s = IsParsed s.version
 
 pub specifier_parsed : (s : Spec) → IsDenotedSpecifier s → IsParsedSpec s
-specifier_parsed s has = let denoted = (is_coverable s has).1 in parsed denoted.0 s.version denoted.1
+specifier_parsed s has = let denoted = (is_denotable s has).1 in parsed denoted.0 s.version denoted.1
 
 pub means_parsed : (bytes : List ℕ) (r : Record) → BytesDenote bytes r → IsParsed r
 means_parsed bytes r (inl (plain, (utf8, d))) = parsed bytes r d

@@ -14,9 +14,9 @@ use Rattle.pep440_ranges.specs.Complement.{gap_after, gap_before, gaps, gaps_aft
 use Rattle.pep440_ranges.specs.Intersection.{is_valid_segment, overlap, overlaps, overlaps_with}
 use Rattle.pep440_ranges.specs.RangeSegments.{Segment}
 use Rattle.pep440_rs.proofs.Agreement.Operands.{list_has_texts}
-use Rattle.pep440_rs.proofs.Covering.Lists.{is_coverable}
+use Rattle.pep440_rs.proofs.Denoted.{is_denotable}
 use Rattle.pep440_rs.specs.Bounds.{Segments, alone, compatible_end, from_to, full, greater, less, list_range, next_number, raise_last, range_from, range_of, star, star_end}
-use Rattle.pep440_rs.specs.Cover.{after_devs, after_locals, below_post, IsCoverable, cover_of, next_public}
+use Rattle.pep440_rs.specs.Cover.{after_devs, after_locals, below_post, IsDenotable, cover_of, next_public}
 use Rattle.pep440_rs.specs.Matching.{any_prerelease, has_local, without_last}
 use Rattle.pep440_rs.specs.Specifiers.SpecifierGrammar.{IsDenotedSpecifier}
 use Rattle.pep440_rs.specs.Specifiers.{Spec}
@@ -269,9 +269,9 @@ module _ (conversion : Operator → Record → Option Segments) (keyed : (op : O
 -- the members of a list that bytes denote
 members_keyed : (text : List ℕ) (list : List Spec) → BytesDenoteList text list → All KeyedMember list
 members_keyed text list (inr d) = All-weaker IsParsedMember KeyedMember (λ m p. keyed m.version p.version) list d.members
-members_keyed text list (inl (plain, (utf8, means))) = All-weaker IsDenotedSpecifier KeyedMember (λ m has. version_keyed m (is_coverable m has)) list (list_has_texts text list means)
+members_keyed text list (inl (plain, (utf8, means))) = All-weaker IsDenotedSpecifier KeyedMember (λ m has. version_keyed m (is_denotable m has)) list (list_has_texts text list means)
   where
-    version_keyed : (m : Spec) → IsCoverable m → IsKeyed m.version
+    version_keyed : (m : Spec) → IsDenotable m → IsKeyed m.version
     version_keyed m (operand, (found, derives)) = derived_keyed found m.version derives
 
 pub range_has_keys : (text : List ℕ) (range : Segments) → HasRange range_of text range → HasKeys range

@@ -2,8 +2,8 @@
 use Rattle.std.proofs.Common.{◌≡◌, ◌⊎◌, ◌∙◌, ℕ, List, [], Option, Some, None, IfSome, IsTrue, refl, sym, ap, inl, inr, subst}
 use Rattle.std.specs.Option.{option_map_or}
 use Rattle.pep440_rs.proofs.Agreement.Operands.{list_has_texts}
-use Rattle.pep440_rs.proofs.Covering.Lists.{is_coverable}
-use Rattle.pep440_rs.specs.Cover.{IsDenoted}
+use Rattle.pep440_rs.proofs.Denoted.{is_denotable}
+use Rattle.pep440_rs.specs.Denoted.{IsDenoted}
 use Rattle.pep440_rs.specs.Matching.{list_matches}
 use Rattle.pep440_rs.specs.Specifiers.{Spec}
 use Rattle.pep440_version.specs.Print.{print}
@@ -23,4 +23,4 @@ contained bytes words l (m, means, is) list =
     of_found l words (first_match l) refl (is ∙ ap (λ k. option_map_or print (first_match k) []) (one_bytes_list bytes m l means list))
 
 pub none : (bytes : List ℕ) (l : List Spec) → StringDenotesList bytes l → first_match l ≡ None → (v : Record) → IsDenoted v → IsTrue (list_matches l v) → ⊥
-none bytes l (utf8, derives) found = is_none l (sym found) (λ k m lt. is_coverable _ (list_has_texts bytes l derives k m lt))
+none bytes l (utf8, derives) found = is_none l (sym found) (λ k m lt. is_denotable _ (list_has_texts bytes l derives k m lt))

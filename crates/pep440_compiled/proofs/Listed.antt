@@ -7,7 +7,7 @@ use Rattle.std.specs.Prelude.{drop}
 use Rattle.std.specs.declared.cmp.Ordering.TheVariants as ordering
 use Rattle.pep440_compiled.proofs.Exact.{member_version}
 use Rattle.pep440_compiled.proofs.Members.{no_zero_first}
-use Rattle.pep440_compiled.specs.Lists.{DenotesList, IsParsedMember, member_bytes}
+use Rattle.pep440_compiled.specs.Lists.{DenotesMembers, IsParsedMember, member_bytes}
 use Rattle.pep440_rs.specs.OperatorLaws.{same_operator}
 use Rattle.pep440_rs.specs.Operators.{operator_rank}
 use Rattle.pep440_rs.specs.Specifiers.{Spec}
@@ -25,5 +25,5 @@ same_members (s ∷ l) (t ∷ m) p q e =
     let rest = same_members l m p.1 q.1 versions.1 in
     (λ i. record { operator = operator i; version = versions.0 i } ∷ rest i)
 
-pub one_denoted_list : (bytes : List ℕ) (l m : List Spec) → DenotesList bytes l → DenotesList bytes m → l ≡ m
-one_denoted_list bytes l m d e = same_members l m (recursion_from_All _ l d.members) (recursion_from_All _ m e.members) (ap (drop 1) (sym d.same ∙ e.same))
+pub one_denoted_members : (bytes : List ℕ) (l m : List Spec) → DenotesMembers bytes l → DenotesMembers bytes m → l ≡ m
+one_denoted_members bytes l m d e = same_members l m (recursion_from_All _ l d.members) (recursion_from_All _ m e.members) (ap (drop 1) (sym d.same ∙ e.same))

@@ -1,4 +1,5 @@
 pub mod KeyParts
+pub mod SetBytes
 pub mod Lists
 pub mod Version
 pub mod KeyViews

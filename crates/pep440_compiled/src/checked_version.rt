@@ -8,7 +8,7 @@ ghost use Rattle.pep440_version.specs.Record.{Fits, LocalSegmentValue, Record, S
 ghost use Rattle.pep440_version.specs.RoundTrip.{SegmentRoundTrips};
 ghost use Rattle.pep440_version.specs.Key.Trim.{trim};
 
-use crate::decode::{read_epoch, read_number, read_suffix, split_text};
+use crate::decode::{read_whole_number, read_number, read_suffix, split_text};
 use crate::parsed::is_normal_string;
 use crate::views::view_version;
 use pep440_version::Prerelease;
@@ -106,7 +106,7 @@ pub(crate) fn check_version(bytes: &[u8]) -> Option<&[u8]>
     ensures exact { IfSome result (λ key. (r : Record) × DenotesVersion bytes.now r × (key.now ≡ key_bytes r)) }
 {
     let view = view_version(bytes)?;
-    let (epoch, rest) = read_epoch(view.key)?;
+    let (epoch, rest) = read_whole_number(view.key)?;
     let rest = check_release(rest, view.zeros)?;
     let (suffix, local) = read_suffix(rest)?;
     if !is_local_part(local) {

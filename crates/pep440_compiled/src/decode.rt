@@ -59,8 +59,8 @@ pub(crate) fn read_number(count: u8, bytes: &[u8]) -> Option<(u64, &[u8])>
     Some((to_number(number)?, rest))
 }
 
-// The epoch, and the rest.
-pub(crate) fn read_epoch(bytes: &[u8]) -> Option<(u64, &[u8])>
+// A number with the byte that counts its bytes, as an epoch is written, and the rest.
+pub(crate) fn read_whole_number(bytes: &[u8]) -> Option<(u64, &[u8])>
     ensures found { (n : ℕ) (rest : List ℕ) → Fits n → bytes.now ≡ number_bytes 0 n ++ rest
         → MatchOption result ⊥ (λ p. (p.0 ≡ n) × (p.1.now ≡ rest)) }
     ensures exact { IfSome result (λ p. bytes.now ≡ number_bytes 0 p.0 ++ p.1.now) }
@@ -341,7 +341,7 @@ pub(crate) fn decode_version(
     ensures found { (r : Record) → IsViewOf view.entry r → IfOk result (λ o. o ≡ Some r) }
     ensures exact { IfOk result (λ o. IfSome o (λ version. IsParsed version → IsViewOf view.entry version)) }
 {
-    let Some((epoch, rest)) = read_epoch(view.key) else {
+    let Some((epoch, rest)) = read_whole_number(view.key) else {
         return Ok(None);
     };
     let Some((release, rest)) = read_release(alloc, rest, view.zeros)? else {

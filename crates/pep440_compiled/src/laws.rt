@@ -1,6 +1,6 @@
 //! What holds of compiled bytes, as contracts of functions that do nothing.
 ghost use Rattle.std.specs.Prelude.{◌≡◌, ◌↔◌, ℕ, List};
-ghost use Rattle.pep440_compiled.specs.Lists.{DenotesList};
+ghost use Rattle.pep440_compiled.specs.Lists.{DenotesMembers};
 ghost use Rattle.pep440_compiled.specs.Version.{DenotesVersion};
 ghost use Rattle.pep440_version.specs.RoundTrip.{IsParsed};
 ghost use Rattle.pep440_rs.specs.Specifiers.{Spec};
@@ -22,6 +22,6 @@ pub fn versions_are_exact()
 /// Bytes denote at most one list, and a list has one compiled form: so two have the same bytes exactly when their members are
 /// the same, in the same order.
 pub fn lists_are_exact()
-    ensures one { (bytes : List ℕ) (l m : List Spec) → DenotesList bytes l → DenotesList bytes m → l ≡ m }
-    ensures same { (a b : List ℕ) (l m : List Spec) → DenotesList a l → DenotesList b m → (a ≡ b) ↔ (l ≡ m) }
+    ensures one { (bytes : List ℕ) (l m : List Spec) → DenotesMembers bytes l → DenotesMembers bytes m → l ≡ m }
+    ensures same { (a b : List ℕ) (l m : List Spec) → DenotesMembers a l → DenotesMembers b m → (a ≡ b) ↔ (l ≡ m) }
 {}

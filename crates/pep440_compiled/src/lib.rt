@@ -6,14 +6,16 @@
 //! if their sort keys are the same bytes, and a hash of versions is one of these bytes. Every version that a string parses to has
 //! one compiled form, and bytes denote at most one version: `1.0` and `1.0.0` are equal and compile to different bytes.
 //!
-//! A compiled list of specifiers is the byte 5 and its members: 16 and the operator's number, and then the version, without the
-//! byte 4. The first byte is the format: bytes of another format are rejected, not misread.
+//! The members of a compiled list are the byte 5, and of each specifier 16 and the operator's number, and then the version, without
+//! the byte 4. With `===` they are the list. Without, the byte 6 and its set stand before them: the sort keys between which the versions
+//! of each interval lie, each after how many bytes it has, so that matching literally is a comparison of bytes with these. The first byte
+//! is the format: bytes of another format are rejected, not misread.
 //!
 //! `read_version` and `read_list` reject all bytes that denote nothing. The calls that read bytes as they lie do not test the whole of
 //! them: of bytes that denote nothing they return an error or any result, and never read outside them. Read bytes
 //! from outside once before they are asked.
 //!
-//! In reading order: `version` and `list`, the calls; `views` and `key_parts`, where the parts lie in the bytes; `byte_order` and
+//! In reading order: `version` and `list`, the calls; `members` and `set_bytes`, what lists are made of; `views` and `key_parts`, where the parts lie in the bytes; `byte_order` and
 //! `matching`, which read no more than those; `decode`, `checked_version` and `parsed`, which test each byte; `error`; and `laws`.
 #![tactic(auto)]
 
@@ -25,14 +27,17 @@ mod key_parts;
 pub mod laws;
 mod list;
 mod matching;
+mod members;
 mod parsed;
+mod set_bytes;
 mod stack_form;
 mod version;
 mod views;
 
 pub use error::{CompileError, CompiledError, ContainsError, NotCompiled};
 pub use list::{
-    compile_list, contains, has_list_format, normalize_list, read_list, requests_prereleases,
+    compile_list, contains, has_list_format, matches_literally, normalize_list, read_list,
+    requests_prereleases,
 };
 pub use stack_form::compile_normal;
 pub use version::{

@@ -34,7 +34,7 @@ fn push_any_number<K: KeySink>(key: &mut K, base: u8, number: u64) -> Result<(),
 
 // Appends the number; its length byte is added to this base. A number of one byte, as most are, is one piece of two.
 #[inline(always)]
-pub(crate) fn push_number<K: KeySink>(key: &mut K, base: u8, number: u64) -> Result<(), AllocError>
+pub fn push_number<K: KeySink>(key: &mut K, base: u8, number: u64) -> Result<(), AllocError>
     requires { base ≤ 80 }
     ensures appended { OnOk result (K.written key.new ≡ K.written key.old ++ number_bytes base number) }
     ensures fits { (more : ℕ) → K.has_capacity key.old (length (number_bytes base number) + more)

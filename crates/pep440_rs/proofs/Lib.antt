@@ -3,7 +3,8 @@ pub mod Reading
 pub mod Reread
 pub mod Arranging
 pub mod Agreement
-pub mod Covering
+pub mod PublicParts
+pub mod Denoted
 pub mod Intersecting
 pub mod Raising
 pub mod Within

@@ -19,4 +19,4 @@ pub mod Members
 pub mod RaisedNumbers
 pub mod Json
 pub mod Conversions
-pub mod Cover
+pub mod Denoted

@@ -6,7 +6,7 @@ ghost use Rattle.pep440_rs.specs.Agreement.{Agrees, HasOperand, HoldsOnlyMatches
 ghost use Rattle.pep440_rs.specs.Arrangement.{Arranges};
 ghost use Rattle.pep440_rs.specs.BoundsAgreement.{HoldsOnlyWithin, HoldsWithin, IsOrdered, IsReleasePair, KnowsGaps, MatchesWithin};
 ghost use Rattle.pep440_rs.specs.Bounds.{Segments, range_of, release_range_of, list_range};
-ghost use Rattle.pep440_rs.specs.Cover.{Covers, IsCoverable, ListCovers, cover_of};
+ghost use Rattle.pep440_rs.specs.Denoted.{IsDenotable};
 ghost use Rattle.pep440_rs.specs.Lists.ListGrammar.{DerivesList, PieceRejection, RejectsList};
 ghost use Rattle.pep440_rs.specs.Matching.{matches};
 ghost use Rattle.pep440_rs.specs.Members.{list_members, pair_members};
@@ -53,6 +53,7 @@ pub fn texts_give_operands()
     ensures single { (s : Spec) → IsDenotedSpecifier s → HasOperand s }
     ensures members { (text : List ℕ) (list : List Spec) → DerivesList text list → All IsDenotedSpecifier list }
     ensures list { (text : List ℕ) (list : List Spec) → DerivesList text list → All HasOperand list }
+    ensures given { (s : Spec) → IsDenotedSpecifier s → IsDenotable s }
 {}
 
 /// If the version is one that a string can have beside the operator, the range holds exactly what the specifier
@@ -109,19 +110,9 @@ pub fn ranges_stay_small()
         → HasFewSegments members range }
 {}
 
-/// The cover holds every version that the specifier or the list contains, of all that strings give.
-pub fn cover_holds()
-    ensures single { (s : Spec) (cover : Segments) → cover_of s.operator s.version ≡ Some cover → IsDenotedSpecifier s → Covers s cover }
-    ensures list { (members : List Spec) (cover : Segments) → list_range cover_of members ≡ Some cover
-        → All IsDenotedSpecifier members → ListCovers members cover }
-    ensures given { (s : Spec) → IsDenotedSpecifier s → IsCoverable s }
-    ensures apart { ConversionsAreRanges cover_of }
-{}
-
 /// A conversion is rejected exactly if a number to be raised is the greatest there is.
 pub fn refused_at_max()
     ensures whole { FailsAtMax range_of raised_number }
-    ensures cover { FailsAtMax cover_of raised_number }
     ensures release { FailsAtMax release_range_of raised_release_number }
 {}
 

@@ -31,8 +31,8 @@
 //! 3. `VersionSpecifiers`, the list: parsed, `contains` and `matches_literally`;
 //! 4. why a string is no operator, specifier or list: `OperatorParseError`, `VersionSpecifierBuildError`,
 //!    `VersionSpecifierParseError`, `VersionSpecifiersParseError`, each with its kind;
-//! 5. ranges: `specifier_to_range` by the order of versions, `release_specifier_to_range` by releases, and
-//!    `specifier_to_cover`, each also of a list; `RangeLines` prints a range; `RangeError`; all of `pep440_ranges`;
+//! 5. ranges: `specifier_to_range` by the order of versions and `release_specifier_to_range` by releases, each also of a list;
+//!    `RangeLines` prints a range; `RangeError`; all of `pep440_ranges`;
 //! 6. specifiers from bounds: `from_lower_bound`, `from_upper_bound` and `from_release_only_bounds` of specifiers and lists,
 //!    `ReleaseBounds`, `BoundError`;
 //! 7. JSON strings: `version_to_json` and `version_from_json`, `to_json` and `from_json` of specifiers and lists,
@@ -59,11 +59,10 @@ pub use pep440_version::{
     Version, VersionParseError, VersionPattern, VersionPatternParseError, WithSentinels,
     cmp_releases, cmp_without_local, min_version, write_local_segments,
 };
-pub use range::cover::specifier_to_cover;
 pub use range::error::RangeError;
 pub use range::intersection::intersect_all;
 pub use range::lines::RangeLines;
-pub use range::list::{release_specifiers_to_ranges, specifiers_to_cover, specifiers_to_ranges};
+pub use range::list::{release_specifiers_to_ranges, specifiers_to_ranges};
 pub use range::release_only::release_specifier_to_range;
 pub use range::whole_order::specifier_to_range;
 pub use specifier::VersionSpecifier;

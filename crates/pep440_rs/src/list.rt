@@ -5,7 +5,7 @@ ghost use Rattle.std.specs.Slice.Iter.{iter_rest};
 ghost use Rattle.std.specs.Vec.Iter.{into_iter_items};
 ghost use Rattle.pep440_rs.specs.Agreement.{HasOperand};
 ghost use Rattle.pep440_rs.specs.Arrangement.{Arranges, IsArranged, version_cmp};
-ghost use Rattle.pep440_rs.specs.Cover.{IsCoverable};
+ghost use Rattle.pep440_rs.specs.Denoted.{IsDenotable};
 ghost use Rattle.pep440_rs.specs.Lists.ListResults.{ReturnsList, ListReads, line_for, line_of, list_kind_of};
 ghost use Rattle.pep440_rs.specs.Lists.ListErrors.{IsListLifted, list_rejection_of};
 ghost use Rattle.pep440_rs.specs.Lists.ListErrorTexts.{list_rejection_text, list_text_of};
@@ -189,8 +189,8 @@ impl VersionSpecifiers {
         // The version of each member is one that a string can have beside the operator, as the agreement of ranges
         // requires.
         ensures operand { IfOk result (λ list. All HasOperand list) }
-        // It is one that a string denotes, too, as covers and sets require.
-        ensures coverable { IfOk result (λ list. All IsCoverable list) }
+        // It is one that a string denotes, too, as sets require.
+        ensures denotable { IfOk result (λ list. All IsDenotable list) }
         // What the string denotes is returned, unless an allocation fails.
         ensures only { (list : List Spec) → DerivesList text.now list → ReturnsList result (Ok list) }
         // The error is that of the first invalid piece.

@@ -1,5 +1,4 @@
-//! Ranges of specifiers and of lists: two conversions, covers, their intersection, raised numbers.
-pub(crate) mod cover;
+//! Ranges of specifiers and of lists: two conversions, their intersection, raised numbers.
 pub(crate) mod error;
 pub(crate) mod intersection;
 pub(crate) mod lines;

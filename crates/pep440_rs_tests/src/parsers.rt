@@ -1,7 +1,7 @@
 //! Specifiers and lists.
 ghost use Rattle.std.specs.Prelude.{IfOk};
 ghost use Rattle.std.specs.List.{All};
-ghost use Rattle.pep440_rs.specs.Cover.{IsCoverable};
+ghost use Rattle.pep440_rs.specs.Denoted.{IsDenotable};
 
 use pep440_rs::{
     BuildErrorKind, ParseErrorKind, SpecifiersErrorKind, VersionSpecifier,
@@ -20,7 +20,7 @@ pub fn specifier_argument(alloc: Global, text: &str) -> Result<VersionSpecifier,
 
 /// The list.
 pub fn list_argument(alloc: Global, text: &str) -> Result<VersionSpecifiers, CaseError>
-    ensures { IfOk result (λ list. All IsCoverable list) }
+    ensures { IfOk result (λ list. All IsDenotable list) }
 {
     match VersionSpecifiers::from_str(alloc, text) {
         Ok(list) => Ok(list),

@@ -7,7 +7,7 @@ use Rattle.std.specs.List.{All, find}
 use Rattle.std.specs.Option.{option_map_or}
 use Rattle.pep440_ranges.specs.RangeSegments.{contains}
 use Rattle.pep440_rs.specs.Bounds.{Segments}
-use Rattle.pep440_rs.specs.Cover.{IsCoverable, IsDenoted}
+use Rattle.pep440_rs.specs.Denoted.{IsDenotable, IsDenoted}
 use Rattle.pep440_rs.specs.LiteralMatching.{list_matches_literally, matches_literally}
 use Rattle.pep440_rs.specs.Specifiers.{Spec}
 use Rattle.pep440_rs.specs.declared.specifier.operator.Operator.{Operator}
@@ -49,9 +49,9 @@ operator_is LessThanEqual h = absurd (true≢false (sym h))
 operator_is GreaterThan h = absurd (true≢false (sym h))
 operator_is GreaterThanEqual h = absurd (true≢false (sym h))
 
--- the member that is found: it is coverable, it is `===`, and what the list matches it matches
+-- the member that is found: it is denotable, it is `===`, and what the list matches it matches
 record IsFoundExact (members : List Spec) (m : Spec) : Type 0 where
-  coverable : IsCoverable m
+  denotable : IsDenotable m
   exact : m.operator ≡ ExactEqual
   matches : (v : Record) → IsTrue (list_matches_literally members v) → IsTrue (matches_literally m.operator m.version v)
 
@@ -63,13 +63,13 @@ right_of : (a b : Bool) → a && b ≡ true → b ≡ true
 right_of true b h = h
 right_of false b h = absurd (true≢false (sym h))
 
-found_exact : (members : List Spec) (m : Spec) → All IsCoverable members → find exact_member members ≡ Some m → IsFoundExact members m
+found_exact : (members : List Spec) (m : Spec) → All IsDenotable members → find exact_member members ≡ Some m → IsFoundExact members m
 found_exact [] m all h = absurd (cc)
-found_exact (n ∷ members) m all h = go (is_exact n.operator) refl h (found_exact members m (All-tail IsCoverable n members all))
+found_exact (n ∷ members) m all h = go (is_exact n.operator) refl h (found_exact members m (All-tail IsDenotable n members all))
   where
     first : n ≡ m → is_exact n.operator ≡ true → IsFoundExact (n ∷ members) m
     first e x = subst (IsFoundExact (n ∷ members)) e (record {
-      coverable = All-head IsCoverable n members all;
+      denotable = All-head IsDenotable n members all;
       exact = operator_is n.operator x;
       matches = λ v h. left_of (matches_literally n.operator n.version v) (list_matches_literally members v) h;
     })
@@ -78,7 +78,7 @@ found_exact (n ∷ members) m all h = go (is_exact n.operator) refl h (found_exa
     go true e h f = first (cc) e
     go false e h f =
         let later = f h in
-        record { coverable = later.coverable; exact = later.exact; matches = λ v h. later.matches v (right_of (matches_literally n.operator n.version v) (list_matches_literally members v) h) }
+        record { denotable = later.denotable; exact = later.exact; matches = λ v h. later.matches v (right_of (matches_literally n.operator n.version v) (list_matches_literally members v) h) }
 
 -- a version that `===` matches is its own
 same_version : (s v : Record) → IsDenoted s → IsDenoted v → IsTrue (matches_literally ExactEqual s v) → v ≡ s
@@ -94,14 +94,14 @@ named_matches members v P f = go (list_matches_literally members v) refl
     go false e = tt
 
 -- what is found in the set of a list without `===`
-in_set : (members : List Spec) (P : Record → Type 0) → All IsCoverable members → ((v : Record) → IsVersionOf (list_set members) v → P v) → IfSome (version_in (list_set members)) P
+in_set : (members : List Spec) (P : Record → Type 0) → All IsDenotable members → ((v : Record) → IsVersionOf (list_set members) v → P v) → IfSome (version_in (list_set members)) P
 in_set members P all f = go (list_set members) refl
   where
     go : (set : Segments) → list_set members ≡ set → IfSome (version_in set) P
     go [] e = tt
     go (s ∷ rest) e = f (version_between s.0 s.1) (found_is_in (list_set members) (list_is_set members all) s rest e)
 
-by_found : (members : List Spec) (P : Record → Type 0) → All IsCoverable members →
+by_found : (members : List Spec) (P : Record → Type 0) → All IsDenotable members →
     ((m : Spec) → IsFoundExact members m → list_matches_literally members m.version ≡ true → P m.version) →
     (has_exact members ≡ false → (v : Record) → IsVersionOf (list_set members) v → P v) → IfSome (common_version members) P
 by_found members P all named other = go (find exact_member members) refl
@@ -110,20 +110,20 @@ by_found members P all named other = go (find exact_member members) refl
     go (Some m) e = named_matches members m.version P (named m (found_exact members m all e))
     go None e = in_set members P all (other (none_exact members e))
 
-pub common_matches : (members : List Spec) → All IsCoverable members → IfSome (common_version members) (λ v. IsTrue (list_matches_literally members v))
+pub common_matches : (members : List Spec) → All IsDenotable members → IfSome (common_version members) (λ v. IsTrue (list_matches_literally members v))
 common_matches members all = by_found members (λ v. IsTrue (list_matches_literally members v)) all (λ m found h. h) (λ none v h. sym (list_holds members all none v h.0) ∙ h.1)
 
-pub common_is_denoted : (members : List Spec) → All IsCoverable members → IfSome (common_version members) IsDenoted
-common_is_denoted members all = by_found members IsDenoted all (λ m found h. found.coverable.1) (λ none v h. h.0)
+pub common_is_denoted : (members : List Spec) → All IsDenotable members → IfSome (common_version members) IsDenoted
+common_is_denoted members all = by_found members IsDenoted all (λ m found h. found.denotable.1) (λ none v h. h.0)
 
-pub none_in_common : (members : List Spec) → All IsCoverable members → common_version members ≡ None → IsUnsatisfiable members
+pub none_in_common : (members : List Spec) → All IsDenotable members → common_version members ≡ None → IsUnsatisfiable members
 none_in_common members all none v d h = go (find exact_member members) refl none
   where
     unnamed : (m : Spec) → IsFoundExact members m → (b : Bool) → list_matches_literally members m.version ≡ b → cond b (Some m.version) None ≡ None → ⊥
     unnamed m found true e k = cc k
     unnamed m found false e k =
         let exact = subst (λ o. IsTrue (matches_literally o m.version v)) found.exact (found.matches v h) in
-        true≢false (sym h ∙ ap (list_matches_literally members) (same_version m.version v found.coverable.1 d exact) ∙ e)
+        true≢false (sym h ∙ ap (list_matches_literally members) (same_version m.version v found.denotable.1 d exact) ∙ e)
 
     without : (set : Segments) → list_set members ≡ set → has_exact members ≡ false → version_in set ≡ None → ⊥
     without (s ∷ rest) e x k = cc k

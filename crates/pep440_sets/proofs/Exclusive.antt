@@ -7,7 +7,7 @@ use Rattle.std.specs.declared.cmp.Ordering.{Ordering}
 use Rattle.std.specs.declared.cmp.Ordering.TheVariants as ord
 use Rattle.pep440_rs.proofs.Agreement.Suffixes.{from_dev}
 use Rattle.pep440_rs.proofs.Agreement.VersionOrder.{by_parts, plain, same_base}
-use Rattle.pep440_rs.proofs.Covering.PublicParts.{below_bare, unmarked}
+use Rattle.pep440_rs.proofs.PublicParts.{below_bare, unmarked}
 use Rattle.pep440_rs.specs.Matching.{any_prerelease, same_release}
 use Rattle.pep440_rs.specs.declared.specifier.operator.Operator.TheVariants.{LessThan, GreaterThan}
 use Rattle.pep440_version.specs.Key.{Dev, DevAt, Final, NoDev, NoPost, PostAt, Pre, Stage, base_cmp, dev_cmp, dev_of, kind_rank, local_cmp, post_cmp, post_of, record_cmp, release_cmp, stage_cmp, stage_of, suffix_cmp}

@@ -13,7 +13,7 @@ use Rattle.pep440_ranges.specs.Complement.{gaps}
 use Rattle.pep440_ranges.specs.RangeSegments.{IsRange, contains}
 use Rattle.pep440_rs.proofs.Agreement.Suffixes.{from_dev}
 use Rattle.pep440_rs.proofs.Agreement.VersionOrder.{by_parts, only_start, plain, turn_le}
-use Rattle.pep440_rs.proofs.Covering.PublicParts.{unmarked}
+use Rattle.pep440_rs.proofs.PublicParts.{unmarked}
 use Rattle.pep440_rs.specs.Bounds.{alone, full}
 use Rattle.pep440_version.specs.Key.{base_cmp, local_cmp, record_cmp, release_cmp, suffix_cmp}
 use Rattle.pep440_version.specs.Key.KeyLaws.{record_total}

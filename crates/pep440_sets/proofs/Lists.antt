@@ -9,7 +9,7 @@ use Rattle.pep440_ranges.specs.RangeSegments.{contains}
 use Rattle.pep440_rs.proofs.Intersecting.WholeLine.{kept}
 use Rattle.pep440_rs.specs.Bounds.{Segments, full}
 use Rattle.pep440_rs.specs.Conversions.{IsUnchangedByFull}
-use Rattle.pep440_rs.specs.Cover.{IsCoverable, IsDenoted}
+use Rattle.pep440_rs.specs.Denoted.{IsDenotable, IsDenoted}
 use Rattle.pep440_rs.specs.LiteralMatching.{list_matches_literally, matches_literally}
 use Rattle.pep440_rs.specs.Specifiers.{Spec}
 use Rattle.pep440_rs.specs.declared.specifier.operator.Operator.{Operator}
@@ -33,12 +33,12 @@ set_of_member m = specifier_set m.operator m.version
 
 -- ---- lists
 
-fold_set : (now : Segments) (members : List Spec) → IsVersionSet now → All IsCoverable members → IsVersionSet (fold (overlaps record_cmp) now (map set_of_member members))
+fold_set : (now : Segments) (members : List Spec) → IsVersionSet now → All IsDenotable members → IsVersionSet (fold (overlaps record_cmp) now (map set_of_member members))
 fold_set now [] h all = h
 fold_set now (m ∷ members) h all =
-    fold_set (overlaps record_cmp now (set_of_member m)) members (overlaps_set now (set_of_member m) h (set_of_set m (All-head IsCoverable m members all))) (All-tail IsCoverable m members all)
+    fold_set (overlaps record_cmp now (set_of_member m)) members (overlaps_set now (set_of_member m) h (set_of_set m (All-head IsDenotable m members all))) (All-tail IsDenotable m members all)
 
-pub list_is_set : (members : List Spec) → All IsCoverable members → IsVersionSet (list_set members)
+pub list_is_set : (members : List Spec) → All IsDenotable members → IsVersionSet (list_set members)
 list_is_set members all = fold_set full members full_set all
 
 not_exact : (o : Operator) → is_exact o ≡ false → o ≢ ExactEqual
@@ -61,7 +61,7 @@ and_assoc : (a b c : Bool) → (a && b) && c ≡ a && (b && c)
 and_assoc true b c = refl
 and_assoc false b c = refl
 
-fold_holds : (now : Segments) (members : List Spec) (v : Record) → All IsCoverable members → has_exact members ≡ false → IsDenoted v →
+fold_holds : (now : Segments) (members : List Spec) (v : Record) → All IsDenotable members → has_exact members ≡ false → IsDenoted v →
     contains record_cmp (fold (overlaps record_cmp) now (map set_of_member members)) v ≡ contains record_cmp now v && list_matches_literally members v
 fold_holds now [] v all none d = and_true (contains record_cmp now v)
   where
@@ -70,11 +70,11 @@ fold_holds now [] v all none d = and_true (contains record_cmp now v)
     and_true false = refl
 fold_holds now (m ∷ members) v all none d =
     let both = neither (is_exact m.operator) (has_exact members) none in
-    fold_holds (overlaps record_cmp now (set_of_member m)) members v (All-tail IsCoverable m members all) both.1 d
-    ∙ ap (λ b. b && list_matches_literally members v) (overlaps_hold_both record_total now (set_of_member m) v ∙ ap (λ b. contains record_cmp now v && b) (holds_matches m (All-head IsCoverable m members all) (not_exact m.operator both.0) v d))
+    fold_holds (overlaps record_cmp now (set_of_member m)) members v (All-tail IsDenotable m members all) both.1 d
+    ∙ ap (λ b. b && list_matches_literally members v) (overlaps_hold_both record_total now (set_of_member m) v ∙ ap (λ b. contains record_cmp now v && b) (holds_matches m (All-head IsDenotable m members all) (not_exact m.operator both.0) v d))
     ∙ and_assoc (contains record_cmp now v) (matches_literally m.operator m.version v) (list_matches_literally members v)
 
-pub list_holds : (members : List Spec) → All IsCoverable members → has_exact members ≡ false → HoldsListMatches members (list_set members)
+pub list_holds : (members : List Spec) → All IsDenotable members → has_exact members ≡ false → HoldsListMatches members (list_set members)
 list_holds members all none v d = fold_holds full members v all none d
 
 -- ---- emptiness

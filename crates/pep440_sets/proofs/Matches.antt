@@ -11,10 +11,10 @@ use Rattle.pep440_ranges.proofs.Laws.{gaps_are_range, gaps_hold_the_rest}
 use Rattle.pep440_ranges.specs.RangeSegments.{IsRange, contains}
 use Rattle.pep440_rs.proofs.Agreement.Single.{alone_holds}
 use Rattle.pep440_rs.proofs.Agreement.VersionOrder.{ge_not_lt, is_plain, plain}
-use Rattle.pep440_rs.proofs.Covering.PublicParts.{below_bare, is_unmarked, unmarked}
+use Rattle.pep440_rs.proofs.PublicParts.{below_bare, is_unmarked, unmarked}
 use Rattle.pep440_rs.specs.Agreement.{HasOperand}
 use Rattle.pep440_rs.specs.Bounds.{alone}
-use Rattle.pep440_rs.specs.Cover.{IsCoverable}
+use Rattle.pep440_rs.specs.Denoted.{IsDenotable}
 use Rattle.pep440_rs.specs.Matching.{has_local, matches, without_last}
 use Rattle.pep440_rs.specs.Specifiers.{Spec}
 use Rattle.pep440_rs.specs.declared.specifier.operator.Operator.{Operator}
@@ -125,7 +125,7 @@ each GreaterThan s v p u n f = taken GreaterThan s (plain s) v (is_plain s (p.pl
 each GreaterThanEqual s v p u n f = taken GreaterThanEqual s (plain s) v (is_plain s (p.plain refl)) (from_holds (plain s) v ∙ from_version_holds s v)
 each ExactEqual s v p u n f = absurd (n refl)
 
-pub holds_matches : (s : Spec) → IsCoverable s → s.operator ≢ ExactEqual → HoldsMatches s
+pub holds_matches : (s : Spec) → IsDenotable s → s.operator ≢ ExactEqual → HoldsMatches s
 holds_matches s (operand, (text, derives)) n v (vtext, vderives) =
     let v_is = is_unmarked vtext v vderives in
     subst (λ w. contains record_cmp (specifier_set s.operator s.version) w ≡ matches_literally s.operator s.version w) (sym v_is)

@@ -10,7 +10,7 @@ use Rattle.std.specs.declared.cmp.Ordering.TheVariants as ord
 use Rattle.pep440_rs.proofs.Agreement.Prefix.{below_prefix, next_is, step_more}
 use Rattle.pep440_rs.proofs.Agreement.Star.{below_first_dev}
 use Rattle.pep440_rs.proofs.Agreement.VersionOrder.{by_parts, ge_not_lt, plain}
-use Rattle.pep440_rs.proofs.Covering.PublicParts.{below_bare, unmarked}
+use Rattle.pep440_rs.proofs.PublicParts.{below_bare, unmarked}
 use Rattle.pep440_rs.specs.Bounds.{next_number}
 use Rattle.pep440_rs.specs.Matching.{begins_with, has_prefix, without_last}
 use Rattle.pep440_version.specs.Key.{record_cmp, release_cmp}

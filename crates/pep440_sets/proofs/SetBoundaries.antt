@@ -15,10 +15,10 @@ use Rattle.pep440_ranges.specs.Intersection.{is_valid_segment, overlap, overlaps
 use Rattle.pep440_ranges.specs.RangeSegments.{Segment}
 use Rattle.pep440_rs.proofs.Agreement.Prefix.{some_is}
 use Rattle.pep440_rs.proofs.Agreement.VersionOrder.{by_parts, is_plain, plain}
-use Rattle.pep440_rs.proofs.Covering.PublicParts.{unmarked}
+use Rattle.pep440_rs.proofs.PublicParts.{unmarked}
 use Rattle.pep440_rs.specs.Agreement.{HasOperand}
 use Rattle.pep440_rs.specs.Bounds.{Segments, alone, full}
-use Rattle.pep440_rs.specs.Cover.{IsCoverable, IsDenoted}
+use Rattle.pep440_rs.specs.Denoted.{IsDenotable, IsDenoted}
 use Rattle.pep440_rs.specs.Matching.{any_prerelease, has_local, without_last}
 use Rattle.pep440_rs.specs.Specifiers.{Spec}
 use Rattle.pep440_rs.specs.declared.specifier.operator.Operator.{Operator}
@@ -229,5 +229,5 @@ each_set ExactEqual s p h = full_set
 pub denoted_parsed : (v : Record) → IsDenoted v → IsParsed v
 denoted_parsed v (text, h) = record { valid = derived_record text v h; round_trips = derived_rereads text v h }
 
-pub set_of_set : (s : Spec) → IsCoverable s → IsVersionSet (specifier_set s.operator s.version)
+pub set_of_set : (s : Spec) → IsDenotable s → IsVersionSet (specifier_set s.operator s.version)
 set_of_set s (operand, denoted) = each_set s.operator s.version (denoted_parsed s.version denoted) operand

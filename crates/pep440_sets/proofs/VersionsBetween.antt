@@ -14,7 +14,7 @@ use Rattle.std.specs.declared.ops.Bound.TheVariants.{Included, Excluded, Unbound
 use Rattle.pep440_ranges.specs.BoundOrder.{is_up_to_end, is_valid}
 use Rattle.pep440_ranges.specs.RangeSegments.{Segment, contains, lies_in}
 use Rattle.pep440_rs.proofs.Agreement.VersionOrder.{by_parts, turn_le, turn_lt}
-use Rattle.pep440_rs.proofs.Covering.PublicParts.{unmarked}
+use Rattle.pep440_rs.proofs.PublicParts.{unmarked}
 use Rattle.pep440_rs.specs.Bounds.{Segments}
 use Rattle.pep440_version.specs.Key.{Final, NoDev, PostTop, Pre, base_cmp, dev_cmp, dev_of, dev_rank, key, local_cmp, post_cmp, post_of, post_rank, rank_cmp, record_cmp, release_cmp, stage_cmp, stage_of, stage_rank, suffix_cmp}
 use Rattle.pep440_version.specs.Key.KeyLaws.{record_total, release_total}

@@ -3,7 +3,7 @@ use Rattle.std.specs.Prelude.{◌≡◌, ◌≢◌, Bool, [], Some, false, not, 
 use Rattle.pep440_ranges.specs.RangeSegments.{contains}
 use Rattle.pep440_rs.specs.Agreement.{HasOperand}
 use Rattle.pep440_rs.specs.Bounds.{Segments, range_of}
-use Rattle.pep440_rs.specs.Cover.{IsDenoted}
+use Rattle.pep440_rs.specs.Denoted.{IsDenoted}
 use Rattle.pep440_rs.specs.LiteralMatching.{matches_literally}
 use Rattle.pep440_rs.specs.Matching.{any_prerelease, matches, same_release}
 use Rattle.pep440_rs.specs.Specifiers.{Spec}

@@ -1,7 +1,7 @@
 //! A version that a list matches, also where it has members with `===`.
 ghost use Rattle.std.specs.Prelude.{◌≡◌, IfOk, IfSome, IsTrue, None, if◌then◌else◌};
 ghost use Rattle.std.specs.List.{All};
-ghost use Rattle.pep440_rs.specs.Cover.{IsCoverable, IsDenoted};
+ghost use Rattle.pep440_rs.specs.Denoted.{IsDenotable, IsDenoted};
 ghost use Rattle.pep440_rs.specs.LiteralMatching.{list_matches_literally};
 ghost use Rattle.pep440_sets.specs.Common.{common_version, named_version};
 ghost use Rattle.pep440_sets.specs.Emptiness.{IsUnsatisfiable};
@@ -66,9 +66,9 @@ pub fn find_version(
     specifiers: &[VersionSpecifier],
 ) -> Result<Option<Version>, AllocError>
     ensures value { IfOk result (λ found. found ≡ common_version specifiers.now) }
-    ensures matched { All IsCoverable specifiers.now → IfOk result (λ found. IfSome found (λ v. IsTrue (list_matches_literally specifiers.now v))) }
-    ensures denoted { All IsCoverable specifiers.now → IfOk result (λ found. IfSome found IsDenoted) }
-    ensures none { All IsCoverable specifiers.now → IfOk result (λ found. found ≡ None → IsUnsatisfiable specifiers.now) }
+    ensures matched { All IsDenotable specifiers.now → IfOk result (λ found. IfSome found (λ v. IsTrue (list_matches_literally specifiers.now v))) }
+    ensures denoted { All IsDenotable specifiers.now → IfOk result (λ found. IfSome found IsDenoted) }
+    ensures none { All IsDenotable specifiers.now → IfOk result (λ found. found ≡ None → IsUnsatisfiable specifiers.now) }
 {
     let found = find_common(alloc, specifiers)?;
     Ok(found)

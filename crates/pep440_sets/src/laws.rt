@@ -1,6 +1,6 @@
 //! What holds of the literal rule and of sets, each as the contract of a function that does nothing.
 ghost use Rattle.std.specs.Prelude.{◌≢◌};
-ghost use Rattle.pep440_rs.specs.Cover.{IsCoverable};
+ghost use Rattle.pep440_rs.specs.Denoted.{IsDenotable};
 ghost use Rattle.pep440_rs.specs.Specifiers.{Spec};
 ghost use Rattle.pep440_rs.specs.declared.specifier.operator.Operator.TheVariants.{ExactEqual};
 ghost use Rattle.pep440_sets.specs.LiteralLaws.{AgreesElsewhere, IsWider, RangeAgreesLiterally};
@@ -20,5 +20,5 @@ pub fn ranges_agree()
 
 /// The set of a specifier with another operator than `===` holds exactly the versions that match literally.
 pub fn sets_hold_matches()
-    ensures { (s : Spec) → IsCoverable s → s.operator ≢ ExactEqual → HoldsMatches s }
+    ensures { (s : Spec) → IsDenotable s → s.operator ≢ ExactEqual → HoldsMatches s }
 {}

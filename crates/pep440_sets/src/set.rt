@@ -1,8 +1,8 @@
 //! Sets of versions, and what can be asked of them.
-ghost use Rattle.std.specs.Prelude.{◌≡◌, ◌↔◌, ◌&&◌, ◌||◌, [], IfOk, IfSome, IsErrOf, IsTrue, None, false, not, true};
+ghost use Rattle.std.specs.Prelude.{◌≡◌, ◌↔◌, ◌&&◌, ◌||◌, IfOk, IfSome, IsErrOf, IsTrue, None, not, true};
 ghost use Rattle.std.specs.List.{All};
 ghost use Rattle.pep440_ranges.specs.RangeSegments.{contains};
-ghost use Rattle.pep440_rs.specs.Cover.{IsCoverable, IsDenoted};
+ghost use Rattle.pep440_rs.specs.Denoted.{IsDenotable};
 ghost use Rattle.pep440_sets.specs.Sets.{HoldsListMatches, has_exact, list_set};
 ghost use Rattle.pep440_sets.specs.Emptiness.{HasNoVersion, IsDisjoint, IsSubset, IsVersionOf};
 ghost use Rattle.pep440_sets.specs.Witnesses.{version_in};
@@ -46,7 +46,7 @@ impl VersionSet {
         alloc: Global,
         specifiers: &[VersionSpecifier],
     ) -> Result<VersionSet, SetError>
-        requires { All IsCoverable specifiers.now }
+        requires { All IsDenotable specifiers.now }
         ensures value { IfOk result (λ set. set ≡ list_set specifiers.now) }
         ensures matches { IfOk result (HoldsListMatches specifiers.now) }
         ensures exact { IsErrOf result SetError.ArbitraryEquality ↔ (has_exact specifiers.now ≡ true) }

@@ -15,11 +15,11 @@ use Rattle.std.specs.Ordering.{is_lt}
 use Rattle.pep440_ranges.specs.RangeSegments.{contains}
 use Rattle.pep440_rs.proofs.Agreement.Operands.{list_has_texts}
 use Rattle.pep440_rs.proofs.Arranging.Arranged.{one_arrangement, same_by_ties}
-use Rattle.pep440_rs.proofs.Covering.Lists.{is_coverable}
+use Rattle.pep440_rs.proofs.Denoted.{is_denotable}
 use Rattle.pep440_rs.proofs.Reading.OneMeaning.{one_list}
 use Rattle.pep440_rs.specs.Arrangement.{Arranges}
 use Rattle.pep440_rs.specs.Bounds.{Segments}
-use Rattle.pep440_rs.specs.Cover.{IsCoverable, IsDenoted}
+use Rattle.pep440_rs.specs.Denoted.{IsDenotable, IsDenoted}
 use Rattle.pep440_rs.specs.Lists.ListGrammar.{DerivesList}
 use Rattle.pep440_rs.specs.LiteralMatching.{list_matches_literally, matches_literally}
 use Rattle.pep440_rs.specs.Specifiers.{Spec}
@@ -99,7 +99,7 @@ record Says (list : List Spec) (o : Outcome) : Type 0 where
   none : o.status ≡ 1 → IsUnsatisfiable list
   some : o.status ≡ 0 → (v : Record) × IsTrue (list_matches_literally list v)
 
-lines_say : (json : Bool) (list : List Spec) (set : Segments) → All IsCoverable list → has_exact list ≡ false → list_set list ≡ set → Says list (lines_outcome json set)
+lines_say : (json : Bool) (list : List Spec) (set : Segments) → All IsDenotable list → has_exact list ≡ false → list_set list ≡ set → Says list (lines_outcome json set)
 lines_say json list [] all none is = record {
   none = λ e v d h. true≢false (sym h ∙ sym (list_holds list all none v d) ∙ ap (λ q. contains record_cmp q v) is);
   some = λ e. absurd (cc e);
@@ -111,11 +111,11 @@ lines_say json list (s ∷ set) all none is =
       some = λ e. (version_between s.0 s.1, sym (list_holds list all none (version_between s.0 s.1) found.0) ∙ found.1);
     }
 
-named_says : (json : Bool) (list : List Spec) (found : Option Record) → All IsCoverable list → common_version list ≡ found → Says list (named_outcome json found)
+named_says : (json : Bool) (list : List Spec) (found : Option Record) → All IsDenotable list → common_version list ≡ found → Says list (named_outcome json found)
 named_says json list None all is = record { none = λ e. none_in_common list all is; some = λ e. absurd (cc e) }
 named_says json list (Some v) all is = record { none = λ e. absurd (cc e); some = λ e. (v, subst (λ o. IfSome o (λ w. IsTrue (list_matches_literally list w))) is (common_matches list all)) }
 
-outcome_says : (json : Bool) (list : List Spec) → All IsCoverable list → Says list (set_outcome json list)
+outcome_says : (json : Bool) (list : List Spec) → All IsDenotable list → Says list (set_outcome json list)
 outcome_says json list all = go (has_exact list) refl
   where
     go : (b : Bool) → has_exact list ≡ b → Says list (if b then named_outcome json (common_version list) else lines_outcome json (list_set list))
@@ -160,15 +160,15 @@ one_list_in word x rest (DenotesList l, hl, is) none = (l, hl, ap (λ (y : ListR
 one_list_in word x rest (ListFails text, (f, r, so), is) none = cc (subst (λ (y : ListReading). y.message ++ rest ≡ []) is none)
 
 -- they can be decided
-coverable : (words : List (List ℕ)) (xs : List ListReading) → AllZip ReadsMembers words xs → messages_in xs ≡ [] → All IsCoverable (members_in xs)
-coverable [] [] h none = none_all IsCoverable
-coverable [] (x ∷ xs) h none = absurd h
-coverable (w ∷ words) [] h none = absurd h
-coverable (w ∷ words) (x ∷ xs) h none =
+denotable : (words : List (List ℕ)) (xs : List ListReading) → AllZip ReadsMembers words xs → messages_in xs ≡ [] → All IsDenotable (members_in xs)
+denotable [] [] h none = none_all IsDenotable
+denotable [] (x ∷ xs) h none = absurd h
+denotable (w ∷ words) [] h none = absurd h
+denotable (w ∷ words) (x ∷ xs) h none =
     let k = one_list_in w x (messages_in xs) h.0 none in
-    All-append IsCoverable x.members (members_in xs)
-    (subst (All IsCoverable) (sym k.2) (λ j m lt. is_coverable _ (list_has_texts w k.0 k.1 j m lt)))
-    (coverable words xs h.1 k.3)
+    All-append IsDenotable x.members (members_in xs)
+    (subst (All IsDenotable) (sym k.2) (λ j m lt. is_denotable _ (list_has_texts w k.0 k.1 j m lt)))
+    (denotable words xs h.1 k.3)
 
 -- all of them contain what each list contains
 all_contain : (v : Record) (words : List (List ℕ)) (xs : List ListReading) → AllZip ReadsMembers words xs → messages_in xs ≡ [] → All (AllowsVersion v) words → IsTrue (list_matches_literally (members_in xs) v)
@@ -198,14 +198,14 @@ pub no_version_is_common : NoVersionIsCommon
 no_version_is_common json words o (xs, h, is) ended v d all =
     let left = status_left json (messages_in xs) (members_in xs) o 1 (omega arith) ended is in
     let list = left.1.0 in
-    let says = outcome_says json list (arranged_all IsCoverable (members_in xs) list left.1.1 (coverable words xs h left.0)) in
+    let says = outcome_says json list (arranged_all IsDenotable (members_in xs) list left.1.1 (denotable words xs h left.0)) in
     says.none (sym (ap (λ (q : Outcome). q.status) left.1.2) ∙ ended) v d (to_arranged v (members_in xs) list left.1.1 (all_contain v words xs h left.0 all))
 
 pub version_is_common : VersionIsCommon
 version_is_common json words o (xs, h, is) ended =
     let left = status_left json (messages_in xs) (members_in xs) o 0 (omega arith) ended is in
     let list = left.1.0 in
-    let says = outcome_says json list (arranged_all IsCoverable (members_in xs) list left.1.1 (coverable words xs h left.0)) in
+    let says = outcome_says json list (arranged_all IsDenotable (members_in xs) list left.1.1 (denotable words xs h left.0)) in
     let found = says.some (sym (ap (λ (q : Outcome). q.status) left.1.2) ∙ ended) in
     (found.0, each_contains found.0 words xs h left.0 (from_arranged found.0 (members_in xs) list left.1.1 found.1))
 
@@ -242,7 +242,7 @@ named_status json None d says = refl
 named_status true (Some v) d says = absurd (true≢false (sym (ap (starts is_n) says)))
 named_status false (Some v) d says = absurd (true≢false (sym (print_digit v (derived_record d.0 v d.1) (codes "\n")) ∙ ap (starts is_ascii_digit) says))
 
-set_status : (json : Bool) (list : List Spec) → All IsCoverable list → (set_outcome json list).output ≡ codes "no version\n" → (set_outcome json list).status ≡ 1
+set_status : (json : Bool) (list : List Spec) → All IsDenotable list → (set_outcome json list).output ≡ codes "no version\n" → (set_outcome json list).status ≡ 1
 set_status json list all = go (has_exact list)
   where
     go : (b : Bool) → (if b then named_outcome json (common_version list) else lines_outcome json (list_set list)).output ≡ codes "no version\n"
@@ -250,10 +250,10 @@ set_status json list all = go (has_exact list)
     go true says = named_status json (common_version list) (common_is_denoted list all) says
     go false says = lines_status json (list_set list) says
 
-lists_status : (json : Bool) (messages : List ℕ) (members : List Spec) (o : Outcome) → (messages ≡ [] → All IsCoverable members) → PrintsLists json messages members o → o.output ≡ codes "no version\n" → o.status ≡ 1
+lists_status : (json : Bool) (messages : List ℕ) (members : List Spec) (o : Outcome) → (messages ≡ [] → All IsDenotable members) → PrintsLists json messages members o → o.output ≡ codes "no version\n" → o.status ≡ 1
 lists_status json [] members o all (list, h, is) says =
-    ap (λ (q : Outcome). q.status) is ∙ set_status json list (arranged_all IsCoverable members list h (all refl)) (sym (ap (λ (q : Outcome). q.output) is) ∙ says)
+    ap (λ (q : Outcome). q.status) is ∙ set_status json list (arranged_all IsDenotable members list h (all refl)) (sym (ap (λ (q : Outcome). q.output) is) ∙ says)
 lists_status json (b ∷ messages) members o all is says = absurd (true≢false (sym (ap (starts is_n) says) ∙ ap (λ (q : Outcome). starts is_n q.output) is))
 
 pub no_version_has_its_status : NoVersionHasItsStatus
-no_version_has_its_status json words o (xs, h, is) says = lists_status json (messages_in xs) (members_in xs) o (coverable words xs h) is says
+no_version_has_its_status json words o (xs, h, is) says = lists_status json (messages_in xs) (members_in xs) o (denotable words xs h) is says

@@ -1,7 +1,7 @@
 -- What holds of the outcomes of `range`: 'no version' is printed exactly where there is none.
 use Rattle.std.specs.Prelude.{◌≡◌, ℕ, Bool, List, IsTrue, codes}
 use Rattle.std.specs.List.{All}
-use Rattle.pep440_rs.specs.Cover.{IsDenoted}
+use Rattle.pep440_rs.specs.Denoted.{IsDenoted}
 use Rattle.pep440_rs.specs.Lists.ListGrammar.{DerivesList}
 use Rattle.pep440_rs.specs.LiteralMatching.{list_matches_literally}
 use Rattle.pep440_rs.specs.Specifiers.{Spec}

@@ -8,8 +8,8 @@ use Rattle.pep440_pick.proofs.Once.{one_requirement}
 use Rattle.pep440_pick.specs.Names.{normal}
 use Rattle.pep440_pick.specs.RequirementGrammar.{DerivesRequirement, Needed}
 use Rattle.pep440_rs.proofs.Agreement.Operands.{list_has_texts}
-use Rattle.pep440_rs.proofs.Covering.Lists.{is_coverable}
-use Rattle.pep440_rs.specs.Cover.{IsCoverable}
+use Rattle.pep440_rs.proofs.Denoted.{is_denotable}
+use Rattle.pep440_rs.specs.Denoted.{IsDenotable}
 use Rattle.pep440_rs.specs.LiteralMatching.{list_matches_literally}
 use Rattle.pep440_rs.specs.Specifiers.SpecifierGrammar.{IsDenotedSpecifier}
 use Rattle.pep440_version.specs.Record.{Record}
@@ -39,7 +39,7 @@ IsDerived a =
 -- strings give the members of its list
 pub derived_sound : (a : Demand) → IsDerived a → IsSound a
 derived_sound a (n, d, called, pinned, same) =
-    subst (All IsCoverable) same (All-weaker IsDenotedSpecifier IsCoverable is_coverable n.specifiers (list_has_texts d.0 n.specifiers d.2))
+    subst (All IsDenotable) same (All-weaker IsDenotedSpecifier IsDenotable is_denotable n.specifiers (list_has_texts d.0 n.specifiers d.2))
 
 -- the line allows what the list contains
 line_allows : (v : Record) (a : Demand) → IsDerived a → Allows v a → LineAllows v a.line

@@ -7,7 +7,7 @@ use Rattle.std.proofs.lemmas.List.Concat.{flat_map-append}
 use Rattle.std.proofs.lemmas.List.Folds.{list_all-append}
 use Rattle.std.specs.List.{All, flat_map}
 use Rattle.std.specs.Prelude.{⊤}
-use Rattle.pep440_rs.specs.Cover.{IsCoverable, IsDenoted}
+use Rattle.pep440_rs.specs.Denoted.{IsDenotable, IsDenoted}
 use Rattle.pep440_rs.specs.LiteralMatching.{list_matches_literally, matches_literally}
 use Rattle.pep440_rs.specs.Specifiers.{Spec}
 use Rattle.pep440_version.specs.Record.{Record}
@@ -47,9 +47,9 @@ allow v (a ∷ lines) h =
     let both = sym (parts v a.specifiers (specifiers_of lines)) ∙ h in
     All-cons (Allows v) a lines (left_of (list_matches_literally a.specifiers v) (list_matches_literally (specifiers_of lines) v) both) (allow v lines (right_of (list_matches_literally a.specifiers v) (list_matches_literally (specifiers_of lines) v) both))
 
-sound_members : (lines : List Demand) → All IsSound lines → All IsCoverable (specifiers_of lines)
-sound_members [] k = All-nil IsCoverable
-sound_members (a ∷ lines) k = All-append IsCoverable a.specifiers (specifiers_of lines) (All-head IsSound a lines k) (sound_members lines (All-tail IsSound a lines k))
+sound_members : (lines : List Demand) → All IsSound lines → All IsDenotable (specifiers_of lines)
+sound_members [] k = All-nil IsDenotable
+sound_members (a ∷ lines) k = All-append IsDenotable a.specifiers (specifiers_of lines) (All-head IsSound a lines k) (sound_members lines (All-tail IsSound a lines k))
 
 -- ---- what the test decides
 

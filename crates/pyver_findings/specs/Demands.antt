@@ -3,7 +3,7 @@ use Rattle.std.specs.Prelude.{ℕ, List, Bool, true, false, Option}
 use Rattle.std.specs.List.{All, list_any}
 use Rattle.pep440_pick.specs.Names.{normal}
 use Rattle.pep440_pick.specs.RequirementGrammar.{Needed}
-use Rattle.pep440_rs.specs.Cover.{IsCoverable}
+use Rattle.pep440_rs.specs.Denoted.{IsDenotable}
 use Rattle.pep440_rs.specs.Specifiers.{Spec}
 use Rattle.pep440_rs.specs.declared.specifier.operator.Operator.{Operator}
 use Rattle.pep440_rs.specs.declared.specifier.operator.Operator.TheVariants.{Equal, ExactEqual}
@@ -32,4 +32,4 @@ line_demand line marker n = record { line = line; name = normal n.name; marker =
 
 -- strings can give the members of its list
 abbrev pub IsSound : Demand → Type 0
-IsSound a = All IsCoverable a.specifiers
+IsSound a = All IsDenotable a.specifiers

@@ -1,5 +1,5 @@
--- What each conversion gives is a range, of at most one segment, and of two for an exclusion. A cover is a range too.
-use Rattle.std.proofs.Common.{◌≡◌, ℕ, ◌≤◌, Bool, true, false, cond, not, ◌&&◌, is_some, List, [], ◌∷◌, length, Option, Some, None, refl, ap, arith}
+-- What each conversion gives is a range, of at most one segment, and of two for an exclusion.
+use Rattle.std.proofs.Common.{◌≡◌, ℕ, ◌≤◌, Bool, true, false, cond, List, [], ◌∷◌, length, Option, Some, None, refl, ap, arith}
 use Rattle.std.proofs.lemmas.Cmp.{tied_itself}
 use Rattle.std.specs.Ordering.{is_le}
 use Rattle.std.specs.declared.ops.Bound.{Bound}
@@ -8,17 +8,16 @@ use Rattle.pep440_rs.proofs.Agreement.Prefix.{mapped, some_is}
 use Rattle.pep440_rs.specs.Agreement.{ConversionsAreRanges, ConversionsHaveFewSegments}
 use Rattle.pep440_rs.specs.Operators.{is_exclusion}
 use Rattle.pep440_rs.specs.Bounds.{Segments, range_of, release_range_of, release_up_to, alone, less, greater, compatible_end, star, star_end, next_number, raise_last, from_to}
-use Rattle.pep440_rs.specs.Cover.{below_post, cover_of, less_cover, next_public, with_locals}
-use Rattle.pep440_rs.specs.Matching.{any_prerelease, has_local, without_last}
+use Rattle.pep440_rs.specs.Matching.{any_prerelease, without_last}
 use Rattle.pep440_rs.specs.declared.specifier.operator.Operator.{Operator}
 use Rattle.pep440_rs.specs.declared.specifier.operator.Operator.TheVariants.{Equal, EqualStar, ExactEqual, NotEqual, NotEqualStar, TildeEqual, LessThan, LessThanEqual, GreaterThan, GreaterThanEqual}
-use Rattle.pep440_ranges.proofs.Laws.{one_segment_is_range, gaps_are_range, gaps_are_few, overlaps_are_range}
+use Rattle.pep440_ranges.proofs.Laws.{one_segment_is_range, gaps_are_range, gaps_are_few}
 use Rattle.pep440_ranges.specs.BoundOrder.{is_valid}
 use Rattle.pep440_ranges.specs.Complement.{gaps}
 use Rattle.pep440_ranges.specs.RangeSegments.{Segment, IsRange, one_segment}
 use Rattle.pep440_version.specs.Key.{record_cmp}
 use Rattle.pep440_version.specs.Key.KeyLaws.{record_total}
-use Rattle.pep440_version.specs.Record.{Record, epoch_and_release, from_release}
+use Rattle.pep440_version.specs.Record.{Record, from_release}
 
 -- a range of at most n segments
 pub record IsRangeOf (n : ℕ) (range : Segments) : Type 0 where
@@ -89,23 +88,6 @@ by_release EqualStar s range h = release_one s.release s.release range h
 by_release NotEqualStar s range h =
     let m = mapped gaps (release_up_to s.release s.release) range h in rw m.2 (others m.0 (release_one s.release s.release m.0 m.1))
 
-less_cover_is_range : (s : Record) → IsRange record_cmp (less_cover s)
-less_cover_is_range s = go (is_some s.post && not (any_prerelease s))
-  where
-    release : Record
-    release = epoch_and_release s.epoch s.release
-
-    go : (b : Bool) → IsRange record_cmp (cond b (below_post release s.post) (less s))
-    go true = overlaps_are_range record_total (gaps (from_to (record release { min = Some 0 }) release)) ((Unbounded, Excluded (record release { post = s.post; dev = Some 0 })) ∷ []) (gaps_are_range record_total (from_to (record release { min = Some 0 }) release) (between (record release { min = Some 0 }) release).apart) (refl, tt)
-    go false = (less_one s).apart
-
-with_locals_is_range : (s : Record) → IsRange record_cmp (with_locals s)
-with_locals_is_range s = go (has_local s)
-  where
-    go : (b : Bool) → IsRange record_cmp (cond b (alone s) (from_to s (next_public s)))
-    go true = (alone_one s).apart
-    go false = (between s (next_public s)).apart
-
 limit_is : (op : Operator) (s : Record) (range : Segments) → IsRangeOf (limit op) range → length range ≤ cond (is_exclusion op) 2 1
 limit_is Equal s range k = k.few
 limit_is ExactEqual s range k = k.few
@@ -123,18 +105,6 @@ gives_ranges op s range h = (whole op s range h).apart
 
 pub gives_few : ConversionsHaveFewSegments range_of
 gives_few op s range h = limit_is op s range (whole op s range h)
-
-pub gives_covers : ConversionsAreRanges cover_of
-gives_covers Equal s range h = rw (some_is _ range h) (with_locals_is_range s)
-gives_covers LessThanEqual s range h = rw (some_is _ range h) (refl, tt)
-gives_covers LessThan s range h = rw (some_is _ range h) (less_cover_is_range s)
-gives_covers EqualStar s range h = gives_ranges EqualStar s range h
-gives_covers ExactEqual s range h = gives_ranges ExactEqual s range h
-gives_covers NotEqual s range h = gives_ranges NotEqual s range h
-gives_covers NotEqualStar s range h = gives_ranges NotEqualStar s range h
-gives_covers TildeEqual s range h = gives_ranges TildeEqual s range h
-gives_covers GreaterThan s range h = gives_ranges GreaterThan s range h
-gives_covers GreaterThanEqual s range h = gives_ranges GreaterThanEqual s range h
 
 pub gives_release_ranges : ConversionsAreRanges release_range_of
 gives_release_ranges op s range h = (by_release op s range h).apart

@@ -10,9 +10,9 @@ use Rattle.pep440_rs.specs.Agreement.{ConversionsAreRanges}
 use Rattle.pep440_rs.specs.Bounds.{Segments, full}
 use Rattle.pep440_rs.specs.Conversions.{converted, IsUnchangedByFull}
 use Rattle.pep440_rs.specs.declared.range.list.Conversion.{Conversion}
-use Rattle.pep440_rs.specs.declared.range.list.Conversion.TheVariants.{WholeOrder, ReleaseOnly, Cover}
+use Rattle.pep440_rs.specs.declared.range.list.Conversion.TheVariants.{WholeOrder, ReleaseOnly}
 use Rattle.pep440_rs.proofs.Intersecting.Associates.{overlaps_assoc}
-use Rattle.pep440_rs.proofs.Intersecting.Count.{gives_covers, gives_ranges, gives_release_ranges}
+use Rattle.pep440_rs.proofs.Intersecting.Count.{gives_ranges, gives_release_ranges}
 use Rattle.pep440_version.specs.Key.{record_cmp}
 use Rattle.pep440_version.specs.Key.KeyLaws.{record_total}
 use Rattle.pep440_version.specs.Record.{Record}
@@ -47,7 +47,6 @@ kept (s ∷ ss) h = append-nil _ ∙ one s ss h.0 (each s.1 ss h.1)
 gives : (c : Conversion) → ConversionsAreRanges (converted c)
 gives WholeOrder = gives_ranges
 gives ReleaseOnly = gives_release_ranges
-gives Cover = gives_covers
 
 -- what a conversion gives
 pub converted_kept : (c : Conversion) (op : _) (s : Record) (range : Segments) → converted c op s ≡ Some range → IsUnchangedByFull range

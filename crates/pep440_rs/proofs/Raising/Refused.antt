@@ -4,10 +4,8 @@ use Rattle.std.proofs.lemmas.Bool.Decides.{nat_tests}
 use Rattle.std.specs.List.{last_or}
 use Rattle.std.specs.Option.{option_or}
 use Rattle.pep440_rs.specs.Bounds.{range_of, release_range_of, release_up_to, greater, star, star_end, next_number, raise_last}
-use Rattle.pep440_rs.specs.Cover.{cover_of}
 use Rattle.pep440_rs.specs.Matching.{without_last}
 use Rattle.pep440_rs.specs.RaisedNumbers.{raised_number, raised_release_number, FailsAtMax}
-use Rattle.pep440_rs.specs.Specifiers.{IsSpec}
 use Rattle.pep440_rs.specs.declared.specifier.operator.Operator.{Operator}
 use Rattle.pep440_rs.specs.declared.specifier.operator.Operator.TheVariants.{Equal, EqualStar, ExactEqual, NotEqual, NotEqualStar, TildeEqual, LessThan, LessThanEqual, GreaterThan, GreaterThanEqual}
 use Rattle.pep440_version.specs.Record.{Record}
@@ -93,22 +91,6 @@ refused_at_max s valid = at s.operator s.version (omega (arith, valid.0)) (λ e.
     at GreaterThan r one two = greater_refused r r.dev r.post
     at EqualStar r one two = star_refused r one
     at NotEqualStar r one two = chain (through _ (star r)) (star_refused r one)
-
--- a cover raises what the range does
-pub cover_refused_at_max : FailsAtMax cover_of raised_number
-cover_refused_at_max s valid = at s.operator s.version valid
-  where
-    at : (o : Operator) (r : Record) → IsSpec (record { operator = o; version = r }) → IsNone (cover_of o r) ↔ IsMax (raised_number o r)
-    at Equal r is = never _
-    at LessThanEqual r is = never _
-    at LessThan r is = never _
-    at EqualStar r is = refused_at_max (record { operator = EqualStar; version = r }) is
-    at ExactEqual r is = refused_at_max (record { operator = ExactEqual; version = r }) is
-    at NotEqual r is = refused_at_max (record { operator = NotEqual; version = r }) is
-    at NotEqualStar r is = refused_at_max (record { operator = NotEqualStar; version = r }) is
-    at TildeEqual r is = refused_at_max (record { operator = TildeEqual; version = r }) is
-    at GreaterThan r is = refused_at_max (record { operator = GreaterThan; version = r }) is
-    at GreaterThanEqual r is = refused_at_max (record { operator = GreaterThanEqual; version = r }) is
 
 up_to_refused : (release numbers : List ℕ) → 1 ≤ length numbers → IsNone (release_up_to release numbers) ↔ IsMax (last_or None numbers)
 up_to_refused release numbers h = chain (through _ (raise_last numbers)) (raised_refused numbers h)

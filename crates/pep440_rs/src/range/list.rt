@@ -1,14 +1,12 @@
-//! The range of a list of specifiers, by either conversion, and its cover.
+//! The range of a list of specifiers, by either conversion.
 ghost use Rattle.std.specs.Prelude.{◌≡◌, IfOk, IsErrOf, Some, None};
 ghost use Rattle.std.specs.List.{All, list_any};
 ghost use Rattle.pep440_rs.specs.Agreement.{HasOperand, IsCandidate, IsReleaseComparable, ListAgrees, HoldsInEach, HasFewSegments};
 ghost use Rattle.pep440_rs.specs.Bounds.{range_of, release_range_of, list_range};
-ghost use Rattle.pep440_rs.specs.Cover.{IsCoverable, ListCovers, cover_of};
 ghost use Rattle.pep440_rs.specs.Conversions.{converted, raised_by};
 ghost use Rattle.pep440_rs.specs.RaisedNumbers.{ReportsMax, raised_number, raised_release_number, raises_max};
 
 use crate::list::VersionSpecifiers;
-use crate::range::cover::specifier_to_cover;
 use crate::range::error::RangeError;
 use crate::range::intersection::intersect_all;
 use crate::range::release_only::release_specifier_to_range;
@@ -23,7 +21,6 @@ use std::alloc::Global;
 pub(crate) enum Conversion {
     WholeOrder,
     ReleaseOnly,
-    Cover,
 }
 
 impl Conversion {
@@ -39,7 +36,6 @@ impl Conversion {
         match self {
             Conversion::WholeOrder => specifier_to_range(alloc, specifier),
             Conversion::ReleaseOnly => release_specifier_to_range(alloc, specifier),
-            Conversion::Cover => specifier_to_cover(alloc, specifier),
         }
     }
 }
@@ -111,25 +107,4 @@ pub fn release_specifiers_to_ranges(
 {
     let members = specifiers.into_members();
     convert_members(alloc, Conversion::ReleaseOnly, members)
-}
-
-/// The cover of a list: all versions, intersected with each member's cover in the list's order. It holds every version that
-/// the list contains, local versions too (PEP 440, "Version specifiers"), and maybe more, as of `specifier_to_cover`.
-///
-/// Allocates. Returns `NumberAtMax` exactly if `specifiers_to_ranges` does, and `OutOfMemory` if an allocation fails.
-pub fn specifiers_to_cover(
-    alloc: Global,
-    specifiers: VersionSpecifiers,
-) -> Result<Ranges<Version>, RangeError>
-    ensures cover { IfOk result (λ r. list_range cover_of specifiers ≡ Some r) }
-    ensures refused { IsErrOf result RangeError.NumberAtMax → list_range cover_of specifiers ≡ None }
-    // `NumberAtMax` exactly where some member has to raise the greatest number there is, unless an allocation fails.
-    ensures at_max { ReportsMax (list_any (raises_max raised_number) specifiers) result }
-    // Of members whose versions strings can give it holds every version that the list contains.
-    ensures holds { All IsCoverable specifiers → IfOk result (ListCovers specifiers) }
-    // It holds what the cover of each member holds.
-    ensures set { IfOk result (λ r. HoldsInEach cover_of specifiers r) }
-{
-    let members = specifiers.into_members();
-    convert_members(alloc, Conversion::Cover, members)
 }

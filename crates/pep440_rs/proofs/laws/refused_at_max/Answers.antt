@@ -1,4 +1,4 @@
-use Rattle.pep440_rs.proofs.Raising.Refused.{cover_refused_at_max, refused_at_max, release_refused_at_max}
+use Rattle.pep440_rs.proofs.Raising.Refused.{refused_at_max, release_refused_at_max}
 use Rattle.pep440_rs.proofs.laws.refused_at_max.Goals as goal
 
 pub returns-clause-whole : goal.returns-clause-whole
@@ -6,6 +6,3 @@ returns-clause-whole c = refused_at_max
 
 pub returns-clause-release : goal.returns-clause-release
 returns-clause-release c = release_refused_at_max
-
-pub returns-clause-cover : goal.returns-clause-cover
-returns-clause-cover c = cover_refused_at_max

@@ -1,0 +1,32 @@
+-- Sets of versions as bytes: the sort keys between which the versions of each interval lie.
+use Rattle.std.specs.Prelude.{◌≡◌, ℕ, List, [], ◌∷◌, ◌++◌, Some, false, if◌then◌else◌, length, slice_get, unwrap_or}
+use Rattle.std.specs.List.{All, flat_map}
+use Rattle.pep440_keys.specs.RangeKeys.{Interval, segment_interval}
+use Rattle.pep440_keys.specs.SortKeys.{number_bytes}
+use Rattle.pep440_ranges.specs.RangeSegments.{Segment}
+use Rattle.pep440_rs.specs.Bounds.{Segments}
+use Rattle.pep440_version.specs.Record.{Fits, Record}
+
+-- how many bytes there are, and these
+abbrev pub sized_bytes : List ℕ → List ℕ
+sized_bytes bytes = number_bytes 0 (length bytes) ++ bytes
+
+-- the low key of an interval, no bytes where it has none: each key is at least these
+abbrev pub low_bytes : Interval → List ℕ
+low_bytes interval = unwrap_or interval.0 []
+
+-- the high key of an interval, no bytes where it has none, since no key is below these
+abbrev pub high_bytes : Interval → List ℕ
+high_bytes interval = unwrap_or interval.1 []
+
+-- both keys of an interval
+abbrev pub interval_bytes : Interval → List ℕ
+interval_bytes interval = sized_bytes (low_bytes interval) ++ sized_bytes (high_bytes interval)
+
+-- the intervals of a set, in order
+abbrev pub set_bytes : Segments → List ℕ
+set_bytes set = flat_map (λ s. interval_bytes (segment_interval s)) set
+
+-- the keys of an interval fit in memory
+abbrev pub IsSized : Segment Record → Type 0
+IsSized s = Fits (length (low_bytes (segment_interval s))) × Fits (length (high_bytes (segment_interval s)))

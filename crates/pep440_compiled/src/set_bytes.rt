@@ -1,0 +1,81 @@
+//! Sets as bytes: the sort keys of their intervals, written and searched.
+ghost use Rattle.std.specs.Prelude.{◌≡◌, ◌≤◌, ◌<◌, ◌++◌, ◌&&◌, ◌||◌, ◌==◌, List, ℕ, IfOk, IfSome, MatchOption, OnOk, Some, length, map, not};
+ghost use Rattle.std.specs.List.{All, flat_map, list_any};
+ghost use Rattle.pep440_compiled.specs.SetBytes.{IsSized, high_bytes, interval_bytes, low_bytes, set_bytes, sized_bytes};
+ghost use Rattle.pep440_keys.specs.RangeKeys.{is_below_key, is_within, segment_interval};
+ghost use Rattle.pep440_keys.specs.SortKeys.{number_bytes};
+ghost use Rattle.pep440_rs.specs.Bounds.{Segments};
+ghost use Rattle.pep440_version.specs.Record.{Fits};
+
+use crate::decode::read_whole_number;
+use pep440_keys::{KeyInterval, push_number, range_keys};
+use pep440_rs::{Ranges, Version};
+use std::alloc::{AllocError, Global};
+
+// How many bytes there are, and these.
+pub(crate) fn push_sized(bytes: &mut Vec<u8>, item: &[u8]) -> Result<(), AllocError>
+    ensures bytes { OnOk result (bytes.new.items ≡ bytes.old.items ++ sized_bytes item.now) }
+    ensures size { Fits (length item.now) }
+{
+    push_number(bytes, 0, item.len() as u64)?;
+    bytes.extend_from_slice(item)
+}
+
+fn push_interval(bytes: &mut Vec<u8>, interval: &KeyInterval) -> Result<(), AllocError>
+    ensures bytes { OnOk result (bytes.new.items ≡ bytes.old.items ++ interval_bytes interval.now) }
+    ensures low { Fits (length (low_bytes interval.now)) }
+    ensures high { OnOk result (Fits (length (high_bytes interval.now))) }
+{
+    push_sized(bytes, interval.low().unwrap_or(&[]))?;
+    push_sized(bytes, interval.high().unwrap_or(&[]))
+}
+
+/// The sort keys of the intervals, in order, each after how many bytes it has.
+pub(crate) fn set_bytes(alloc: Global, set: &Ranges<Version>) -> Result<Vec<u8>, AllocError>
+    ensures bytes { IfOk result (λ bytes. bytes.items ≡ set_bytes set.now) }
+    ensures sizes { IfOk result (λ _. All IsSized set.now) }
+{
+    let intervals = range_keys(alloc, set)?;
+    let mut bytes = Vec::with_capacity(alloc, intervals.len().saturating_mul(24))?;
+    for interval in &intervals {
+        push_interval(&mut bytes, interval)?;
+    }
+    Ok(bytes)
+}
+
+// The leading bytes before which their count stands, and the rest.
+#[inline(always)]
+pub(crate) fn split_sized(bytes: &[u8]) -> Option<(&[u8], &[u8])>
+    ensures found { (item rest : List ℕ) → Fits (length item) → bytes.now ≡ sized_bytes item ++ rest
+        → MatchOption result ⊥ (λ p. (p.0.now ≡ item) × (p.1.now ≡ rest)) }
+    ensures exact { IfSome result (λ p. bytes.now ≡ sized_bytes p.0.now ++ p.1.now) }
+    ensures shorter { IfSome result (λ p. length p.1.now < length bytes.now) }
+{
+    let (count, rest) = read_whole_number(bytes)?;
+    rest.split_at_checked(count as usize)
+}
+
+// At least the low key, and below the high one; no bytes are no key.
+#[inline(always)]
+fn is_between(low: &[u8], high: &[u8], key: &[u8]) -> bool
+    ensures { result ≡ not (is_below_key key.now low.now) && ((length high.now == 0) || is_below_key key.now high.now) }
+{
+    !key.cmp(low).is_lt() && (high.is_empty() || key.cmp(high).is_lt())
+}
+
+// Whether the key lies in an interval of the set.
+pub(crate) fn holds_key(set: &[u8], key: &[u8]) -> Option<bool>
+    ensures { (segments : Segments) → All IsSized segments → set.now ≡ set_bytes segments
+        → result ≡ Some (list_any (λ s. is_within (segment_interval s) key.now) segments) }
+{
+    let mut left = set;
+    while !left.is_empty() {
+        let (low, rest) = split_sized(left)?;
+        let (high, rest) = split_sized(rest)?;
+        if is_between(low, high, key) {
+            return Some(true);
+        }
+        left = rest;
+    }
+    Some(false)
+}
