@@ -1,16 +1,19 @@
 -- Bytes denote at most one list.
-use Rattle.std.proofs.Common.{◌≡◌, ◌∙◌, ℕ, ◌+◌, refl, sym, ap, arith, List, [], ◌∷◌, length, get_or}
+use Rattle.std.proofs.Common.{◌≡◌, ◌∙◌, ℕ, ◌+◌, refl, sym, ap, arith, subst, Bool, true, false, inl, inr, List, [], ◌∷◌, length, get_or}
 use Rattle.std.proofs.lemmas.List.Elements.{recursion_from_All}
 use Rattle.std.specs.Cmp.{nat_cmp_is}
 use Rattle.std.specs.List.{AllByRecursion, flat_map}
-use Rattle.std.specs.Prelude.{drop}
+use Rattle.std.specs.Prelude.{drop, if◌then◌else◌}
 use Rattle.std.specs.declared.cmp.Ordering.TheVariants as ordering
 use Rattle.pep440_compiled.proofs.Exact.{member_version}
 use Rattle.pep440_compiled.proofs.Members.{no_zero_first}
-use Rattle.pep440_compiled.specs.Lists.{DenotesMembers, IsParsedMember, member_bytes}
+use Rattle.pep440_compiled.proofs.Sized.{one_sized}
+use Rattle.pep440_compiled.specs.Lists.{DenotesList, DenotesMembers, DenotesWithSet, IsListForm, IsParsedMember, member_bytes, members_bytes}
+use Rattle.pep440_compiled.specs.SetBytes.{set_bytes}
 use Rattle.pep440_rs.specs.OperatorLaws.{same_operator}
 use Rattle.pep440_rs.specs.Operators.{operator_rank}
 use Rattle.pep440_rs.specs.Specifiers.{Spec}
+use Rattle.pep440_sets.specs.Sets.{has_exact, list_set}
 
 same_rank : (s t : Spec) → 16 + operator_rank s.operator ≡ 16 + operator_rank t.operator → s.operator ≡ t.operator
 same_rank s t e = same_operator s.operator t.operator (sym (nat_cmp_is (operator_rank s.operator) (operator_rank t.operator) ordering.Equal (omega (arith, e))))
@@ -27,3 +30,51 @@ same_members (s ∷ l) (t ∷ m) p q e =
 
 pub one_denoted_members : (bytes : List ℕ) (l m : List Spec) → DenotesMembers bytes l → DenotesMembers bytes m → l ≡ m
 one_denoted_members bytes l m d e = same_members l m (recursion_from_All _ l d.members) (recursion_from_All _ m e.members) (ap (drop 1) (sym d.same ∙ e.same))
+
+not_other : (a b : ℕ) (s t : List ℕ) → a ∷ s ≡ b ∷ t → a ≡ b
+not_other a b s t e = ap (λ l. get_or l 0 0) e
+
+one_with_set : (bytes : List ℕ) (l m : List Spec) → DenotesWithSet bytes l → DenotesWithSet bytes m → l ≡ m
+one_with_set bytes l m d e =
+    let split = one_sized (set_bytes (list_set l)) (set_bytes (list_set m)) (members_bytes l) (members_bytes m) d.size e.size (ap (drop 1) (sym d.same ∙ e.same)) in
+    one_denoted_members (members_bytes l) l m d.members (subst (λ b. DenotesMembers b m) (sym split.1) e.members)
+
+pub one_denoted_list : (bytes : List ℕ) (l m : List Spec) → DenotesList bytes l → DenotesList bytes m → l ≡ m
+one_denoted_list bytes l m (inl d) (inl e) = one_denoted_members bytes l m d e
+one_denoted_list bytes l m (inr d) (inr e) = one_with_set bytes l m d e
+one_denoted_list bytes l m (inl d) (inr e) = absurd (omega (arith, not_other 5 6 _ _ (sym d.same ∙ e.same)))
+one_denoted_list bytes l m (inr d) (inl e) = absurd (omega (arith, not_other 6 5 _ _ (sym d.same ∙ e.same)))
+
+-- ---- what a list compiles to
+
+-- the one form of a list
+pub one_form : (a b : List ℕ) (l : List Spec) → IsListForm a l → IsListForm b l → a ≡ b
+one_form a b l p q = go (has_exact l) p q
+  where
+    go : (e : Bool) → (if e then DenotesMembers a l else DenotesWithSet a l) → (if e then DenotesMembers b l else DenotesWithSet b l) → a ≡ b
+    go true d e = d.same ∙ sym e.same
+    go false d e = d.same ∙ sym e.same
+
+pub form_denotes : (bytes : List ℕ) (l : List Spec) → IsListForm bytes l → DenotesList bytes l
+form_denotes bytes l p = go (has_exact l) p
+  where
+    go : (e : Bool) → (if e then DenotesMembers bytes l else DenotesWithSet bytes l) → DenotesList bytes l
+    go true d = inl d
+    go false d = inr d
+
+pub set_is_form : (bytes : List ℕ) (l : List Spec) → DenotesWithSet bytes l → IsListForm bytes l
+set_is_form bytes l d = subst (λ e. if e then DenotesMembers bytes l else DenotesWithSet bytes l) (sym d.without) d
+
+pub members_are_form : (bytes : List ℕ) (l : List Spec) → has_exact l ≡ true → DenotesMembers bytes l → IsListForm bytes l
+members_are_form bytes l e d = subst (λ e. if e then DenotesMembers bytes l else DenotesWithSet bytes l) (sym e) d
+
+-- bytes that begin with the byte of sets and are a form, are that of a list with its set
+pub form_with_set : (later : List ℕ) (l : List Spec) → IsListForm (6 ∷ later) l → DenotesWithSet (6 ∷ later) l
+form_with_set later l p = go (has_exact l) p
+  where
+    go : (e : Bool) → (if e then DenotesMembers (6 ∷ later) l else DenotesWithSet (6 ∷ later) l) → DenotesWithSet (6 ∷ later) l
+    go true d = absurd (omega (arith, not_other 6 5 _ _ d.same))
+    go false d = d
+
+pub without_set : (members : List ℕ) (l : List Spec) → DenotesMembers members l → DenotesMembers (members_bytes l) l
+without_set members l d = record { members = d.members; order = d.order; same = refl }
