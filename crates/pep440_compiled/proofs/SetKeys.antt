@@ -7,6 +7,7 @@ use Rattle.std.specs.Prelude.{unwrap_or}
 use Rattle.std.specs.declared.ops.Bound.{Bound}
 use Rattle.std.specs.declared.ops.Bound.TheVariants.{Included, Excluded, Unbounded}
 use Rattle.pep440_compiled.proofs.Fronts.{keyed}
+use Rattle.pep440_compiled.specs.Lists.{IsParsedMember}
 use Rattle.pep440_compiled.specs.SetBytes.{IsSized, high_bytes, low_bytes, set_bytes, sized_bytes}
 use Rattle.pep440_keys.proofs.Membership.{in_range}
 use Rattle.pep440_keys.specs.RangeKeys.{HasKeys, IsKeyedBound, IsKeyedSegment, high_key, is_below_key, is_within, low_key, segment_interval}
@@ -108,6 +109,11 @@ any_map key (s ∷ range) = ap (λ (b : Bool). is_within (segment_interval s) ke
 pub set_tells : (set : Segments) (r : Record) → IsVersionSet set → IsParsed r → list_any (λ s. is_within (segment_interval s) (key_bytes r)) set ≡ contains record_cmp set r
 set_tells set r h p = any_map (key_bytes r) set ∙ in_range set (set_has_keys set h) r (keyed r p)
 
+pub denotable : (list : List Spec) → All IsParsedMember list → All IsDenotable list
+denotable list all = All-weaker IsParsedMember IsDenotable (λ s p. (p.operand, parsed_denoted s.version p.version)) list all
+
 -- and of the set of a list exactly if the list matches the version literally
-pub list_tells : (list : List Spec) (r : Record) → All IsDenotable list → has_exact list ≡ false → IsParsed r → list_any (λ s. is_within (segment_interval s) (key_bytes r)) (list_set list) ≡ list_matches_literally list r
-list_tells list r all none p = set_tells (list_set list) r (list_is_set list all) p ∙ list_holds list all none r (parsed_denoted r p)
+pub list_tells : (list : List Spec) (r : Record) → All IsParsedMember list → has_exact list ≡ false → IsParsed r → list_any (λ s. is_within (segment_interval s) (key_bytes r)) (list_set list) ≡ list_matches_literally list r
+list_tells list r parsed none p =
+    let all = denotable list parsed in
+    set_tells (list_set list) r (list_is_set list all) p ∙ list_holds list all none r (parsed_denoted r p)

@@ -1,12 +1,13 @@
 -- The bytes of a compiled list: its members, one after the other, and before them its set, if it has one. A sort key ends where it
 -- says, and no member begins with the byte 1 of the zeros after a key, so nothing stands between two members.
-use Rattle.std.specs.Prelude.{◌≡◌, ◌⊎◌, ℕ, ◌+◌, List, ◌∷◌, ◌++◌, Some, false, if◌then◌else◌, length, slice_get}
+use Rattle.std.specs.Prelude.{◌≡◌, ◌⊎◌, ℕ, ◌+◌, List, [], ◌∷◌, ◌++◌, None, Some, false, if◌then◌else◌, length, slice_get}
 use Rattle.std.specs.List.{All, flat_map}
 use Rattle.pep440_compiled.specs.SetBytes.{IsSized, set_bytes, sized_bytes}
 use Rattle.pep440_compiled.specs.Version.{version_bytes}
 use Rattle.pep440_sets.specs.Sets.{has_exact, list_set}
-use Rattle.pep440_version.specs.Record.{Fits}
+use Rattle.pep440_version.specs.Record.{Fits, Record}
 use Rattle.pep440_version.specs.RoundTrip.{IsParsed}
+use Rattle.pep440_rs.specs.Agreement.{HasOperand}
 use Rattle.pep440_rs.specs.Arrangement.{IsArranged}
 use Rattle.pep440_rs.specs.Operators.{operator_rank}
 use Rattle.pep440_rs.specs.Specifiers.{IsSpec, Spec}
@@ -25,10 +26,18 @@ HasMembersFormat bytes = slice_get bytes 0 ≡ Some 5
 abbrev pub members_bytes : List Spec → List ℕ
 members_bytes list = 5 ∷ flat_map member_bytes list
 
--- the specifiers whose versions strings parse to
+-- the specifiers that strings denote: their versions are those of strings, and may stand beside their operators
 pub record IsParsedMember (s : Spec) : Type 0 where
   pub valid : IsSpec s
   pub version : IsParsed s.version
+  pub operand : HasOperand s
+
+-- just an epoch and a release
+pub record IsBare (v : Record) : Type 0 where
+  pub pre : v.pre ≡ None
+  pub post : v.post ≡ None
+  pub dev : v.dev ≡ None
+  pub local : v.local ≡ []
 
 -- the bytes are the members of this list, whose versions never fall
 pub record DenotesMembers (bytes : List ℕ) (list : List Spec) : Type 0 where

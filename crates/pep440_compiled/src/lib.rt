@@ -16,7 +16,7 @@
 //! from outside once before they are asked.
 //!
 //! In reading order: `version` and `list`, the calls; `members` and `set_bytes`, what lists are made of; `views` and `key_parts`, where the parts lie in the bytes; `byte_order` and
-//! `matching`, which read no more than those; `decode`, `checked_version` and `parsed`, which test each byte; `error`; and `laws`.
+//! `matching`, which read no more than those; `decode`, `checked_version`, `parsed` and `operand`, which test each byte; `error`; and `laws`.
 #![tactic(auto)]
 
 mod byte_order;
@@ -28,6 +28,7 @@ pub mod laws;
 mod list;
 mod matching;
 mod members;
+mod operand;
 mod parsed;
 mod set_bytes;
 mod stack_form;

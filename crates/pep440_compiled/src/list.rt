@@ -1,26 +1,23 @@
 //! Compiled lists of specifiers: made, read, asked.
-ghost use Rattle.std.specs.Prelude.{◌≡◌, ◌↔◌, ◌++◌, ◌∷◌, List, Ok, true, IfErr, IfOk, IfSome, MatchOption, string_bytes};
+ghost use Rattle.std.specs.Prelude.{◌≡◌, ◌↔◌, ◌++◌, ◌∷◌, List, Ok, false, true, IfErr, IfOk, IfSome, MatchOption, string_bytes};
 ghost use Rattle.std.specs.List.{All};
-ghost use Rattle.pep440_compiled.specs.Lists.{DenotesList, DenotesMembers, DenotesWithSet, HasListFormat, HasMembersFormat, HasSetFormat, IsListForm};
+ghost use Rattle.pep440_compiled.specs.Lists.{DenotesList, DenotesMembers, DenotesWithSet, HasListFormat, HasMembersFormat, HasSetFormat, IsListForm, IsParsedMember};
 ghost use Rattle.pep440_compiled.specs.SetBytes.{set_bytes, sized_bytes};
 ghost use Rattle.pep440_compiled.specs.Version.{DenotesVersion, HasVersionFormat};
 ghost use Rattle.pep440_compiled.specs.declared.error.CompileError.TheVariants.{NotParsed};
 ghost use Rattle.pep440_compiled.specs.declared.error.CompiledError.TheVariants as unread;
 ghost use Rattle.pep440_compiled.specs.declared.error.ContainsError.TheVariants.{NoList, NoVersion};
-ghost use Rattle.pep440_rs.specs.Denoted.{IsDenotable};
 ghost use Rattle.pep440_rs.specs.Lists.{print_list};
 ghost use Rattle.pep440_rs.specs.LiteralMatching.{list_matches_literally};
 ghost use Rattle.pep440_rs.specs.Matching.{any_prerelease, list_matches};
 ghost use Rattle.pep440_rs.specs.Prereleases.{requests_prereleases};
 ghost use Rattle.pep440_rs.specs.Specifiers.{Spec};
-ghost use Rattle.pep440_sets.specs.Sets.{list_set};
+ghost use Rattle.pep440_sets.specs.Sets.{has_exact, list_set};
 ghost use Rattle.pep440_version.specs.Record.{Record};
-ghost use Rattle.pep440_version.specs.RoundTrip.{IsParsed};
 
 use crate::error::{CompileError, CompiledError, ContainsError, NotCompiled};
 use crate::members::{self, compile_members, has_members_format, read_members};
-use crate::set_bytes::{push_sized, set_bytes, split_sized};
-use crate::set_bytes::holds_key;
+use crate::set_bytes::{holds_key, push_sized, set_bytes, split_sized};
 use crate::views::view_version;
 use pep440_rs::{Ranges, Version, VersionSpecifiers};
 use pep440_sets::{SetError, specifiers_to_set};
@@ -38,7 +35,8 @@ pub fn has_list_format(bytes: &[u8]) -> bool
 
 // The set before the members.
 fn prepend_set(alloc: Global, set: &Ranges<Version>, members: &[u8]) -> Result<Vec<u8>, AllocError>
-    ensures { (l : List Spec) → DenotesMembers members.now l → has_exact l ≡ false → set.now ≡ list_set l → IfOk result (λ bytes. DenotesWithSet bytes.items l) }
+    ensures { (l : List Spec) → DenotesMembers members.now l → has_exact l ≡ false → set.now ≡ list_set l
+        → IfOk result (λ bytes. DenotesWithSet bytes.items l) }
 {
     let set = set_bytes(alloc, set)?;
     let mut bytes = Vec::with_capacity(alloc, set.len() + members.len() + 10)?;
@@ -49,12 +47,12 @@ fn prepend_set(alloc: Global, set: &Ranges<Version>, members: &[u8]) -> Result<V
 }
 
 /// The compiled form of a list: its set and its members, or, with `===`, which has no set, the members alone. `NotParsed` if no string
-/// parses to the version of some member.
+/// denotes some member.
 ///
 /// Allocates.
 pub fn compile_list(alloc: Global, list: &VersionSpecifiers) -> Result<Vec<u8>, CompileError>
     ensures ok { IfOk result (λ bytes. IsListForm bytes.items list.now) }
-    ensures err { IfErr result (λ e. e ≡ NotParsed → All (λ (s : Spec). IsParsed s.version) list.now → ⊥) }
+    ensures err { IfErr result (λ e. e ≡ NotParsed → All IsParsedMember list.now → ⊥) }
 {
     let members = compile_members(alloc, list)?;
     match specifiers_to_set(alloc, list.as_slice()) {
@@ -112,7 +110,7 @@ pub fn contains(list: &[u8], version: &[u8]) -> Result<(bool, bool), ContainsErr
 /// Does not allocate.
 #[inline(always)]
 pub fn matches_literally(list: &[u8], version: &[u8]) -> Result<bool, ContainsError>
-    ensures found { (l : List Spec) (r : Record) → DenotesWithSet list.now l → All IsDenotable l → DenotesVersion version.now r
+    ensures found { (l : List Spec) (r : Record) → DenotesWithSet list.now l → DenotesVersion version.now r
         → result ≡ Ok (list_matches_literally l r) }
     ensures format { IfOk result (λ _. HasSetFormat list.now × HasVersionFormat version.now) }
     ensures version { IfErr result (λ e. e ≡ NoVersion → (r : Record) → DenotesVersion version.now r → ⊥) }

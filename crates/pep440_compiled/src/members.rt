@@ -23,6 +23,7 @@ use crate::decode::decode_version;
 use crate::error::{CompileError, CompiledError, ContainsError, NotCompiled};
 use crate::key_parts::skip_zeros;
 use crate::matching::{begins_with_release, matches_bytes, matches_order};
+use crate::operand::has_operand;
 use crate::parsed::is_parsed;
 use crate::version::push_version;
 use crate::views::{
@@ -50,13 +51,18 @@ pub(crate) fn has_members_format(bytes: &[u8]) -> bool
     bytes.first() == Some(&MEMBERS)
 }
 
-// All versions are such that strings parse to them.
-fn has_parsed_versions(members: &[VersionSpecifier]) -> bool
-    ensures members { result ≡ true → All IsParsedMember members.now }
-    ensures versions { All (λ (s : Spec). IsParsed s.version) members.now → result ≡ true }
+// Whether some string denotes the specifier.
+fn is_parsed_member(member: &VersionSpecifier) -> bool
+    ensures { (result ≡ true) ↔ IsParsedMember member.now }
+{
+    is_parsed(member.version()) && has_operand(member)
+}
+
+fn are_parsed_members(members: &[VersionSpecifier]) -> bool
+    ensures { (result ≡ true) ↔ All IsParsedMember members.now }
 {
     for member in members {
-        if !is_parsed(member.version()) {
+        if !is_parsed_member(member) {
             return false;
         }
     }
@@ -70,13 +76,13 @@ fn push_member(bytes: &mut Vec<u8>, member: &VersionSpecifier) -> Result<(), All
     push_version(bytes, member.version())
 }
 
-// The members of a list; `NotParsed` if no string parses to the version of some member.
+// The members of a list; `NotParsed` if no string denotes some member.
 pub(crate) fn compile_members(alloc: Global, list: &VersionSpecifiers) -> Result<Vec<u8>, CompileError>
     ensures ok { IfOk result (λ bytes. DenotesMembers bytes.items list.now) }
-    ensures err { IfErr result (λ e. e ≡ NotParsed → All (λ (s : Spec). IsParsed s.version) list.now → ⊥) }
+    ensures err { IfErr result (λ e. e ≡ NotParsed → All IsParsedMember list.now → ⊥) }
 {
     let members = list.as_slice();
-    if !has_parsed_versions(members) {
+    if !are_parsed_members(members) {
         return Err(CompileError::NotParsed);
     }
     // An estimate: more bytes allocate again.
