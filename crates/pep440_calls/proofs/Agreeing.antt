@@ -2,8 +2,8 @@
 use Rattle.std.proofs.Common.{◌≡◌, ◌∙◌, ℕ, List, sym, ap, inr, subst}
 use Rattle.std.specs.Prelude.{◌↔◌}
 use Rattle.pep440_compiled.proofs.Exact.{one_denoted}
-use Rattle.pep440_compiled.proofs.Listed.{one_denoted_list}
-use Rattle.pep440_compiled.specs.Lists.{DenotesList, list_bytes}
+use Rattle.pep440_compiled.proofs.Listed.{form_denotes, one_denoted_list, one_form as one_form_of_list}
+use Rattle.pep440_compiled.specs.Lists.{DenotesList, IsListForm}
 use Rattle.pep440_compiled.specs.Version.{DenotesVersion, compiled_bytes}
 use Rattle.pep440_rs.specs.Specifiers.{Spec}
 use Rattle.pep440_version.specs.Record.{Record}
@@ -32,15 +32,15 @@ pub same_compiled_list : (s t a b : List ℕ) (l m : List Spec) → IsCompiledLi
 same_compiled_list s t a b l m (v, v_means, v_denotes) (w, w_means, w_denotes) means also =
     let left : v ≡ l = one_bytes_list s v l v_means means in
     let right : w ≡ m = one_bytes_list t w m w_means also in (
-      λ p. sym left ∙ one_denoted_list b v w (subst (λ x. DenotesList x v) p v_denotes) w_denotes ∙ right,
-      λ p. v_denotes.same ∙ (ap list_bytes (left ∙ p ∙ sym right) ∙ sym w_denotes.same),
+      λ p. sym left ∙ one_denoted_list b v w (form_denotes b v (subst (λ x. IsListForm x v) p v_denotes)) (form_denotes b w w_denotes) ∙ right,
+      λ p. one_form_of_list a b w (subst (IsListForm a) (left ∙ p ∙ sym right) v_denotes) w_denotes,
     )
 
 pub one_list_form : (text a b : List ℕ) → IsCompiledList text a → IsCompiledList text b → a ≡ b
-one_list_form text a b (l, means, denotes) (m, also, again) = denotes.same ∙ (ap list_bytes (one_bytes_list text l m means also) ∙ sym again.same)
+one_list_form text a b (l, means, denotes) (m, also, again) = one_form_of_list a b m (subst (IsListForm a) (one_bytes_list text l m means also) denotes) again
 
 pub same_list : (text compiled : List ℕ) (m : List Spec) → IsCompiledList text compiled → BytesDenoteList text m ↔ BytesDenoteList compiled m
 same_list text compiled m (l, means, denotes) = (
-  λ also. inr (subst (DenotesList compiled) (one_bytes_list text l m means also) denotes),
-  λ also. subst (BytesDenoteList text) (one_bytes_list compiled l m (inr denotes) also) means,
+  λ also. inr (subst (DenotesList compiled) (one_bytes_list text l m means also) (form_denotes compiled l denotes)),
+  λ also. subst (BytesDenoteList text) (one_bytes_list compiled l m (inr (form_denotes compiled l denotes)) also) means,
 )

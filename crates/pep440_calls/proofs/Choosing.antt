@@ -6,7 +6,8 @@ use Rattle.std.specs.Cmp.{IsTotalOrder, nat_cmp_total, on_total, then_total}
 use Rattle.std.specs.Prelude.{not}
 use Rattle.pep440_pick.proofs.Choosing as greatest
 use Rattle.pep440_pick.specs.Greatest.{Greatest, is_above}
-use Rattle.pep440_rs.specs.Matching.{any_prerelease, list_matches}
+use Rattle.pep440_rs.specs.LiteralMatching.{list_matches_literally}
+use Rattle.pep440_rs.specs.Matching.{any_prerelease}
 use Rattle.pep440_rs.specs.Specifiers.{Spec}
 use Rattle.pep440_version.specs.Key.KeyLaws.{record_total}
 use Rattle.pep440_version.specs.Record.{Record}
@@ -25,9 +26,9 @@ module _ (takes : Bool) (list : List Spec) where
   abbrev NewestOf : List (List ℕ) → Option (ℕ × Record) → Type 0
   NewestOf = Greatest (IsContainedString list) (preference takes)
 
-  pub out_of : (t : List ℕ) → RejectsBytes t ⊎ ((r : Record) × BytesDenote t r × (list_matches list r ≡ false)) → (r : Record) → ¬ (IsContainedString list t r)
+  pub out_of : (t : List ℕ) → RejectsBytes t ⊎ ((r : Record) × BytesDenote t r × (list_matches_literally list r ≡ false)) → (r : Record) → ¬ (IsContainedString list t r)
   out_of t (inl why) r h = never_both t r h.0 why
-  out_of t (inr (q, means, out)) r h = both_ways (list_matches list r) (ap (list_matches list) (one_version t r q h.0 means) ∙ out) h.1
+  out_of t (inr (q, means, out)) r h = both_ways (list_matches_literally list r) (ap (list_matches_literally list) (one_version t r q h.0 means) ∙ out) h.1
 
   module _ (texts : List (Bor (List ℕ))) (i : ℕ) (x : Bor (List ℕ)) (newest : Option (ℕ × Record)) (inside : i < length texts) where
     abbrev now : Bor (List ℕ) → List ℕ

@@ -7,7 +7,6 @@ pub mod Forms
 pub mod Allowed
 pub mod Choosing
 pub mod Words
-pub mod Keyed
 pub mod KeyMembership
 pub mod Agreeing
 pub mod Compiling
@@ -18,4 +17,3 @@ pub mod Bounded
 pub mod SpecifierOnce
 pub mod VersionsIn
 pub mod Sizes
-pub mod ListSizes

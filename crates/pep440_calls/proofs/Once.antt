@@ -88,7 +88,8 @@ never_both bytes r (inr d) (words, inr (format, none, w)) = none r d
 -- ---- lists
 
 pub list_format : (bytes : List ℕ) (l : List Spec) → DenotesList bytes l → HasListFormat bytes
-list_format bytes l d = ap (λ b. slice_get b 0) d.same
+list_format bytes l (inl d) = inl (ap (λ b. slice_get b 0) d.same)
+list_format bytes l (inr d) = inr (ap (λ b. slice_get b 0) d.same)
 
 pub one_bytes_list : (bytes : List ℕ) (l m : List Spec) → BytesDenoteList bytes l → BytesDenoteList bytes m → l ≡ m
 one_bytes_list bytes l m (inl (plain, (u, means))) (inl (again, (v, also))) = one_list bytes l m means also

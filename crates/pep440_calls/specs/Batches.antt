@@ -4,7 +4,8 @@ use Rattle.std.specs.Ordering.{on}
 use Rattle.std.specs.Prelude.{◌≡◌, ◌⊎◌, ℕ, List, length, map, if◌then◌else◌, Result, Ok, Err, IsSomeAnd, slice_get, take}
 use Rattle.pep440_keys.specs.SortKeys.{key_bytes}
 use Rattle.pep440_rs.specs.Arrangement.{ArrangesBy}
-use Rattle.pep440_rs.specs.Matching.{any_prerelease, list_matches}
+use Rattle.pep440_rs.specs.LiteralMatching.{list_matches_literally}
+use Rattle.pep440_rs.specs.Matching.{any_prerelease}
 use Rattle.pep440_rs.specs.Specifiers.{Spec}
 use Rattle.pep440_version.specs.Key.{record_cmp}
 use Rattle.pep440_version.specs.Record.{Record}
@@ -16,11 +17,11 @@ use Rattle.pep440_calls.specs.declared.fault.Fault.{Fault}
 use Rattle.pep440_calls.specs.declared.batch.BatchError.TheVariants as stop
 use Rattle.pep440_calls.specs.declared.fault.Fault.TheVariants as fault
 
--- ---- which of the texts a list contains
+-- ---- which of the texts a list matches
 
--- the mark of a string: 1 contained, 3 contained and a pre-release or developmental release, 0 not contained, 2 no version
+-- the mark of a string: 1 matched, 3 matched and a pre-release or developmental release, 0 not matched, 2 no version
 abbrev pub IsMark : List Spec → List ℕ → ℕ → Type 0
-IsMark list text mark = ((r : Record) × BytesDenote text r × (mark ≡ if list_matches list r then (if any_prerelease r then 3 else 1) else 0)) ⊎ (RejectsBytes text × (mark ≡ 2))
+IsMark list text mark = ((r : Record) × BytesDenote text r × (mark ≡ if list_matches_literally list r then (if any_prerelease r then 3 else 1) else 0)) ⊎ (RejectsBytes text × (mark ≡ 2))
 
 -- the marks of the strings, in their order
 abbrev pub Marks : List ℕ → List (List ℕ) → List ℕ → Type 0
@@ -85,6 +86,7 @@ batch_error_at position fault.InvalidVersion = stop.InvalidAt position
 batch_error_at position fault.InvalidList = stop.InvalidAt position
 batch_error_at position fault.NumberAtMax = stop.InvalidAt position
 batch_error_at position fault.InvalidRight = stop.InvalidAt position
+batch_error_at position fault.NoSet = stop.InvalidAt position
 batch_error_at position fault.OutOfMemory = stop.OutOfMemory
 
 -- the versions that the strings denote, with their positions

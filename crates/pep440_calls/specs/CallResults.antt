@@ -1,16 +1,17 @@
 -- What each call on one version or one list, or on one of each, returns.
 use Rattle.std.specs.List.{flat_map, list_any}
 use Rattle.std.specs.Option.{option_map_or}
-use Rattle.std.specs.Prelude.{◌≡◌, ◌⊎◌, ℕ, ℤ, pos, negsuc, List, [], ◌∷◌, ◌++◌, codes, Bool, Option, Some, None, length, is_some, if◌then◌else◌, Result, Ok, Err}
+use Rattle.std.specs.Prelude.{◌≡◌, ◌⊎◌, ℕ, suc, false, true, ℤ, pos, negsuc, List, [], ◌∷◌, ◌++◌, codes, Bool, Option, Some, None, length, is_some, if◌then◌else◌, Result, Ok, Err}
 use Rattle.std.specs.declared.cmp.Ordering.{Ordering}
 use Rattle.std.specs.declared.cmp.Ordering.TheVariants.{Less, Equal, Greater}
-use Rattle.pep440_compiled.specs.Lists.{HasListFormat, DenotesList}
+use Rattle.pep440_compiled.specs.Lists.{HasListFormat, IsListForm}
 use Rattle.pep440_compiled.specs.Version.{HasVersionFormat, DenotesVersion}
 use Rattle.pep440_keys.specs.SortKeys.{key_bytes}
 use Rattle.pep440_rs.specs.Lists.{print_list}
 use Rattle.pep440_rs.specs.Matching.{any_prerelease, has_local, list_matches}
 use Rattle.pep440_rs.specs.Operators.{is_star, operator_text}
-use Rattle.pep440_rs.specs.Prereleases.{list_allows, requests_prereleases}
+use Rattle.pep440_rs.specs.LiteralMatching.{list_allows_literally, list_matches_literally}
+use Rattle.pep440_rs.specs.Prereleases.{requests_prereleases}
 use Rattle.pep440_rs.specs.Specifiers.{Spec}
 use Rattle.pep440_version.specs.Key.{record_cmp}
 use Rattle.pep440_version.specs.Print.{print}
@@ -19,7 +20,7 @@ use Rattle.pep440_version.specs.Word.{is_packed, word}
 use Rattle.pep440_version.specs.declared.prerelease.Prerelease.{Prerelease}
 use Rattle.pep440_version.specs.declared.prerelease.PrereleaseKind.{PrereleaseKind}
 use Rattle.pep440_version.specs.declared.prerelease.PrereleaseKind.TheVariants.{Alpha, Beta, Rc}
-use Rattle.pep440_witness.specs.Probes.{first_match}
+use Rattle.pep440_sets.specs.Common.{common_version}
 use Rattle.pep440_calls.specs.JoinedStrings.{Joins}
 use Rattle.pep440_calls.specs.CallerBytes.{BytesDenote, BytesDenoteList, RejectsBytes, RejectsListBytes}
 use Rattle.pep440_calls.specs.Statuses.{Fails, IsFlagOf, WritesAtStart, fault_status, flag, WritesOrFails}
@@ -90,6 +91,7 @@ module _ (left right : List ℕ) where
   OrderFaults fault.InvalidList = ⊥
   OrderFaults fault.OutOfMemory = Unit {0}
   OrderFaults fault.NumberAtMax = ⊥
+  OrderFaults fault.NoSet = ⊥
   OrderFaults fault.InvalidRight = ((HasVersionFormat left × HasVersionFormat right) ⊎ ((r : Record) × BytesDenote left r)) × RejectsBytes right
 
   -- the order, or why there is none
@@ -159,16 +161,32 @@ IsCompiled text bytes = (r : Record) × BytesDenote text r × DenotesVersion byt
 
 -- the compiled form of the list
 abbrev pub IsCompiledList : List ℕ → List ℕ → Type 0
-IsCompiledList text bytes = (list : List Spec) × BytesDenoteList text list × DenotesList bytes list
+IsCompiledList text bytes = (list : List Spec) × BytesDenoteList text list × IsListForm bytes list
 
--- whether the list allows the version, if the bytes denote them: pre-releases are taken if the list asks for them
-abbrev pub Allows : List ℕ → List ℕ → Bool → Type 0
-Allows list_text text allowed = AreMatchable list_text text × ((list : List Spec) (r : Record) → BytesDenoteList list_text list → BytesDenote text r → allowed ≡ list_allows (requests_prereleases list) list r)
+-- whether pre-releases and developmental releases are taken: 0 no, 1 yes, and else if the list asks for them
+abbrev pub takes : ℕ → List Spec → Bool
+takes 0 list = false
+takes 1 list = true
+takes (suc (suc n)) list = requests_prereleases list
+
+-- whether the list matches the version literally, if the bytes denote them
+abbrev pub Matches : List ℕ → List ℕ → Bool → Type 0
+Matches list_text text matched = AreMatchable list_text text × ((list : List Spec) (r : Record) → BytesDenoteList list_text list → BytesDenote text r → matched ≡ list_matches_literally list r)
+
+-- whether they are taken, if the bytes denote a list
+abbrev pub Takes : List ℕ → ℕ → Bool → Type 0
+Takes list_text prereleases taken = (list : List Spec) → BytesDenoteList list_text list → taken ≡ takes prereleases list
+
+-- whether the list allows the version, if the bytes denote them
+abbrev pub Allows : List ℕ → List ℕ → ℕ → Bool → Type 0
+Allows list_text text prereleases allowed =
+    AreMatchable list_text text
+    × ((list : List Spec) (r : Record) → BytesDenoteList list_text list → BytesDenote text r → allowed ≡ list_allows_literally (takes prereleases list) list r)
 
 -- the flag is written with status 0; otherwise it is unchanged, and the status is that of the failure, as of matching
-abbrev pub AllowsResult : List ℕ → List ℕ → ℕ → ℕ → ℕ → Type 0
-AllowsResult list_text text = WritesOrFails (RejectsSecond list_text text) (RejectsListBytes list_text) ⊥ (IsFlagOf (Allows list_text text))
+abbrev pub AllowsResult : List ℕ → List ℕ → ℕ → ℕ → ℕ → ℕ → Type 0
+AllowsResult list_text text prereleases = WritesOrFails (RejectsSecond list_text text) (RejectsListBytes list_text) ⊥ (IsFlagOf (Allows list_text text prereleases))
 
--- the normal form of the first probe that the list contains; no bytes if it contains none
+-- the normal form of a version that the list matches literally; no bytes if it matches none
 abbrev pub IsVersionIn : List ℕ → List ℕ → Type 0
-IsVersionIn text bytes = (list : List Spec) × BytesDenoteList text list × (bytes ≡ option_map_or print (first_match list) [])
+IsVersionIn text bytes = (list : List Spec) × BytesDenoteList text list × (bytes ≡ option_map_or print (common_version list) [])

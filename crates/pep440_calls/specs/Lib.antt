@@ -3,6 +3,7 @@ pub mod Statuses
 pub mod JoinedStrings
 pub mod CallResults
 pub mod Ranges
+pub mod SetCalls
 pub mod Batches
 pub mod Buffers
 pub mod PatternCalls

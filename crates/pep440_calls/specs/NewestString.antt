@@ -1,10 +1,11 @@
--- The newest version of a batch that a list contains; strings that denote no version are passed over.
+-- The newest version of a batch that a list matches literally; strings that denote no version are passed over.
 use Rattle.std.specs.Option.{option_map}
 use Rattle.std.specs.Ordering.{nat_cmp, on, then_cmp}
 use Rattle.std.specs.Prelude.{◌≡◌, ◌⊎◌, ◌||◌, ℕ, List, Bool, IsTrue, Option, Some, None, not}
 use Rattle.std.specs.declared.cmp.Ordering.{Ordering}
 use Rattle.pep440_pick.specs.Greatest.{Greatest}
-use Rattle.pep440_rs.specs.Matching.{any_prerelease, list_matches}
+use Rattle.pep440_rs.specs.LiteralMatching.{list_matches_literally}
+use Rattle.pep440_rs.specs.Matching.{any_prerelease}
 use Rattle.pep440_rs.specs.Prereleases.{requests_prereleases}
 use Rattle.pep440_rs.specs.Specifiers.{Spec}
 use Rattle.pep440_version.specs.Key.{record_cmp}
@@ -12,14 +13,14 @@ use Rattle.pep440_version.specs.Record.{Record}
 use Rattle.pep440_calls.specs.CallerBytes.{BytesDenote, BytesDenoteList, RejectsListBytes}
 use Rattle.pep440_calls.specs.Statuses.{Fails, flag}
 
--- pre-releases lie below all final releases unless they are taken, so that one is the newest only if no final release is contained
+-- pre-releases lie below all final releases unless they are taken, so that one is the newest only if no final release is matched
 -- (PEP 440, "Handling of pre-releases"); else by version
 abbrev pub preference : Bool → Record → Record → Ordering
 preference takes = then_cmp (on (λ (r : Record). flag (takes || not (any_prerelease r))) nat_cmp) record_cmp
 
--- the string denotes this version, which the list contains
+-- the string denotes this version, which the list matches
 abbrev pub IsContainedString : List Spec → List ℕ → Record → Type 0
-IsContainedString list text version = BytesDenote text version × IsTrue (list_matches list version)
+IsContainedString list text version = BytesDenote text version × IsTrue (list_matches_literally list version)
 
 -- its index by the list, which takes pre-releases if it asks for them
 abbrev pub FindsNewestString : List ℕ → List (List ℕ) → Option ℕ → Type 0

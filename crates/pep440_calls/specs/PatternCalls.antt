@@ -1,7 +1,7 @@
 -- Version patterns, specifiers of an operator and a pattern, and one specifier.
 use Rattle.std.specs.Prelude.{◌≡◌, ◌⊎◌, ℕ, List, Bool, length, Result, Ok, Err, [], ◌∷◌, codes}
 use Rattle.std.specs.Str.{IsUtf8}
-use Rattle.pep440_compiled.specs.Lists.{DenotesList}
+use Rattle.pep440_compiled.specs.Lists.{IsListForm}
 use Rattle.pep440_rs.specs.Build.{BuildRejection, built_pattern}
 use Rattle.pep440_rs.specs.ErrorTexts.{specifier_rejection_text}
 use Rattle.pep440_rs.specs.Operators.{Spells}
@@ -71,4 +71,4 @@ RejectsSpecifierBytes bytes = (words : List ℕ) × ExplainsSpecifier bytes word
 
 -- the compiled form of the list of the one specifier that the string denotes
 abbrev pub IsCompiledSpecifier : List ℕ → List ℕ → Type 0
-IsCompiledSpecifier text bytes = (s : Spec) × BytesDenoteSpecifier text s × DenotesList bytes (s ∷ [])
+IsCompiledSpecifier text bytes = (s : Spec) × BytesDenoteSpecifier text s × IsListForm bytes (s ∷ [])

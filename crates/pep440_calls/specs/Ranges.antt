@@ -1,11 +1,10 @@
--- The range of a list: as lines; as sort keys, two for each segment, between which those of its versions lie; and as bounds, two for each
--- segment, whose versions are written as compiled ones are, with their sentinels.
+-- The range of a list: as lines, and as bounds, two for each segment, whose versions are written as compiled ones are, with their
+-- sentinels.
 use Rattle.std.specs.List.{flat_map}
-use Rattle.std.specs.Prelude.{◌≡◌, ℕ, List, [], ◌∷◌, Option, Some, None, unwrap_or}
+use Rattle.std.specs.Prelude.{◌≡◌, ℕ, List, [], ◌∷◌, Option, Some, None}
 use Rattle.std.specs.declared.ops.Bound.{Bound}
 use Rattle.std.specs.declared.ops.Bound.TheVariants.{Excluded, Included, Unbounded}
 use Rattle.pep440_compiled.specs.Version.{compiled_bytes}
-use Rattle.pep440_keys.specs.RangeKeys.{Interval, segment_interval}
 use Rattle.pep440_ranges.specs.RangeSegments.{Segment}
 use Rattle.pep440_rs.specs.Bounds.{Segments, list_range, range_of}
 use Rattle.pep440_rs.specs.RangeLines.{range_lines}
@@ -14,10 +13,6 @@ use Rattle.pep440_rs.specs.declared.specifier.operator.Operator.{Operator}
 use Rattle.pep440_version.specs.Record.{Record}
 use Rattle.pep440_calls.specs.JoinedStrings.{Joins}
 use Rattle.pep440_calls.specs.CallerBytes.{BytesDenoteList}
-
--- the low and the high key of an interval; no bytes for a missing bound, since no sort key is empty
-abbrev pub interval_keys : Interval → List (List ℕ)
-interval_keys interval = unwrap_or interval.0 [] ∷ unwrap_or interval.1 [] ∷ []
 
 -- the bytes of a bound: 0 alone where there is none, else 1 for an included or 2 for an excluded version, and its bytes
 abbrev pub bound_bytes : Bound Record → List ℕ
@@ -41,10 +36,6 @@ module _ (conversion : Operator → Record → Option Segments) where
   -- the bytes denote a list, whose conversion fails, since a number to be raised is the greatest
   abbrev pub LacksRange : List ℕ → Type 0
   LacksRange text = (list : List Spec) × BytesDenoteList text list × (list_range conversion list ≡ None)
-
-  -- the keys of the segments of that range, joined in order, and where each key ends
-  abbrev pub JoinsRangeIntervals : List ℕ → List ℕ → List ℕ → Type 0
-  JoinsRangeIntervals text bytes ends = (range : Segments) × HasRange text range × Joins (flat_map (λ s. interval_keys (segment_interval s)) range) bytes ends
 
   -- the bounds of the segments of that range, joined in order, and where each bound ends
   abbrev pub JoinsRangeBounds : List ℕ → List ℕ → List ℕ → Type 0

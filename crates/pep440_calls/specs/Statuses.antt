@@ -1,12 +1,14 @@
 -- How a call ends: its status, and what it leaves in the caller's memory. 0 ok, 1 a version is invalid, 2 a list is invalid, 3 out of
 -- memory, 4 too little room, 5 a bound lies above the greatest number, 6 the right one of two versions is invalid, 7 a version is not
--- packed, 8 it cannot be changed so, 9 bytes are to be nothing known, 10 none is found.
+-- packed, 8 it cannot be changed so, 9 bytes are to be nothing known, 10 none is found, 12 a list has no set.
 use Rattle.std.specs.Prelude.{◌≡◌, ◌⊎◌, ◌≤◌, ◌<◌, ℕ, Bool, List, ◌++◌, drop, length, Result, Ok, Err, if◌then◌else◌}
 use Rattle.pep440_compiled.specs.declared.error.CompileError.{CompileError}
 use Rattle.pep440_rs.specs.declared.range.error.RangeError.{RangeError}
+use Rattle.pep440_sets.specs.declared.error.SetError.{SetError}
 use Rattle.pep440_calls.specs.declared.fault.Fault.{Fault}
 use Rattle.pep440_compiled.specs.declared.error.CompileError.TheVariants as compile
 use Rattle.pep440_rs.specs.declared.range.error.RangeError.TheVariants as range_error
+use Rattle.pep440_sets.specs.declared.error.SetError.TheVariants as set_error
 use Rattle.pep440_calls.specs.declared.fault.Fault.TheVariants as fault
 
 -- the status of a failure
@@ -16,6 +18,7 @@ fault_status fault.InvalidList = 2
 fault_status fault.OutOfMemory = 3
 fault_status fault.NumberAtMax = 5
 fault_status fault.InvalidRight = 6
+fault_status fault.NoSet = 12
 
 -- why there is no compiled form
 abbrev pub fault_of_compile : CompileError → Fault
@@ -35,6 +38,21 @@ flag truth = if truth then 1 else 0
 abbrev pub IsFlagOf : (Bool → Type 0) → ℕ → Type 0
 IsFlagOf P number = (truth : Bool) × P truth × (number ≡ flag truth)
 
+-- why there is no set
+abbrev pub fault_of_set : SetError → Fault
+fault_of_set set_error.ArbitraryEquality = fault.NoSet
+fault_of_set set_error.OutOfMemory = fault.OutOfMemory
+
+module _ (Cause : Fault → Type 0) where
+  -- what holds of what is given, or why nothing is
+  abbrev pub HoldsOr : {X : Type 0} → (X → Type 0) → Result X Fault → Type 0
+  HoldsOr P (Ok x) = P x
+  HoldsOr P (Err f) = Cause f
+
+  -- the status names the cause of the failure, which may be memory
+  abbrev pub FailsBy : ℕ → Type 0
+  FailsBy status = (f : Fault) × Cause f × (status ≡ fault_status f)
+
 module _ (version list range : Type 0) where
   -- the cause of a failure other than memory: an invalid version, an invalid list, or a list without a range
   abbrev pub Faults : Fault → Type 0
@@ -43,19 +61,27 @@ module _ (version list range : Type 0) where
   Faults fault.OutOfMemory = Unit {0}
   Faults fault.NumberAtMax = range
   Faults fault.InvalidRight = ⊥
+  Faults fault.NoSet = ⊥
 
-  -- what holds of what is given, or why nothing is
   abbrev pub HoldsOrFaults : {X : Type 0} → (X → Type 0) → Result X Fault → Type 0
-  HoldsOrFaults P (Ok x) = P x
-  HoldsOrFaults P (Err f) = Faults f
+  HoldsOrFaults P result = HoldsOr Faults P result
 
-  -- the status names the cause of the failure, which may be memory
   abbrev pub Fails : ℕ → Type 0
-  Fails status = (f : Fault) × Faults f × (status ≡ fault_status f)
+  Fails status = FailsBy Faults status
 
   -- a value of which this holds is written; or the call fails and the caller's value is unchanged
   abbrev pub WritesOrFails : {X : Type 0} → (X → Type 0) → X → X → ℕ → Type 0
   WritesOrFails P old new status = ((status ≡ 0) × P new) ⊎ ((new ≡ old) × Fails status)
+
+-- the cause of a failure of a call on one or two sets, other than memory: the left one or the only one is invalid, the right one is, or one
+-- is a list that has no set
+abbrev pub SetFaults : Type 0 → Type 0 → Type 0 → Fault → Type 0
+SetFaults left right set fault.InvalidVersion = ⊥
+SetFaults left right set fault.InvalidList = left
+SetFaults left right set fault.OutOfMemory = Unit {0}
+SetFaults left right set fault.NumberAtMax = ⊥
+SetFaults left right set fault.InvalidRight = right
+SetFaults left right set fault.NoSet = set
 
 -- the items are written at the start of the caller's buffer, whose rest is unchanged; or it is too small, and unchanged
 abbrev pub WritesAtStart : {X : Type 0} → List X → List X → List X → ℕ → Type 0
@@ -71,7 +97,10 @@ WritesBoth first second old new old_second new_second status =
 
 -- bytes of which this holds are written at the start of the caller's buffer, or the buffer is too small; how many bytes are
 -- needed is written. Otherwise nothing is written
-abbrev pub WritesBytes : Type 0 → Type 0 → Type 0 → (List ℕ → Type 0) → List ℕ → List ℕ → ℕ → ℕ → ℕ → Type 0
-WritesBytes version list range P old new old_written written status =
+abbrev pub WritesBytesOr : (Fault → Type 0) → (List ℕ → Type 0) → List ℕ → List ℕ → ℕ → ℕ → ℕ → Type 0
+WritesBytesOr Cause P old new old_written written status =
     ((bytes : List ℕ) × P bytes × (written ≡ length bytes) × WritesAtStart bytes old new status)
-    ⊎ ((new ≡ old) × (written ≡ old_written) × Fails version list range status)
+    ⊎ ((new ≡ old) × (written ≡ old_written) × FailsBy Cause status)
+
+abbrev pub WritesBytes : Type 0 → Type 0 → Type 0 → (List ℕ → Type 0) → List ℕ → List ℕ → ℕ → ℕ → ℕ → Type 0
+WritesBytes version list range = WritesBytesOr (Faults version list range)

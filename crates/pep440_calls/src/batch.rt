@@ -54,14 +54,17 @@ impl BatchError {
         ensures { result ≡ batch_error_at position fault }
     {
         match fault {
-            Fault::InvalidVersion | Fault::InvalidList | Fault::NumberAtMax | Fault::InvalidRight =>
-                BatchError::InvalidAt(position),
+            Fault::InvalidVersion
+            | Fault::InvalidList
+            | Fault::NumberAtMax
+            | Fault::InvalidRight
+            | Fault::NoSet => BatchError::InvalidAt(position),
             Fault::OutOfMemory => BatchError::OutOfMemory,
         }
     }
 }
 
-/// Writes a mark for each string, in order: 1 the list contains its version, 3 it does and this is a pre-release or a
+/// Writes a mark for each string, in order: 1 the list matches its version literally, 3 it does and this is a pre-release or a
 /// developmental release, 0 it doesn't, 2 it is no version.
 pub fn write_marks(alloc: Global, list: &[u8], texts: &[&[u8]], marks: &mut [u8]) -> u8
     ensures { FilterMarks list.now (map (λ t. t.now) texts.now) marks.old marks.new result }
@@ -78,7 +81,7 @@ fn mark(alloc: Global, list: &VersionSpecifiers, text: &[u8]) -> Result<u8, Allo
 {
     match read(alloc, text) {
         Ok(version) => {
-            if !list.contains(alloc, &version)? {
+            if !list.matches_literally(alloc, &version)? {
                 Ok(NO_MATCH)
             } else if version.any_prerelease() {
                 Ok(PRERELEASE_MATCH)
@@ -103,7 +106,7 @@ fn mark_all(alloc: Global, list: &VersionSpecifiers, texts: &[&[u8]]) -> Result<
     Ok(found)
 }
 
-// Of each string, whether the list contains it.
+// Of each string, whether the list matches it.
 fn filter(alloc: Global, list: &[u8], texts: &[&[u8]]) -> Result<Vec<u8>, Fault>
     ensures { HoldsOrFaults ⊥ (RejectsListBytes list.now) ⊥ (λ found. Marks list.now (map (λ t. t.now) texts.now) found.items) result }
 {

@@ -1,10 +1,11 @@
 //! Why a call gives nothing.
 ghost use Rattle.std.specs.Prelude.{◌≡◌};
-ghost use Rattle.pep440_calls.specs.Statuses.{fault_of_compile, fault_of_range, fault_status};
+ghost use Rattle.pep440_calls.specs.Statuses.{fault_of_compile, fault_of_range, fault_of_set, fault_status};
 ghost use Rattle.pep440_calls.specs.declared.fault.Fault.TheVariants.{OutOfMemory};
 
 use pep440_compiled::CompileError;
 use pep440_rs::RangeError;
+use pep440_sets::SetError;
 use std::alloc::{AllocError, AllocFailed};
 
 // Why a call gives nothing.
@@ -18,8 +19,10 @@ pub(crate) enum Fault {
     OutOfMemory,
     // A bound of a range would need a number above the greatest.
     NumberAtMax,
-    // The right one of two versions is none.
+    // The right one of two versions, or of two sets, is none.
     InvalidRight,
+    // A list with `===` has no set.
+    NoSet,
 }
 
 impl Fault {
@@ -33,6 +36,7 @@ impl Fault {
             Fault::OutOfMemory => 3,
             Fault::NumberAtMax => 5,
             Fault::InvalidRight => 6,
+            Fault::NoSet => 12,
         }
     }
 }
@@ -72,6 +76,17 @@ impl From<CompileError> for Fault {
         match error {
             CompileError::NotParsed => Fault::InvalidVersion,
             CompileError::OutOfMemory => Fault::OutOfMemory,
+        }
+    }
+}
+
+impl From<SetError> for Fault {
+    ghost from_gives = { λ error fault. fault ≡ fault_of_set error };
+
+    fn from(error: SetError) -> Fault {
+        match error {
+            SetError::ArbitraryEquality => Fault::NoSet,
+            SetError::OutOfMemory => Fault::OutOfMemory,
         }
     }
 }

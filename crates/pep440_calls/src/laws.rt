@@ -1,25 +1,26 @@
 //! What holds of the bytes of a caller, as contracts of functions that do nothing.
 ghost use Rattle.std.specs.List.{list_any};
 ghost use Rattle.std.specs.Ordering.{nat_cmp};
-ghost use Rattle.std.specs.Prelude.{length, ◌≤◌, ◌+◌, ◌*◌, ◌/◌, Bool, IsTrue, List, None, Some, [], true, ℕ, ◌↔◌, ◌≡◌, ◌⊎◌};
-ghost use Rattle.pep440_compiled.specs.Lists.{HasListFormat, list_bytes};
+ghost use Rattle.std.specs.Prelude.{length, ◌≤◌, ◌+◌, ◌*◌, ◌/◌, Bool, IsTrue, List, None, Some, [], ℕ, ◌↔◌, ◌≡◌, ◌⊎◌};
+ghost use Rattle.pep440_compiled.specs.Lists.{HasListFormat};
 ghost use Rattle.pep440_compiled.specs.Version.{HasVersionFormat, compiled_bytes};
 ghost use Rattle.pep440_keys.specs.RangeKeys.{is_within, segment_interval};
 ghost use Rattle.pep440_keys.specs.SortKeys.{key_bytes};
-ghost use Rattle.pep440_ranges.specs.RangeSegments.{contains};
-ghost use Rattle.pep440_rs.specs.Bounds.{Segments, list_range, range_of};
-ghost use Rattle.pep440_rs.specs.Cover.{IsDenoted, cover_of};
-ghost use Rattle.pep440_rs.specs.Matching.{list_matches};
+ghost use Rattle.pep440_rs.specs.Bounds.{Segments, range_of};
+ghost use Rattle.pep440_rs.specs.Denoted.{IsDenoted};
+ghost use Rattle.pep440_rs.specs.LiteralMatching.{list_matches_literally};
 ghost use Rattle.pep440_rs.specs.Specifiers.{Spec};
 ghost use Rattle.pep440_version.specs.Grammar.{Derives};
 ghost use Rattle.pep440_version.specs.Key.{record_cmp};
 ghost use Rattle.pep440_version.specs.Print.{print};
 ghost use Rattle.pep440_version.specs.Record.{Record};
-ghost use Rattle.pep440_witness.specs.Probes.{first_match};
+ghost use Rattle.pep440_sets.specs.Common.{common_version};
+ghost use Rattle.pep440_sets.specs.Emptiness.{IsUnsatisfiable};
+ghost use Rattle.pep440_calls.specs.SetCalls.{BytesDenoteSet};
 ghost use Rattle.pep440_calls.specs.CallResults.{IsCompiled, IsCompiledList, IsVersionIn, IsPackedWord};
-ghost use Rattle.pep440_calls.specs.CallerBytes.{BytesDenote, BytesDenoteList, StringDenotesList, StringDenotes, RejectsBytes, RejectsListBytes, ExplainsBytes, ExplainsListBytes};
+ghost use Rattle.pep440_calls.specs.CallerBytes.{BytesDenote, BytesDenoteList, StringDenotes, RejectsBytes, RejectsListBytes, ExplainsBytes, ExplainsListBytes};
 ghost use Rattle.pep440_calls.specs.PatternCalls.{IsSpecifier, StringDenotesPattern, BytesDenoteSpecifier, RejectsOperand, RejectsOperator, RejectsPatternBytes, RejectsSpecifierBytes, ExplainsSpecifier};
-ghost use Rattle.pep440_calls.specs.Ranges.{HasRange, IsRangeLines, LacksRange};
+ghost use Rattle.pep440_calls.specs.Ranges.{IsRangeLines, LacksRange};
 
 /// Bytes denote one version, or are invalid with one error, and never both; a string does one of
 /// these. No string of a version begins as a compiled one.
@@ -58,13 +59,12 @@ pub fn ranges_once()
     ensures one_error { (bytes : List ℕ) → LacksRange range_of bytes → RejectsListBytes bytes → ⊥ }
 {}
 
-/// What `pep440_version_in` writes is nothing or a version that the list contains; of a list of a string it writes nothing only if
-/// the list contains no version that a string denotes.
+/// What `pep440_version_in` writes is nothing or a version that the list matches literally; it writes nothing only if the list matches
+/// no version that a string denotes.
 pub fn versions_in_lists()
-    ensures contained { (bytes words : List ℕ) (l : List Spec) → IsVersionIn bytes words → BytesDenoteList bytes l
-        → (words ≡ []) ⊎ ((v : Record) × (words ≡ print v) × IsTrue (list_matches l v)) }
-    ensures none { (bytes : List ℕ) (l : List Spec) → StringDenotesList bytes l → first_match l ≡ None → (v : Record)
-        → IsDenoted v → IsTrue (list_matches l v) → ⊥ }
+    ensures matched { (bytes words : List ℕ) (l : List Spec) → IsVersionIn bytes words → BytesDenoteList bytes l
+        → (words ≡ []) ⊎ ((v : Record) × (words ≡ print v) × IsDenoted v × IsTrue (list_matches_literally l v)) }
+    ensures none { (bytes : List ℕ) (l : List Spec) → BytesDenoteList bytes l → common_version l ≡ None → IsUnsatisfiable l }
 {}
 
 /// The words of strings, as numbers, are in the order of the versions, and equal exactly if these are; a string has at most one word.
@@ -74,14 +74,10 @@ pub fn words_are_ordered()
         → BytesDenote a r → BytesDenote b q → nat_cmp m n ≡ record_cmp r q }
 {}
 
-/// The sort key of a version lies in one of the intervals of a list's range exactly where the range has the version; and
-/// in an interval of its cover if the list, as a string denotes it, contains the version.
+/// The sort key of a version lies in an interval of a list's set exactly if the list matches the version literally.
 pub fn keys_tell_membership()
-    ensures range { (list text : List ℕ) (range : Segments) (r : Record) → HasRange range_of list range
-        → BytesDenote text r → list_any (λ s. is_within (segment_interval s) (key_bytes r)) range ≡ contains record_cmp range r }
-    ensures cover { (list text : List ℕ) (members : List Spec) (cover : Segments) (r : Record)
-        → (¬ HasListFormat list) → StringDenotesList list members → list_range cover_of members ≡ Some cover
-        → BytesDenote text r → list_matches members r ≡ true → list_any (λ s. is_within (segment_interval s) (key_bytes r)) cover ≡ true }
+    ensures { (bytes text : List ℕ) (set : Segments) (list : List Spec) (r : Record) → BytesDenoteSet bytes set → BytesDenoteList bytes list
+        → BytesDenote text r → list_any (λ s. is_within (segment_interval s) (key_bytes r)) set ≡ list_matches_literally list r }
 {}
 
 /// Bytes denote one pattern, or are invalid, and never both.
@@ -101,7 +97,7 @@ pub fn specifiers_once()
     ensures one_error { (operator version : List ℕ) → RejectsOperator operator version → RejectsOperand operator version → ⊥ }
 {}
 
-/// Bytes have one compiled form, which denotes what they denote; two have the same exactly if they denote the same version, all its
+/// Bytes compile to one form, which denotes what they denote; two have the same exactly if they denote the same version, all its
 /// parts, or the same list. So each call returns of a compiled form what it returns of the string.
 pub fn compiled_once()
     ensures one { (text a b : List ℕ) → IsCompiled text a → IsCompiled text b → a ≡ b }
@@ -115,11 +111,9 @@ pub fn compiled_once()
         → BytesDenoteList text l ↔ BytesDenoteList compiled l }
 {}
 
-/// How many bytes suffice for the forms of a version or a list, by the length of a string that denotes it: the bounds of
-/// `callers/c/pep440.h`, where one serves both compiled forms.
+/// How many bytes suffice for the forms of a version, by the length of a string that denotes it: the bounds of `callers/c/pep440.h`.
 pub fn forms_are_bounded()
     ensures normal { (bytes : List ℕ) (r : Record) → StringDenotes bytes r → length (print r) ≤ 9 + length bytes }
     ensures key { (bytes : List ℕ) (r : Record) → StringDenotes bytes r → length (key_bytes r) ≤ 7 + 3 * length bytes / 2 }
     ensures compiled { (bytes : List ℕ) (r : Record) → StringDenotes bytes r → length (compiled_bytes r) ≤ 8 + 3 * length bytes / 2 }
-    ensures list { (bytes : List ℕ) (l : List Spec) → StringDenotesList bytes l → length (list_bytes l) ≤ 4 + 3 * length bytes }
 {}

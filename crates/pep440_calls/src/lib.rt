@@ -35,13 +35,12 @@ mod one_list;
 mod one_version;
 mod patterns;
 mod read;
+mod sets;
 mod two_versions;
 
 pub use batch::{write_marks, write_positions, write_sort_keys};
 pub use edits::{write_edit_error, write_edited};
-pub use list_ranges::{
-    write_cover_keys, write_range, write_range_bounds, write_range_keys, write_release_range_bounds,
-};
+pub use list_ranges::{write_range, write_range_bounds, write_release_range_bounds};
 pub use membership::{write_allowed, write_match};
 pub use messages::{write_build_error, write_error};
 pub use newest_string::write_newest;
@@ -52,4 +51,5 @@ pub use one_version::{
     Parts, write_compiled, write_normal_form, write_parts, write_sort_key, write_word,
 };
 pub use patterns::{write_compiled_specifier, write_pattern, write_specifier};
+pub use sets::write_boundaries;
 pub use two_versions::write_order;

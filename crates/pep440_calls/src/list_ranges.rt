@@ -1,13 +1,10 @@
-//! The range of a list, as lines, as sort keys and as bounds, and its cover.
-ghost use Rattle.std.specs.List.{flat_map};
-ghost use Rattle.std.specs.Prelude.{IfOk, List, OnOk, [], option_map, string_bytes, unwrap_or, ℕ, ◌++◌, ◌∷◌, ◌≡◌};
+//! The range of a list, as lines and as bounds.
+ghost use Rattle.std.specs.Prelude.{IfOk, OnOk, [], string_bytes, ◌++◌, ◌∷◌, ◌≡◌};
 ghost use Rattle.pep440_compiled.specs.Version.{compiled_bytes};
-ghost use Rattle.pep440_keys.specs.RangeKeys.{segment_interval};
 ghost use Rattle.pep440_rs.specs.Bounds.{Segments, range_of, release_range_of};
-ghost use Rattle.pep440_rs.specs.Cover.{cover_of};
-ghost use Rattle.pep440_calls.specs.JoinedStrings.{Joins, WritesJoined};
+ghost use Rattle.pep440_calls.specs.JoinedStrings.{WritesJoined};
 ghost use Rattle.pep440_calls.specs.CallerBytes.{RejectsListBytes};
-ghost use Rattle.pep440_calls.specs.Ranges.{HasRange, IsRangeLines, JoinsBounds, LacksRange, JoinsRangeBounds, JoinsRangeIntervals, bound_bytes, interval_keys};
+ghost use Rattle.pep440_calls.specs.Ranges.{HasRange, IsRangeLines, JoinsBounds, LacksRange, JoinsRangeBounds, bound_bytes};
 ghost use Rattle.pep440_calls.specs.Statuses.{HoldsOrFaults, WritesBytes};
 
 use crate::buffer::{put_joined, put_text};
@@ -15,10 +12,9 @@ use crate::fault::Fault;
 use crate::joined_strings::JoinedStrings;
 use crate::read::read_list;
 use pep440_compiled::push_compiled_form;
-use pep440_keys::{KeyInterval, range_keys};
 use pep440_ranges::Ranges;
 use pep440_rs::{
-    RangeLines, Version, release_specifiers_to_ranges, specifiers_to_cover, specifiers_to_ranges,
+    RangeLines, Version, release_specifiers_to_ranges, specifiers_to_ranges,
 };
 use std::alloc::{AllocError, Global};
 use std::ops::Bound;
@@ -29,38 +25,6 @@ pub fn write_range(alloc: Global, list: &[u8], out: &mut [u8], written: &mut usi
         out.old out.new written.old written.new result }
 {
     put_text(to_range_lines(alloc, list), out, written)
-}
-
-/// Writes the range of the list as sort keys, two a segment, and where each of them ends: a version is in the range
-/// if its key is at least the first of a segment and below the second. No bytes stand for no bound. Reports how many
-/// bytes and how many keys there are. Status 5 as above.
-pub fn write_range_keys(
-    alloc: Global,
-    list: &[u8],
-    out: &mut [u8],
-    ends: &mut [usize],
-    written: &mut usize,
-    count: &mut usize,
-) -> u8
-    ensures { WritesJoined ⊥ (RejectsListBytes list.now) (LacksRange range_of list.now)
-        (JoinsRangeIntervals range_of list.now) out.old out.new ends.old ends.new written.old written.new count.old count.new result }
-{
-    put_joined(to_range_keys(alloc, list), out, ends, written, count)
-}
-
-/// Writes the cover of the list as sort keys, as `write_range_keys`; a cover has each version that the list contains.
-pub fn write_cover_keys(
-    alloc: Global,
-    list: &[u8],
-    out: &mut [u8],
-    ends: &mut [usize],
-    written: &mut usize,
-    count: &mut usize,
-) -> u8
-    ensures { WritesJoined ⊥ (RejectsListBytes list.now) (LacksRange cover_of list.now)
-        (JoinsRangeIntervals cover_of list.now) out.old out.new ends.old ends.new written.old written.new count.old count.new result }
-{
-    put_joined(to_cover_keys(alloc, list), out, ends, written, count)
 }
 
 /// Writes the range of the list as bounds, two a segment, and where each of them ends: only 0 for no bound, else 1 for an
@@ -108,64 +72,6 @@ fn to_range_lines(alloc: Global, list: &[u8]) -> Result<String, Fault>
 {
     let range = to_range(alloc, list)?;
     Ok(RangeLines(&range).to_string(alloc)?)
-}
-
-// The key, or no bytes.
-fn unwrap_or_empty(key: Option<&[u8]>) -> &[u8]
-    ensures { result.now ≡ unwrap_or (option_map (λ k. k.now) key.entry) [] }
-{
-    match key {
-        Some(key) => key,
-        None => b"",
-    }
-}
-
-fn push_interval(found: &mut JoinedStrings, interval: &KeyInterval) -> Result<(), AllocError>
-    ensures { (strings : List (List ℕ)) → Joins strings found.old.bytes.items found.old.ends.items
-        → OnOk result (Joins (strings ++ interval_keys interval.now) found.new.bytes.items found.new.ends.items) }
-{
-    found.push(unwrap_or_empty(interval.low()))?;
-    found.push(unwrap_or_empty(interval.high()))?;
-    Ok(())
-}
-
-// The keys of the intervals, in their order.
-fn join_intervals(alloc: Global, intervals: &[KeyInterval]) -> Result<JoinedStrings, AllocError>
-    ensures { IfOk result (λ found. Joins (flat_map interval_keys intervals.now) found.bytes.items found.ends.items) }
-{
-    let mut found = JoinedStrings::with_capacity(alloc, intervals.len())?;
-    for interval in intervals {
-        push_interval(&mut found, interval)?;
-    }
-    Ok(found)
-}
-
-// The keys of the segments, in their order.
-fn join_range(alloc: Global, range: &Ranges<Version>) -> Result<JoinedStrings, AllocError>
-    ensures { IfOk result (λ found. Joins (flat_map (λ s. interval_keys (segment_interval s)) range.now)
-        found.bytes.items found.ends.items) }
-{
-    let intervals = range_keys(alloc, range)?;
-    join_intervals(alloc, intervals.as_slice())
-}
-
-// The keys of the segments of the list's range.
-fn to_range_keys(alloc: Global, list: &[u8]) -> Result<JoinedStrings, Fault>
-    ensures { HoldsOrFaults ⊥ (RejectsListBytes list.now) (LacksRange range_of list.now)
-        (λ found. JoinsRangeIntervals range_of list.now found.bytes.items found.ends.items) result }
-{
-    let range = to_range(alloc, list)?;
-    Ok(join_range(alloc, &range)?)
-}
-
-// The keys of the segments of the list's cover.
-fn to_cover_keys(alloc: Global, list: &[u8]) -> Result<JoinedStrings, Fault>
-    ensures { HoldsOrFaults ⊥ (RejectsListBytes list.now) (LacksRange cover_of list.now)
-        (λ found. JoinsRangeIntervals cover_of list.now found.bytes.items found.ends.items) result }
-{
-    let specifiers = read_list(alloc, list)?;
-    let cover = specifiers_to_cover(alloc, specifiers)?;
-    Ok(join_range(alloc, &cover)?)
 }
 
 const INCLUDED: u8 = 1;

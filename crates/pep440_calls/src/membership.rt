@@ -1,15 +1,15 @@
 //! Whether a list contains or allows a version.
 ghost use Rattle.std.specs.Prelude.{List, ℕ};
-ghost use Rattle.pep440_compiled.specs.Lists.{HasListFormat};
+ghost use Rattle.pep440_compiled.specs.Lists.{HasListFormat, HasSetFormat};
 ghost use Rattle.pep440_compiled.specs.Version.{HasVersionFormat};
-ghost use Rattle.pep440_calls.specs.CallResults.{Allows, AllowsResult, Contains, ContainsResult, IsPrerelease, RejectsSecond};
+ghost use Rattle.pep440_calls.specs.CallResults.{Allows, AllowsResult, Contains, ContainsResult, IsPrerelease, Matches, RejectsSecond, Takes};
 ghost use Rattle.pep440_calls.specs.CallerBytes.{RejectsListBytes};
 ghost use Rattle.pep440_calls.specs.Statuses.{HoldsOrFaults};
 
 use crate::buffer::{OK, flag};
 use crate::fault::Fault;
 use crate::read::{read, read_list};
-use pep440_compiled::{ContainsError, has_list_format, has_version_format};
+use pep440_compiled::{ContainsError, has_list_format, has_set_format, has_version_format};
 use std::alloc::Global;
 
 // Writes whether a list contains a version, and whether this is a pre-release or a developmental release.
@@ -87,13 +87,20 @@ pub fn write_match(
     put_match(contains_compiled(list, text), contained, prerelease)
 }
 
-/// Whether the list allows the version, 1 or 0 (PEP 440, "Handling of pre-releases"): it contains the version, and this is no
-/// pre-release and no developmental release unless a specifier with another operator than `!=` names one. The list is
-/// read first, unless both are compiled: then nothing is allocated.
-pub fn write_allowed(alloc: Global, list: &[u8], text: &[u8], allowed: &mut u8) -> u8
-    ensures { AllowsResult list.now text.now allowed.old allowed.new result }
+/// Whether the list allows the version, 1 or 0 (PEP 440, "Handling of pre-releases"): it matches the version literally, and this is no
+/// pre-release and no developmental release unless these are taken. `prereleases` is 0 if they are not, 1 if they are, and else they are
+/// if a specifier with another operator than `!=` names one. The list is read first, unless it is compiled with its set and the
+/// version is compiled: then nothing is allocated.
+pub fn write_allowed(
+    alloc: Global,
+    list: &[u8],
+    text: &[u8],
+    prereleases: u8,
+    allowed: &mut u8,
+) -> u8
+    ensures { AllowsResult list.now text.now prereleases allowed.old allowed.new result }
 {
-    match allows(alloc, list, text) {
+    match allows(alloc, list, text, prereleases) {
         Ok(found) => {
             *allowed = flag(found);
             OK
@@ -102,34 +109,74 @@ pub fn write_allowed(alloc: Global, list: &[u8], text: &[u8], allowed: &mut u8) 
     }
 }
 
-// Whether a compiled list allows a compiled version.
-fn allows_compiled(list: &[u8], version: &[u8]) -> Result<bool, Fault>
-    requires list { HasListFormat list.now }
+// Whether a compiled list with its set matches a compiled version.
+fn matches_compiled(list: &[u8], version: &[u8]) -> Result<bool, Fault>
+    requires list { HasSetFormat list.now }
     requires version { HasVersionFormat version.now }
-    ensures { HoldsOrFaults (RejectsSecond list.now version.now) (RejectsListBytes list.now) ⊥ (Allows list.now version.now) result }
+    ensures { HoldsOrFaults (RejectsSecond list.now version.now) (RejectsListBytes list.now) ⊥ (Matches list.now version.now) result }
 {
-    let (contained, is_early) = contains_compiled(list, version)?;
-    if !is_early {
-        return Ok(contained);
+    match pep440_compiled::matches_literally(list, version) {
+        Ok(found) => Ok(found),
+        Err(ContainsError::NoVersion) => Err(Fault::InvalidVersion),
+        Err(ContainsError::NoList) => Err(Fault::InvalidList),
     }
-    if !contained {
+}
+
+// Whether a compiled version is a pre-release or a developmental release.
+fn is_early(list: &[u8], version: &[u8]) -> Result<bool, Fault>
+    requires list { HasSetFormat list.now }
+    requires version { HasVersionFormat version.now }
+    ensures { HoldsOrFaults (RejectsSecond list.now version.now) (RejectsListBytes list.now) ⊥ (IsPrerelease version.now) result }
+{
+    match pep440_compiled::any_prerelease(version) {
+        Ok(found) => Ok(found),
+        Err(_) => Err(Fault::InvalidVersion),
+    }
+}
+
+// Whether pre-releases are taken.
+fn takes(list: &[u8], prereleases: u8) -> Result<bool, Fault>
+    requires { HasSetFormat list.now }
+    ensures { (version : List ℕ) → HoldsOrFaults (RejectsSecond list.now version) (RejectsListBytes list.now) ⊥ (Takes list.now prereleases) result }
+{
+    match prereleases {
+        0 => Ok(false),
+        1 => Ok(true),
+        _ => match pep440_compiled::requests_prereleases(list) {
+            Ok(asks) => Ok(asks),
+            Err(_) => Err(Fault::InvalidList),
+        },
+    }
+}
+
+// Whether a compiled list with its set allows a compiled version. What matches is a pre-release seldom.
+fn allows_compiled(list: &[u8], version: &[u8], prereleases: u8) -> Result<bool, Fault>
+    requires list { HasSetFormat list.now }
+    requires version { HasVersionFormat version.now }
+    ensures { HoldsOrFaults (RejectsSecond list.now version.now) (RejectsListBytes list.now) ⊥ (Allows list.now version.now prereleases) result }
+{
+    if !matches_compiled(list, version)? {
         return Ok(false);
     }
-    let Ok(asks) = pep440_compiled::requests_prereleases(list) else {
-        return Err(Fault::InvalidList);
-    };
-    Ok(asks)
+    if !is_early(list, version)? {
+        return Ok(true);
+    }
+    takes(list, prereleases)
 }
 
 // Whether the list allows the version that the bytes denote.
-fn allows(alloc: Global, list: &[u8], bytes: &[u8]) -> Result<bool, Fault>
-    ensures { HoldsOrFaults (RejectsSecond list.now bytes.now) (RejectsListBytes list.now) ⊥ (Allows list.now bytes.now) result }
+fn allows(alloc: Global, list: &[u8], bytes: &[u8], prereleases: u8) -> Result<bool, Fault>
+    ensures { HoldsOrFaults (RejectsSecond list.now bytes.now) (RejectsListBytes list.now) ⊥ (Allows list.now bytes.now prereleases) result }
 {
-    if has_list_format(list) && has_version_format(bytes) {
-        return allows_compiled(list, bytes);
+    if has_set_format(list) && has_version_format(bytes) {
+        return allows_compiled(list, bytes, prereleases);
     }
     let specifiers = read_list(alloc, list)?;
     let version = read(alloc, bytes)?;
-    let takes = specifiers.requests_prereleases();
-    Ok(specifiers.allows(alloc, takes, &version)?)
+    let takes = match prereleases {
+        0 => false,
+        1 => true,
+        _ => specifiers.requests_prereleases(),
+    };
+    Ok(specifiers.allows_literally(alloc, takes, &version)?)
 }

@@ -1,7 +1,8 @@
-//! The newest version of a batch that a list contains.
+//! The newest version of a batch that a list matches.
 ghost use Rattle.std.specs.Prelude.{IfOk, MatchOption, false, map, not, true, ◌||◌, ◌≡◌, ◌⊎◌};
 ghost use Rattle.pep440_pick.specs.Greatest.{Greatest, is_above};
-ghost use Rattle.pep440_rs.specs.Matching.{any_prerelease, list_matches};
+ghost use Rattle.pep440_rs.specs.LiteralMatching.{list_matches_literally};
+ghost use Rattle.pep440_rs.specs.Matching.{any_prerelease};
 ghost use Rattle.pep440_version.specs.Record.{Record};
 ghost use Rattle.pep440_calls.specs.CallerBytes.{BytesDenote, RejectsBytes, RejectsListBytes};
 ghost use Rattle.pep440_calls.specs.NewestString.{FindsNewestString, IsContainedString, NewestResult, preference};
@@ -16,9 +17,9 @@ use std::cmp::Ordering;
 
 const NONE_FOUND: u8 = 10;
 
-/// Writes the index of the newest version that the list contains, and of equal ones the first; strings that are no version are
-/// passed over. Pre-releases and developmental releases count only if the list asks for them, or contains no final release
-/// of the batch (PEP 440, "Handling of pre-releases"). Status 10 if the list contains none; `index` is then unchanged.
+/// Writes the index of the newest version that the list matches literally, and of equal ones the first; strings that are no version are
+/// passed over. Pre-releases and developmental releases count only if the list asks for them, or matches no final release
+/// of the batch (PEP 440, "Handling of pre-releases"). Status 10 if the list matches none; `index` is then unchanged.
 pub fn write_newest(alloc: Global, list: &[u8], texts: &[&[u8]], index: &mut usize) -> u8
     ensures { NewestResult list.now (map (λ t. t.now) texts.now) index.old index.new result }
 {
@@ -32,7 +33,7 @@ pub fn write_newest(alloc: Global, list: &[u8], texts: &[&[u8]], index: &mut usi
     }
 }
 
-// The index of the newest version that the list of the bytes contains.
+// The index of the newest version that the list of the bytes matches.
 fn find(alloc: Global, list: &[u8], texts: &[&[u8]]) -> Result<Option<usize>, Fault>
     ensures { HoldsOrFaults ⊥ (RejectsListBytes list.now) ⊥ (FindsNewestString list.now (map (λ t. t.now) texts.now)) result }
 {
@@ -57,14 +58,14 @@ fn cmp_preference(takes: bool, left: &Version, right: &Version) -> Ordering
         .then(left.cmp(right))
 }
 
-// The version that the bytes denote, if the list contains it.
-fn read_contained(
+// The version that the bytes denote, if the list matches it.
+fn read_matched(
     alloc: Global,
     list: &VersionSpecifiers,
     bytes: &[u8],
 ) -> Result<Option<Version>, AllocError>
     ensures { IfOk result (λ found. MatchOption found
-        (RejectsBytes bytes.now ⊎ ((r : Record) × BytesDenote bytes.now r × (list_matches list.now r ≡ false)))
+        (RejectsBytes bytes.now ⊎ ((r : Record) × BytesDenote bytes.now r × (list_matches_literally list.now r ≡ false)))
         (IsContainedString list.now bytes.now)) }
 {
     let version = match read(alloc, bytes) {
@@ -72,7 +73,7 @@ fn read_contained(
         Err(Fault::OutOfMemory) => return Err(AllocError),
         Err(_) => return Ok(None),
     };
-    if list.contains(alloc, &version)? {
+    if list.matches_literally(alloc, &version)? {
         Ok(Some(version))
     } else {
         Ok(None)
@@ -88,7 +89,7 @@ fn is_above(takes: bool, newest: &Option<(usize, Version)>, version: &Version) -
     }
 }
 
-// The newest version that the list contains, and its index.
+// The newest version that the list matches, and its index.
 fn find_newest(
     alloc: Global,
     takes: bool,
@@ -99,7 +100,7 @@ fn find_newest(
 {
     let mut newest: Option<(usize, Version)> = None;
     for (position, text) in texts.iter().enumerate() {
-        let Some(version) = read_contained(alloc, list, text)? else {
+        let Some(version) = read_matched(alloc, list, text)? else {
             continue;
         };
         if is_above(takes, &newest, &version) {

@@ -1,4 +1,4 @@
-//! What is made of one list: its normal form, compiled form and members, and a version that it contains.
+//! What is made of one list: its normal form, compiled form and members, and a version that it matches.
 ghost use Rattle.std.specs.List.{flat_map, list_any};
 ghost use Rattle.std.specs.Option.{option_map_or};
 ghost use Rattle.std.specs.Prelude.{IfOk, List, OnOk, [], string_bytes, ℕ, ◌++◌, ◌≡◌};
@@ -16,7 +16,7 @@ use crate::fault::Fault;
 use crate::joined_strings::JoinedStrings;
 use crate::read::read_list;
 use pep440_rs::{Version, VersionSpecifier, VersionSpecifiers};
-use pep440_witness::find_version;
+use pep440_sets::find_version;
 use std::alloc::{AllocError, Global};
 
 /// Writes the normal form of the list.
@@ -76,7 +76,7 @@ fn any_prerelease(alloc: Global, list: &[u8]) -> Result<bool, Fault>
     Ok(has_prerelease(&specifiers))
 }
 
-/// Writes a version that the list contains, and nothing if it contains none that a string denotes (PEP 440, "Version specifiers").
+/// Writes a version that the list matches literally, and nothing if it matches none that a string denotes (PEP 440, "Version specifiers").
 pub fn write_version_in(alloc: Global, list: &[u8], out: &mut [u8], written: &mut usize) -> u8
     ensures { WritesBytes ⊥ (RejectsListBytes list.now) ⊥ (IsVersionIn list.now) out.old out.new written.old written.new result }
 {
@@ -93,7 +93,7 @@ fn print_found(alloc: Global, found: Option<Version>) -> Result<String, AllocErr
     }
 }
 
-// A version that the list contains; empty if it contains none.
+// A version that the list matches; empty if it matches none.
 fn find_in(alloc: Global, list: &[u8]) -> Result<String, Fault>
     ensures { HoldsOrFaults ⊥ (RejectsListBytes list.now) ⊥ (λ text. IsVersionIn list.now (string_bytes text)) result }
 {

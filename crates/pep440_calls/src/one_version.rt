@@ -4,7 +4,6 @@ ghost use Rattle.pep440_compiled.specs.Version.{HasVersionFormat};
 ghost use Rattle.pep440_calls.specs.CallResults.{IsCompiled, IsKey, IsNormal, PartsResult, HasPartsOf, IsPackedWord, WordResult, kind_number};
 ghost use Rattle.pep440_calls.specs.CallerBytes.{RejectsBytes};
 ghost use Rattle.pep440_calls.specs.Statuses.{HoldsOrFaults, WritesBytes};
-ghost use Rattle.pep440_calls.specs.declared.fault.Fault.TheVariants.{OutOfMemory};
 
 use crate::buffer::{NOT_PACKED, OK, flag, put, put_and_count, put_bytes, put_slice, put_text};
 use crate::fault::Fault;

@@ -1,5 +1,5 @@
 -- The set of a list as bytes: what its intervals are, and that they hold the keys of the versions that match literally.
-use Rattle.std.proofs.Common.{◌≡◌, ◌∙◌, ◌==◌, ◌&&◌, ◌||◌, ℕ, ◌<◌, Bool, true, false, not, List, [], ◌∷◌, ◌++◌, inl, inr, None, append_assoc, arith, length, map, refl, sym, ap, subst}
+use Rattle.std.proofs.Common.{◌≡◌, ◌∙◌, ◌==◌, ◌&&◌, ◌||◌, ℕ, ◌<◌, Bool, true, false, not, List, [], ◌∷◌, ◌++◌, inl, inr, append_assoc, arith, length, map, refl, sym, ap, subst}
 use Rattle.std.proofs.lemmas.List.Elements.{All-weaker}
 use Rattle.std.specs.List.{All, AllByRecursion, list_any}
 use Rattle.std.specs.Option.{option_map_or}
@@ -18,8 +18,7 @@ use Rattle.pep440_rs.specs.Denoted.{IsDenotable}
 use Rattle.pep440_rs.specs.LiteralMatching.{list_matches_literally}
 use Rattle.pep440_rs.specs.Specifiers.{Spec}
 use Rattle.pep440_sets.proofs.Lists.{list_holds, list_is_set, parsed_denoted}
-use Rattle.pep440_sets.specs.Boundaries.{IsAboveLeast, IsAboveLocal, IsAbovePosts, IsBelowVersion, IsEnd, IsInterval, IsStart, IsVersionSet}
-use Rattle.pep440_sets.specs.NextVersions.{after_posts}
+use Rattle.pep440_sets.specs.Boundaries.{IsAbovePosts, IsBelowVersion, IsEnd, IsInterval, IsStart, IsVersionSet}
 use Rattle.pep440_sets.specs.Sets.{has_exact, list_set}
 use Rattle.pep440_version.specs.Key.{record_cmp}
 use Rattle.pep440_version.specs.Record.{LocalSegmentValue, Record}

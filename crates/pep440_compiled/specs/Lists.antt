@@ -26,7 +26,11 @@ HasMembersFormat bytes = slice_get bytes 0 ≡ Some 5
 abbrev pub members_bytes : List Spec → List ℕ
 members_bytes list = 5 ∷ flat_map member_bytes list
 
--- the specifiers that strings denote: their versions are those of strings, and may stand beside their operators
+-- the version is that of a string, which can give it beside the operator
+abbrev pub IsParsedOperand : Spec → Type 0
+IsParsedOperand s = IsParsed s.version × HasOperand s
+
+-- the specifiers that strings denote
 pub record IsParsedMember (s : Spec) : Type 0 where
   pub valid : IsSpec s
   pub version : IsParsed s.version

@@ -1,6 +1,6 @@
 -- Sets of versions as bytes: the sort keys between which the versions of each interval lie.
-use Rattle.std.specs.Prelude.{◌≡◌, ℕ, List, [], ◌∷◌, ◌++◌, Some, false, if◌then◌else◌, length, slice_get, unwrap_or}
-use Rattle.std.specs.List.{All, flat_map}
+use Rattle.std.specs.Prelude.{ℕ, List, [], ◌++◌, length, unwrap_or}
+use Rattle.std.specs.List.{flat_map}
 use Rattle.pep440_keys.specs.RangeKeys.{Interval, segment_interval}
 use Rattle.pep440_keys.specs.SortKeys.{number_bytes}
 use Rattle.pep440_ranges.specs.RangeSegments.{Segment}

@@ -5,7 +5,7 @@ ghost use Rattle.std.specs.List.{All, flat_map};
 ghost use Rattle.pep440_compiled.specs.KeyParts.{BeginsOtherwise, ending_zeros, suffix_bytes};
 ghost use Rattle.pep440_version.specs.RoundTrip.{IsParsed, SegmentRoundTrips};
 ghost use Rattle.pep440_compiled.specs.KeyViews.{IsViewOf};
-ghost use Rattle.pep440_keys.specs.SortKeys.{HasNoZero, local_bytes, needed_bytes, number_bytes, rank_bytes, segment_bytes};
+ghost use Rattle.pep440_keys.specs.SortKeys.{local_bytes, needed_bytes, number_bytes, rank_bytes, segment_bytes};
 ghost use Rattle.pep440_version.specs.Key.{dev_of, dev_rank, post_of, post_rank, stage_of, stage_rank};
 ghost use Rattle.pep440_version.specs.Record.{Fits, LocalSegmentValue, Record, SegmentFits, from_parts};
 ghost use Rattle.pep440_version.specs.Segments.{segment};

@@ -37,8 +37,8 @@ mod views;
 
 pub use error::{CompileError, CompiledError, ContainsError, NotCompiled};
 pub use list::{
-    compile_list, contains, has_list_format, matches_literally, normalize_list, read_list,
-    requests_prereleases,
+    compile_list, contains, has_list_format, has_set_format, matches_literally, normalize_list,
+    read_list, requests_prereleases,
 };
 pub use stack_form::compile_normal;
 pub use version::{

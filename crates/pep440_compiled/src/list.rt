@@ -1,7 +1,7 @@
 //! Compiled lists of specifiers: made, read, asked.
 ghost use Rattle.std.specs.Prelude.{◌≡◌, ◌↔◌, ◌++◌, ◌∷◌, List, Ok, false, true, IfErr, IfOk, IfSome, MatchOption, string_bytes};
 ghost use Rattle.std.specs.List.{All};
-ghost use Rattle.pep440_compiled.specs.Lists.{DenotesList, DenotesMembers, DenotesWithSet, HasListFormat, HasMembersFormat, HasSetFormat, IsListForm, IsParsedMember};
+ghost use Rattle.pep440_compiled.specs.Lists.{DenotesList, DenotesMembers, DenotesWithSet, HasListFormat, HasMembersFormat, HasSetFormat, IsListForm, IsParsedOperand};
 ghost use Rattle.pep440_compiled.specs.SetBytes.{set_bytes, sized_bytes};
 ghost use Rattle.pep440_compiled.specs.Version.{DenotesVersion, HasVersionFormat};
 ghost use Rattle.pep440_compiled.specs.declared.error.CompileError.TheVariants.{NotParsed};
@@ -30,7 +30,14 @@ const WITH_SET: u8 = 6;
 pub fn has_list_format(bytes: &[u8]) -> bool
     ensures { (result ≡ true) ↔ HasListFormat bytes.now }
 {
-    has_members_format(bytes) || bytes.first() == Some(&WITH_SET)
+    has_members_format(bytes) || has_set_format(bytes)
+}
+
+/// Whether the bytes begin with the format byte of compiled lists that have their set.
+pub fn has_set_format(bytes: &[u8]) -> bool
+    ensures { (result ≡ true) ↔ HasSetFormat bytes.now }
+{
+    bytes.first() == Some(&WITH_SET)
 }
 
 // The set before the members.
@@ -52,7 +59,7 @@ fn prepend_set(alloc: Global, set: &Ranges<Version>, members: &[u8]) -> Result<V
 /// Allocates.
 pub fn compile_list(alloc: Global, list: &VersionSpecifiers) -> Result<Vec<u8>, CompileError>
     ensures ok { IfOk result (λ bytes. IsListForm bytes.items list.now) }
-    ensures err { IfErr result (λ e. e ≡ NotParsed → All IsParsedMember list.now → ⊥) }
+    ensures err { IfErr result (λ e. e ≡ NotParsed → All IsParsedOperand list.now → ⊥) }
 {
     let members = compile_members(alloc, list)?;
     match specifiers_to_set(alloc, list.as_slice()) {

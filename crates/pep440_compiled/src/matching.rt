@@ -1,9 +1,9 @@
 //! What matching asks of two compiled versions, by their bytes (PEP 440, "Version specifiers").
-ghost use Rattle.std.specs.Prelude.{◌≡◌, ◌≤◌, ◌<◌, ◌++◌, ◌∷◌, ◌&&◌, ◌==◌, [], ℕ, List, false, true, is_some, length, nat_eq, MatchOption, IfSome};
-ghost use Rattle.pep440_compiled.specs.KeyParts.{begins_with_ones, continues_with_zeros, ending_zeros, base_bytes, suffix_bytes};
+ghost use Rattle.std.specs.Prelude.{◌≡◌, ◌<◌, ◌++◌, ◌∷◌, ◌&&◌, ◌==◌, [], ℕ, List, false, length, nat_eq, MatchOption, IfSome};
+ghost use Rattle.pep440_compiled.specs.KeyParts.{begins_with_ones, continues_with_zeros, ending_zeros, base_bytes};
 ghost use Rattle.pep440_version.specs.RoundTrip.{IsParsed};
-ghost use Rattle.pep440_compiled.specs.KeyViews.{HasParts, IsDecided, IsViewOf, is_compared};
-ghost use Rattle.pep440_keys.specs.SortKeys.{key_bytes, local_bytes};
+ghost use Rattle.pep440_compiled.specs.KeyViews.{HasParts, IsDecided, is_compared};
+ghost use Rattle.pep440_keys.specs.SortKeys.{key_bytes};
 ghost use Rattle.pep440_rs.specs.Matching.{begins_with, candidate, has_local, has_prefix, is_early, is_late, matches, same_release, without_last};
 ghost use Rattle.pep440_rs.specs.Specifiers.{IsSpec};
 ghost use Rattle.pep440_version.specs.Key.{record_cmp};

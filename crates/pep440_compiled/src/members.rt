@@ -1,5 +1,5 @@
 //! The members of compiled lists: made, read, asked.
-ghost use Rattle.std.specs.Prelude.{◌≡◌, ◌↔◌, ◌+◌, ◌++◌, ◌<◌, ◌≤◌, ℕ, not, if◌then◌else◌, List, false, true, length, Ok, Some, IfErr, IfOk, IfSome, MatchOption, OnOk, string_bytes};
+ghost use Rattle.std.specs.Prelude.{◌≡◌, ◌↔◌, ◌+◌, ◌++◌, ◌<◌, ◌≤◌, ℕ, not, if◌then◌else◌, List, false, true, length, Ok, Some, IfErr, IfOk, IfSome, MatchOption, OnOk};
 ghost use Rattle.std.specs.List.{All, flat_map};
 ghost use Rattle.pep440_compiled.specs.KeyParts.{BeginsOtherwise};
 ghost use Rattle.pep440_compiled.specs.Lists.{DenotesMembers, HasMembersFormat, IsParsedMember, member_bytes};
@@ -9,7 +9,6 @@ ghost use Rattle.pep440_compiled.specs.KeyViews.{HasKey, HasParts, IsDecided};
 ghost use Rattle.pep440_compiled.specs.declared.error.CompileError.TheVariants.{NotParsed};
 ghost use Rattle.pep440_compiled.specs.declared.error.CompiledError.TheVariants as unread;
 ghost use Rattle.pep440_compiled.specs.declared.error.ContainsError.TheVariants.{NoList, NoVersion};
-ghost use Rattle.pep440_rs.specs.Lists.{print_list};
 ghost use Rattle.pep440_rs.specs.Matching.{any_prerelease, has_prefix, list_matches, matches};
 ghost use Rattle.pep440_rs.specs.Operators.{operator_rank};
 ghost use Rattle.pep440_rs.specs.Prereleases.{requests_prerelease, requests_prereleases};
@@ -53,13 +52,15 @@ pub(crate) fn has_members_format(bytes: &[u8]) -> bool
 
 // Whether some string denotes the specifier.
 fn is_parsed_member(member: &VersionSpecifier) -> bool
-    ensures { (result ≡ true) ↔ IsParsedMember member.now }
+    ensures tells { (result ≡ true) ↔ IsParsedOperand member.now }
+    ensures valid { IsSpec member.now }
 {
     is_parsed(member.version()) && has_operand(member)
 }
 
 fn are_parsed_members(members: &[VersionSpecifier]) -> bool
-    ensures { (result ≡ true) ↔ All IsParsedMember members.now }
+    ensures members { result ≡ true → All IsParsedMember members.now }
+    ensures operands { All IsParsedOperand members.now → result ≡ true }
 {
     for member in members {
         if !is_parsed_member(member) {
@@ -79,7 +80,7 @@ fn push_member(bytes: &mut Vec<u8>, member: &VersionSpecifier) -> Result<(), All
 // The members of a list; `NotParsed` if no string denotes some member.
 pub(crate) fn compile_members(alloc: Global, list: &VersionSpecifiers) -> Result<Vec<u8>, CompileError>
     ensures ok { IfOk result (λ bytes. DenotesMembers bytes.items list.now) }
-    ensures err { IfErr result (λ e. e ≡ NotParsed → All IsParsedMember list.now → ⊥) }
+    ensures err { IfErr result (λ e. e ≡ NotParsed → All IsParsedOperand list.now → ⊥) }
 {
     let members = list.as_slice();
     if !are_parsed_members(members) {

@@ -1,5 +1,5 @@
 //! Whether a string can have a version beside an operator.
-ghost use Rattle.std.specs.Prelude.{◌≡◌, ◌↔◌, [], None, true};
+ghost use Rattle.std.specs.Prelude.{◌≡◌, ◌↔◌, true};
 ghost use Rattle.pep440_compiled.specs.Lists.{IsBare};
 ghost use Rattle.pep440_rs.specs.Agreement.{HasOperand};
 ghost use Rattle.pep440_version.specs.RoundTrip.{IsParsed};

@@ -1,9 +1,8 @@
 //! Sets as bytes: the sort keys of their intervals, written and searched.
-ghost use Rattle.std.specs.Prelude.{◌≡◌, ◌≤◌, ◌<◌, ◌++◌, ◌&&◌, ◌||◌, ◌==◌, List, ℕ, IfOk, IfSome, MatchOption, OnOk, Some, length, map, not};
-ghost use Rattle.std.specs.List.{All, flat_map, list_any};
+ghost use Rattle.std.specs.Prelude.{◌≡◌, ◌<◌, ◌++◌, ◌&&◌, ◌||◌, ◌==◌, List, ℕ, IfOk, IfSome, MatchOption, OnOk, Some, length, not};
+ghost use Rattle.std.specs.List.{All, list_any};
 ghost use Rattle.pep440_compiled.specs.SetBytes.{IsSized, high_bytes, interval_bytes, low_bytes, set_bytes, sized_bytes};
 ghost use Rattle.pep440_keys.specs.RangeKeys.{is_below_key, is_within, segment_interval};
-ghost use Rattle.pep440_keys.specs.SortKeys.{number_bytes};
 ghost use Rattle.pep440_rs.specs.Bounds.{Segments};
 ghost use Rattle.pep440_version.specs.Record.{Fits};
 

@@ -1,4 +1,3 @@
-use Rattle.pep440_calls.proofs.ListSizes.{list_bound}
 use Rattle.pep440_calls.proofs.Sizes.{compiled_bound, key_bound, print_bound}
 use Rattle.pep440_calls.proofs.laws.forms_are_bounded.Goals as goal
 
@@ -10,6 +9,3 @@ returns-clause-key c bytes r means = key_bound bytes r means.1
 
 pub returns-clause-compiled : goal.returns-clause-compiled
 returns-clause-compiled c bytes r means = compiled_bound bytes r means.1
-
-pub returns-clause-list : goal.returns-clause-list
-returns-clause-list c bytes l means = list_bound bytes l means.0 means.1

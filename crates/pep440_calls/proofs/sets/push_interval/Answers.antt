@@ -1,6 +1,6 @@
 use Rattle.std.proofs.Common.{◌∙◌, ℕ, List, [], Option, ap, unwrap_or}
 use Rattle.pep440_calls.proofs.Joining.{pushed}
-use Rattle.pep440_calls.proofs.list_ranges.push_interval.Goals as goal
+use Rattle.pep440_calls.proofs.sets.push_interval.Goals as goal
 
 pub returns : goal.returns
 returns c = λ strings joins.
