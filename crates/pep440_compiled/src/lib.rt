@@ -15,7 +15,7 @@
 //! them: of bytes that denote nothing they return an error or any result, and never read outside them. Read bytes
 //! from outside once before they are asked.
 //!
-//! In reading order: `version` and `list`, the calls; `members` and `set_bytes`, what lists are made of; `views` and `key_parts`, where the parts lie in the bytes; `byte_order` and
+//! In reading order: `version` and `list`, the calls; `list_members` and `set_bytes`, what lists are made of; `views` and `key_parts`, where the parts lie in the bytes; `byte_order` and
 //! `matching`, which read no more than those; `decode`, `checked_version`, `parsed` and `operand`, which test each byte; `error`; and `laws`.
 #![tactic(auto)]
 
@@ -27,7 +27,7 @@ mod key_parts;
 pub mod laws;
 mod list;
 mod matching;
-mod members;
+mod list_members;
 mod operand;
 mod parsed;
 mod set_bytes;

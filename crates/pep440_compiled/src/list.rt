@@ -16,7 +16,7 @@ ghost use Rattle.pep440_sets.specs.Sets.{has_exact, list_set};
 ghost use Rattle.pep440_version.specs.Record.{Record};
 
 use crate::error::{CompileError, CompiledError, ContainsError, NotCompiled};
-use crate::members::{self, compile_members, has_members_format, read_members};
+use crate::list_members::{self, compile_members, has_members_format, read_members};
 use crate::set_bytes::{holds_key, push_sized, set_bytes, split_sized};
 use crate::views::view_version;
 use pep440_rs::{Ranges, Version, VersionSpecifiers};
@@ -108,7 +108,7 @@ pub fn contains(list: &[u8], version: &[u8]) -> Result<(bool, bool), ContainsErr
     ensures version { IfErr result (λ e. e ≡ NoVersion → (r : Record) → DenotesVersion version.now r → ⊥) }
     ensures list { IfErr result (λ e. e ≡ NoList → (l : List Spec) → DenotesList list.now l → ⊥) }
 {
-    members::contains(skip_set(list), version)
+    list_members::contains(skip_set(list), version)
 }
 
 /// Whether the list matches the version literally, as `VersionSpecifiers::matches_literally` (PEP 440, "Version specifiers"): whether the
@@ -144,7 +144,7 @@ pub fn requests_prereleases(bytes: &[u8]) -> Result<bool, NotCompiled>
     ensures found { (l : List Spec) → DenotesList bytes.now l → result ≡ Ok (requests_prereleases l) }
     ensures format { IfOk result (λ _. HasListFormat bytes.now) }
 {
-    members::requests_prereleases(skip_set(bytes))
+    list_members::requests_prereleases(skip_set(bytes))
 }
 
 // Whether the list compiles to these bytes.

@@ -1,6 +1,6 @@
 use Rattle.std.proofs.Common.{◌≡◌, ◌∙◌, ◌∷◌, List, ap, subst, take_all, true}
 use Rattle.std.specs.List.{All, flat_map}
-use Rattle.pep440_compiled.proofs.members.compile_members.Goals as goal
+use Rattle.pep440_compiled.proofs.list_members.compile_members.Goals as goal
 use Rattle.pep440_compiled.specs.Lists.{IsParsedMember, member_bytes}
 use Rattle.pep440_rs.specs.Specifiers.{Spec}
 

@@ -2,7 +2,7 @@ use Rattle.std.proofs.Common.{◌∙◌, ap, length, sym}
 use Rattle.pep440_compiled.proofs.Comparing.{decided_by_order, decided_by_tie, same_keys}
 use Rattle.pep440_compiled.proofs.Fronts.{eq_true}
 use Rattle.pep440_compiled.proofs.Loops.{behind}
-use Rattle.pep440_compiled.proofs.members.skip_key.Goals as goal
+use Rattle.pep440_compiled.proofs.list_members.skip_key.Goals as goal
 use Rattle.pep440_keys.specs.SortKeys.{key_bytes}
 
 pub returns-then-is_eq-clause-found : goal.returns-then-is_eq-clause-found

@@ -1,6 +1,6 @@
 use Rattle.std.proofs.Common.{◌≡◌, List, length}
 use Rattle.std.specs.List.{AllByRecursion, flat_map}
-use Rattle.pep440_compiled.proofs.members.contains_any.Given as goal
+use Rattle.pep440_compiled.proofs.list_members.contains_any.Given as goal
 use Rattle.pep440_compiled.specs.Lists.{DenotesMembers, IsParsedMember, member_bytes}
 use Rattle.pep440_compiled.specs.Version.{DenotesVersion}
 use Rattle.pep440_rs.specs.Matching.{list_matches}

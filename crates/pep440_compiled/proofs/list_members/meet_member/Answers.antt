@@ -2,7 +2,7 @@ use Rattle.std.proofs.Common.{◌≡◌, ◌+◌, arith, false, subst, sym, true
 use Rattle.std.specs.Cmp.{nat_cmp_is}
 use Rattle.std.specs.Prelude.{IfSome, MatchOption}
 use Rattle.std.specs.declared.cmp.Ordering.TheVariants as ordering
-use Rattle.pep440_compiled.proofs.members.meet_member.Goals as goal
+use Rattle.pep440_compiled.proofs.list_members.meet_member.Goals as goal
 use Rattle.pep440_rs.specs.Matching.{matches}
 use Rattle.pep440_rs.specs.OperatorLaws.{same_operator}
 use Rattle.pep440_rs.specs.Operators.{operator_rank}

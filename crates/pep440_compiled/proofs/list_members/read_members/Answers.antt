@@ -1,6 +1,6 @@
 use Rattle.std.proofs.Common.{◌∙◌, subst, sym, true≢false}
 use Rattle.pep440_compiled.proofs.Members.{same_list}
-use Rattle.pep440_compiled.proofs.members.read_members.Goals as goal
+use Rattle.pep440_compiled.proofs.list_members.read_members.Goals as goal
 use Rattle.pep440_compiled.specs.Lists.{DenotesMembers}
 
 pub returns-then-not-branch-clause-err : goal.returns-then-not-branch-clause-err

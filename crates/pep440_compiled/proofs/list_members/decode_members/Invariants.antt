@@ -1,6 +1,6 @@
 use Rattle.std.proofs.Common.{◌≡◌, ◌++◌, List, length}
 use Rattle.std.specs.List.{All, AllByRecursion, flat_map}
-use Rattle.pep440_compiled.proofs.members.decode_members.Given as goal
+use Rattle.pep440_compiled.proofs.list_members.decode_members.Given as goal
 use Rattle.pep440_compiled.specs.Lists.{IsParsedMember, member_bytes}
 use Rattle.pep440_rs.specs.Specifiers.{Spec}
 

@@ -1,6 +1,6 @@
 use Rattle.std.proofs.Common.{◌≡◌, List, length}
 use Rattle.std.specs.List.{AllByRecursion, flat_map}
-use Rattle.pep440_compiled.proofs.members.requests_prereleases.Given as goal
+use Rattle.pep440_compiled.proofs.list_members.requests_prereleases.Given as goal
 use Rattle.pep440_compiled.specs.Lists.{DenotesMembers, IsParsedMember, member_bytes}
 use Rattle.pep440_rs.specs.Prereleases.{requests_prereleases}
 use Rattle.pep440_rs.specs.Specifiers.{Spec}

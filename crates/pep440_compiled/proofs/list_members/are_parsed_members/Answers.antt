@@ -1,7 +1,7 @@
 use Rattle.std.proofs.Common.{◌≡◌, List, subst, sym, true, true≢false, take_all}
 use Rattle.std.specs.List.{All}
 use Rattle.pep440_compiled.proofs.Members.{more_holds}
-use Rattle.pep440_compiled.proofs.members.are_parsed_members.Goals as goal
+use Rattle.pep440_compiled.proofs.list_members.are_parsed_members.Goals as goal
 use Rattle.pep440_compiled.specs.Lists.{IsParsedMember}
 use Rattle.pep440_rs.specs.Specifiers.{Spec}
 
