@@ -3,12 +3,12 @@ use Rattle.std.proofs.Common.{◌≡◌, ◌∙◌, ℕ, ◌+◌, refl, sym, ap,
 use Rattle.std.proofs.lemmas.List.Elements.{recursion_from_All}
 use Rattle.std.specs.Cmp.{nat_cmp_is}
 use Rattle.std.specs.List.{AllByRecursion, flat_map}
-use Rattle.std.specs.Prelude.{drop, if◌then◌else◌}
+use Rattle.std.specs.Prelude.{drop}
 use Rattle.std.specs.declared.cmp.Ordering.TheVariants as ordering
 use Rattle.pep440_compiled.proofs.Exact.{member_version}
 use Rattle.pep440_compiled.proofs.Members.{no_zero_first}
 use Rattle.pep440_compiled.proofs.Sized.{one_sized}
-use Rattle.pep440_compiled.specs.Lists.{DenotesList, DenotesMembers, DenotesWithSet, IsListForm, IsParsedMember, member_bytes, members_bytes}
+use Rattle.pep440_compiled.specs.Lists.{DenotesList, DenotesMembers, DenotesWithSet, IsFormBy, IsListForm, IsParsedMember, member_bytes, members_bytes}
 use Rattle.pep440_compiled.specs.SetBytes.{set_bytes}
 use Rattle.pep440_rs.specs.OperatorLaws.{same_operator}
 use Rattle.pep440_rs.specs.Operators.{operator_rank}
@@ -51,28 +51,28 @@ one_denoted_list bytes l m (inr d) (inl e) = absurd (omega (arith, not_other 6 5
 pub one_form : (a b : List ℕ) (l : List Spec) → IsListForm a l → IsListForm b l → a ≡ b
 one_form a b l p q = go (has_exact l) p q
   where
-    go : (e : Bool) → (if e then DenotesMembers a l else DenotesWithSet a l) → (if e then DenotesMembers b l else DenotesWithSet b l) → a ≡ b
+    go : (e : Bool) → IsFormBy e a l → IsFormBy e b l → a ≡ b
     go true d e = d.same ∙ sym e.same
     go false d e = d.same ∙ sym e.same
 
 pub form_denotes : (bytes : List ℕ) (l : List Spec) → IsListForm bytes l → DenotesList bytes l
 form_denotes bytes l p = go (has_exact l) p
   where
-    go : (e : Bool) → (if e then DenotesMembers bytes l else DenotesWithSet bytes l) → DenotesList bytes l
+    go : (e : Bool) → IsFormBy e bytes l → DenotesList bytes l
     go true d = inl d
     go false d = inr d
 
 pub set_is_form : (bytes : List ℕ) (l : List Spec) → DenotesWithSet bytes l → IsListForm bytes l
-set_is_form bytes l d = subst (λ e. if e then DenotesMembers bytes l else DenotesWithSet bytes l) (sym d.without) d
+set_is_form bytes l d = subst (λ e. IsFormBy e bytes l) (sym d.without) d
 
 pub members_are_form : (bytes : List ℕ) (l : List Spec) → has_exact l ≡ true → DenotesMembers bytes l → IsListForm bytes l
-members_are_form bytes l e d = subst (λ e. if e then DenotesMembers bytes l else DenotesWithSet bytes l) (sym e) d
+members_are_form bytes l e d = subst (λ e. IsFormBy e bytes l) (sym e) d
 
 -- bytes that begin with the byte of sets and are a form, are that of a list with its set
 pub form_with_set : (later : List ℕ) (l : List Spec) → IsListForm (6 ∷ later) l → DenotesWithSet (6 ∷ later) l
 form_with_set later l p = go (has_exact l) p
   where
-    go : (e : Bool) → (if e then DenotesMembers (6 ∷ later) l else DenotesWithSet (6 ∷ later) l) → DenotesWithSet (6 ∷ later) l
+    go : (e : Bool) → IsFormBy e (6 ∷ later) l → DenotesWithSet (6 ∷ later) l
     go true d = absurd (omega (arith, not_other 6 5 _ _ d.same))
     go false d = d
 

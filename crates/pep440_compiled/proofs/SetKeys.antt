@@ -72,6 +72,10 @@ pub tells : (s : Segment Record) (key : List ℕ) →
     not (is_below_key key (low_bytes (segment_interval s))) && ((length (high_bytes (segment_interval s)) == 0) || is_below_key key (high_bytes (segment_interval s))) ≡ is_within (segment_interval s) key
 tells s key = λ i. low_tells s.0 key i && high_tells s.1 key i
 
+pub decided : (s : Segment Record) (key low high : List ℕ) (b : Bool) → low ≡ low_bytes (segment_interval s) → high ≡ high_bytes (segment_interval s) →
+    b ≡ not (is_below_key key low) && ((length high == 0) || is_below_key key high) → is_within (segment_interval s) key ≡ b
+decided s key low high b l h is = sym (tells s key) ∙ sym (λ i. not (is_below_key key (l i)) && ((length (h i) == 0) || is_below_key key (h i))) ∙ sym is
+
 -- ---- the set of a list
 
 parsed_keyed : (v : Record) → IsParsed v → IsKeyed v

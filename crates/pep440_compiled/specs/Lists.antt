@@ -1,6 +1,6 @@
 -- The bytes of a compiled list: its members, one after the other, and before them its set, if it has one. A sort key ends where it
 -- says, and no member begins with the byte 1 of the zeros after a key, so nothing stands between two members.
-use Rattle.std.specs.Prelude.{◌≡◌, ◌⊎◌, ℕ, ◌+◌, List, [], ◌∷◌, ◌++◌, None, Some, false, if◌then◌else◌, length, slice_get}
+use Rattle.std.specs.Prelude.{◌≡◌, ◌⊎◌, ℕ, ◌+◌, List, [], ◌∷◌, ◌++◌, None, Some, Bool, false, true, length, slice_get}
 use Rattle.std.specs.List.{All, flat_map}
 use Rattle.pep440_compiled.specs.SetBytes.{IsSized, set_bytes, sized_bytes}
 use Rattle.pep440_compiled.specs.Version.{version_bytes}
@@ -77,6 +77,11 @@ HasListFormat bytes = HasMembersFormat bytes ⊎ HasSetFormat bytes
 abbrev pub DenotesList : List ℕ → List Spec → Type 0
 DenotesList bytes list = DenotesMembers bytes list ⊎ DenotesWithSet bytes list
 
+-- without the set, or with it
+abbrev pub IsFormBy : Bool → List ℕ → List Spec → Type 0
+IsFormBy true bytes list = DenotesMembers bytes list
+IsFormBy false bytes list = DenotesWithSet bytes list
+
 -- the bytes are what the list compiles to: with its set, unless it has `===`
 abbrev pub IsListForm : List ℕ → List Spec → Type 0
-IsListForm bytes list = if has_exact list then DenotesMembers bytes list else DenotesWithSet bytes list
+IsListForm bytes list = IsFormBy (has_exact list) bytes list

@@ -28,5 +28,8 @@ abbrev pub set_bytes : Segments → List ℕ
 set_bytes set = flat_map (λ s. interval_bytes (segment_interval s)) set
 
 -- the keys of an interval fit in memory
+abbrev pub IsSizedInterval : Interval → Type 0
+IsSizedInterval interval = Fits (length (low_bytes interval)) × Fits (length (high_bytes interval))
+
 abbrev pub IsSized : Segment Record → Type 0
-IsSized s = Fits (length (low_bytes (segment_interval s))) × Fits (length (high_bytes (segment_interval s)))
+IsSized s = IsSizedInterval (segment_interval s)

@@ -1,7 +1,7 @@
 //! Sets as bytes: the sort keys of their intervals, written and searched.
 ghost use Rattle.std.specs.Prelude.{◌≡◌, ◌<◌, ◌++◌, ◌&&◌, ◌||◌, ◌==◌, List, ℕ, IfOk, IfSome, MatchOption, OnOk, Some, length, not};
 ghost use Rattle.std.specs.List.{All, list_any};
-ghost use Rattle.pep440_compiled.specs.SetBytes.{IsSized, high_bytes, interval_bytes, low_bytes, set_bytes, sized_bytes};
+ghost use Rattle.pep440_compiled.specs.SetBytes.{IsSized, IsSizedInterval, interval_bytes, set_bytes, sized_bytes};
 ghost use Rattle.pep440_keys.specs.RangeKeys.{is_below_key, is_within, segment_interval};
 ghost use Rattle.pep440_rs.specs.Bounds.{Segments};
 ghost use Rattle.pep440_version.specs.Record.{Fits};
@@ -22,8 +22,7 @@ pub(crate) fn push_sized(bytes: &mut Vec<u8>, item: &[u8]) -> Result<(), AllocEr
 
 fn push_interval(bytes: &mut Vec<u8>, interval: &KeyInterval) -> Result<(), AllocError>
     ensures bytes { OnOk result (bytes.new.items ≡ bytes.old.items ++ interval_bytes interval.now) }
-    ensures low { Fits (length (low_bytes interval.now)) }
-    ensures high { OnOk result (Fits (length (high_bytes interval.now))) }
+    ensures sizes { OnOk result (IsSizedInterval interval.now) }
 {
     push_sized(bytes, interval.low().unwrap_or(&[]))?;
     push_sized(bytes, interval.high().unwrap_or(&[]))
