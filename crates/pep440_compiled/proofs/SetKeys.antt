@@ -1,6 +1,6 @@
 -- The set of a list as bytes: what its intervals are, and that they hold the keys of the versions that match literally.
 use Rattle.std.proofs.Common.{◌≡◌, ◌∙◌, ◌==◌, ◌&&◌, ◌||◌, ℕ, ◌<◌, Bool, true, false, not, List, [], ◌∷◌, ◌++◌, inl, inr, append_assoc, arith, length, map, refl, sym, ap, subst}
-use Rattle.std.proofs.lemmas.List.Elements.{All-weaker}
+use Rattle.std.proofs.lemmas.List.Elements.{All-from_recursion, All-weaker, recursion_from_All}
 use Rattle.std.specs.List.{All, AllByRecursion, list_any}
 use Rattle.std.specs.Option.{option_map_or}
 use Rattle.std.specs.Prelude.{unwrap_or}
@@ -8,7 +8,7 @@ use Rattle.std.specs.declared.ops.Bound.{Bound}
 use Rattle.std.specs.declared.ops.Bound.TheVariants.{Included, Excluded, Unbounded}
 use Rattle.pep440_compiled.proofs.Fronts.{keyed}
 use Rattle.pep440_compiled.specs.Lists.{IsParsedMember}
-use Rattle.pep440_compiled.specs.SetBytes.{IsSized, high_bytes, low_bytes, set_bytes, sized_bytes}
+use Rattle.pep440_compiled.specs.SetBytes.{IsSized, IsSizedInterval, high_bytes, low_bytes, set_bytes, sized_bytes}
 use Rattle.pep440_keys.proofs.Membership.{in_range}
 use Rattle.pep440_keys.specs.RangeKeys.{HasKeys, IsKeyedBound, IsKeyedSegment, high_key, is_below_key, is_within, low_key, segment_interval}
 use Rattle.pep440_keys.specs.SortKeys.{HasNoZero, IsKeyed, key_bytes}
@@ -50,6 +50,14 @@ first_interval left (s ∷ set) some all e = record {
 pub none_left : (left : List ℕ) (set : Segments) → length left ≡ 0 → left ≡ set_bytes set → set ≡ []
 none_left left [] none e = refl
 none_left left (s ∷ set) none e = absurd (omega (arith, none, ap length e))
+
+-- the intervals of segments are sized if the segments are
+pub sized_segments : (set : Segments) → All IsSizedInterval (map segment_interval set) → All IsSized set
+sized_segments set all = All-from_recursion IsSized set (each set (recursion_from_All IsSizedInterval (map segment_interval set) all))
+  where
+    each : (set : Segments) → AllByRecursion IsSizedInterval (map segment_interval set) → AllByRecursion IsSized set
+    each [] h = tt
+    each (s ∷ set) h = (h.0, each set h.1)
 
 -- ---- what an interval holds
 
