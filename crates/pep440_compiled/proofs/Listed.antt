@@ -45,6 +45,10 @@ one_denoted_list bytes l m (inr d) (inr e) = one_with_set bytes l m d e
 one_denoted_list bytes l m (inl d) (inr e) = absurd (omega (arith, not_other 5 6 _ _ (sym d.same ∙ e.same)))
 one_denoted_list bytes l m (inr d) (inl e) = absurd (omega (arith, not_other 6 5 _ _ (sym d.same ∙ e.same)))
 
+-- members alone do not begin with the byte of sets
+pub never_members : (bytes later : List ℕ) (l : List Spec) → bytes ≡ 6 ∷ later → DenotesMembers bytes l → ⊥
+never_members bytes later l e d = omega (arith, not_other 6 5 _ _ (sym e ∙ d.same))
+
 -- ---- what a list compiles to
 
 -- the one form of a list

@@ -46,7 +46,7 @@ fn prepend_set(alloc: Global, set: &Ranges<Version>, members: &[u8]) -> Result<V
         → IfOk result (λ bytes. DenotesWithSet bytes.items l) }
 {
     let set = set_bytes(alloc, set)?;
-    let mut bytes = Vec::with_capacity(alloc, set.len() + members.len() + 10)?;
+    let mut bytes = Vec::with_capacity(alloc, set.len().saturating_add(members.len()))?;
     bytes.push(WITH_SET)?;
     push_sized(&mut bytes, set.as_slice())?;
     bytes.extend_from_slice(members)?;
