@@ -2,7 +2,7 @@
 ghost use Rattle.std.specs.Prelude.{◌≡◌, ◌↔◌, ◌+◌, ◌++◌, ◌<◌, ◌≤◌, ℕ, not, if◌then◌else◌, List, false, true, length, Ok, Some, IfErr, IfOk, IfSome, MatchOption, OnOk};
 ghost use Rattle.std.specs.List.{All, flat_map};
 ghost use Rattle.pep440_compiled.specs.KeyParts.{BeginsOtherwise};
-ghost use Rattle.pep440_compiled.specs.Lists.{DenotesMembers, HasMembersFormat, IsParsedMember, member_bytes};
+ghost use Rattle.pep440_compiled.specs.Lists.{DenotesMembers, HasMembersFormat, IsParsedMember, IsParsedOperand, member_bytes};
 ghost use Rattle.pep440_compiled.specs.Version.{DenotesVersion, HasVersionFormat, version_bytes};
 ghost use Rattle.pep440_version.specs.RoundTrip.{IsParsed};
 ghost use Rattle.pep440_compiled.specs.KeyViews.{HasKey, HasParts, IsDecided};
@@ -12,7 +12,7 @@ ghost use Rattle.pep440_compiled.specs.declared.error.ContainsError.TheVariants.
 ghost use Rattle.pep440_rs.specs.Matching.{any_prerelease, has_prefix, list_matches, matches};
 ghost use Rattle.pep440_rs.specs.Operators.{operator_rank};
 ghost use Rattle.pep440_rs.specs.Prereleases.{requests_prerelease, requests_prereleases};
-ghost use Rattle.pep440_rs.specs.Specifiers.{Spec};
+ghost use Rattle.pep440_rs.specs.Specifiers.{IsSpec, Spec};
 ghost use Rattle.pep440_keys.specs.SortKeys.{key_bytes};
 ghost use Rattle.pep440_version.specs.Key.{record_cmp};
 ghost use Rattle.pep440_version.specs.Record.{Record};
