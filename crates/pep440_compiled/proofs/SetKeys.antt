@@ -1,5 +1,6 @@
 -- The set of a list as bytes: what its intervals are, and that they hold the keys of the versions that match literally.
 use Rattle.std.proofs.Common.{◌≡◌, ◌∙◌, ◌==◌, ◌&&◌, ◌||◌, ℕ, ◌<◌, Bool, true, false, not, List, [], ◌∷◌, ◌++◌, inl, inr, append_assoc, arith, length, map, refl, sym, ap, subst}
+use Rattle.std.proofs.Math.Dec.{eqb-suc-zero}
 use Rattle.std.proofs.lemmas.List.Elements.{All-from_recursion, All-weaker, recursion_from_All}
 use Rattle.std.specs.List.{All, AllByRecursion, list_any}
 use Rattle.std.specs.Option.{option_map_or}
@@ -73,8 +74,8 @@ low_tells (Excluded v) key = refl
 high_tells : (end : Bound Record) (key : List ℕ) →
     (length (unwrap_or (high_key end) []) == 0) || is_below_key key (unwrap_or (high_key end) []) ≡ option_map_or (λ high. is_below_key key high) (high_key end) true
 high_tells Unbounded key = refl
-high_tells (Included v) key = refl
-high_tells (Excluded v) key = refl
+high_tells (Included v) key = ap (λ b. b || is_below_key key (key_bytes v ++ 0 ∷ [])) (eqb-suc-zero _)
+high_tells (Excluded v) key = ap (λ b. b || is_below_key key (key_bytes v)) (eqb-suc-zero _)
 
 pub tells : (s : Segment Record) (key : List ℕ) →
     not (is_below_key key (low_bytes (segment_interval s))) && ((length (high_bytes (segment_interval s)) == 0) || is_below_key key (high_bytes (segment_interval s))) ≡ is_within (segment_interval s) key
