@@ -12,25 +12,25 @@
 
 ghost use Rattle.std.specs.Prelude.{map, not, ◌==◌, ◌≡◌};
 ghost use Rattle.pep440_rs.specs.Bounds.{range_of, release_range_of};
-ghost use Rattle.pep440_rs.specs.Cover.{cover_of};
 ghost use Rattle.pep440_calls.specs.Batches.{FilterMarks, KeysResult, SortResult};
 ghost use Rattle.pep440_calls.specs.CallResults.{AllowsResult, ContainsResult, IsCompiled, IsCompiledList, IsKey, IsNormal, IsNormalList, IsVersionIn, NamesPrerelease, OrderResult, PartsResult, JoinsMembers, WordResult};
 ghost use Rattle.pep440_calls.specs.Edits.{IsEditError, WritesEdited};
 ghost use Rattle.pep440_calls.specs.Explanations.{ErrorResult, IsBuildError, IsNoOperator, RejectsNumbered};
-ghost use Rattle.pep440_calls.specs.JoinedStrings.{WritesJoined};
+ghost use Rattle.pep440_calls.specs.JoinedStrings.{WritesJoined, WritesJoinedOr};
 ghost use Rattle.pep440_calls.specs.CallerBytes.{RejectsBytes, RejectsListBytes};
 ghost use Rattle.pep440_calls.specs.NewestString.{NewestResult};
 ghost use Rattle.pep440_calls.specs.PatternCalls.{IsCompiledSpecifier, IsSpecifier, PatternResult, RejectsOperand, RejectsOperator, RejectsSpecifierBytes};
-ghost use Rattle.pep440_calls.specs.Ranges.{IsRangeLines, LacksRange, JoinsRangeBounds, JoinsRangeIntervals};
-ghost use Rattle.pep440_calls.specs.Statuses.{IsFlagOf, WritesOrFails, WritesBytes};
+ghost use Rattle.pep440_calls.specs.Ranges.{IsRangeLines, LacksRange, JoinsRangeBounds};
+ghost use Rattle.pep440_calls.specs.SetCalls.{JoinsBoundaries, LacksSet};
+ghost use Rattle.pep440_calls.specs.Statuses.{IsFlagOf, SetFaults, WritesOrFails, WritesBytes};
 
 use pep440_calls::{
-    Parts, write_allowed, write_build_error, write_compiled, write_compiled_list,
-    write_compiled_specifier, write_cover_keys, write_edit_error, write_edited, write_error,
-    write_marks, write_match, write_members, write_newest, write_normal_form, write_normal_list,
-    write_order, write_parts, write_pattern, write_positions, write_prerelease_flag, write_range,
-    write_range_bounds, write_range_keys, write_release_range_bounds, write_sort_key,
-    write_sort_keys, write_specifier, write_version_in, write_word,
+    Parts, write_allowed, write_boundaries, write_build_error, write_compiled, write_compiled_list,
+    write_compiled_specifier, write_edit_error, write_edited, write_error, write_marks,
+    write_match, write_members, write_newest, write_normal_form, write_normal_list, write_order,
+    write_parts, write_pattern, write_positions, write_prerelease_flag, write_range,
+    write_range_bounds, write_release_range_bounds, write_sort_key, write_sort_keys,
+    write_specifier, write_version_in, write_word,
 };
 use std::alloc::Global;
 
@@ -179,12 +179,18 @@ pub extern "C" fn pep440_contains(
     write_match(alloc, list, text, contained, prerelease)
 }
 
-/// Whether the list allows the version, 1 or 0: it contains the version, and this is no pre-release and no developmental release unless a specifier with another operator than `!=` names one.
+/// Whether the list allows the version, 1 or 0: it matches the version literally, and this is no pre-release and no developmental release unless `prereleases` is 1, or is not 0 and a specifier with another operator than `!=` names one.
 #[unsafe(no_mangle)]
-pub extern "C" fn pep440_allows(alloc: Global, list: &[u8], text: &[u8], allowed: &mut u8) -> u8
-    ensures { AllowsResult list.now text.now allowed.old allowed.new result }
+pub extern "C" fn pep440_allows(
+    alloc: Global,
+    list: &[u8],
+    text: &[u8],
+    prereleases: u8,
+    allowed: &mut u8,
+) -> u8
+    ensures { AllowsResult list.now text.now prereleases allowed.old allowed.new result }
 {
-    write_allowed(alloc, list, text, allowed)
+    write_allowed(alloc, list, text, prereleases, allowed)
 }
 
 /// Whether a version of the list's specifiers is a pre-release or a developmental release, 1 or 0.
@@ -195,7 +201,7 @@ pub extern "C" fn pep440_any_prerelease(alloc: Global, list: &[u8], any: &mut u8
     write_prerelease_flag(alloc, list, any)
 }
 
-/// Writes a version that the list contains, and nothing if it contains none that a string denotes.
+/// Writes a version that the list matches literally, and nothing if it matches none that a string denotes.
 #[unsafe(no_mangle)]
 pub extern "C" fn pep440_version_in(
     alloc: Global,
@@ -256,9 +262,9 @@ pub extern "C" fn pep440_ranges(
     write_range(alloc, list, out, written)
 }
 
-/// Writes the range of the list as sort keys, two a segment, and where each of them ends: a version is in the range if its key is at least the first of a segment and below the second.
+/// Writes the set of the list as sort keys, two an interval, and where each of them ends: the set has a version if its key is at least the first of an interval and below the second.
 #[unsafe(no_mangle)]
-pub extern "C" fn pep440_range_keys(
+pub extern "C" fn pep440_boundaries(
     alloc: Global,
     list: &[u8],
     out: &mut [u8],
@@ -266,26 +272,10 @@ pub extern "C" fn pep440_range_keys(
     written: &mut usize,
     count: &mut usize,
 ) -> u8
-    ensures { WritesJoined ⊥ (RejectsListBytes list.now) (LacksRange range_of list.now)
-        (JoinsRangeIntervals range_of list.now) out.old out.new ends.old ends.new written.old written.new count.old count.new result }
+    ensures { WritesJoinedOr (SetFaults (RejectsListBytes list.now) ⊥ (LacksSet list.now)) (JoinsBoundaries list.now)
+        out.old out.new ends.old ends.new written.old written.new count.old count.new result }
 {
-    write_range_keys(alloc, list, out, ends, written, count)
-}
-
-/// Writes the cover of the list as sort keys, as `pep440_range_keys`; a cover has each version that the list contains.
-#[unsafe(no_mangle)]
-pub extern "C" fn pep440_cover_keys(
-    alloc: Global,
-    list: &[u8],
-    out: &mut [u8],
-    ends: &mut [usize],
-    written: &mut usize,
-    count: &mut usize,
-) -> u8
-    ensures { WritesJoined ⊥ (RejectsListBytes list.now) (LacksRange cover_of list.now)
-        (JoinsRangeIntervals cover_of list.now) out.old out.new ends.old ends.new written.old written.new count.old count.new result }
-{
-    write_cover_keys(alloc, list, out, ends, written, count)
+    write_boundaries(alloc, list, out, ends, written, count)
 }
 
 /// Writes the range of the list as bounds, two a segment, and where each of them ends: only 0 for no bound, else 1 for an included or 2 for an excluded version, and its compiled form; for one with a sentinel 4 and its sort key and zeros, as of other versions.
@@ -376,7 +366,7 @@ pub extern "C" fn pep440_build_error(
     write_build_error(alloc, operator, text, star, out, written)
 }
 
-/// Writes a mark for each string, in order: 1 the list contains its version, 3 it does and this is a pre-release or a developmental release, 0 it doesn't, 2 it is no version.
+/// Writes a mark for each string, in order: 1 the list matches its version literally, 3 it does and this is a pre-release or a developmental release, 0 it doesn't, 2 it is no version.
 #[unsafe(no_mangle)]
 pub extern "C" fn pep440_filter(alloc: Global, list: &[u8], texts: &[&[u8]], marks: &mut [u8]) -> u8
     ensures { FilterMarks list.now (map (λ t. t.now) texts.now) marks.old marks.new result }
@@ -384,7 +374,7 @@ pub extern "C" fn pep440_filter(alloc: Global, list: &[u8], texts: &[&[u8]], mar
     write_marks(alloc, list, texts, marks)
 }
 
-/// Writes the index of the newest version that the list contains, and of equal ones the first; strings that are no version are passed over.
+/// Writes the index of the newest version that the list matches literally, and of equal ones the first; strings that are no version are passed over.
 #[unsafe(no_mangle)]
 pub extern "C" fn pep440_newest(
     alloc: Global,

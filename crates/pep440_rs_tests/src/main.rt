@@ -21,7 +21,6 @@ mod sets;
 mod specifier_calls;
 mod version_calls;
 mod version_parsers;
-mod witness;
 
 use specifier_calls::answer_of_specifiers;
 use std::alloc::Global;

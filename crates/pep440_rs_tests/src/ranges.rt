@@ -3,8 +3,7 @@ use crate::matching::{holds, unchecked_argument};
 use crate::parsers::{list_argument, specifier_argument};
 use pep440_rs::{
     RangeError, RangeLines, Ranges, Version, release_specifier_to_range,
-    release_specifiers_to_ranges, specifier_to_cover, specifier_to_range, specifiers_to_cover,
-    specifiers_to_ranges,
+    release_specifiers_to_ranges, specifier_to_range, specifiers_to_ranges,
 };
 use std::alloc::Global;
 use testing::{CaseError, bound_argument, print_value, version_argument};
@@ -49,20 +48,6 @@ pub fn release_range(alloc: Global, text: &str) -> Result<String, CaseError> {
     Ok(found)
 }
 
-/// The cover of the list.
-pub fn cover(alloc: Global, text: &str) -> Result<String, CaseError> {
-    let list = list_argument(alloc, text)?;
-    let is_one = list.as_slice().len() == 1;
-    let found = range_text(alloc, specifiers_to_cover(alloc, list))?;
-    if is_one {
-        let alone = specifier_to_cover(alloc, specifier_argument(alloc, text)?);
-        if range_text(alloc, alone)? != found {
-            return Err(CaseError::Disagreement);
-        }
-    }
-    Ok(found)
-}
-
 /// The range of a specifier that no string gives, after how it prints.
 pub fn unchecked_range(alloc: Global, operator: &str, text: &str) -> Result<String, CaseError> {
     let specifier = unchecked_argument(alloc, operator, text)?;
@@ -87,37 +72,6 @@ pub fn beside(alloc: Global, text: &str, version: &str) -> Result<String, CaseEr
         (false, false) => "neither",
     };
     Ok(String::from_str(alloc, answer)?)
-}
-
-// The names of what holds the version: the list, its range, its cover.
-fn holder_names(contained: bool, in_range: bool, covered: bool) -> &'static str {
-    match (contained, in_range, covered) {
-        (true, true, true) => "contained, in range, covered",
-        (true, false, true) => "contained, covered",
-        (false, true, true) => "in range, covered",
-        (false, false, true) => "covered",
-        (false, false, false) => "none",
-        _ => "not covered",
-    }
-}
-
-/// Whether the list contains the version, its range does, and its cover does.
-pub fn cover_beside(alloc: Global, text: &str, version: &str) -> Result<String, CaseError> {
-    let list = list_argument(alloc, text)?;
-    let version = version_argument(alloc, version)?;
-    let contained = list.contains(alloc, &version)?;
-    let Ok(range) = specifiers_to_ranges(alloc, list) else {
-        return Err(CaseError::OutOfMemory);
-    };
-    let Ok(cover) = specifiers_to_cover(alloc, list_argument(alloc, text)?) else {
-        return Err(CaseError::OutOfMemory);
-    };
-    let names = holder_names(
-        contained,
-        range.contains(&version),
-        cover.contains(&version),
-    );
-    Ok(String::from_str(alloc, names)?)
 }
 
 // The range between two bounds.

@@ -12,14 +12,13 @@ use crate::matching::{
 use crate::operators::{operator, operator_number, operator_of_number};
 use crate::parsers::{list, list_of, members, specifier};
 use crate::ranges::{
-    beside, cover, cover_beside, intersection, range, release_range, unchecked_range,
+    beside, intersection, range, release_range, unchecked_range,
 };
 use crate::requirements::{is_name, requirement, requirement_position, same_names, specifiers_for};
 use crate::sets::{
     allows_literally, complement, literal_version, matches_literally, of_two_sets, set,
     set_contains, version_of_set,
 };
-use crate::witness::version_in;
 use std::alloc::Global;
 use testing::CaseError;
 
@@ -32,9 +31,7 @@ fn of_one(alloc: Global, call: &str, text: &str) -> Result<String, CaseError> {
         "list" => list(alloc, text),
         "members" => members(alloc, text),
         "range" => range(alloc, text),
-        "cover" => cover(alloc, text),
         "release-range" => release_range(alloc, text),
-        "version-in" => version_in(alloc, text),
         "set" => set(alloc, text),
         "set-complement" => complement(alloc, text),
         "set-version" => version_of_set(alloc, text),
@@ -68,7 +65,6 @@ fn of_two(alloc: Global, call: &str, one: &str, other: &str) -> Result<String, C
         "unchecked" => print_unchecked(alloc, one, other),
         "unchecked-range" => unchecked_range(alloc, one, other),
         "beside" => beside(alloc, one, other),
-        "cover-beside" => cover_beside(alloc, one, other),
         "same-names" => same_names(alloc, one, other),
         "specifiers-for" => specifiers_for(alloc, one, other),
         "newest" => newest_candidate(alloc, one, other),

@@ -1,6 +1,0 @@
-use Rattle.std.proofs.Common.{◌≡◌, ◌++◌, ◌-◌, drop}
-use Rattle.pep440_witness.specs.Probes.{just_above}
-use Rattle.pep440_witness.proofs.near.just_above.Given as goal
-
-abbrev pub invariant-loop-place : goal.invariant-loop-place
-invariant-loop-place l = l.numbers.items ++ just_above (l.depth - l.place) (drop l.place l.release) ≡ just_above l.depth l.release

@@ -1,2 +1,0 @@
-pub mod Probes
-pub mod Outlines
