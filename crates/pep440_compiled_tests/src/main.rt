@@ -77,14 +77,15 @@ fn of_library(alloc: Global, call: &str, arguments: &[String]) -> Result<String,
     let given = given.as_slice();
     match call {
         "write_members"
-        | "write_range_keys"
-        | "write_cover_keys"
+        | "write_boundaries"
         | "write_range_bounds"
         | "write_release_range_bounds"
         | "write_sort_keys" => print_joined(alloc, call, given),
         "write_order"
         | "write_match"
         | "write_allowed"
+        | "write_allowed_none"
+        | "write_allowed_all"
         | "write_prerelease_flag"
         | "write_word"
         | "write_newest"

@@ -68,9 +68,14 @@ fn print_match(alloc: Global, list: &[u8], version: &[u8]) -> Result<String, Cas
     print_failure(alloc, status, contained == 7 && prerelease == 7)
 }
 
-fn print_allowed(alloc: Global, list: &[u8], version: &[u8]) -> Result<String, CaseError> {
+fn print_allowed(
+    alloc: Global,
+    list: &[u8],
+    version: &[u8],
+    prereleases: u8,
+) -> Result<String, CaseError> {
     let mut allowed = 9;
-    let status = write_allowed(alloc, list, version, &mut allowed);
+    let status = write_allowed(alloc, list, version, prereleases, &mut allowed);
     print_number(alloc, status, 9, allowed)
 }
 
@@ -78,7 +83,9 @@ fn print_pair(alloc: Global, call: &str, left: &[u8], right: &[u8]) -> Result<St
     match call {
         "write_order" => print_order(alloc, left, right),
         "write_match" => print_match(alloc, left, right),
-        _ => print_allowed(alloc, left, right),
+        "write_allowed_none" => print_allowed(alloc, left, right, 0),
+        "write_allowed_all" => print_allowed(alloc, left, right, 1),
+        _ => print_allowed(alloc, left, right, 2),
     }
 }
 
@@ -217,9 +224,14 @@ fn print_parts(alloc: Global, version: &[u8]) -> Result<String, CaseError> {
 /// The numbers that the call writes, or the status.
 pub fn print_call(alloc: Global, call: &str, given: &[&[u8]]) -> Result<String, CaseError> {
     match (call, given) {
-        ("write_order" | "write_match" | "write_allowed", [left, right]) => {
-            print_forms(alloc, call, left, right)
-        }
+        (
+            "write_order"
+            | "write_match"
+            | "write_allowed"
+            | "write_allowed_none"
+            | "write_allowed_all",
+            [left, right],
+        ) => print_forms(alloc, call, left, right),
         ("write_prerelease_flag", [list]) => print_prerelease_flag(alloc, list),
         ("write_word", [version]) => print_word(alloc, version),
         ("write_newest", [list, texts @ ..]) => print_newest(alloc, list, texts),

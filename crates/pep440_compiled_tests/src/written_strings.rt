@@ -1,8 +1,8 @@
 //! The calls that write strings one after the other, and the end of each.
 use crate::given::{print_failure, push_given};
 use pep440_calls::{
-    write_cover_keys, write_members, write_range_bounds, write_range_keys,
-    write_release_range_bounds, write_sort_keys,
+    write_boundaries, write_members, write_range_bounds, write_release_range_bounds,
+    write_sort_keys,
 };
 use std::alloc::Global;
 use testing::CaseError;
@@ -44,8 +44,7 @@ fn write(
     let (written, count) = (&mut buffers.written, &mut buffers.count);
     Ok(match (call, given) {
         ("write_members", [list]) => write_members(alloc, list, out, ends, written, count),
-        ("write_range_keys", [list]) => write_range_keys(alloc, list, out, ends, written, count),
-        ("write_cover_keys", [list]) => write_cover_keys(alloc, list, out, ends, written, count),
+        ("write_boundaries", [list]) => write_boundaries(alloc, list, out, ends, written, count),
         ("write_range_bounds", [list]) => {
             write_range_bounds(alloc, list, out, ends, written, count)
         }
