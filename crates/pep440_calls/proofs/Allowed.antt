@@ -1,8 +1,9 @@
 -- What a list allows, of bytes that were read and of compiled bytes as they lie.
-use Rattle.std.proofs.Common.{◌≡◌, ◌∙◌, ◌&&◌, ◌||◌, ℕ, List, Bool, true, false, ap, inr, refl, sym}
+use Rattle.std.proofs.Common.{◌≡◌, ◌∙◌, ◌&&◌, ◌||◌, ℕ, zero, suc, List, Bool, true, false, ap, inr, refl, sym}
 use Rattle.std.specs.Prelude.{not}
 use Rattle.pep440_rs.specs.LiteralMatching.{list_allows_literally, list_matches_literally}
 use Rattle.pep440_rs.specs.Matching.{any_prerelease}
+use Rattle.pep440_rs.specs.Prereleases.{requests_prereleases}
 use Rattle.pep440_rs.specs.Specifiers.{Spec}
 use Rattle.pep440_version.specs.Record.{Record}
 use Rattle.pep440_calls.proofs.Once.{one_bytes_list, one_version}
@@ -17,6 +18,21 @@ allows_read list text prereleases l r taken allowed means also asks is = (
       is ∙ ap (λ t. list_allows_literally t l r) asks
       ∙ (λ i. list_allows_literally (takes prereleases (one_bytes_list list l m means first i)) (one_bytes_list list l m means first i) (one_version text r q also second i)),
 )
+
+-- ---- whether pre-releases are taken
+
+pub takes_none : (n : ℕ) (l : List Spec) → n ≡ 0 → false ≡ takes n l
+takes_none n l e = ap (λ k. takes k l) (sym e)
+
+pub takes_all : (n : ℕ) (l : List Spec) → n ≡ 1 → true ≡ takes n l
+takes_all n l e = ap (λ k. takes k l) (sym e)
+
+pub takes_asked : (n : ℕ) (l : List Spec) → (n ≡ 0 → ⊥) → (n ≡ 1 → ⊥) → requests_prereleases l ≡ takes n l
+takes_asked zero l some more = absurd (some refl)
+takes_asked (suc zero) l some more = absurd (more refl)
+takes_asked (suc (suc n)) l some more = refl
+
+-- ---- of compiled forms
 
 no_match : (taken matched early : Bool) → matched ≡ false → (taken || not early) && matched ≡ false
 no_match true true early e = e

@@ -1,8 +1,8 @@
 -- Bytes that are a string or a compiled form: what is read of each, and what is found in compiled bytes as they lie.
-use Rattle.std.proofs.Common.{◌≡◌, ◌∙◌, ℕ, List, Bool, ap, codes, inl, inr, refl}
-use Rattle.std.specs.Prelude.{Err, Ok, Result}
+use Rattle.std.proofs.Common.{◌≡◌, ◌∙◌, ℕ, List, Bool, ap, arith, codes, inl, inr, refl, sym}
+use Rattle.std.specs.Prelude.{Err, Ok, Result, slice_get, unwrap_or}
 use Rattle.std.specs.declared.cmp.Ordering.{Ordering}
-use Rattle.pep440_compiled.specs.Lists.{DenotesList, HasListFormat}
+use Rattle.pep440_compiled.specs.Lists.{DenotesList, DenotesWithSet, HasListFormat, HasSetFormat}
 use Rattle.pep440_compiled.specs.Version.{DenotesVersion, HasVersionFormat}
 use Rattle.pep440_rs.specs.Matching.{any_prerelease, list_matches}
 use Rattle.pep440_rs.specs.Specifiers.{Spec}
@@ -69,6 +69,17 @@ compiled_list_read bytes format (Err fault.NoSet) h = h
 pub as_compiled_list : (bytes : List ℕ) (l : List Spec) → HasListFormat bytes → BytesDenoteList bytes l → DenotesList bytes l
 as_compiled_list bytes l format (inl (plain, means)) = absurd (plain format)
 as_compiled_list bytes l format (inr d) = d
+
+-- of bytes that begin as a list with its set
+pub as_set_list : (bytes : List ℕ) (l : List Spec) → HasSetFormat bytes → BytesDenoteList bytes l → DenotesWithSet bytes l
+as_set_list bytes l format means = go (as_compiled_list bytes l (inr format) means)
+  where
+    go : DenotesList bytes l → DenotesWithSet bytes l
+    go (inl d) = absurd (omega (arith, ap (λ o. unwrap_or o 0) (sym format ∙ ap (λ b. slice_get b 0) d.same)))
+    go (inr d) = d
+
+pub no_set_list : (bytes : List ℕ) → HasSetFormat bytes → ((l : List Spec) → DenotesWithSet bytes l → ⊥) → RejectsListBytes bytes
+no_set_list bytes format none = no_compiled_list bytes (inr format) (λ l d. none l (as_set_list bytes l format (inr d)))
 
 -- ---- what calls find
 

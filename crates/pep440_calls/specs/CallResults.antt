@@ -1,7 +1,7 @@
 -- What each call on one version or one list, or on one of each, returns.
 use Rattle.std.specs.List.{flat_map, list_any}
 use Rattle.std.specs.Option.{option_map_or}
-use Rattle.std.specs.Prelude.{◌≡◌, ◌⊎◌, ℕ, suc, false, true, ℤ, pos, negsuc, List, [], ◌∷◌, ◌++◌, codes, Bool, Option, Some, None, length, is_some, if◌then◌else◌, Result, Ok, Err}
+use Rattle.std.specs.Prelude.{◌≡◌, ◌⊎◌, ℕ, zero, suc, false, true, ℤ, pos, negsuc, List, [], ◌∷◌, ◌++◌, codes, Bool, Option, Some, None, length, is_some, if◌then◌else◌, Result, Ok, Err}
 use Rattle.std.specs.declared.cmp.Ordering.{Ordering}
 use Rattle.std.specs.declared.cmp.Ordering.TheVariants.{Less, Equal, Greater}
 use Rattle.pep440_compiled.specs.Lists.{HasListFormat, IsListForm}
@@ -165,8 +165,8 @@ IsCompiledList text bytes = (list : List Spec) × BytesDenoteList text list × I
 
 -- whether pre-releases and developmental releases are taken: 0 no, 1 yes, and else if the list asks for them
 abbrev pub takes : ℕ → List Spec → Bool
-takes 0 list = false
-takes 1 list = true
+takes zero list = false
+takes (suc zero) list = true
 takes (suc (suc n)) list = requests_prereleases list
 
 -- whether the list matches the version literally, if the bytes denote them
