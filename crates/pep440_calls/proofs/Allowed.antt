@@ -1,6 +1,6 @@
 -- What a list allows, of bytes that were read and of compiled bytes as they lie.
 use Rattle.std.proofs.Common.{◌≡◌, ◌∙◌, ◌&&◌, ◌||◌, ℕ, zero, suc, List, Bool, true, false, ap, inr, refl, sym}
-use Rattle.std.specs.Prelude.{not}
+use Rattle.std.specs.Prelude.{Err, Ok, Result, not}
 use Rattle.pep440_rs.specs.LiteralMatching.{list_allows_literally, list_matches_literally}
 use Rattle.pep440_rs.specs.Matching.{any_prerelease}
 use Rattle.pep440_rs.specs.Prereleases.{requests_prereleases}
@@ -9,6 +9,8 @@ use Rattle.pep440_version.specs.Record.{Record}
 use Rattle.pep440_calls.proofs.Once.{one_bytes_list, one_version}
 use Rattle.pep440_calls.specs.CallResults.{Allows, IsPrerelease, Matches, Takes, takes}
 use Rattle.pep440_calls.specs.CallerBytes.{BytesDenote, BytesDenoteList}
+use Rattle.pep440_calls.specs.Statuses.{HoldsOr}
+use Rattle.pep440_calls.specs.declared.fault.Fault.{Fault}
 
 -- of a list and a version that were read
 pub allows_read : (list text : List ℕ) (prereleases : ℕ) (l : List Spec) (r : Record) (taken allowed : Bool) → BytesDenoteList list l → BytesDenote text r → taken ≡ takes prereleases l → allowed ≡ list_allows_literally taken l r → Allows list text prereleases allowed
@@ -31,6 +33,11 @@ pub takes_asked : (n : ℕ) (l : List Spec) → (n ≡ 0 → ⊥) → (n ≡ 1 �
 takes_asked zero l some more = absurd (some refl)
 takes_asked (suc zero) l some more = absurd (more refl)
 takes_asked (suc (suc n)) l some more = refl
+
+-- what holds of what is given implies something else
+pub holds_more : {X : Type 0} (Cause : Fault → Type 0) (P Q : X → Type 0) (result : Result X Fault) → ((x : X) → P x → Q x) → HoldsOr Cause P result → HoldsOr Cause Q result
+holds_more Cause P Q (Ok x) f h = f x h
+holds_more Cause P Q (Err e) f h = h
 
 -- ---- of compiled forms
 

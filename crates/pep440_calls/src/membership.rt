@@ -2,7 +2,7 @@
 ghost use Rattle.std.specs.Prelude.{List, ℕ};
 ghost use Rattle.pep440_compiled.specs.Lists.{HasListFormat, HasSetFormat};
 ghost use Rattle.pep440_compiled.specs.Version.{HasVersionFormat};
-ghost use Rattle.pep440_calls.specs.CallResults.{Allows, AllowsResult, Contains, ContainsResult, IsPrerelease, Matches, RejectsSecond, Takes};
+ghost use Rattle.pep440_calls.specs.CallResults.{Allows, AllowsResult, Contains, ContainsResult, IsPrerelease, Matches, RejectsSecond, Takes, takes};
 ghost use Rattle.pep440_calls.specs.CallerBytes.{RejectsListBytes};
 ghost use Rattle.pep440_calls.specs.Statuses.{HoldsOrFaults};
 
@@ -10,6 +10,7 @@ use crate::buffer::{OK, flag};
 use crate::fault::Fault;
 use crate::read::{read, read_list};
 use pep440_compiled::{ContainsError, has_list_format, has_set_format, has_version_format};
+use pep440_rs::VersionSpecifiers;
 use std::alloc::Global;
 
 // Writes whether a list contains a version, and whether this is a pre-release or a developmental release.
@@ -134,7 +135,7 @@ fn is_early(list: &[u8], version: &[u8]) -> Result<bool, Fault>
     }
 }
 
-// Whether pre-releases are taken.
+// Whether pre-releases are taken of a compiled list with its set.
 fn takes(list: &[u8], prereleases: u8) -> Result<bool, Fault>
     requires { HasSetFormat list.now }
     ensures { (version : List ℕ) → HoldsOrFaults (RejectsSecond list.now version) (RejectsListBytes list.now) ⊥ (Takes list.now prereleases) result }
@@ -164,6 +165,17 @@ fn allows_compiled(list: &[u8], version: &[u8], prereleases: u8) -> Result<bool,
     takes(list, prereleases)
 }
 
+// Whether pre-releases are taken of a list that was read.
+fn are_taken(list: &VersionSpecifiers, prereleases: u8) -> bool
+    ensures { result ≡ takes prereleases list.now }
+{
+    match prereleases {
+        0 => false,
+        1 => true,
+        _ => list.requests_prereleases(),
+    }
+}
+
 // Whether the list allows the version that the bytes denote.
 fn allows(alloc: Global, list: &[u8], bytes: &[u8], prereleases: u8) -> Result<bool, Fault>
     ensures { HoldsOrFaults (RejectsSecond list.now bytes.now) (RejectsListBytes list.now) ⊥ (Allows list.now bytes.now prereleases) result }
@@ -173,10 +185,6 @@ fn allows(alloc: Global, list: &[u8], bytes: &[u8], prereleases: u8) -> Result<b
     }
     let specifiers = read_list(alloc, list)?;
     let version = read(alloc, bytes)?;
-    let takes = match prereleases {
-        0 => false,
-        1 => true,
-        _ => specifiers.requests_prereleases(),
-    };
-    Ok(specifiers.allows_literally(alloc, takes, &version)?)
+    let taken = are_taken(&specifiers, prereleases);
+    Ok(specifiers.allows_literally(alloc, taken, &version)?)
 }
