@@ -1,5 +1,5 @@
 //! Whether a list contains or allows a version.
-ghost use Rattle.std.specs.Prelude.{List, ℕ};
+ghost use Rattle.std.specs.Prelude.{List, ℕ, ◌≡◌};
 ghost use Rattle.pep440_compiled.specs.Lists.{HasListFormat, HasSetFormat};
 ghost use Rattle.pep440_compiled.specs.Version.{HasVersionFormat};
 ghost use Rattle.pep440_calls.specs.CallResults.{Allows, AllowsResult, Contains, ContainsResult, IsPrerelease, Matches, RejectsSecond, Takes, takes};
