@@ -129,9 +129,8 @@ def test_estimators(server):
     db.rows("CREATE DOMAIN numbered AS pep440; CREATE TABLE numbers AS SELECT version::numbered, version::text AS written FROM held; ANALYZE numbers")
     for specs in ("==1.7", "<1.100"):
         assert estimate_of(db, f"version <@ '{specs}'", "numbers") == estimate_of(db, f"version <@ '{specs}'") < 200, specs
-    db.rows("CREATE FUNCTION folded(text, pep440) RETURNS boolean LANGUAGE plpgsql IMMUTABLE AS 'BEGIN RETURN lower($1) < $2::text; END'")
-    db.rows("CREATE OPERATOR %%% (LEFTARG = text, RIGHTARG = pep440, FUNCTION = folded, RESTRICT = pep440_specs_contains_selectivity)")
-    assert estimate_of(db, "written %%% '1.1'", "numbers") < 200
+    db.rows("CREATE OPERATOR %%% (LEFTARG = text, RIGHTARG = text, FUNCTION = text_lt, RESTRICT = pep440_specs_contains_selectivity)")
+    assert estimate_of(db, "written %%% '1.1'", "numbers") < 10
     db.close()
     assert server.is_sound()
     return f"constants of {len(constants)} types, and columns of a domain and of strings"
