@@ -70,7 +70,7 @@ def plant(owner, schema, traps, created):
 
 
 def test_traps(server):
-    """Whoever installs or updates the extension, in a schema whose owner has planted traps of all names in it, in `public` and of types in `pg_temp`: none is sprung."""
+    """Whoever installs or updates the extension, in a schema whose owner has planted traps of all names in it and in `public`, and of types in `pg_temp`: none is sprung."""
     db = server.connect()
     created = {(name, tuple(types.split(", "))) for name, types in db.rows(CREATED)}
     variadic = {name for (name,) in db.rows("SELECT proname FROM pg_proc WHERE provariadic = '\"any\"'::regtype")}
@@ -86,7 +86,7 @@ def test_traps(server):
         count += plant(owner, schema, itertools.chain(function_traps(schema, TYPES, set(TYPES), variadic), operator_traps(schema, TYPES, set(TYPES)), type_traps(schema, kinds)), created)
     owner.rows("SELECT own.pep440_key(''::text)")
     assert "sprung: pep440_key, as hostile" in owner.notices.pop()
-    count += plant(owner, "pg_temp", type_traps("pg_temp", kinds), created)
+    count += plant(owner, "pg_temp", itertools.chain(operator_traps("pg_temp", TYPES, set(TYPES)), type_traps("pg_temp", kinds)), created)
     for installer, schema in itertools.product((owner, superuser), ("own", "public")):
         for command in (f"CREATE EXTENSION pep440 SCHEMA {schema}", "DROP EXTENSION pep440", f"CREATE EXTENSION pep440 SCHEMA {schema} VERSION '0.2'"):
             installer.rows(command)
