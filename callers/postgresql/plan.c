@@ -43,9 +43,10 @@ static List *constant_conditions(Oid family, Node *version, Oid type, const Cons
 /* A call of a function of the extension that takes the list and returns a key. */
 static Expr *make_call(Oid beside, const char *name, Node *list)
 {
-    Oid type = exprType(list);
-    List *names = list_make2(makeString(get_namespace_name(get_func_namespace(beside))), makeString(pstrdup(name)));
-    Oid function = LookupFuncName(names, 1, &type, true);
+    Oid type = exprType(list), function = InvalidOid;
+    char *schema = get_namespace_name(get_func_namespace(beside)); /* NULL where another session moved the extension just now */
+    if (schema != NULL)
+        function = LookupFuncName(list_make2(makeString(schema), makeString(pstrdup(name))), 1, &type, true);
     if (!OidIsValid(function))
         return NULL;
     return (Expr *)makeFuncExpr(function, BYTEAOID, list_make1(list), InvalidOid, InvalidOid, COERCE_EXPLICIT_CALL);
@@ -105,7 +106,7 @@ enum { NOT_KNOWN = -1 };
 static double intervals_selectivity(PlannerInfo *root, int relation, VariableStatData *variable, const Cover *cover)
 {
     bool is_guess;
-    Oid type = exprType(variable->var);
+    Oid type = getBaseType(exprType(variable->var));
     Oid family = lookup_type_cache(type, TYPECACHE_BTREE_OPFAMILY)->btree_opf;
     double sum = 0, least = 1 / get_variable_numdistinct(variable, &is_guess);
     for (size_t each = 0; each < cover->count && sum < 1; each += 2) {
@@ -129,7 +130,7 @@ static bool is_list_type(Oid type)
 
 /* Of a column of lists and a version that is known: the lists of the statistics are asked. Of a column of versions and a list that is known: the
    intervals of its cover. */
-static double known_selectivity(PlannerInfo *root, Oid operator, List *arguments, int relation, bool version_is_first)
+static double known_selectivity(PlannerInfo *root, Oid operator, Oid collation, List *arguments, int relation, bool version_is_first)
 {
     VariableStatData variable;
     Node *list;
@@ -140,7 +141,7 @@ static double known_selectivity(PlannerInfo *root, Oid operator, List *arguments
         return NOT_KNOWN;
     bool is_known = IsA(list, Const) && is_left == version_is_first && is_list_type(exprType(list));
     if (is_left != version_is_first)
-        found = generic_restriction_selectivity(root, operator, InvalidOid, arguments, relation, DEFAULT_RANGE_INEQ_SEL);
+        found = generic_restriction_selectivity(root, operator, collation, arguments, relation, DEFAULT_RANGE_INEQ_SEL);
     else if (is_known && ((Const *)list)->constisnull)
         found = 0;
     else if (is_known && cover_of(list_of(PG_DETOAST_DATUM_PACKED(((Const *)list)->constvalue)), &cover) == PEP440_OK)
@@ -152,7 +153,8 @@ static double known_selectivity(PlannerInfo *root, Oid operator, List *arguments
 static Datum selectivity(FunctionCallInfo fcinfo, bool version_is_first)
 {
     PlannerInfo *root = (PlannerInfo *)PG_GETARG_POINTER(0);
-    double found = known_selectivity(root, PG_GETARG_OID(1), (List *)PG_GETARG_POINTER(2), PG_GETARG_INT32(3), version_is_first);
+    List *arguments = (List *)PG_GETARG_POINTER(2);
+    double found = known_selectivity(root, PG_GETARG_OID(1), PG_GET_COLLATION(), arguments, PG_GETARG_INT32(3), version_is_first);
     if (found == NOT_KNOWN)
         found = DEFAULT_RANGE_INEQ_SEL;
     CLAMP_PROBABILITY(found);

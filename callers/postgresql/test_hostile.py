@@ -65,12 +65,12 @@ def type_traps(schema, kinds):
 def plant(owner, schema, traps, created):
     """Makes the traps, but for those that would only keep the extension from being installed."""
     commands = [command for name, signature, command in traps if (name, signature) not in created]
-    owner.rows(f"SET check_function_bodies = off; SET search_path = {schema};" + ";".join(commands) + "; RESET ALL")
+    owner.rows(f"SET check_function_bodies = off; SET search_path = pg_catalog, {schema}, pg_temp;" + ";".join(commands) + "; RESET ALL")
     return len(commands)
 
 
 def test_traps(server):
-    """Whoever installs or updates the extension, in a schema whose owner has planted traps of all names in it and in `public`: none is sprung."""
+    """Whoever installs or updates the extension, in a schema whose owner has planted traps of all names in it and in `public`, and of types in `pg_temp`: none is sprung."""
     db = server.connect()
     created = {(name, tuple(types.split(", "))) for name, types in db.rows(CREATED)}
     variadic = {name for (name,) in db.rows("SELECT proname FROM pg_proc WHERE provariadic = '\"any\"'::regtype")}
@@ -86,6 +86,7 @@ def test_traps(server):
         count += plant(owner, schema, itertools.chain(function_traps(schema, TYPES, set(TYPES), variadic), operator_traps(schema, TYPES, set(TYPES)), type_traps(schema, kinds)), created)
     owner.rows("SELECT own.pep440_key(''::text)")
     assert "sprung: pep440_key, as hostile" in owner.notices.pop()
+    count += plant(owner, "pg_temp", itertools.chain(operator_traps("pg_temp", TYPES, set(TYPES)), type_traps("pg_temp", kinds)), created)
     for installer, schema in itertools.product((owner, superuser), ("own", "public")):
         for command in (f"CREATE EXTENSION pep440 SCHEMA {schema}", "DROP EXTENSION pep440", f"CREATE EXTENSION pep440 SCHEMA {schema} VERSION '0.2'"):
             installer.rows(command)
@@ -105,8 +106,8 @@ def test_traps(server):
     return f"{count} traps, none sprung by its owner's or a superuser's install or update"
 
 
-def estimate_of(db, condition):
-    return int(re.search(r"rows=(\d+)", db.value(f"EXPLAIN SELECT * FROM held WHERE {condition}"))[1])
+def estimate_of(db, condition, table="held"):
+    return int(re.search(r"rows=(\d+)", db.value(f"EXPLAIN SELECT * FROM {table} WHERE {condition}"))[1])
 
 
 def test_estimators(server):
@@ -125,9 +126,14 @@ def test_estimators(server):
             estimate_of(db, condition)
         wanted = estimate_of(db, f"version <@ '{constant}'") if kind == "named" else 5
         assert found == [wanted, wanted], (kind, found, wanted)
+    db.rows("CREATE DOMAIN numbered AS pep440; CREATE TABLE numbers AS SELECT version::numbered, version::text AS written FROM held; ANALYZE numbers")
+    for specs in ("==1.7", "<1.100"):
+        assert estimate_of(db, f"version <@ '{specs}'", "numbers") == estimate_of(db, f"version <@ '{specs}'") < 200, specs
+    db.rows("CREATE OPERATOR %%% (LEFTARG = text, RIGHTARG = text, FUNCTION = text_lt, RESTRICT = pep440_specs_contains_selectivity)")
+    assert estimate_of(db, "written %%% '1.1'", "numbers") < 10
     db.close()
     assert server.is_sound()
-    return f"constants of {len(constants)} types"
+    return f"constants of {len(constants)} types, and columns of a domain and of strings"
 
 
 def damaged(rng):

@@ -39,14 +39,20 @@ static int is_read(const Specifiers *self)
     return self->said != NULL;
 }
 
-/* Drops what was read, and what was made of it; whom this wakes finds nothing read, and may read another string. */
-static inline void drop_read(Specifiers *self)
+/* Drops what was compiled. */
+static inline void drop_list(Specifiers *self)
 {
-    PyObject *said = self->said, *text = self->text, *members = self->members, *canonical = self->canonical;
     if (self->compiled && self->compiled != self->few)
         free(self->compiled);
     self->compiled = NULL;
     self->length = 0;
+}
+
+/* Drops what was read, and what was made of it; whom this wakes finds nothing read, and may read another string. */
+static void drop_read(Specifiers *self)
+{
+    PyObject *said = self->said, *text = self->text, *members = self->members, *canonical = self->canonical;
+    drop_list(self);
     self->said = self->text = self->members = self->canonical = NULL;
     Py_XDECREF(said);
     Py_XDECREF(text);
@@ -99,8 +105,13 @@ static void specifiers_free(Specifiers *self)
     PyObject_GC_UnTrack(self);
     if (self->references)
         PyObject_ClearWeakRefs((PyObject *)self);
+    /* one by one, which is quicker: nobody has it any more */
     Py_CLEAR(self->attributes);
-    drop_read(self);
+    drop_list(self);
+    Py_CLEAR(self->said);
+    Py_CLEAR(self->text);
+    Py_CLEAR(self->members);
+    Py_CLEAR(self->canonical);
     /* one of a subclass may be longer */
     if (((PyObject *)type != member_class && (PyObject *)type != set_class) || !is_kept(&spare_specifiers, (PyObject *)self))
         PyObject_GC_Del(self);
