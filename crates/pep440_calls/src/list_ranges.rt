@@ -13,9 +13,7 @@ use crate::joined_strings::JoinedStrings;
 use crate::read::read_list;
 use pep440_compiled::push_compiled_form;
 use pep440_ranges::Ranges;
-use pep440_rs::{
-    RangeLines, Version, release_specifiers_to_ranges, specifiers_to_ranges,
-};
+use pep440_rs::{RangeLines, Version, release_specifiers_to_ranges, specifiers_to_ranges};
 use std::alloc::{AllocError, Global};
 use std::ops::Bound;
 

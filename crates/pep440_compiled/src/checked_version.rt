@@ -8,7 +8,7 @@ ghost use Rattle.pep440_version.specs.Record.{Fits, LocalSegmentValue, Record, S
 ghost use Rattle.pep440_version.specs.RoundTrip.{SegmentRoundTrips};
 ghost use Rattle.pep440_version.specs.Key.Trim.{trim};
 
-use crate::decode::{read_whole_number, read_number, read_suffix, split_text};
+use crate::decode::{read_number, read_suffix, read_whole_number, split_text};
 use crate::parsed::is_normal_string;
 use crate::views::view_version;
 use pep440_version::Prerelease;

@@ -53,7 +53,7 @@ fn prepend_set(alloc: Global, set: &Ranges<Version>, members: &[u8]) -> Result<V
     Ok(bytes)
 }
 
-/// The compiled form of a list: its set and its members, or, with `===`, which has no set, the members alone. `NotParsed` if no string
+/// The compiled form of a list: its set and its members, or, with `===`, which has no set, just the members. `NotParsed` if no string
 /// denotes some member.
 ///
 /// Allocates.

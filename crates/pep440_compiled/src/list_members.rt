@@ -78,7 +78,10 @@ fn push_member(bytes: &mut Vec<u8>, member: &VersionSpecifier) -> Result<(), All
 }
 
 // The members of a list; `NotParsed` if no string denotes some member.
-pub(crate) fn compile_members(alloc: Global, list: &VersionSpecifiers) -> Result<Vec<u8>, CompileError>
+pub(crate) fn compile_members(
+    alloc: Global,
+    list: &VersionSpecifiers,
+) -> Result<Vec<u8>, CompileError>
     ensures ok { IfOk result (λ bytes. DenotesMembers bytes.items list.now) }
     ensures err { IfErr result (λ e. e ≡ NotParsed → All IsParsedOperand list.now → ⊥) }
 {

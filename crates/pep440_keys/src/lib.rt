@@ -28,8 +28,8 @@ mod range_intervals;
 mod sink;
 
 pub use interval::KeyInterval;
-pub use number_bytes::push_number;
 pub use key_bytes::{push_sort_key, sort_key};
+pub use number_bytes::push_number;
 pub use parts_key::push_parts_key;
 pub use range_intervals::{range_keys, segment_keys};
 pub use sink::KeySink;

@@ -11,9 +11,7 @@ use crate::matching::{
 };
 use crate::operators::{operator, operator_number, operator_of_number};
 use crate::parsers::{list, list_of, members, specifier};
-use crate::ranges::{
-    beside, intersection, range, release_range, unchecked_range,
-};
+use crate::ranges::{beside, intersection, range, release_range, unchecked_range};
 use crate::requirements::{is_name, requirement, requirement_position, same_names, specifiers_for};
 use crate::sets::{
     allows_literally, complement, literal_version, matches_literally, of_two_sets, set,

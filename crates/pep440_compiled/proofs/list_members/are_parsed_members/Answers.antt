@@ -9,7 +9,7 @@ pub loop-member-preserved : goal.loop-member-preserved
 loop-member-preserved c =
     let holds : c.is_parsed_member.result ≡ true = cc in
     more_holds IsParsedMember c.args.members.now c.loop-member.member-index c.member-item.result c.member-item.is c.loop-member-test.true c.loop-member.invariant (
-      let both = c.is_parsed_member.ensures.tells.0 holds in record { valid = c.is_parsed_member.ensures.valid; version = both.0; operand = both.1 }
+    let both = c.is_parsed_member.ensures.tells.0 holds in record { valid = c.is_parsed_member.ensures.valid; version = both.0; operand = both.1 }
     )
 
 pub returns-clause-members : goal.returns-clause-members

@@ -10,7 +10,7 @@ use Rattle.pep440_keys.specs.RangeKeys.{segment_interval}
 pub loop-interval-preserved : goal.loop-interval-preserved
 loop-interval-preserved c = (
   c.in_ok-push_interval.ensures.bytes ∙ ap (λ l. l ++ interval_bytes c.interval-item.result) c.loop-interval.invariant.0
-  ∙ sym (more_written interval_bytes c.deref-interval-items.result.now c.loop-interval.interval-index c.interval-item.result c.interval-item.is c.loop-interval-test.true),
+      ∙ sym (more_written interval_bytes c.deref-interval-items.result.now c.loop-interval.interval-index c.interval-item.result c.interval-item.is c.loop-interval-test.true),
   more_holds IsSizedInterval c.deref-interval-items.result.now c.loop-interval.interval-index c.interval-item.result c.interval-item.is c.loop-interval-test.true c.loop-interval.invariant.1 c.in_ok-push_interval.ensures.sizes,
 )
 
