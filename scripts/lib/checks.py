@@ -1,5 +1,6 @@
 """The checks that need no program: each yields a line for each fault."""
 import collections
+import functools
 import itertools
 import math
 import os
@@ -284,24 +285,23 @@ def check_english():
                 yield "\n".join([f"{kind}: `{mark}` {len(places)} times in {words:,} words, at most {most}:", *places])
 
 
-# ---- the list of swept calls
+# ---- swept calls
 
 
 def allocating_calls(crate):
-    """Each public call that is passed the allocator, and each `clone` of a public type that is not `Copy`, and whether it returns a `Result`."""
+    """Each public call that is passed the allocator, and each `clone` of a public type that is not `Copy`."""
     names, its_modules = exports(crate)
     for source in sources(crate):
         is_public = source.path.relative_to(TOP / "crates" / crate / "src").with_suffix("").parts[0] in its_modules
-        yield from ((f"{it.owner}::clone", True) for it in source.blocks if it.trait == "Clone" and it.owner in names)
+        yield from (f"{it.owner}::clone" for it in source.blocks if it.trait == "Clone" and it.owner in names)
         for derived, kind in re.findall(r"^#\[derive\(([^)]*)\)\]\n(?:#.*\n)*pub (?:struct|enum) (\w+)", source.text, re.M):
             if kind in names and "Clone" in derived.split(", ") and "Copy" not in derived.split(", "):
-                yield f"{kind}::clone", True
+                yield f"{kind}::clone"
         for it in source.functions:
-            signature = source.signature(it)
             is_own = it.block and not it.block.trait and source.code.startswith("impl", it.block.start)
             is_offered = is_own and it.block.owner in names if it.block else is_public or it.name in names
-            if it.is_public and is_offered and "alloc: Global" in signature:
-                yield f"{it.block.owner}::{it.name}" if it.block else it.name, "-> Result<" in signature
+            if it.is_public and is_offered and "alloc: Global" in source.signature(it):
+                yield f"{it.block.owner}::{it.name}" if it.block else it.name
 
 
 def items_of(text):
@@ -315,9 +315,9 @@ def items_of(text):
     return found
 
 
-def reached(name, items):
-    """The text of an item with those of all that it names in turn."""
-    texts, left = {}, [name]
+def reached(text, items):
+    """The text with those of all that it names in turn."""
+    texts, left = {"": text}, re.findall(r"\w+", text)
     while left:
         name = left.pop()
         if name not in texts and name in items:
@@ -326,63 +326,41 @@ def reached(name, items):
     return "".join(texts.values())
 
 
+# The name of a case, and what answers it.
+ARM = re.compile(r'"([\w-]+)"(?:, [^)\n]*\))? => (.*?)(?=\n +(?:\(?"|_ |\(_)|\n +\}\n)', re.S)
+
+
+@functools.cache
 def sweeps_of(crate):
-    """Each test `sweep_..` of the crate by its path, with its text and that of what it calls in its file and the modules that this one uses; and each
-    name of a case of the program by `case::NAME`, with the texts of the program and of what its like share."""
-    top, found = TOP / "crates" / crate / "src", {}
-    texts = {path.relative_to(top).with_suffix("").parts: text_of(path) for path in files(crate, "src")}
-    for module, text in texts.items():
-        used = set(re.findall(r"\w+", " ".join(re.findall(r"^use (?:crate|super)::([^;{]*)", text, re.M))))
-        items = items_of(text + "".join(it for name, it in texts.items() if name[-1] in used))
-        found.update((f"{'::'.join(module)}::{name}", reached(name, items)) for name in re.findall(r"^#\[test\]\nfn (sweep_\w+)", text, re.M))
-    stdin = TOP / "crates" / crate / "stdin"
-    if stdin.exists():
-        text = "".join([*texts.values(), *map(text_of, files("testing", "src"))])
-        names = {line.split("\t")[0] for line in text_of(stdin).splitlines() if "\t" in line and not line.startswith("#")}
-        found.update((f"case::{name}", text) for name in names if f'"{name}"' in text)
-    return found
+    """For each test `sweep_..` of the crate and each case that its `stdin` has: the text of what it calls in turn, in the crate and in `testing`."""
+    own, stdin = "".join(map(text_of, files(crate, "src"))), TOP / "crates" / crate / "stdin"
+    items = items_of(own + "".join(map(text_of, files("testing", "src"))))
+    cases = re.findall(r"^[\w-]+(?=\t)", text_of(stdin), re.M) if stdin.exists() else []
+    arms = [arm for name, arm in ARM.findall(own) if name in cases]
+    return [reached(it, items) for it in [*arms, *re.findall(r"^#\[test\]\nfn (sweep_\w+)", own, re.M)]]
 
 
-def callers(crate, above, word):
-    """The public calls of files of the crate that name this one, and all of the crate above if a file of it does."""
-    texts = [text_of(path) for path in files(crate, "src")]
-    found = [it for it in texts if re.search(rf"(?<!fn )\b{word}\(", it) and f"fn {word}" not in it]
-    others = [text_of(path) for path in files(above, "src")] if above else []
-    found += others * any(re.search(rf"\b{word}\(", it) for it in others)
-    return [call for text in found for call in re.findall(r"^pub fn (\w+)", text, re.M)]
-
-
-def sweep_faults(crate, above, name, tests, sweeps, returns_result):
-    """What is wrong with the tests that are written beside a call."""
-    if tests == ["none"]:
-        yield from ["is said to take none, and returns a Result"] * returns_result
-        return
-    word = name.split("::")[-1]
-    for test in tests:
-        words = [word, *(callers(crate, above, word) if test.startswith("case::") else [])]
-        if test not in sweeps:
-            yield f"is swept by {test}, which is no test"
-        elif not any(re.search(rf"\b{it}\b", sweeps[test]) for it in words):
-            yield f"is not called by {test}"
+def is_swept(crate, call, asked=()):
+    """Whether a sweep names the call, or a file has a public call that is swept and names this one. Of a crate that no crate of tests names: a crate above it."""
+    owner, _, word = call.rpartition("::")
+    # of a clone: the type, in itself or in another
+    named = re.compile(rf"\b{owner}\b" if word == "clone" else rf"(?<!fn )\b{word}\(")
+    tests = [it for it, other in crates().items() if crate in other.uses and (it == "examples" or other.is_of_tests)]
+    if any(named.search(text) and word in text for it in tests for text in sweeps_of(it)):
+        return True
+    for above in [crate] if tests else [it for it in libraries() if it == crate or crate in crates()[it].uses]:
+        texts = [text_of(path) for path in code_of(above)]
+        naming = [it for it in texts if named.search(it)]
+        callers = re.findall(r"^ *pub fn (\w+)", "".join(texts if naming and above != crate else naming), re.M)
+        if any(is_swept(above, it, (*asked, call)) for it in callers if it not in (*asked, word)):
+            return True
+    return False
 
 
 def check_swept():
-    """Each public call that allocates has a test that makes its allocations fail: those that scripts/swept.txt lists, else the cases of its name.
+    """Each public call that allocates is made by a test `sweep_..` or by a test case, of which `scripts/sweep` makes each allocation fail.
 
     Left out are crates of tests, programs, and the exports to C, each one call of a library: callers/c/tests/sweep.c sweeps them.
     """
-    listed, heads = collections.defaultdict(dict), {}
-    for line in (line.partition("#")[0].rstrip() for line in text_of("scripts/swept.txt").splitlines()):
-        first, *others = line.split() or [""]
-        if not line.startswith(" "):
-            crate, heads[first] = first, " ".join(others[1:]).partition(" through ")
-            continue
-        for name in others:
-            listed[crate].setdefault(name, []).append(first.removesuffix(":"))
     for crate in libraries():
-        calls, (by, _, above) = dict(allocating_calls(crate)), heads.get(crate, ("", "", ""))
-        sweeps = {name: text for it in by.split() for name, text in sweeps_of(it).items()}
-        yield from (f"{crate}: {name} is listed, and is not in the sources" for name in listed[crate] if name not in calls)
-        for name, returns_result in calls.items():
-            tests = listed[crate].get(name) or [f"case::{name}"]
-            yield from (f"{crate}: {name} {it}" for it in sweep_faults(crate, above, name, tests, sweeps, returns_result))
+        yield from (f"{crate}: {it} is made by no sweep" for it in allocating_calls(crate) if not is_swept(crate, it))

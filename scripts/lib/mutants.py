@@ -1,8 +1,8 @@
 """Mutants, wrong code that the prover must reject: how they are read, and put into the sources of a crate.
 
-A file more-edits/MODULE.edits has the mutants of src/MODULE.rt in the order of the source: a line `file: src/MODULE.rt`, then for each a line
-`mutant: NAME`, lines `old: TEXT` and `new: TEXT`, and a comment, `# differs: INPUT` or `# no input: WHY`. A line `file: FILE` in a mutant holds to
-its end. A file NAME.edit is one mutant, as `rt must-fail` reads those of must-fail/.
+A file more-edits/MODULE.edits has the mutants of src/MODULE.rt, and of the modules in it, in the order of the source: a line `file: src/MODULE.rt` and
+an empty one, then for each a line `mutant: NAME`, lines `old: TEXT` and `new: TEXT`, and a comment, `# differs: INPUT` or `# no input: WHY`. A line
+`file: FILE` in a mutant holds to its end. A file NAME.edit is one mutant, as `rt must-fail` reads those of must-fail/.
 """
 import glob
 import os
@@ -98,10 +98,11 @@ def mutants_of(top, crate):
         if path.endswith(".edit"):
             yield Mutant(crate, shown, os.path.basename(path)[: -len(".edit")], text)
             continue
-        head, *blocks = re.split(r"^mutant: ", text, flags=re.M)
-        if not re.fullmatch(r"file: \S+\n+", head):
-            sys.exit(f"{shown}: it does not begin with a line 'file: FILE' and then a mutant")
-        yield from (Mutant(crate, shown, name, head + rest) for name, _, rest in (it.partition("\n") for it in blocks))
+        for section in re.split(r"\n(?=file: \S+\n\n)", text):
+            head, *blocks = re.split(r"^mutant: ", section, flags=re.M)
+            if not re.fullmatch(r"file: \S+\n+", head):
+                sys.exit(f"{shown}: it does not begin with a line 'file: FILE' and then a mutant")
+            yield from (Mutant(crate, shown, name, head + rest) for name, _, rest in (it.partition("\n") for it in blocks))
 
 
 def pieces_of(text):

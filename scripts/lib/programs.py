@@ -1,9 +1,11 @@
 """The checks of what the built programs print: each is given their files by name, and yields a line for each fault."""
+import argparse
 import os
 import pathlib
 import re
 import shutil
 import subprocess
+import sys
 import tempfile
 
 from lib.sources import TOP, name_of, text_of
@@ -17,6 +19,25 @@ def built(name, file=None):
     if found := [it for it in files if it.exists()]:
         return str(found[0])
     raise SystemExit(f"{files[0]} is not there: `scripts/prove {name}` builds it, `scripts/unproved {name}` without a proof")
+
+
+def beside_packaging(doc, parts, count):
+    """The words of a script that compares with `packaging`: any of these parts, how many cases, a seed, and where the program and `packaging` are.
+
+    From then on `packaging` can be imported, from pip's own copy if it is nowhere else.
+    """
+    import pip._vendor
+
+    asked = argparse.ArgumentParser(usage=re.search(r"^Usage: (.*)$", doc, re.M)[1])
+    asked.add_argument("part", nargs="*", choices=[[], *parts])
+    asked.add_argument("--count", type=int, default=count)
+    asked.add_argument("--seed", type=int, default=1)
+    asked.add_argument("--packaging", default=".")
+    asked.add_argument("--program")
+    words = asked.parse_args()
+    sys.path[:0] = [words.packaging]
+    sys.path += pip._vendor.__path__
+    return words
 
 
 class Tally:

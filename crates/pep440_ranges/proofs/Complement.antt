@@ -1,4 +1,5 @@
 -- The gaps of a range are a range of what it does not contain.
+use Rattle.std.proofs.lemmas.Bool.{not-false}
 use Rattle.std.proofs.Common.{◌≡◌, ◌+◌, ◌≤◌, Bool, true, false, not, ◌&&◌, ◌||◌, List, [], ◌∷◌, ◌++◌, length, refl, sym, ap, ◌∙◌, IsTrue, arith}
 use mathlib.Core.Bool.{true≢false}
 use Rattle.std.proofs.Math.Bool.{or-false}
@@ -29,11 +30,7 @@ module _ {V : Type 0} {cmp : V → V → Ordering} (o : IsTotalOrder cmp) where
   -- from before the start on, v is up to the end
   pub valid_upto : (s e : Bound V) (v : V) → is_valid cmp s e ≡ true → is_from_start cmp s v ≡ false → is_up_to_end cmp e v ≡ true
   valid_upto s e v ok h =
-      upto_is cmp e v ∙ lt_lt o (value_place v) (start_place s) (end_place e) (turn (below cmp (value_place v) (start_place s)) (sym (from_is o s v) ∙ h)) (sym (valid_is cmp s e) ∙ ok)
-    where
-      turn : (b : Bool) → not b ≡ false → b ≡ true
-      turn true h = refl
-      turn false h = sym h
+      upto_is cmp e v ∙ lt_lt o (value_place v) (start_place s) (end_place e) (not-false (below cmp (value_place v) (start_place s)) (sym (from_is o s v) ∙ h)) (sym (valid_is cmp s e) ∙ ok)
 
   -- what is up to an end is before the next start
   pub apart_from : (e s : Bound V) (v : V) → is_apart cmp e s ≡ true → is_up_to_end cmp e v ≡ true → is_from_start cmp s v ≡ false

@@ -1,10 +1,6 @@
 pub mod Places
-pub mod OneSegment
 pub mod Complement
 pub mod Overlap
-pub mod Steps
-pub mod Overlaps
 pub mod Merging
-pub mod Clones
 pub mod Laws
 pub mod Searching

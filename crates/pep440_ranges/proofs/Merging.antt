@@ -7,7 +7,7 @@ use Rattle.pep440_ranges.specs.BoundOrder.{ends_before}
 use Rattle.pep440_ranges.specs.RangeSegments.{Segment, IsRange, IsRangeAfter, one_segment}
 use Rattle.pep440_ranges.specs.Intersection.{overlap, overlaps_with, overlaps}
 use Rattle.pep440_ranges.specs.Clones.{ClonesEach}
-use Rattle.pep440_ranges.proofs.Steps.{step_left, step_right, overlaps_nil, taken, skipped}
+use Rattle.pep440_ranges.proofs.Overlap.{step_left, step_right, overlaps_nil, taken, skipped}
 
 pub length_none : {A : Type 0} (xs : List A) → length xs ≡ 0 → xs ≡ []
 length_none [] e = refl

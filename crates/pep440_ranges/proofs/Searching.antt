@@ -1,6 +1,7 @@
 -- Of the segments of a range, one half does not decide whether a value is contained.
 use Rattle.std.proofs.Common.{◌≡◌, ◌-◌, ◌/◌, ℕ, Bool, true, false, not, ◌&&◌, ◌||◌, List, [], ◌∷◌, ◌++◌, arith, length, take, drop, map, refl, sym, ap, ◌∙◌, subst}
 use mathlib.Core.Bool.{true≢false}
+use Rattle.std.proofs.lemmas.Bool.{and_left, and_right, not-false, or_right}
 use Rattle.std.proofs.lemmas.List.{length-drop, map-append, take-append-drop}
 use Rattle.std.specs.Cmp.{IsTotalOrder}
 use Rattle.std.specs.declared.cmp.Ordering.{Ordering}
@@ -9,29 +10,9 @@ use Rattle.pep440_ranges.proofs.Places.{apart_is, asym, below, end_place, from_i
 use Rattle.pep440_ranges.specs.BoundOrder.{is_from_start, is_up_to_end}
 use Rattle.pep440_ranges.specs.RangeSegments.{IsRange, IsRangeAfter, Segment, contains, lies_in}
 
-no_and : (a b : Bool) → a ≡ false → a && b ≡ false
-no_and true b h = absurd (true≢false h)
-no_and false b h = refl
-
-and_no : (a b : Bool) → b ≡ false → a && b ≡ false
-and_no true b h = h
-and_no false b h = refl
-
 no_or : (a b c : Bool) → a ≡ false → b ≡ c → a || b ≡ c
 no_or true b c h k = absurd (true≢false h)
 no_or false b c h k = k
-
-or_yes : (a b : Bool) → a ≡ true → a || b ≡ true
-or_yes true b h = refl
-or_yes false b h = absurd (true≢false (sym h))
-
-or_later : (a b : Bool) → b ≡ true → a || b ≡ true
-or_later true b h = refl
-or_later false b h = h
-
-not_true : (b : Bool) → not b ≡ false → b ≡ true
-not_true true h = refl
-not_true false h = absurd (true≢false h)
 
 module _ {V : Type 0} {cmp : V → V → Ordering} (o : IsTotalOrder cmp) where
   -- ---- before a segment starts, it and those after it do not contain v
@@ -41,13 +22,13 @@ module _ {V : Type 0} {cmp : V → V → Ordering} (o : IsTotalOrder cmp) where
   none_after v e (t ∷ ts) r h =
       let starts = lt_lt o (value_place v) (end_place e) (start_place t.0) h (sym (apart_is cmp e t.0) ∙ r.0) in
       let ends = lt_lt o (value_place v) (start_place t.0) (end_place t.1) starts (sym (valid_is cmp t.0 t.1) ∙ r.1) in
-      no_or (lies_in cmp t v) (contains cmp ts v) false (no_and (is_from_start cmp t.0 v) _ (from_is o t.0 v ∙ ap not starts)) (none_after v t.1 ts r.2 ends)
+      no_or (lies_in cmp t v) (contains cmp ts v) false (and_left (is_from_start cmp t.0 v) _ (from_is o t.0 v ∙ ap not starts)) (none_after v t.1 ts r.2 ends)
 
   none_from : (v : V) (s : Segment V) (ts : List (Segment V)) → IsRange cmp (s ∷ ts) → is_from_start cmp s.0 v ≡ false → contains cmp (s ∷ ts) v ≡ false
   none_from v s ts r h =
-      let starts : below cmp (value_place v) (start_place s.0) ≡ true = not_true _ (sym (from_is o s.0 v) ∙ h) in
+      let starts : below cmp (value_place v) (start_place s.0) ≡ true = not-false _ (sym (from_is o s.0 v) ∙ h) in
       let ends = lt_lt o (value_place v) (start_place s.0) (end_place s.1) starts (sym (valid_is cmp s.0 s.1) ∙ r.0) in
-      no_or (lies_in cmp s v) (contains cmp ts v) false (no_and (is_from_start cmp s.0 v) _ h) (none_after v s.1 ts r.1 ends)
+      no_or (lies_in cmp s v) (contains cmp ts v) false (and_left (is_from_start cmp s.0 v) _ h) (none_after v s.1 ts r.1 ends)
 
   -- ---- after a segment has ended, it and those before it do not contain v
 
@@ -62,17 +43,17 @@ module _ {V : Type 0} {cmp : V → V → Ordering} (o : IsTotalOrder cmp) where
   ended : (v : V) (f s : Segment V) → below cmp (end_place f.1) (end_place s.1) ≡ true → is_up_to_end cmp s.1 v ≡ false → lies_in cmp f v ≡ false
   ended v f s h k =
       let past = lt_le o (end_place f.1) (end_place s.1) (value_place v) h (sym (upto_is cmp s.1 v) ∙ k) in
-      and_no (is_from_start cmp f.0 v) _ (upto_is cmp f.1 v ∙ asym o (end_place f.1) (value_place v) past)
+      and_right (is_from_start cmp f.0 v) _ (upto_is cmp f.1 v ∙ asym o (end_place f.1) (value_place v) past)
 
   past_after : (v : V) (e : Bound V) (front : List (Segment V)) (s : Segment V) (back : List (Segment V)) → IsRangeAfter cmp e (front ++ s ∷ back) → is_up_to_end cmp s.1 v ≡ false →
       contains cmp (front ++ s ∷ back) v ≡ contains cmp back v
-  past_after v e [] s back r k = no_or (lies_in cmp s v) (contains cmp back v) (contains cmp back v) (and_no (is_from_start cmp s.0 v) _ k) refl
+  past_after v e [] s back r k = no_or (lies_in cmp s v) (contains cmp back v) (contains cmp back v) (and_right (is_from_start cmp s.0 v) _ k) refl
   past_after v e (f ∷ front) s back r k =
       no_or (lies_in cmp f v) (contains cmp (front ++ s ∷ back) v) (contains cmp back v) (ended v f s (reaches f.1 front s back r.2) k) (past_after v f.1 front s back r.2 k)
 
   past : (v : V) (front : List (Segment V)) (s : Segment V) (back : List (Segment V)) → IsRange cmp (front ++ s ∷ back) → is_up_to_end cmp s.1 v ≡ false →
       contains cmp (front ++ s ∷ back) v ≡ contains cmp back v
-  past v [] s back r k = no_or (lies_in cmp s v) (contains cmp back v) (contains cmp back v) (and_no (is_from_start cmp s.0 v) _ k) refl
+  past v [] s back r k = no_or (lies_in cmp s v) (contains cmp back v) (contains cmp back v) (and_right (is_from_start cmp s.0 v) _ k) refl
   past v (f ∷ front) s back r k =
       no_or (lies_in cmp f v) (contains cmp (front ++ s ∷ back) v) (contains cmp back v) (ended v f s (reaches f.1 front s back r.1) k) (past_after v f.1 front s back r.1 k)
 
@@ -104,7 +85,7 @@ module _ {V : Type 0} {cmp : V → V → Ordering} (o : IsTotalOrder cmp) where
 
   contains_within : (xs ys : List (Segment V)) (v : V) → contains cmp ys v ≡ true → contains cmp (xs ++ ys) v ≡ true
   contains_within [] ys v h = h
-  contains_within (x ∷ xs) ys v h = or_later (lies_in cmp x v) _ (contains_within xs ys v h)
+  contains_within (x ∷ xs) ys v h = or_right (lies_in cmp x v) _ (contains_within xs ys v h)
 
   -- ---- one step of the search, of items that stand for segments
 
@@ -141,13 +122,6 @@ module _ {V : Type 0} {cmp : V → V → Ordering} (o : IsTotalOrder cmp) where
             range = after_range (f x).1 (map f back) (back_range (map f front) _ whole).1;
             same = ap (λ l. contains cmp l v) parts ∙ past v (map f front) (f x) (map f back) whole k;
           }
-
-      pub at_middle : is_from_start cmp (f x).0 v ≡ true → is_up_to_end cmp (f x).1 v ≡ true → contains cmp (map f xs) v ≡ true
-      at_middle h k = ap (λ l. contains cmp l v) parts ∙ contains_within (map f front) (f x ∷ map f back) v (or_yes (lies_in cmp (f x) v) _ (λ j. h j && k j))
-
-    -- half of a half
-    pub further : (v : V) (xs ys zs : List X) → IsHalf v xs ys → IsHalf v ys zs → IsHalf v xs zs
-    further v xs ys zs one other = record { range = other.range; same = one.same ∙ other.same }
 
   -- ---- one step of the search of segments themselves
 

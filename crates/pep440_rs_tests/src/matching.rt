@@ -1,10 +1,8 @@
 //! What specifiers and lists contain, lists compared, and specifiers that are built.
 use crate::operators::operator_argument;
+use crate::order::pattern;
 use crate::parsers::{build_kind_name, list_argument, specifier_argument};
-use pep440_rs::{
-    ErrorKind, Operator, PatternErrorKind, Version, VersionPattern, VersionSpecifier, cmp_releases,
-    cmp_without_local,
-};
+use pep440_rs::{Operator, Version, VersionSpecifier, cmp_releases, cmp_without_local};
 use std::alloc::{AllocError, Global};
 use std::cmp::Ordering;
 use testing::{CaseError, equals_copy, print_value, version_argument};
@@ -87,17 +85,6 @@ pub fn compare_releases(alloc: Global, one: &str, other: &str) -> Result<String,
     let one = version_argument(alloc, one)?;
     let other = version_argument(alloc, other)?;
     sign(alloc, cmp_releases(one.release(), other.release()))
-}
-
-fn pattern(alloc: Global, text: &str) -> Result<VersionPattern, CaseError> {
-    let memory = PatternErrorKind::from(ErrorKind::OutOfMemory);
-    VersionPattern::from_str(alloc, text).map_err(|error| {
-        if *error.kind() == memory {
-            CaseError::OutOfMemory
-        } else {
-            CaseError::Unreadable
-        }
-    })
 }
 
 /// The specifier of the operator and the pattern as it prints, or the kind of the error.

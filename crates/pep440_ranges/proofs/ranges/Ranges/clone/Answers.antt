@@ -1,6 +1,6 @@
 use Rattle.std.proofs.Common.{◌∙◌, sym, subst}
 use Rattle.pep440_ranges.specs.Clones.{ClonesBoundValues}
-use Rattle.pep440_ranges.proofs.Clones.{clones_each}
+use Rattle.pep440_ranges.proofs.Laws.{clones_each}
 use Rattle.pep440_ranges.proofs.ranges.Ranges.clone.Goals as goal
 
 pub clone_segments-requires : goal.clone_segments-requires

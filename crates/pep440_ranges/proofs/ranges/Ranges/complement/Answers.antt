@@ -3,7 +3,7 @@ use Rattle.std.proofs.Common.{◌≡◌, ◌∙◌, ap, sym, subst}
 use Rattle.pep440_ranges.specs.RangeSegments.{IsRange}
 use Rattle.pep440_ranges.specs.Complement.{gaps}
 use Rattle.pep440_ranges.specs.Clones.{ClonesBoundValues}
-use Rattle.pep440_ranges.proofs.Clones.{clones_each}
+use Rattle.pep440_ranges.proofs.Laws.{clones_each}
 use Rattle.pep440_ranges.proofs.Complement.{gaps_range, gaps_set, gaps_count}
 use Rattle.pep440_ranges.proofs.ranges.Ranges.complement.Goals as goal
 

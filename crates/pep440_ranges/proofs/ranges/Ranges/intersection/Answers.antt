@@ -3,11 +3,9 @@ use Rattle.std.proofs.Common.{◌≡◌, ◌∙◌, ap, sym, subst}
 use Rattle.pep440_ranges.specs.RangeSegments.{IsRange}
 use Rattle.pep440_ranges.specs.Intersection.{overlaps}
 use Rattle.pep440_ranges.specs.Clones.{ClonesBoundValues}
-use Rattle.pep440_ranges.proofs.Clones.{clones_each}
+use Rattle.pep440_ranges.proofs.Laws.{clones_each}
 use Rattle.pep440_ranges.proofs.Merging.{same_overlaps}
-use Rattle.pep440_ranges.proofs.Overlap.{overlaps_set}
-use Rattle.pep440_ranges.proofs.Steps.{overlaps_nil}
-use Rattle.pep440_ranges.proofs.Overlaps.{overlaps_range, overlaps_count}
+use Rattle.pep440_ranges.proofs.Overlap.{overlaps_set, overlaps_nil, overlaps_range, overlaps_count}
 use Rattle.pep440_ranges.proofs.ranges.Ranges.intersection.Goals as goal
 
 pub find_overlaps-requires-clause-clones_left : goal.find_overlaps-requires-clause-clones_left
