@@ -1,10 +1,10 @@
 -- What follows a spelling that was found.
 use Rattle.std.proofs.Common.{◌≡◌, ℕ, List, refl, ap, drop, Ok, Err, Option, Some, None, option_map}
 use Rattle.pep440_version.specs.declared.prerelease.PrereleaseKind.{PrereleaseKind}
-use Rattle.pep440_version.specs.Grammar.{Spellings, pre_spellings, post_spellings}
-use Rattle.pep440_version.specs.Reading.{◌>>=◌}
+use Rattle.pep440_version.specs.Grammar.{Spellings, pre_spellings}
+use Rattle.pep440_version.specs.Reading.{Read, ◌>>=◌}
 use Rattle.pep440_version.specs.Rejections.{Rejection}
-use Rattle.pep440_version.specs.Suffixes.{spelled, skip_separator, parse_count, after_spelling, parse_suffix, parse_pre, suffix_prerelease, suffix_number, parse_spelled_post}
+use Rattle.pep440_version.specs.Suffixes.{spelled, skip_separator, parse_count, after_spelling, parse_suffix, parse_pre, suffix_prerelease, suffix_number}
 use Rattle.pep440_version.proofs.Reading.ReadIsSpelled.{some}
 
 suffix_ok : {A : Type 0} (table : Spellings A) (t after rest : List ℕ) (a : A) (n : ℕ) → option_map {U = A × List ℕ} (λ x. (x.0, drop x.1 (skip_separator t))) (spelled table (skip_separator t)) ≡ Some (a, after)
@@ -39,6 +39,10 @@ pub pre_err : (t after : List ℕ) (k : PrereleaseKind) (f : Rejection) → opti
     → parse_count (skip_separator after) ≡ Err f → parse_pre t ≡ Err f
 pre_err t after k f h e = ap (λ r. r >>= λ x. Ok (suffix_prerelease x.0, x.1)) (suffix_err pre_spellings t after f (forget (skip_separator t) after k (spelled pre_spellings (skip_separator t)) h) e)
 
-pub post_err : (t after : List ℕ) (a : Unit {0}) (f : Rejection) → option_map {U = Unit {0} × List ℕ} (λ x. (x.0, drop x.1 (skip_separator t))) (spelled post_spellings (skip_separator t)) ≡ Some (a, after)
-    → parse_count (skip_separator after) ≡ Err f → parse_spelled_post t ≡ Err f
-post_err t after a f h e = ap (λ r. r >>= λ x. Ok (suffix_number x.0, x.1)) (suffix_err post_spellings t after f (forget (skip_separator t) after a (spelled post_spellings (skip_separator t)) h) e)
+-- the number of a part that has nothing else, post or dev
+abbrev pub numbered : Read (Option (Unit {0} × ℕ) × List ℕ) → Read (Option ℕ × List ℕ)
+numbered r = r >>= λ x. Ok (suffix_number x.0, x.1)
+
+pub number_err : (table : Spellings (Unit {0})) (t after : List ℕ) (a : Unit {0}) (f : Rejection) → option_map {U = Unit {0} × List ℕ} (λ x. (x.0, drop x.1 (skip_separator t))) (spelled table (skip_separator t)) ≡ Some (a, after)
+    → parse_count (skip_separator after) ≡ Err f → numbered (parse_suffix table t) ≡ Err f
+number_err table t after a f h e = ap numbered (suffix_err table t after f (forget (skip_separator t) after a (spelled table (skip_separator t)) h) e)

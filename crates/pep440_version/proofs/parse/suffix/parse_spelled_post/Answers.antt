@@ -5,7 +5,7 @@ use Rattle.pep440_version.specs.Grammar.{post_spellings}
 use Rattle.pep440_version.specs.Suffixes.{spelled, skip_separator, parse_count, parse_spelled_post}
 use Rattle.pep440_version.proofs.Reading.NumbersInTurn.{fault_on}
 use Rattle.pep440_version.proofs.Reading.WithoutMemory.{read_too}
-use Rattle.pep440_version.proofs.Reading.AfterSpelling.{post_err}
+use Rattle.pep440_version.proofs.Reading.AfterSpelling.{number_err}
 use Rattle.pep440_version.proofs.parse.suffix.parse_spelled_post.Goals as goal
 
 pub returns-in_err-number-in-Some-clause-reads : goal.returns-in_err-number-in-Some-clause-reads
@@ -14,11 +14,11 @@ returns-in_err-number-in-Some-clause-reads c =
     let text = c.args.text.now in
     let h : option_map {U = Unit {0} × List ℕ} (λ x. (x.0, drop x.1 (skip_separator text))) (spelled post_spellings (skip_separator text)) ≡ Some (c.in-Some.field-0-0, c.in-Some.after.now) = rw (sym c.skip_separator.ensures) (sym c.in-Some.ensures) in
     rw (p.1, p.2) (fault_on (rejection_of c.in_err-number-in-Some.field-0.0) (parse_count (skip_separator c.in-Some.after.now)) (parse_spelled_post text)
-    (λ f e. post_err text c.in-Some.after.now c.in-Some.field-0-0 f h e) c.in_err-number-in-Some.ensures.reads)
+    (λ f e. number_err post_spellings text c.in-Some.after.now c.in-Some.field-0-0 f h e) c.in_err-number-in-Some.ensures.reads)
 
 pub returns-in_err-number-in-Some-clause-memory : goal.returns-in_err-number-in-Some-clause-memory
 returns-in_err-number-in-Some-clause-memory c = λ x e.
     let text = c.args.text.now in
     let h : option_map {U = Unit {0} × List ℕ} (λ x. (x.0, drop x.1 (skip_separator text))) (spelled post_spellings (skip_separator text)) ≡ Some (c.in-Some.field-0-0, c.in-Some.after.now) = rw (sym c.skip_separator.ensures) (sym c.in-Some.ensures) in
-    let y = read_too (parse_count (skip_separator c.in-Some.after.now)) (parse_spelled_post text) (λ f g. post_err text c.in-Some.after.now c.in-Some.field-0-0 f h g) x e in
+    let y = read_too (parse_count (skip_separator c.in-Some.after.now)) (parse_spelled_post text) (λ f g. number_err post_spellings text c.in-Some.after.now c.in-Some.field-0-0 f h g) x e in
     cc (c.in_err-number-in-Some.ensures.memory y.0 y.1)
