@@ -8,8 +8,8 @@ The wheel has the static library in it, and brings both programs as commands; of
     the library of the release's library archive, where pkg-config finds `pep440`.
 
 CC and CFLAGS in the environment are the C compiler (cc) and what else it is to be passed, and _PYTHON_HOST_PLATFORM=linux-aarch64 is Python's
-word for another machine than this. The source archive has the sources of the package and the proved library of each machine for which it is
-built, each where it lies in the repository: it wants a C compiler alone.
+word for another machine than this. The source archive has the sources of the package, and the proved library and both programs for each machine
+for which they are built, each where it lies in the repository: it wants a C compiler and Python's headers alone.
 """
 import base64
 import gzip
@@ -65,12 +65,16 @@ def named(variable):
     return files
 
 
+def is_clone():
+    return (CRATES.parent / "scripts/prove").is_file()
+
+
 def proved(crate, name):
     """What lies in this clone or source archive of a crate for this machine, or else is proved and built now."""
     made = CRATES / crate / "out" / MACHINE / name
-    if not made.is_file() and shutil.which("rt") and (TOP / "scripts/prove").is_file():
+    if not made.is_file() and shutil.which("rt") and is_clone():
         print(f"{PACKAGE}: proving and building {crate} ({FIRST_TIME})", file=sys.stderr, flush=True)
-        words = [TOP / "scripts/prove", crate, "--target", MACHINE]
+        words = [CRATES.parent / "scripts/prove", crate, "--target", MACHINE]
         if subprocess.run(words, stdin=subprocess.DEVNULL, stdout=sys.stderr, check=False).returncode:
             stop(f"{crate} was not built: `scripts/prove {crate} --target {MACHINE}` failed")
     return made if made.is_file() else None
@@ -85,8 +89,13 @@ def installed():
 
 
 def missing(what, variable, value):
-    with_rt = "the toolchain `rt` is not there to build it; " if (TOP / "scripts/prove").is_file() else ""
+    with_rt = "the toolchain `rt` is not there to build it; " if is_clone() else ""
     return stop(f"no {what}: {with_rt}let {variable} name {value}")
+
+
+def built_libraries():
+    """The proved library of each machine for which this clone or source archive has it."""
+    return sorted(CRATES.glob("pep440_c/out/*/libpep440_c.a"))
 
 
 def archives():
@@ -94,7 +103,9 @@ def archives():
     if os.environ.get("PEP440_ARCHIVES"):
         return named("PEP440_ARCHIVES")
     found = proved("pep440_c", "libpep440_c.a") or installed()
-    return [found or missing(f"library for {MACHINE}", "PEP440_ARCHIVES", "lib/libpep440.a of the release's library archive")]
+    others = " and ".join(path.parent.name for path in built_libraries())
+    what = f"library for {MACHINE}" + f", only for {others}" * bool(others)
+    return [found or missing(what, "PEP440_ARCHIVES", "lib/libpep440.a of the release's library archive")]
 
 
 def programs():
@@ -245,7 +256,7 @@ def sources():
     kinds = (".py", ".pyi", ".typed", ".c", ".h", ".md")
     paths = [path for folder in folders for path in sorted(folder.iterdir()) if path.suffix in kinds]
     paths += [TOP / "pyproject.toml", HEADER, RUNTIME, *LICENCES.values()]
-    paths += sorted(CRATES.glob("pep440_c/out/*/libpep440_c.a"))
+    paths += [*built_libraries(), *(path for name in PROGRAMS for path in sorted(CRATES.glob(f"{name}/out/*/{name}")))]
     return {str(path.relative_to(TOP)): path.read_bytes() for path in paths} | {"PKG-INFO": metadata("")["METADATA"].encode()}
 
 
