@@ -8,8 +8,8 @@ The wheel has the static library in it, and brings both programs as commands; of
     the library of the release's library archive, where pkg-config finds `pep440`.
 
 CC and CFLAGS in the environment are the C compiler (cc) and what else it is to be passed, and _PYTHON_HOST_PLATFORM=linux-aarch64 is Python's
-word for another machine than this. The source archive has the sources of the package, and the proved library and both programs for each machine
-for which they are built, each where it lies in the repository: it wants a C compiler and Python's headers alone.
+word for another machine than this. The source archive has the sources of the package, and the proved library and the objects of both programs for
+each machine for which they are built, each where it lies in the repository: it wants a C compiler and Python's headers alone.
 """
 import base64
 import gzip
@@ -42,6 +42,7 @@ HEADER, RUNTIME = (TOP / "callers/c" / name for name in ("pep440.h", "runtime.c"
 LICENCES = {name: TOP / name for name in ("LICENSE", "NOTICE")}
 MACHINE = sysconfig.get_platform().rpartition("-")[2]
 PROGRAMS = ("pep440", "pyver")
+ROOM = tempfile.TemporaryDirectory()
 FIRST_TIME = "all of it the first time about an hour of processor"
 
 
@@ -80,6 +81,28 @@ def proved(crate, name):
     return made if made.is_file() else None
 
 
+def compiler():
+    command = shlex.split(os.environ.get("CC", "cc"))
+    if not shutil.which(command[0]):
+        stop(f"no C compiler: there is no {command[0]}; install one (apt-get install gcc libc6-dev), or let CC name it")
+    return command
+
+
+def compile_by(*words):
+    command = [*compiler(), "-std=c11", "-O2", *map(str, words)]
+    if subprocess.run(command, check=False).returncode:
+        stop(f"not compiled: {shlex.join(command)}")
+
+
+def linked(name):
+    """The program of the object that the source archive has for this machine, linked with the machine's C library."""
+    linkable, program = CRATES / name / "out" / MACHINE / f"{name}.o", pathlib.Path(ROOM.name, name)
+    if not linkable.is_file():
+        return None
+    compile_by("-DPEP440_PROGRAM", "-Wl,--wrap=main", "-o", program, linkable, RUNTIME)
+    return program
+
+
 def installed():
     """The static library that pkg-config knows of, or None."""
     tool = shutil.which("pkg-config")
@@ -115,7 +138,7 @@ def programs():
     if "PEP440_PROGRAMS" in os.environ:
         files = named("PEP440_PROGRAMS")
     else:
-        files = [proved(name, name) for name in PROGRAMS]
+        files = [proved(name, name) or linked(name) for name in PROGRAMS]
     if not all(files):
         missing("programs", "PEP440_PROGRAMS", "pep440 and pyver of the release's programs archive, with a colon between them, or nothing for none")
     return {f"{release()}.data/scripts/{name}": path for name, path in zip(PROGRAMS, files)}
@@ -124,21 +147,16 @@ def programs():
 def compile_extension(out, libraries):
     """Compiles and links the sources in C; of what the libraries define, nothing is left to see from outside."""
     include = [sysconfig.get_path("include"), sysconfig.get_path("platinclude"), str(HEADER.parent)]
-    compiler = shlex.split(os.environ.get("CC", "cc"))
-    if not shutil.which(compiler[0]):
-        stop(f"no C compiler: there is no {compiler[0]}; install one (apt-get install gcc libc6-dev), or let CC name it")
+    compiler()
     if not os.path.isfile(os.path.join(include[0], "Python.h")):
         stop(f"no headers of Python: {include[0]}/Python.h is not there; install them (apt-get install python3-dev)")
-    command = [
-        *compiler,
-        *"-std=c11 -O2 -Wall -Werror=implicit-function-declaration -fPIC -fvisibility=hidden -shared -Wl,--exclude-libs,ALL".split(),
+    compile_by(
+        *"-Wall -Werror=implicit-function-declaration -fPIC -fvisibility=hidden -shared -Wl,--exclude-libs,ALL".split(),
         *shlex.split(os.environ.get("CFLAGS", "")),
         *(f"-I{each}" for each in dict.fromkeys(include)),
-        *("-o", str(out), *(str(HERE / each) for each in SOURCES)),
-        *map(str, libraries),
-    ]
-    if subprocess.run(command, check=False).returncode:
-        stop(f"not compiled: {shlex.join(command)}")
+        *("-o", out, *(HERE / each for each in SOURCES)),
+        *libraries,
+    )
 
 
 def platform_of(files):
@@ -256,7 +274,7 @@ def sources():
     kinds = (".py", ".pyi", ".typed", ".c", ".h", ".md")
     paths = [path for folder in folders for path in sorted(folder.iterdir()) if path.suffix in kinds]
     paths += [TOP / "pyproject.toml", HEADER, RUNTIME, *LICENCES.values()]
-    paths += [*built_libraries(), *(path for name in PROGRAMS for path in sorted(CRATES.glob(f"{name}/out/*/{name}")))]
+    paths += [*built_libraries(), *(path for name in PROGRAMS for path in sorted(CRATES.glob(f"{name}/out/*/{name}.o")))]
     return {str(path.relative_to(TOP)): path.read_bytes() for path in paths} | {"PKG-INFO": metadata("")["METADATA"].encode()}
 
 
