@@ -47,7 +47,7 @@ static void add_any(Bytes *string, const char *const *parts, unsigned of) { add(
 
 static void add_number(Bytes *string) { ADD(string, "0", "1", "2", "10", "007", "2024", "65536", "2097152", "18446744073709551615"); }
 
-/* A version as PEP 440 spells it or nearly so; one in sixteen has a byte that is not its own. */
+/* A version as PEP 440 spells it or nearly so; one in 32 has a byte that is not its own. */
 static void add_version(Bytes *string)
 {
     size_t start = string->length;
@@ -59,17 +59,18 @@ static void add_version(Bytes *string)
     ADD(string, "", "", "", ".post1", "-2", ".rev3", "post");
     ADD(string, "", "", "", ".dev1", "dev", "_DEV_2");
     ADD(string, "", "", "", "+a", "+ubuntu.1", "+1_2-3", "+");
-    if (below(16) == 0)
+    if (below(32) == 0)
         string->bytes[start + below((unsigned)(string->length - start))] = (uint8_t)below(256);
 }
 
 static void add_list(Bytes *string)
 {
     for (unsigned more = below(4); more > 0; more--) {
-        ADD(string, "==", "!=", "<=", ">=", "<", ">", "~=", "===", "=");
+        ADD(string, "==", "!=", "<=", ">=", "<", ">", "~=", "===", "==", "!=", ">=", "<", "=");
         ADD(string, "", " ");
         add_version(string);
-        ADD(string, "", "", "", ".*");
+        if (below(12) == 0)
+            add(string, ".*");
         if (more > 1)
             add(string, ",");
     }
