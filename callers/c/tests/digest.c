@@ -59,8 +59,10 @@ static void add_version(Bytes *string)
     ADD(string, "", "", "", ".post1", "-2", ".rev3", "post");
     ADD(string, "", "", "", ".dev1", "dev", "_DEV_2");
     ADD(string, "", "", "", "+a", "+ubuntu.1", "+1_2-3", "+");
-    if (below(32) == 0)
-        string->bytes[start + below((unsigned)(string->length - start))] = (uint8_t)below(256);
+    if (below(32) == 0) {
+        size_t place = start + below((unsigned)(string->length - start));
+        string->bytes[place] = (uint8_t)below(256);
+    }
 }
 
 static void add_list(Bytes *string)
@@ -133,6 +135,8 @@ static void clear_results(void)
 static uint8_t call(unsigned number)
 {
     pep440_string changes[] = {{OF(change)}};
+    /* (C says no order for two of these in one call) */
+    uint8_t operator_number = (uint8_t)(1 + below(8)), star = (uint8_t)below(2), kind = (uint8_t)below(5);
     switch (number) {
     case 0: return pep440_normalize(OF(version), OUT);
     case 1: return pep440_normalize_list(OF(list), OUT);
@@ -141,7 +145,7 @@ static uint8_t call(unsigned number)
     case 4: return pep440_pattern(OF(version), OUT, &flag);
     case 5: return pep440_edit(OF(version), changes, 1, OUT);
     case 6: return pep440_edit_error(OF(version), changes, 1, OUT);
-    case 7: return pep440_error((uint8_t)below(5), OF(invalid), OUT);
+    case 7: return pep440_error(kind, OF(invalid), OUT);
     case 8: return pep440_compare(OF(version), OF(other), &order);
     case 9: return pep440_contains(OF(list), OF(version), &flag, &early);
     case 10: return pep440_allows(OF(list), OF(version), &flag);
@@ -158,7 +162,7 @@ static uint8_t call(unsigned number)
     case 21: return pep440_compile(OF(version), OUT);
     case 22: return pep440_compile_list(OF(list), OUT);
     case 23: return pep440_compile_specifier(OF(list), OUT);
-    case 24: return pep440_build_error((uint8_t)(1 + below(8)), OF(version), (uint8_t)below(2), OUT);
+    case 24: return pep440_build_error(operator_number, OF(version), star, OUT);
     case 25: return pep440_filter(OF(list), batch, MANY, marks, MANY);
     case 26: return pep440_newest(OF(list), batch, MANY, &at);
     case 27: count = MANY; return pep440_sort(batch, MANY, ends, MANY, &at);
