@@ -24,8 +24,7 @@
 
    What a call writes to may be uninitialized before. Several threads may call at once, each with
    memory of its own to write to: the library has no state. A call takes at most 16 KiB of stack,
-   whatever the length of what it reads (tested: callers/c/tests/stack.c). The code is for
-   processors of the level x86-64-v2 and above.
+   whatever the length of what it reads (tested: callers/c/tests/stack.c).
 
    PEP440_NO_ROOM: there is a result, and it needs more than the buffer has. It is not written; each
    call below says what is.

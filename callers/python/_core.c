@@ -9,9 +9,6 @@
 #include <stdlib.h>
 #include <string.h>
 #include <structmember.h>
-#ifdef __x86_64__
-#include <cpuid.h>
-#endif
 
 #include "pep440.h"
 
@@ -167,32 +164,9 @@ static int add_error(PyObject *module, PyObject **error, const char *name, const
     return *error ? PyModule_AddObjectRef(module, strrchr(name, '.') + 1, *error) : -1;
 }
 
-/* What the library's code takes of a processor, as those since 2009 have it (x86-64-v2): another one would end the process at the first use. A library
-   that is built for all may be linked with PEP440_ANY_PROCESSOR defined. Returns what is missing, or NULL. */
-static const char *missing_of_processor(void)
-{
-#if defined(__x86_64__) && !defined(PEP440_ANY_PROCESSOR)
-    static const struct {
-        unsigned bit;
-        const char *name;
-    } FEATURES[] = {{bit_SSE3, "SSE3"}, {bit_SSSE3, "SSSE3"}, {bit_SSE4_1, "SSE4.1"}, {bit_SSE4_2, "SSE4.2"}, {bit_POPCNT, "POPCNT"}};
-    unsigned eax, ebx, ecx = 0, edx;
-    __get_cpuid(1, &eax, &ebx, &ecx, &edx);
-    for (size_t place = 0; place < sizeof FEATURES / sizeof *FEATURES; place++)
-        if (!(ecx & FEATURES[place].bit))
-            return FEATURES[place].name;
-#endif
-    return NULL;
-}
-
 /* The types and the exceptions are held by static variables, so that there is one interpreter for them. */
 static int execute(PyObject *module)
 {
-    const char *missing = missing_of_processor();
-    if (missing) {
-        PyErr_Format(PyExc_ImportError, "pep440_rattle needs a processor with %s (x86-64-v2), which this one lacks", missing);
-        return -1;
-    }
     if (PyInterpreterState_GetID(PyInterpreterState_Get()) != 0) {
         PyErr_SetString(PyExc_ImportError, "pep440_rattle can be imported in the main interpreter alone");
         return -1;

@@ -4,11 +4,12 @@ The wheel has the static library in it, and brings both programs as commands; of
 
     PEP440_ARCHIVES, in the environment: static libraries with a colon between them;
     PEP440_PROGRAMS: pep440 and pyver, with a colon between them, or nothing for a wheel without programs;
-    in a clone of the repository, what the toolchain left in crates/NAME/out; where nothing is, the toolchain proves and builds it;
+    what `scripts/prove` left in crates/NAME/out/MACHINE, or what the source archive has there; in a clone where nothing is, that script is run;
     the library of the release's library archive, where pkg-config finds `pep440`.
 
-CC and CFLAGS in the environment are the C compiler (cc) and what else it is to be passed. The source archive has the sources of the package alone,
-each where it lies in the repository: it wants archives of a release, and no toolchain.
+CC and CFLAGS in the environment are the C compiler (cc) and what else it is to be passed, and _PYTHON_HOST_PLATFORM=linux-aarch64 is Python's
+word for another machine than this. The source archive has the sources of the package, and the proved library and the objects of both programs for
+each machine for which they are built, each where it lies in the repository: it wants a C compiler and Python's headers alone.
 """
 import base64
 import gzip
@@ -29,19 +30,19 @@ import zipfile
 HERE = pathlib.Path(__file__).resolve().parent
 PACKAGE = "pep440_rattle"
 EXTENSION = "_core.abi3.so"
-SOURCES = ("_core.c", "_vectorcall.c")
+SOURCES = ("_core.c", "_vectorcall.c", "../c/runtime.c")
 # The lowest Python whose stable interface has what _core.c calls.
 PYTHON_TAG = "cp310"
 # What is part of every glibc.
-OF_GLIBC = {"libc.so.6", "libm.so.6", "ld-linux-x86-64.so.2"}
+OF_GLIBC = {"libc.so.6", "libm.so.6", "ld-linux-x86-64.so.2", "ld-linux-aarch64.so.1"}
 
 TOP = HERE.parent.parent
 CRATES = TOP / "crates"
-HEADER = TOP / "callers" / "c" / "pep440.h"
+HEADER, RUNTIME = (TOP / "callers/c" / name for name in ("pep440.h", "runtime.c"))
 LICENCES = {name: TOP / name for name in ("LICENSE", "NOTICE")}
-# What has the toolchain prove and build each of them, where it lies then, and what the first time takes.
-LIBRARY = ("pep440_c", "libpep440_c.a", ["lib"])
-PROGRAMS = {"pep440": ["run", "--", "show", "0"], "pyver": ["run", "--", "--version"]}
+MACHINE = sysconfig.get_platform().rpartition("-")[2]
+PROGRAMS = ("pep440", "pyver")
+ROOM = tempfile.TemporaryDirectory()
 FIRST_TIME = "all of it the first time about an hour of processor"
 
 
@@ -65,14 +66,41 @@ def named(variable):
     return files
 
 
-def proved(crate, name, words):
-    """What the toolchain left of a crate of this clone, or else builds now."""
-    made = CRATES / crate / "out" / name
-    if not made.is_file() and shutil.which("rt"):
+def is_clone():
+    return (CRATES.parent / "scripts/prove").is_file()
+
+
+def proved(crate, name):
+    """What lies in this clone or source archive of a crate for this machine, or else is proved and built now."""
+    made = CRATES / crate / "out" / MACHINE / name
+    if not made.is_file() and shutil.which("rt") and is_clone():
         print(f"{PACKAGE}: proving and building {crate} ({FIRST_TIME})", file=sys.stderr, flush=True)
-        if subprocess.run(["rt", *words], cwd=CRATES / crate, stdin=subprocess.DEVNULL, stdout=sys.stderr, check=False).returncode:
-            stop(f"{crate} was not built: `rt {words[0]}` in crates/{crate} failed")
+        words = [CRATES.parent / "scripts/prove", crate, "--target", MACHINE]
+        if subprocess.run(words, stdin=subprocess.DEVNULL, stdout=sys.stderr, check=False).returncode:
+            stop(f"{crate} was not built: `scripts/prove {crate} --target {MACHINE}` failed")
     return made if made.is_file() else None
+
+
+def compiler():
+    command = shlex.split(os.environ.get("CC", "cc"))
+    if not shutil.which(command[0]):
+        stop(f"no C compiler: there is no {command[0]}; install one (apt-get install gcc libc6-dev), or let CC name it")
+    return command
+
+
+def compile_by(*words):
+    command = [*compiler(), "-std=c11", "-O2", *map(str, words)]
+    if subprocess.run(command, check=False).returncode:
+        stop(f"not compiled: {shlex.join(command)}")
+
+
+def linked(name):
+    """The program of the object that the source archive has for this machine, linked with the machine's C library."""
+    linkable, program = CRATES / name / "out" / MACHINE / f"{name}.o", pathlib.Path(ROOM.name, name)
+    if not linkable.is_file():
+        return None
+    compile_by("-DPEP440_PROGRAM", "-Wl,--wrap=main", "-o", program, linkable, RUNTIME)
+    return program
 
 
 def installed():
@@ -84,18 +112,23 @@ def installed():
 
 
 def missing(what, variable, value):
-    with_rt = "the toolchain `rt` is not there to build it; " if CRATES.is_dir() else ""
+    with_rt = "the toolchain `rt` is not there to build it; " if is_clone() else ""
     return stop(f"no {what}: {with_rt}let {variable} name {value}")
+
+
+def built_libraries():
+    """The proved library of each machine for which this clone or source archive has it."""
+    return sorted(CRATES.glob("pep440_c/out/*/libpep440_c.a"))
 
 
 def archives():
     """The static libraries, or an error that says where they come from."""
     if os.environ.get("PEP440_ARCHIVES"):
         return named("PEP440_ARCHIVES")
-    rt = shutil.which("rt")
-    if rt and CRATES.is_dir():
-        return [proved(*LIBRARY), pathlib.Path(rt).resolve().parent.parent / "c" / "liblibc_c.a"]
-    return [installed() or missing("library", "PEP440_ARCHIVES", "lib/libpep440.a of the release's library archive")]
+    found = proved("pep440_c", "libpep440_c.a") or installed()
+    others = " and ".join(path.parent.name for path in built_libraries())
+    what = f"library for {MACHINE}" + f", only for {others}" * bool(others)
+    return [found or missing(what, "PEP440_ARCHIVES", "lib/libpep440.a of the release's library archive")]
 
 
 def programs():
@@ -105,7 +138,7 @@ def programs():
     if "PEP440_PROGRAMS" in os.environ:
         files = named("PEP440_PROGRAMS")
     else:
-        files = [CRATES.is_dir() and proved(name, name, words) for name, words in PROGRAMS.items()]
+        files = [proved(name, name) or linked(name) for name in PROGRAMS]
     if not all(files):
         missing("programs", "PEP440_PROGRAMS", "pep440 and pyver of the release's programs archive, with a colon between them, or nothing for none")
     return {f"{release()}.data/scripts/{name}": path for name, path in zip(PROGRAMS, files)}
@@ -114,21 +147,16 @@ def programs():
 def compile_extension(out, libraries):
     """Compiles and links the sources in C; of what the libraries define, nothing is left to see from outside."""
     include = [sysconfig.get_path("include"), sysconfig.get_path("platinclude"), str(HEADER.parent)]
-    compiler = shlex.split(os.environ.get("CC", "cc"))
-    if not shutil.which(compiler[0]):
-        stop(f"no C compiler: there is no {compiler[0]}; install one (apt-get install gcc libc6-dev), or let CC name it")
+    compiler()
     if not os.path.isfile(os.path.join(include[0], "Python.h")):
         stop(f"no headers of Python: {include[0]}/Python.h is not there; install them (apt-get install python3-dev)")
-    command = [
-        *compiler,
-        *"-std=c11 -O2 -Wall -Werror=implicit-function-declaration -fPIC -fvisibility=hidden -shared -Wl,--exclude-libs,ALL".split(),
+    compile_by(
+        *"-Wall -Werror=implicit-function-declaration -fPIC -fvisibility=hidden -shared -Wl,--exclude-libs,ALL".split(),
         *shlex.split(os.environ.get("CFLAGS", "")),
         *(f"-I{each}" for each in dict.fromkeys(include)),
-        *("-o", str(out), *(str(HERE / each) for each in SOURCES)),
-        *map(str, libraries),
-    ]
-    if subprocess.run(command, check=False).returncode:
-        stop(f"not compiled: {shlex.join(command)}")
+        *("-o", out, *(HERE / each for each in SOURCES)),
+        *libraries,
+    )
 
 
 def platform_of(files):
@@ -245,7 +273,8 @@ def sources():
     folders = [HERE, HERE / "src" / PACKAGE, HERE / "tests"]
     kinds = (".py", ".pyi", ".typed", ".c", ".h", ".md")
     paths = [path for folder in folders for path in sorted(folder.iterdir()) if path.suffix in kinds]
-    paths += [TOP / "pyproject.toml", HEADER, *LICENCES.values()]
+    paths += [TOP / "pyproject.toml", HEADER, RUNTIME, *LICENCES.values()]
+    paths += [*built_libraries(), *(path for name in PROGRAMS for path in sorted(CRATES.glob(f"{name}/out/*/{name}.o")))]
     return {str(path.relative_to(TOP)): path.read_bytes() for path in paths} | {"PKG-INFO": metadata("")["METADATA"].encode()}
 
 

@@ -41,7 +41,8 @@ class Missing(unittest.TestCase):
 
     def test_library(self):
         self.assertIn("pep440_rattle: /nowhere/libpep440.a is not there, which PEP440_ARCHIVES names", self.said(PEP440_ARCHIVES="/nowhere/libpep440.a"))
-        self.assertIn("no library: let PEP440_ARCHIVES name lib/libpep440.a of the release's", self.said(WITHOUT_TOOLCHAIN, PEP440_ARCHIVES=""))
+        said = self.said(f"{WITHOUT_TOOLCHAIN}; it.MACHINE = 'riscv64'", PEP440_ARCHIVES="")
+        self.assertIn("no library for riscv64: let PEP440_ARCHIVES name lib/libpep440.a of the release's", said)
 
     def test_programs(self):
         program = f"{WITHOUT_TOOLCHAIN}; del os.environ['PEP440_PROGRAMS']"
@@ -111,21 +112,18 @@ class Made(unittest.TestCase):
         self.assertEqual(ran.stdout, f"{self.sources}/src/pep440_rattle/__init__.py 1\n", ran.stderr)
 
 
-@unittest.skipUnless(shutil.which("qemu-x86_64-static"), "no qemu-x86_64-static here")
+@unittest.skipUnless(shutil.which("qemu-x86_64"), "no qemu-x86_64 here")
 @unittest.skipIf("asan" in os.environ.get("LD_PRELOAD", ""), "the emulator does not run what is sanitized")
 class Processors(unittest.TestCase):
     def said(self, processor):
         program = "import pep440_rattle; print(pep440_rattle.Version('v1.0+A').public, '1.5' in pep440_rattle.SpecifierSet('>=1'))"
-        words = ["qemu-x86_64-static", "-cpu", processor, os.path.realpath(sys.executable), "-c", program]
+        words = ["qemu-x86_64", "-cpu", processor, os.path.realpath(sys.executable), "-c", program]
         path = os.pathsep.join(filter(None, sys.path))
         return subprocess.run(words, capture_output=True, text=True, check=False, env=dict(os.environ, PYTHONPATH=path))
 
     def test_processors(self):
-        for processor in ("Nehalem", "Haswell"):
+        for processor in ("qemu64", "core2duo", "Haswell"):
             self.assertEqual(self.said(processor).stdout, "1.0 True\n")
-        ran = self.said("kvm64")
-        self.assertEqual((ran.returncode, ran.stdout), (1, ""))
-        self.assertIn("ImportError: pep440_rattle needs a processor with SSSE3 (x86-64-v2), which this one lacks", ran.stderr)
 
 
 if __name__ == "__main__":

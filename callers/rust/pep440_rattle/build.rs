@@ -1,41 +1,43 @@
-//! Finds the library: in the folder that `PEP440_LIB_DIR` names, else where pkg-config says, else where `rt lib` leaves it in the repository.
+//! Finds the library for the target: in the folder that `PEP440_LIB_DIR` names, else in this crate's `lib`, which a release has, else where pkg-config
+//! says, else where `make -C callers/c` leaves it in the repository.
 //!
 //! `cargo check` and `cargo doc` do without it: where it is missing, it is `src/calls.rs` that says so, when code is made of it.
 use std::env;
 use std::path::{Path, PathBuf};
 use std::process::Command;
 
-const NEEDED: &str = "pep440_rattle needs libpep440.a, which is built for Linux on x86-64: set PEP440_LIB_DIR to its folder, or PKG_CONFIG_PATH \
-                      to that of pep440.pc, or run `rt lib` in crates/pep440_c of the repository";
+const NEEDED: &str = "pep440_rattle needs libpep440.a: set PEP440_LIB_DIR to its folder, or PKG_CONFIG_PATH to that of pep440.pc, or run \
+                      `make -C callers/c` in the repository";
 
+/// The targets, with any C library.
+const MACHINES: [&str; 2] = ["x86_64", "aarch64"];
+
+/// What pkg-config knows is for the machine that it runs on.
 fn from_pkg_config() -> Option<PathBuf> {
+    let is_here = env::var("HOST").ok()?.split('-').next() == env::var("TARGET").ok()?.split('-').next();
     let asked = Command::new("pkg-config").args(["--variable=libdir", "pep440"]).output().ok()?;
     let folder = String::from_utf8(asked.stdout).ok()?;
-    asked.status.success().then(|| PathBuf::from(folder.trim_end()))
+    (is_here && asked.status.success()).then(|| PathBuf::from(folder.trim_end()))
 }
 
-/// What `rt lib` left in the repository, and the toolchain's library that it is linked with.
-fn from_repository() -> Option<[PathBuf; 2]> {
-    let paths = env::var_os("PATH")?;
-    let tool = env::split_paths(&paths).map(|folder| folder.join("rt")).find(|path| path.is_file())?;
-    let toolchain = tool.canonicalize().ok()?.parent()?.parent()?.to_owned();
-    let built = PathBuf::from(env::var_os("CARGO_MANIFEST_DIR")?).join("../../../crates/pep440_c/out/libpep440_c.a");
-    Some([built, toolchain.join("c/liblibc_c.a")])
+/// The static library for the machine.
+fn library(machine: &str) -> Option<PathBuf> {
+    let here = PathBuf::from(env::var_os("CARGO_MANIFEST_DIR")?);
+    let folders = match env::var_os("PEP440_LIB_DIR") {
+        Some(folder) => vec![PathBuf::from(folder)],
+        None => [Some(here.join("lib").join(machine)), from_pkg_config(), Some(here.join("../../c/out").join(machine))]
+            .into_iter()
+            .flatten()
+            .collect(),
+    };
+    folders.into_iter().map(|folder| folder.join("libpep440.a")).find(|path| path.is_file())
 }
 
-/// The static libraries to link, all of which are there.
-fn libraries() -> Option<Vec<PathBuf>> {
-    let installed = env::var_os("PEP440_LIB_DIR").map(PathBuf::from).or_else(from_pkg_config);
-    let found = installed.map(|folder| vec![folder.join("libpep440.a")]).or_else(|| from_repository().map(Vec::from))?;
-    found.iter().all(|path| path.is_file()).then_some(found)
-}
-
-/// Has rustc link `libNAME.a`.
+/// Has rustc link it.
 fn link(library: &Path) -> Option<()> {
-    let name = library.file_stem()?.to_str()?.strip_prefix("lib")?;
     println!("cargo::rerun-if-changed={}", library.display());
     println!("cargo::rustc-link-search=native={}", library.parent()?.display());
-    println!("cargo::rustc-link-lib=static={name}");
+    println!("cargo::rustc-link-lib=static=pep440");
     Some(())
 }
 
@@ -45,11 +47,16 @@ fn main() {
     }
     println!("cargo::rustc-check-cfg=cfg(without_library)");
     let of_target = |part: &str| env::var(format!("CARGO_CFG_TARGET_{part}")).unwrap_or_default();
-    if of_target("ARCH") != "x86_64" || of_target("OS") != "linux" {
-        println!("cargo::error={NEEDED}");
+    let (machine, kind) = (of_target("ARCH"), ["OS", "ENDIAN", "POINTER_WIDTH"].map(of_target));
+    if !MACHINES.contains(&machine.as_str()) || kind != ["linux", "little", "64"] {
+        println!(
+            "cargo::error=pep440_rattle is for Linux on {}, not for {}",
+            MACHINES.join(" and "),
+            env::var("TARGET").unwrap_or_default()
+        );
         return;
     }
-    if libraries().is_none_or(|found| !found.iter().all(|library| link(library).is_some())) {
+    if library(&machine).and_then(|found| link(&found)).is_none() {
         println!("cargo::rustc-cfg=without_library");
         println!("cargo::rustc-env=PEP440_NEEDED={NEEDED}");
     }
