@@ -97,7 +97,7 @@ test(`${COUNT} random cases as the C library has them`, { skip: !process.env.PEP
   cases.forEach(({ letter, strings, found }, i) => {
     if (letter === 'a') assert.equal(found === '0 01', lines[i] === '0 01', JSON.stringify(strings));
     else if (found === null) return;
-    else assert.equal(found, lines[i].replace(/^6/, '1'), `${letter} ${JSON.stringify(strings)}`);
+    else assert.equal(found, letter === 'c' ? lines[i].replace(/^6/, '1') : lines[i], `${letter} ${JSON.stringify(strings)}`);
     compared += 1;
     valid += lines[i].startsWith('0 ');
   });
