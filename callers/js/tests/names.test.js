@@ -146,14 +146,9 @@ test('the types name what there is', async () => {
 test('README shows what its lines print', async () => {
   const page = await readFile(new URL('README.md', folder), 'utf8');
   const lines = [...page.matchAll(/^```js\n([^]*?)^```/gm)].flatMap((it) => it[1].split('\n')).filter((it) => it && !it.startsWith('import '));
-  const names = Object.keys(pep440);
-  let kept = '', count = 0;
   for (const line of lines) {
-    const [, code, wanted] = /^(.*?);?\s*(?:\/\/ (.*))?$/.exec(line);
-    if (!wanted) { kept += `${line}\n`; continue; }
-    const found = new Function(...names, `${kept}return (${code});`)(...Object.values(pep440));
-    assert.equal(inspect(found, { breakLength: Infinity }), wanted, code);
-    count += 1;
+    const [, code, wanted] = /^(.*); \/\/ (.*)$/.exec(line);
+    assert.equal(inspect(new Function('pep440', `return (${code});`)(pep440), { breakLength: Infinity }), wanted, code);
   }
-  assert.ok(count >= 10);
+  assert.ok(lines.length >= 10);
 });
