@@ -18,7 +18,7 @@ typedef struct {
 
 extern uint8_t __heap_base;
 static size_t top;                /* where the next block begins */
-static uint32_t until_refusal;    /* allocations up to the one that is refused; 0: none is */
+static uint32_t until_failure;    /* allocations up to the one that fails; 0: none does */
 
 static size_t aligned(size_t at) { return (at + ALIGNMENT - 1) & ~(size_t)(ALIGNMENT - 1); }
 
@@ -42,7 +42,7 @@ static tried placed(size_t at, size_t length)
 {
     static uint8_t nothing;
     tried failed = {0, &nothing}, made = {1, AT(at)};
-    if (until_refusal && --until_refusal == 0)
+    if (until_failure && --until_failure == 0)
         return failed;
     if (length > MOST_BYTES || !reaches(aligned(at + length)))
         return failed;
@@ -117,10 +117,10 @@ EXPORT(begin)(uint32_t length)
     return (uint32_t)from;
 }
 
-/* The allocation that many from now is refused, for tests; 0: none is. */
-EXPORT(refuse_allocation)(uint32_t count)
+/* The allocation that many from now fails, for tests; 0: none does. */
+EXPORT(fail_allocation)(uint32_t count)
 {
-    until_refusal = count;
+    until_failure = count;
     return 0;
 }
 

@@ -26,40 +26,40 @@ const CALLS = {
   listErrors: [[LIST], ['>=x, ~=1']],
 };
 
-// The instance that the package makes, so that a test can have it refuse memory.
+// The instance that the package makes, so that a test can have its allocations fail.
 let instance;
 const Instance = WebAssembly.Instance;
 WebAssembly.Instance = function (...words) { return instance = new Instance(...words); };
 pep440.start(module);
 
-function refused(count, call) {
-  instance.exports.refuse_allocation(count);
+function failing(count, call) {
+  instance.exports.fail_allocation(count);
   try {
     return { result: call() };
   } catch (error) {
     return { error };
   } finally {
-    instance.exports.refuse_allocation(0);
+    instance.exports.fail_allocation(0);
   }
 }
 
-test('each refusal of memory is an error, and the next call works', () => {
-  let refusals = 0;
+test('each allocation that fails is an error, and the next call works', () => {
+  let failures = 0;
   for (const [name, cases] of Object.entries(CALLS)) for (const words of cases) {
     const call = () => pep440[name](...words), wanted = call();
     for (let count = 1; ; count++) {
-      const { error, result } = refused(count, call);
+      const { error, result } = failing(count, call);
       if (!error) {
         assert.deepEqual(result, wanted);
         break;
       }
       assert.equal(error.code, 'OUT_OF_MEMORY', `${name}: ${error}`);
       assert.deepEqual(call(), wanted, name);
-      refusals += 1;
+      failures += 1;
     }
   }
-  assert.ok(refusals > 200, String(refusals));
-  console.log(`${refusals} refusals of memory`);
+  assert.ok(failures > 200, String(failures));
+  console.log(`${failures} allocations failed`);
 });
 
 test('what memory cannot hold is an error', () => {
