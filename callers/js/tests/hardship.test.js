@@ -115,11 +115,24 @@ test('after an overflow of the engine\'s stack the next call works', () => {
 });
 
 test('a trap of the module is an exception, and the next call works', () => {
-  const { normalize } = instance.exports, before = instance;
-  assert.throws(() => normalize(0xfffffff0, 16, 0, 0, 0), WebAssembly.RuntimeError);
-  // the stack of the module ends in a trap too: it lies at the start of the memory, and below there is none
+  assert.throws(() => instance.exports.normalize(0xfffffff0, 16, 0, 0, 0), WebAssembly.RuntimeError);
   assert.equal(pep440.valid('1.0'), '1.0');
-  assert.equal(instance, before);
+});
+
+test('calls take at most a fourth of the module\'s stack, whatever the length of what they read', () => {
+  // the stack lies at the start of the memory, so that what goes below it traps
+  const long = '1.'.repeat(100000), list = Array(5000).fill('!=1.2.*').join(), size = 65536;
+  const cases = { ...CALLS, valid: [[`${long}1`], [`${long}x`]], satisfies: [[`${long}1`, list]], boundaries: [[list]], witness: [[`${list.slice(0, 799)},<1`]], normalizeList: [[list]] };
+  let most = 0;
+  for (const [name, all] of Object.entries(cases)) for (const words of all) {
+    pep440.valid('1');
+    const { buffer } = instance.exports.memory, stack = new Uint8Array(buffer, 0, size).fill(0xaa);
+    pep440[name](...words);
+    const used = (stack.length ? stack : new Uint8Array(instance.exports.memory.buffer, 0, size)).findIndex((it) => it !== 0xaa);
+    most = Math.max(most, used < 0 ? 0 : size - used);
+  }
+  assert.ok(most > 500 && most <= size / 4, String(most));
+  console.log(`calls took at most ${most} bytes of stack`);
 });
 
 test('strings that are not well-formed are invalid', () => {
