@@ -24,6 +24,7 @@ import urllib.parse
 TOP = pathlib.Path(__file__).resolve().parents[3]
 PAGE, SHOTS = (pathlib.Path(word) for word in (sys.argv[1:] + [TOP / "out/js/play", TOP / "out/js/shots"][len(sys.argv) - 1 :]))
 BACKSPACE, TAB, SHIFT_TAB = "\ue003", "\ue004", "\ue008\ue004"
+PORTS = []  # of the page, and of one without its module
 FRAME, LONG_PASTE, FIRST_ANSWER = 16, 1000, 200
 
 
@@ -397,6 +398,11 @@ class Tests:
     def test_no_complaints(self):
         assert not self.browser.complaints(), self.browser.complaints()
 
+    def test_without_module(self):
+        self.browser.go(self.url.replace(str(PORTS[0]), str(PORTS[1])))
+        self.wait(lambda: self.run("return !document.getElementById('broken').hidden"))
+        assert self.text("broken").startswith("The page could not start: ") and "404" in self.text("broken"), self.text("broken")
+
 
 class Quiet(http.server.SimpleHTTPRequestHandler):
     def log_message(self, *_):
@@ -417,14 +423,22 @@ def run_in(browser, url):
     return passed, failed
 
 
-def main():
-    server = http.server.ThreadingHTTPServer(("127.0.0.1", 0), functools.partial(Quiet, directory=str(PAGE)))
+def serve(folder):
+    server = http.server.ThreadingHTTPServer(("127.0.0.1", 0), functools.partial(Quiet, directory=str(folder)))
     threading.Thread(target=server.serve_forever, daemon=True).start()
+    PORTS.append(server.server_port)
+
+
+def main():
+    without = tempfile.TemporaryDirectory()
+    shutil.copytree(PAGE, without.name, dirs_exist_ok=True, ignore=shutil.ignore_patterns("*.wasm"))
+    serve(PAGE)
+    serve(without.name)
     passed = failed = 0
     for kind in (Chromium, Firefox):
         browser = kind()
         try:
-            found = run_in(browser, f"http://127.0.0.1:{server.server_port}/")
+            found = run_in(browser, f"http://127.0.0.1:{PORTS[0]}/")
         finally:
             browser.close()
         passed, failed = passed + found[0], failed + found[1]
