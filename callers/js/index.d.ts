@@ -46,7 +46,7 @@ export type PrereleaseName = 'a' | 'b' | 'rc' | 'alpha' | 'beta' | 'c' | 'pre' |
 
 /** Thrown by calls that cannot return null or false. After any of them the next call works. */
 export class Pep440Error extends Error {
-  code: 'INVALID_VERSION' | 'INVALID_LIST' | 'OUT_OF_MEMORY' | 'NUMBER_AT_MAX' | 'NO_LIST' | 'ARBITRARY';
+  code: 'INVALID_VERSION' | 'INVALID_LIST' | 'OUT_OF_MEMORY' | 'NUMBER_AT_MAX' | 'NO_SET';
   start?: number;
   end?: number;
 }
@@ -105,12 +105,16 @@ export function validRange(list: Text): boolean;
 export function normalizeList(list: Text): string | null;
 /** The specifiers in normal form. Throws if it is no list, as the next calls. */
 export function specifiers(list: Text): { operator: string; version: string }[];
+/** The list that contains what both contain. */
+export function intersect(left: Text, right: Text): string;
+/** Whether the right list contains all that the left one contains. Throws with the code `NO_SET` if either has `===`. */
+export function isSubset(left: Text, right: Text): boolean;
 /** A version that the list contains, or null if it contains none. */
-export function witness(set: Text): string | null;
+export function witness(list: Text): string | null;
 /** Whether it contains no version. */
-export function isEmpty(set: Text): boolean;
-/** The intervals of the set in ascending order: a version is in one if its sort key is at least the first and below the second. Null is no bound. */
-export function boundaries(set: Text): [Uint8Array | null, Uint8Array | null][];
+export function isEmpty(list: Text): boolean;
+/** The intervals of the list's set in ascending order: a version is in one if its sort key is at least the first and below the second. Null is no bound. Throws as `isSubset`. */
+export function boundaries(list: Text): [Uint8Array | null, Uint8Array | null][];
 
 /** What is wrong with a version, or null. */
 export function versionError(version: Text): Fault | null;

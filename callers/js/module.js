@@ -1,14 +1,13 @@
 // The module of WebAssembly: strings in, answers out. An answer is null where a string is no version or no list.
 
 const OUT_OF_MEMORY = 3, NO_ROOM = 4;
-const CODES = { 1: 'INVALID_VERSION', 2: 'INVALID_LIST', 3: 'OUT_OF_MEMORY', 5: 'NUMBER_AT_MAX', 6: 'INVALID_VERSION', 11: 'NO_LIST', 12: 'ARBITRARY' };
+const CODES = { 1: 'INVALID_VERSION', 2: 'INVALID_LIST', 3: 'OUT_OF_MEMORY', 5: 'NUMBER_AT_MAX', 12: 'NO_SET' };
 const MESSAGES = {
   INVALID_VERSION: 'not a version',
   INVALID_LIST: 'not a list of specifiers',
   OUT_OF_MEMORY: 'out of memory',
   NUMBER_AT_MAX: 'a bound needs a number above 18446744073709551615',
-  NO_LIST: 'a set that is no list of specifiers',
-  ARBITRARY: 'a list with === has no set',
+  NO_SET: 'a list with === has no set of versions',
 };
 // Memory that has grown never shrinks, so above this a new instance takes the next call.
 const KEPT = 16 << 20, MOST = 2 ** 30;

@@ -184,13 +184,27 @@ export function specifiers(list) {
   return words.flatMap((word, i) => (i % 2 ? [{ operator: words[i - 1], version: word }] : []));
 }
 
-/** A version of the set, or null if it is empty. */
-export const witness = (set) => (lib.textOf('version_in', set) ?? rejectList(set)) || null;
-export const isEmpty = (set) => witness(set) === null;
+export const witness = (list) => (lib.textOf('version_in', list) ?? rejectList(list)) || null;
+export const isEmpty = (list) => witness(list) === null;
 
-/** The intervals of the set: pairs of sort keys, null where there is no bound. */
-export function boundaries(set) {
-  const keys = (lib.piecesOf('range_keys', set, false) ?? rejectList(set)).map((key) => (key.length ? key : null));
+export function intersect(left, right) {
+  const lists = [left, right].map((it) => normalizeList(it) ?? rejectList(it));
+  return normalizeList(lists.filter(Boolean).join());
+}
+
+// Intervals are apart, so one that lies in several lies in one of them. No version is below 0.dev0.
+function isWithin([low, high], [from, to]) {
+  const begins = !from || compareKeys(from, low ?? sortKey('0.dev0')) <= 0;
+  return begins && (!to || (high !== null && compareKeys(high, to) <= 0));
+}
+
+export function isSubset(left, right) {
+  const whole = boundaries(right);
+  return boundaries(left).every((it) => whole.some((other) => isWithin(it, other)));
+}
+
+export function boundaries(list) {
+  const keys = (lib.piecesOf('range_keys', list, false) ?? rejectList(list)).map((key) => (key.length ? key : null));
   return keys.flatMap((key, i) => (i % 2 ? [[keys[i - 1], key]] : []));
 }
 

@@ -2,7 +2,7 @@
 import * as pep440 from './pep440-rattle/index.js';
 import { countBelow, keyText } from './versions.js';
 
-const NOT_A_SET = 'ARBITRARY', NUMBER_AT_MAX = 'NUMBER_AT_MAX', MOST_STEPS = 20000;
+const NO_SET = 'NO_SET', NUMBER_AT_MAX = 'NUMBER_AT_MAX', MOST_STEPS = 20000;
 
 const raised = (release) => release.replace(/\d+$/, (number) => String(BigInt(number) + 1n));
 
@@ -58,8 +58,8 @@ export function readList(list) {
     const intervals = intervalsOf(list).map(({ low, high }) => ({ low: low && { key: low, ...lows.get(low) }, high: high && { key: high, ...highs.get(high) } }));
     return { list, errors, normal, specifiers: read, intervals, why: '' };
   } catch (error) {
-    if (error.code !== NOT_A_SET && error.code !== NUMBER_AT_MAX) throw error;
-    const why = error.code === NOT_A_SET ? 'a list with === has no set of versions' : 'a boundary would need a number above 18446744073709551615';
+    if (error.code !== NO_SET && error.code !== NUMBER_AT_MAX) throw error;
+    const why = error.code === NO_SET ? 'a list with === has no set of versions' : 'a boundary would need a number above 18446744073709551615';
     return { list, errors, normal, specifiers: specifiers.map((it) => ({ ...it, text: it.operator + it.version })), intervals: [], why };
   }
 }

@@ -22,6 +22,8 @@ const CALLS = {
   specifiers: [[LIST]],
   witness: [[LIST], ['>1,<1']],
   boundaries: [[LIST]],
+  intersect: [[LIST, '>=1.7']],
+  isSubset: [[LIST, '>=1'], [LIST, '>=2']],
   versionError: VERSIONS.map((it) => [it]),
   listErrors: [[LIST], ['>=x, ~=1']],
 };

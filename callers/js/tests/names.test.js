@@ -65,6 +65,11 @@ const CASES = {
   normalizeList: [[['<2.0,>=1.16'], '>=1.16, <2.0'], [['x'], null]],
   specifiers: [[['<2,>=V1'], [{ operator: '>=', version: '1' }, { operator: '<', version: '2' }]], [[''], []]],
   isEmpty: [[['>1,<1'], true], [['>=1'], false], [['==1.0, ==1'], false]],
+  intersect: [[['>=2.0', '<2.6, !=2.1.*'], '>=2.0, !=2.1.*, <2.6'], [['', '>=1'], '>=1'], [['>=1', ''], '>=1'], [['', ''], '']],
+  isSubset: [
+    [['>=1.5,<2', '>=1'], true], [['>=1', '>=1.5,<2'], false], [['>1,<1', '==3'], true], [['', '>=0.dev0'], true], [['', '>=0'], false], [['>=1', ''], true], [['!=1.5', '!=1.5.*'], false],
+    [['!=1.5.*', '!=1.5'], true], [['~=2.2', '>=2.2,==2.*'], true], [['>=2.2,==2.*', '~=2.2'], true], [['>=1,<2', '>=1,!=1.7,<3'], false], [['<1', '<1.0.0'], true],
+  ],
   sortKey: [[['x'], null]],
   compile: [[['x'], null]],
   compileList: [[['x'], null]],
@@ -97,7 +102,7 @@ test('calls that cannot return null throw', () => {
   }
   for (const name of ['major', 'minor', 'patch']) assert.throws(() => pep440[name]('x'), { code: 'INVALID_VERSION' });
   for (const name of ['sort', 'sortKeys']) assert.throws(() => pep440[name](['1', '2.x']), { code: 'INVALID_VERSION', start: 1, end: 3 });
-  for (const name of ['specifiers', 'witness', 'isEmpty', 'boundaries']) assert.throws(() => pep440[name]('>=1, x'), { code: 'INVALID_LIST', start: 5, end: 6 });
+  for (const name of ['specifiers', 'witness', 'isEmpty', 'boundaries', 'intersect', 'isSubset']) assert.throws(() => pep440[name]('>=1, x', ''), { code: 'INVALID_LIST', start: 5, end: 6 });
 });
 
 test('sort keys have the order of versions', () => {
