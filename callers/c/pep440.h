@@ -234,7 +234,7 @@ uint8_t pep440_any_prerelease(const uint8_t *list, size_t length, uint8_t *any);
    PEP440_NO_ROOM means that there is a version, and PEP440_OK that there is none. It is the least
    one if there is a least, pre-releases and local versions among them: `0.dev0` of the empty list.
    To know whether two lists have a version in common, join their strings with a comma (if one is
-   empty, ask the other). The time grows with the square of the number of specifiers. */
+   empty, ask the other). */
 uint8_t pep440_version_in(const uint8_t *list, size_t length, uint8_t *out, size_t size,
                           size_t *written);
 
