@@ -25,21 +25,24 @@ static uint8_t compare(void) { return pep440_compare(TEXT("1.2.3"), TEXT("1.2.4"
 static uint8_t compare_longer(void) { return pep440_compare(TEXT(LONGER), TEXT("1!2.0rc1.post2"), &order); }
 static uint8_t contains(void) { return pep440_contains(TEXT(LIST), TEXT("1.2.3"), &is, &early); }
 static uint8_t contains_one(void) { return pep440_contains(TEXT(">=1.0"), TEXT("1.2.3"), &is, &early); }
+static uint8_t allows(void) { return pep440_allows(TEXT(LIST), TEXT("1.2.3"), PEP440_ASKED_PRERELEASES, &is); }
 static uint8_t any_prerelease(void) { return pep440_any_prerelease(TEXT(LIST), &is); }
 static uint8_t parts_of(void) { return pep440_parts_of(TEXT("1.2.3"), &parts, release, 16); }
 static uint8_t sort_key(void) { return pep440_sort_key(TEXT("1.2.3"), out, sizeof out, &written); }
 static uint8_t sort_key_longer(void) { return pep440_sort_key(TEXT(LONGER), out, sizeof out, &written); }
 static uint8_t ranges(void) { return pep440_ranges(TEXT(LIST), out, sizeof out, &written); }
+static size_t ends[16], keys;
+static uint8_t boundaries(void) { return pep440_boundaries(TEXT(LIST), out, sizeof out, ends, 16, &written, &keys); }
 static const pep440_string changes[] = {{TEXT("post=4")}};
 static uint8_t edit(void) { return pep440_edit(TEXT("1.2.3"), changes, 1, out, sizeof out, &written); }
 
 /* Compiled forms, made once. */
 typedef struct {
-    uint8_t bytes[64];
+    uint8_t bytes[128];
     size_t length;
 } Compiled;
 
-static Compiled compiled, next, list, one, dated, dated_next, dated_one, local, local_one;
+static Compiled compiled, next, list, one, dated, dated_next, dated_one, local, local_one, locals, locals_one, epoch, epoch_one, digits, digits_one;
 
 #define OF(form) (form).bytes, (form).length
 static uint8_t compile(void) { return pep440_compile(TEXT("1.2.3"), out, sizeof out, &written); }
@@ -57,18 +60,34 @@ static uint8_t compile_local(void) { return pep440_compile(TEXT("1.0+cu118"), ou
 static uint8_t compare_compiled_dated(void) { return pep440_compare(OF(dated), OF(dated_next), &order); }
 static uint8_t contains_compiled_dated(void) { return pep440_contains(OF(dated_one), OF(dated), &is, &early); }
 static uint8_t contains_compiled_local(void) { return pep440_contains(OF(local_one), OF(local), &is, &early); }
+static uint8_t allows_if(const Compiled *of, const Compiled *version)
+{
+    return pep440_allows(of->bytes, of->length, version->bytes, version->length, PEP440_ASKED_PRERELEASES, &is);
+}
+
+static uint8_t allows_compiled(void) { return allows_if(&list, &compiled); }
+static uint8_t allows_compiled_one(void) { return allows_if(&one, &compiled); }
+static uint8_t allows_compiled_dated(void) { return allows_if(&dated_one, &dated); }
+static uint8_t allows_compiled_local(void) { return allows_if(&local_one, &local); }
+static uint8_t allows_compiled_locals(void) { return allows_if(&locals_one, &locals); }
+static uint8_t allows_compiled_epoch(void) { return allows_if(&epoch_one, &epoch); }
+static uint8_t allows_compiled_digits(void) { return allows_if(&digits_one, &digits); }
+static uint8_t allows_mixed(void) { return pep440_allows(OF(list), TEXT("1.2.3"), PEP440_ASKED_PRERELEASES, &is); }
+
+static void compile_one(Compiled *form, const char *text)
+{
+    uint8_t status = (strpbrk(text, "<>=") ? pep440_compile_list : pep440_compile)((const uint8_t *)text, strlen(text), form->bytes, sizeof form->bytes, &form->length);
+    if (status != PEP440_OK)
+        exit(EXIT_FAILURE);
+}
 
 static void compile_all(void)
 {
-    pep440_compile(TEXT("1.2.3"), compiled.bytes, sizeof compiled.bytes, &compiled.length);
-    pep440_compile(TEXT("1.2.4"), next.bytes, sizeof next.bytes, &next.length);
-    pep440_compile_list(TEXT(LIST), list.bytes, sizeof list.bytes, &list.length);
-    pep440_compile_list(TEXT(">=1.0"), one.bytes, sizeof one.bytes, &one.length);
-    pep440_compile(TEXT("2024.10.20240101"), dated.bytes, sizeof dated.bytes, &dated.length);
-    pep440_compile(TEXT("2024.10.20240102"), dated_next.bytes, sizeof dated_next.bytes, &dated_next.length);
-    pep440_compile_list(TEXT(">=2024.10.20240101"), dated_one.bytes, sizeof dated_one.bytes, &dated_one.length);
-    pep440_compile(TEXT("1.0+cu118"), local.bytes, sizeof local.bytes, &local.length);
-    pep440_compile_list(TEXT("==1.0+cu118"), local_one.bytes, sizeof local_one.bytes, &local_one.length);
+    compile_one(&compiled, "1.2.3"), compile_one(&next, "1.2.4"), compile_one(&list, LIST), compile_one(&one, ">=1.0");
+    compile_one(&dated, "2024.10.20240101"), compile_one(&dated_next, "2024.10.20240102"), compile_one(&dated_one, ">=2024.10.20240101");
+    compile_one(&local, "1.0+cu118"), compile_one(&local_one, "==1.0+cu118");
+    compile_one(&locals, "1.0+cu118.20240101.abc"), compile_one(&locals_one, "==1.0+cu118.20240101.abc");
+    compile_one(&epoch, "1!2.0"), compile_one(&epoch_one, ">=1!1.0"), compile_one(&digits, "10000000000000000001.0"), compile_one(&digits_one, ">=10000000000000000000.0");
 }
 
 static const struct {
@@ -79,6 +98,7 @@ static const struct {
              {"normalize_list", normalize_list, PEP440_OK}, {"version_error", version_error, PEP440_OK},
              {"compare", compare, PEP440_OK},               {"compare_longer", compare_longer, PEP440_OK},
              {"contains", contains, PEP440_OK},             {"contains_one", contains_one, PEP440_OK},
+             {"allows", allows, PEP440_OK},                 {"boundaries", boundaries, PEP440_OK},
              {"any_prerelease", any_prerelease, PEP440_OK}, {"parts_of", parts_of, PEP440_OK},
              {"sort_key", sort_key, PEP440_OK},             {"sort_key_longer", sort_key_longer, PEP440_OK},
              {"ranges", ranges, PEP440_OK},
@@ -97,7 +117,15 @@ static const struct {
              {"compile_local", compile_local, PEP440_OK},
              {"compare_compiled_dated", compare_compiled_dated, PEP440_OK},
              {"contains_compiled_dated", contains_compiled_dated, PEP440_OK},
-             {"contains_compiled_local", contains_compiled_local, PEP440_OK}};
+             {"contains_compiled_local", contains_compiled_local, PEP440_OK},
+             {"allows_compiled", allows_compiled, PEP440_OK},
+             {"allows_compiled_one", allows_compiled_one, PEP440_OK},
+             {"allows_compiled_dated", allows_compiled_dated, PEP440_OK},
+             {"allows_compiled_local", allows_compiled_local, PEP440_OK},
+             {"allows_compiled_locals", allows_compiled_locals, PEP440_OK},
+             {"allows_compiled_epoch", allows_compiled_epoch, PEP440_OK},
+             {"allows_compiled_digits", allows_compiled_digits, PEP440_OK},
+             {"allows_mixed", allows_mixed, PEP440_OK}};
 
 /* Versions of three numbers, scrambled: one in eight each with a pre-release, a post-release and a dev. */
 static pep440_string *some_texts(size_t how_many)
@@ -146,6 +174,12 @@ static uint8_t compile_batch(void)
     return PEP440_OK;
 }
 
+static uint8_t filter_compiled(void)
+{
+    uint8_t *marks = malloc(count + 1), status = compile_batch();
+    return status == PEP440_OK ? pep440_filter(OF(list), forms, count, marks, count) : status;
+}
+
 static int compare_forms(const void *left, const void *right)
 {
     const pep440_string *one = left, *other = right;
@@ -162,7 +196,7 @@ static uint8_t compile_and_sort(void)
 static const struct {
     const char *name;
     uint8_t (*call)(void);
-} BATCHES[] = {{"made", nothing}, {"filter", filter}, {"sort", sort}, {"sort_keys", sort_keys}, {"compile_batch", compile_batch}, {"compile_and_sort", compile_and_sort}};
+} BATCHES[] = {{"made", nothing}, {"filter", filter}, {"sort", sort}, {"sort_keys", sort_keys}, {"compile_batch", compile_batch}, {"filter_compiled", filter_compiled}, {"compile_and_sort", compile_and_sort}};
 
 /* Whether the calls of this name have the status that they are to have; `start` is when they began. */
 static int run(const char *name, struct timespec *start)

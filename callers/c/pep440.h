@@ -3,12 +3,12 @@
 
    A version or a list is passed as bytes and a length, with no zero at the end; for `const char *`
    see the calls at the end of this header. The bytes are a string, or a compiled form, made once of
-   a string (below): bytes that begin with 4 or 5 are taken as one. Every call takes either, but the
-   five of a pattern or a single specifier (pep440_pattern, pep440_pattern_error, pep440_specifier,
-   pep440_specifier_error and pep440_compile_specifier), which take strings. Bytes that are neither
-   are an invalid version or list. Each call returns a status. No call keeps a pointer, and none
-   ends the process. Programs to begin with are in the folder examples of the release archive, and
-   in callers/c/examples of the repository.
+   a string (below): bytes that begin with 4, 5 or 6 are taken as one. Every call takes either, but
+   the five of a pattern or a single specifier (pep440_pattern, pep440_pattern_error,
+   pep440_specifier, pep440_specifier_error and pep440_compile_specifier), which take strings. Bytes
+   that are neither are an invalid version or list. Each call returns a status. No call keeps a
+   pointer, and none ends the process. Programs to begin with are in the folder examples of the
+   release archive, and in callers/c/examples of the repository.
 
    What the caller must keep, for nothing checks it:
    - Each pointer points to as many items as its length says. Only beside a length of 0 it may be
@@ -60,8 +60,8 @@ extern "C" {
 uint32_t pep440_version_of_library(void);
 
 /* PEP440_INVALID_LIST: bytes are no list of specifiers, or no single one, or an operator and a
-   version make none. PEP440_NUMBER_AT_MAX is only of a range or a cover: a bound would need a
-   number above 18446744073709551615. */
+   version make none. PEP440_NUMBER_AT_MAX is only of a range: a bound would need a number above
+   18446744073709551615. */
 enum {
     PEP440_OK = 0,
     PEP440_INVALID_VERSION = 1, /* bytes are no version; of pep440_compare the left ones */
@@ -73,7 +73,8 @@ enum {
     PEP440_NOT_PACKED = 7,     /* only of pep440_word: the version has no word */
     PEP440_INVALID_CHANGE = 8, /* only of pep440_edit: a change is none, or cannot be made */
     PEP440_INVALID_KIND = 9,   /* only of pep440_error: `kind` is none of PEP440_A_VERSION.. */
-    PEP440_NONE_FOUND = 10     /* only of pep440_newest: the list contains no string of the batch */
+    PEP440_NONE_FOUND = 10,    /* only of pep440_newest: the list matches no string of the batch */
+    PEP440_NO_SET = 12         /* only of pep440_boundaries: the list has `===` */
 };
 
 /* A version of a batch, or a change of pep440_edit. */
@@ -182,34 +183,57 @@ PEP440_INLINE uint8_t pep440_list_error(const uint8_t *list, size_t length, uint
 uint8_t pep440_compare(const uint8_t *left, size_t left_length, const uint8_t *right,
                        size_t right_length, int8_t *order);
 
+/* ---- two rules of matching
+
+   PEP 440, "Exclusive ordered comparison", is read in two ways. By today's rule, that of pip 26 and
+   `packaging` 26, `<V` leaves out the pre-releases of V, and `>V` the post-releases of V. By that
+   of the ported crate, pep440_rs 0.7.3, they leave out those of every version of V's release: so
+   `<1.0.post1` does not contain `1.0rc1`, and `>1.0rc1` not `1.0.post1`, which today's rule
+   matches. What a list contains by the crate's rule, it matches by today's. A string and both
+   formats of its compiled form give one result:
+
+   call                                               rule           pre-releases
+   pep440_contains                                    the crate's    contained, and reported
+   pep440_ranges, pep440_range_bounds                 the crate's    contained
+   pep440_release_range_bounds                        the crate's    releases alone count
+   pep440_allows                                      today's        by `prereleases`
+   pep440_filter                                      today's        matched, with their own mark
+   pep440_newest                                      today's        if asked for, or alone
+   pep440_version_in, pep440_boundaries               today's        matched
+
+   By no rule of matching go pep440_any_prerelease and the calls that print or compile a list. */
+
 /* Writes to `contained` whether the list contains the version, 1 or 0: whether each of its
    specifiers does; and to `prerelease` whether the version is a pre-release or a developmental
    release, 1 or 0, contained or not. Pre-releases are versions like others here: `>=1.0` contains
-   `2.0rc1`; pep440_allows leaves them out.
+   `2.0rc1`.
    If both are invalid PEP440_INVALID_LIST is returned; of two compiled forms, either. */
 uint8_t pep440_contains(const uint8_t *list, size_t list_length, const uint8_t *version,
                         size_t length, uint8_t *contained, uint8_t *prerelease);
 
-/* Writes to `allowed` whether the list contains the version, 1 or 0, with pre-releases and
-   developmental releases left out (PEP 440, "Handling of pre-releases") unless the list asks for
-   them, which it does if a specifier with another operator than `!=` has such a version. So `>=1.0`
-   does not allow `2.0rc1`, `>=1.0,!=1.5rc1` neither, and `>=1.0rc1` does. So does
-   SpecifierSet.contains of `packaging` 25.0. Errors as of pep440_contains. */
+/* Which pre-releases and developmental releases pep440_allows allows: none; all; or all if the list
+   asks for them, as it does if a specifier with another operator than `!=` has such a version. */
+enum { PEP440_NO_PRERELEASES = 0, PEP440_ALL_PRERELEASES = 1, PEP440_ASKED_PRERELEASES = 2 };
+
+/* Writes to `allowed` whether the list allows the version, 1 or 0: whether each of its specifiers
+   matches it, and it is neither a pre-release nor a developmental release unless `prereleases`
+   allows these (PEP 440, "Handling of pre-releases"); any other number is as
+   PEP440_ASKED_PRERELEASES. By that `>=1.0` does not allow `2.0rc1`, `>=1.0,!=1.5rc1` neither, and
+   `>=1.0rc1` does. SpecifierSet.contains of `packaging` allows all by default from 26.0 on, and
+   before those that are asked for. Errors as of pep440_contains. */
 uint8_t pep440_allows(const uint8_t *list, size_t list_length, const uint8_t *version,
-                      size_t length, uint8_t *allowed);
+                      size_t length, uint8_t prereleases, uint8_t *allowed);
 
 /* Writes to `any` whether the version of some specifier of the list is a pre-release or a
    developmental release, 1 or 0: of any operator, also `!=`, which `packaging` does not count. */
 uint8_t pep440_any_prerelease(const uint8_t *list, size_t length, uint8_t *any);
 
-/* Writes a version that the list contains, as `1.16` of `>=1.16`, and 0 bytes if it contains none, as
-   `>1, <1`; `out` and `written` as for pep440_normalize. So with null and a size of 0 PEP440_NO_ROOM
-   means that there is a version, and PEP440_OK that there is none. Pre-releases count, as for
-   pep440_contains: the version may be one even if the list contains final releases too.
-   For a list given as a string the answer is exact, where a range is not: `==1.0+cu1, <=1.0` has an
-   empty range, yet contains `1.0+cu1`. To know whether two lists have a version in common, join
-   their strings with a comma (if one is empty, ask the other). The time grows with the square of
-   the number of specifiers. */
+/* Writes a version that the list matches, as `1.16` of `>=1.16`, and 0 bytes if it matches none, as
+   `>1, <1`; `out` and `written` as for pep440_normalize. So with null and a size of 0
+   PEP440_NO_ROOM means that there is a version, and PEP440_OK that there is none. It is the least
+   one if there is a least, pre-releases and local versions among them: `0.dev0` of the empty list.
+   To know whether two lists have a version in common, join their strings with a comma (if one is
+   empty, ask the other). */
 uint8_t pep440_version_in(const uint8_t *list, size_t length, uint8_t *out, size_t size,
                           size_t *written);
 
@@ -269,30 +293,26 @@ uint8_t pep440_word(const uint8_t *version, size_t length, uint64_t *word);
 uint8_t pep440_ranges(const uint8_t *list, size_t length, uint8_t *out, size_t size,
                       size_t *written);
 
-/* Writes the range of the list as sort keys, two for each segment in ascending order, one after the
-   other, at the start of `out`, and to `ends` where each of them ends, counted from the start of
-   `out`; to `written` how many bytes they are, and to `count` how many keys. A version is in a
-   segment exactly if its sort key is at least the first of the two and below the second, compared
-   as pep440_sort_key says: so an index over stored keys finds the versions of a range. A key of no
-   bytes is no bound: of the first each key is at least that, of the second leave out the
-   comparison. Keys of bounds are not always sort keys of versions. With PEP440_NO_ROOM (`size` is
-   less than the bytes, or `ends_size` less than the keys) `written` and `count` are written, and
-   `out` and `ends` are unchanged. PEP440_NUMBER_AT_MAX as for pep440_ranges. */
-uint8_t pep440_range_keys(const uint8_t *list, size_t length, uint8_t *out, size_t size,
-                          size_t *ends, size_t ends_size, size_t *written, size_t *count);
-
-/* The same of the cover of the list: a range that has each version that the list contains, local
-   versions too, if a string denotes the list, and maybe others; what is found by it is then asked
-   of pep440_contains or pep440_filter. The range of pep440_range_keys may leave out versions that
-   the list contains. */
-uint8_t pep440_cover_keys(const uint8_t *list, size_t length, uint8_t *out, size_t size,
+/* Writes the set of the list, which is exactly what it matches by today's rule: sort keys, two for
+   each interval in ascending order, one after the other, at the start of `out`, and to `ends` where
+   each of them ends, counted from the start of `out`; to `written` how many bytes they are, and to
+   `count` how many keys. The list matches a version exactly if the sort key of the version is at
+   least the first and below the second key of an interval, compared as pep440_sort_key says, local
+   versions and pre-releases too: so an index over stored keys finds the versions of a list, and
+   none need be asked again. A key of no bytes is no bound: of the first each key is at least that,
+   of the second leave out the comparison. The keys are not always sort keys of versions. With
+   PEP440_NO_ROOM (`size` is less than the bytes, or `ends_size` less than the keys) `written` and
+   `count` are written, and `out` and `ends` are unchanged. PEP440_NO_SET if the list has `===`,
+   which compares how versions are written; with `==` in its place the set has what the list
+   matches, and equal versions. */
+uint8_t pep440_boundaries(const uint8_t *list, size_t length, uint8_t *out, size_t size,
                           size_t *ends, size_t ends_size, size_t *written, size_t *count);
 
 /* The first byte of a bound: there is none; or its version is in the segment, or is not. */
 enum { PEP440_NO_BOUND = 0, PEP440_INCLUDED = 1, PEP440_EXCLUDED = 2 };
 
 /* Writes the range of the list as bounds, two for each segment in ascending order, as
-   pep440_range_keys writes keys; to `count` how many bounds there are. A bound is just
+   pep440_boundaries writes keys; to `count` how many bounds there are. A bound is just
    PEP440_NO_BOUND, or PEP440_INCLUDED or PEP440_EXCLUDED and then bytes of its version as in
    compiled form (below), its sentinel among them. So the bounds of `>=1.0,<2.0` are PEP440_INCLUDED
    and the compiled form of `1.0`, and PEP440_EXCLUDED and the bytes of `2.0~min0`. Such bytes with
@@ -319,25 +339,35 @@ uint8_t pep440_release_range_bounds(const uint8_t *list, size_t length, uint8_t 
    A compiled version is the byte 4, the sort key of the version, and a byte 1 for each zero that
    ends its release, which is all that a sort key leaves out. A sort key ends with a byte 0. So
    versions are ordered as the sort keys in their bytes are, two versions are equal exactly if their
-   sort keys are, and a hash of a sort key is one of the version. A compiled list is the byte 5, and
-   of each specifier 16 and the number of its operator (below), and then its version without the
-   byte 4. `1.0` takes 10 bytes, `2024.10.20240101` 17; no version and no list takes more than
-   PEP440_COMPILED_BOUND of the length of its string.
+   sort keys are, and a hash of a sort key is one of the version. `1.0` takes 10 bytes,
+   `2024.10.20240101` 17, and no version more than PEP440_COMPILED_BOUND of the length of its
+   string.
+
+   A compiled list has format 6: the byte 6, how many bytes its set takes, the set, and its members.
+   The set is of each interval that pep440_boundaries writes the low key and the high key, each
+   after how many bytes it takes: a number is a byte that says how many bytes follow, and these, the
+   greatest first, none for 0, as in sort keys. The members are the byte 5, and of each specifier 16
+   and the number of its operator (below), and then its version without the byte 4. A list with
+   `===` has no set, and format 5: the members alone. Of a list no size suffices by its length: ask
+   for it, with null and a size of 0. `>=1.0, <2.0` takes 44 bytes.
+
+   Lists without `===` that an earlier library wrote have format 5, too. Every call takes them, but
+   pep440_allows then costs what it does of a string; pep440_compile_list writes format 6 of them.
 
    Bytes denote at most one version or one list, and two strings have the same compiled bytes
    exactly if they have the same normal form: `1.0` and ` v1.0` have the same bytes, and `1.0.0` has
-   others, though the versions are equal. Bytes that pep440_compile_list did not write may denote a
-   list that no string denotes, as `>=1.0+a`, but each version in them is one of a string.
+   others, though the versions are equal. Bytes of what no string denotes, as `>=1.0+a`, are
+   invalid.
 
    Bytes are never read beyond their length, whether they are compiled, cut, changed or chosen by an
-   attacker. pep440_compare of two compiled versions, and pep440_contains and pep440_allows of a
-   compiled list and a compiled version, read them as they lie, and allocate nothing: of bytes that
-   begin as a compiled form and are none they write any result, or return the status of an invalid
-   one. All other calls reject such bytes. So give bytes of unknown origin to pep440_normalize or
-   pep440_normalize_list once. */
+   attacker. pep440_compare of two compiled versions, pep440_contains of a compiled list and a
+   compiled version, and pep440_allows of these in format 6 read them as they lie, and allocate
+   nothing: of bytes that begin as a compiled form and are none they write any result, or return the
+   status of an invalid one. All other calls reject such bytes. So give bytes of unknown origin to
+   pep440_normalize or pep440_normalize_list once. */
 
 /* How many bytes suffice, by the length of a string: for the normal form of a version, for its sort
-   key, and for the compiled form of a version or a list. */
+   key, and for its compiled form. */
 #define PEP440_NORMAL_BOUND(length) (9 + (size_t)(length))
 #define PEP440_SORT_KEY_BOUND(length) (7 + 3 * (size_t)(length) / 2)
 #define PEP440_COMPILED_BOUND(length) (10 + 3 * (size_t)(length))
@@ -389,16 +419,16 @@ enum {
     PEP440_PRERELEASE_MATCH = 3
 };
 
-/* Writes a mark for each string, in order: whether the list contains its version, and whether this
+/* Writes a mark for each string, in order: whether the list matches its version, and whether this
    is then a pre-release or a developmental release, or that it is no version. PEP440_NO_ROOM if
    `size` is less than `count`; then nothing is written. */
 uint8_t pep440_filter(const uint8_t *list, size_t list_length, const pep440_string *strings,
                       size_t count, uint8_t *marks, size_t size);
 
-/* Writes to `index` which string, from 0, is the newest version that the list contains, of equal
+/* Writes to `index` which string, from 0, is the newest version that the list matches, of equal
    ones the first. Strings that are no version are passed over. Pre-releases and developmental
-   releases count only if the list asks for them, as for pep440_allows, or contains nothing else of
-   the batch (PEP 440, "Handling of pre-releases"). PEP440_NONE_FOUND if it contains nothing at
+   releases count only if the list asks for them, as for pep440_allows, or matches nothing else of
+   the batch (PEP 440, "Handling of pre-releases"). PEP440_NONE_FOUND if it matches nothing at
    all; then nothing is written. Whatever `count`, it allocates for the list and two versions. */
 uint8_t pep440_newest(const uint8_t *list, size_t list_length, const pep440_string *strings,
                       size_t count, size_t *index);
@@ -447,7 +477,9 @@ PEP440_INLINE const char *pep440_status_text(uint8_t status)
     case PEP440_INVALID_KIND:
         return "not a kind of bytes";
     case PEP440_NONE_FOUND:
-        return "no version is contained";
+        return "no version is matched";
+    case PEP440_NO_SET:
+        return "a list with === has no set";
     default:
         return "unknown status";
     }

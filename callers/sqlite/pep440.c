@@ -1,4 +1,4 @@
-/* Versions of Python packages (PEP 440) in SQLite: sort keys for indexes, a collation, normal forms, matching, covers of lists of specifiers.
+/* Versions of Python packages (PEP 440) in SQLite: sort keys for indexes, a collation, normal forms, matching, intervals of lists of specifiers.
 
    Each function is deterministic and innocuous, so it serves in an index on an expression and in a generated column. A version is a TEXT; any
    other value, and a text that is no version, gives NULL (pep440_valid gives 0). A text that is no list of specifiers is an error that says why. */
@@ -43,11 +43,11 @@ static void release(Written *out)
         sqlite3_free(out->bytes);
 }
 
-/* The text as the library takes it, which wants no null pointer. It would take bytes that begin with 4 or 5 as compiled: a text is none, so another
-   one stands for it that is no version and no list either. */
+/* The text as the library takes it, which wants no null pointer. Compiled bytes begin with a byte below 9, as no string of a version or a list does: a
+   text is never compiled, so another one stands for it that is no version and no list either. */
 static Text string_of(const uint8_t *bytes, size_t length)
 {
-    if (length > 0 && (bytes[0] == 4 || bytes[0] == 5))
+    if (length > 0 && bytes[0] < 9)
         return (Text){(const uint8_t *)"\1", 1};
     return (Text){length == 0 ? (const uint8_t *)"" : bytes, length};
 }
@@ -221,24 +221,24 @@ static void keep_list(sqlite3_context *context, Compiled *made)
         sqlite3_set_auxdata(context, 0, made, sqlite3_free);
 }
 
-/* pep440_match(specs, v): whether the list contains the version, 1 or 0. Pre-releases are versions like others. */
+/* pep440_match(specs, v): whether the list matches the version, 1 or 0. Pre-releases are versions like others. */
 static void match(sqlite3_context *context, int count, sqlite3_value **values)
 {
     Compiled *made;
     Text text;
-    uint8_t contained = 0, prerelease;
+    uint8_t allowed = 0;
     (void)count;
     if (sqlite3_value_type(values[1]) == SQLITE_NULL)
         return;
     const Compiled *list = compiled_list(context, values[0], &made);
     if (list != NULL && is_text(values[1], &text)) {
-        uint8_t status = pep440_contains(list->bytes, list->length, text.bytes, text.length, &contained, &prerelease);
-        give_number(context, status, contained);
+        uint8_t status = pep440_allows(list->bytes, list->length, text.bytes, text.length, PEP440_ALL_PRERELEASES, &allowed);
+        give_number(context, status, allowed);
     }
     keep_list(context, made);
 }
 
-/* ---- pep440_cover(specs): a table of intervals of keys, low and high, that hold each version which the list contains */
+/* ---- pep440_intervals(specs): a table of intervals of keys, low and high, that hold exactly what the list matches; `===` counts as `==` */
 
 enum { LOW, HIGH, SPECS };
 
@@ -252,10 +252,10 @@ typedef struct {
     sqlite3_value *specs;
 } Intervals;
 
-static int cover_connect(sqlite3 *db, void *unused, int words, const char *const *names, sqlite3_vtab **table, char **error)
+static int intervals_connect(sqlite3 *db, void *unused, int words, const char *const *names, sqlite3_vtab **table, char **error)
 {
     (void)unused, (void)words, (void)names, (void)error;
-    int status = sqlite3_declare_vtab(db, "CREATE TABLE cover(low BLOB, high BLOB, specs HIDDEN)");
+    int status = sqlite3_declare_vtab(db, "CREATE TABLE intervals(low BLOB, high BLOB, specs HIDDEN)");
     if (status != SQLITE_OK)
         return status;
     sqlite3_vtab_config(db, SQLITE_VTAB_INNOCUOUS);
@@ -266,7 +266,7 @@ static int cover_connect(sqlite3 *db, void *unused, int words, const char *const
     return SQLITE_OK;
 }
 
-static int cover_disconnect(sqlite3_vtab *table)
+static int intervals_disconnect(sqlite3_vtab *table)
 {
     sqlite3_free(table);
     return SQLITE_OK;
@@ -274,7 +274,7 @@ static int cover_disconnect(sqlite3_vtab *table)
 
 /* The list is the one argument. Without it there are no intervals, at a cost that no other plan has; but a join that has it and cannot give it yet is
    planned in another order. */
-static int cover_best_index(sqlite3_vtab *table, sqlite3_index_info *info)
+static int intervals_best_index(sqlite3_vtab *table, sqlite3_index_info *info)
 {
     int status = SQLITE_OK;
     (void)table;
@@ -293,7 +293,7 @@ static int cover_best_index(sqlite3_vtab *table, sqlite3_index_info *info)
     return status;
 }
 
-static int cover_open(sqlite3_vtab *table, sqlite3_vtab_cursor **cursor)
+static int intervals_open(sqlite3_vtab *table, sqlite3_vtab_cursor **cursor)
 {
     (void)table;
     Intervals *made = sqlite3_malloc(sizeof *made);
@@ -315,15 +315,15 @@ static void forget(Intervals *found)
     found->count = found->at = 0;
 }
 
-static int cover_close(sqlite3_vtab_cursor *cursor)
+static int intervals_close(sqlite3_vtab_cursor *cursor)
 {
     forget((Intervals *)cursor);
     sqlite3_free(cursor);
     return SQLITE_OK;
 }
 
-/* Says why there is no cover; what the table's message is, SQLite frees. */
-static int no_cover(sqlite3_vtab_cursor *cursor, Text list, uint8_t status)
+/* Says why there are no intervals; what the table's message is, SQLite frees. */
+static int no_intervals(sqlite3_vtab_cursor *cursor, Text list, uint8_t status)
 {
     Written why;
     if (status == PEP440_OUT_OF_MEMORY)
@@ -331,23 +331,47 @@ static int no_cover(sqlite3_vtab_cursor *cursor, Text list, uint8_t status)
     char **message = &cursor->pVtab->zErrMsg;
     sqlite3_free(*message);
     *message = NULL;
-    if (status == PEP440_NUMBER_AT_MAX) {
-        *message = sqlite3_mprintf("a bound of the cover would lie above 18446744073709551615");
-        return *message == NULL ? SQLITE_NOMEM : SQLITE_ERROR;
-    }
     if (write_all(pep440_list_error, list, &why) == PEP440_OK)
         *message = sqlite3_mprintf("%.*s", (int)why.length, (const char *)why.bytes);
     release(&why);
     return *message == NULL ? SQLITE_NOMEM : SQLITE_ERROR;
 }
 
-static int cover_filter(sqlite3_vtab_cursor *cursor, int number, const char *name, int count, sqlite3_value **values)
+/* The intervals of the list. */
+static uint8_t find(Intervals *found, Text list)
+{
+    size_t room, keys, none[1];
+    uint8_t nothing[1], status = pep440_boundaries(list.bytes, list.length, nothing, 0, none, 0, &room, &keys);
+    if (status == PEP440_NO_ROOM) {
+        found->keys = sqlite3_malloc64(room + 1);
+        found->ends = sqlite3_malloc64(keys * sizeof *found->ends + 1);
+        if (found->keys == NULL || found->ends == NULL)
+            return PEP440_OUT_OF_MEMORY;
+        status = pep440_boundaries(list.bytes, list.length, found->keys, room, found->ends, keys, &room, &keys);
+    }
+    found->count = status == PEP440_OK ? keys / 2 : 0;
+    return status;
+}
+
+/* The intervals of a list with `===`, with `==` in its place: in a list three `=` stand together nowhere else. */
+static uint8_t find_equal(Intervals *found, Text list)
+{
+    uint8_t *bytes = sqlite3_malloc64(list.length), status;
+    Text equal = {bytes, 0};
+    if (bytes == NULL)
+        return PEP440_OUT_OF_MEMORY;
+    for (size_t at = 0; at < list.length; at++)
+        if (at < 2 || memcmp(list.bytes + at - 2, "===", 3) != 0)
+            bytes[equal.length++] = list.bytes[at];
+    status = find(found, equal);
+    sqlite3_free(bytes);
+    return status;
+}
+
+static int intervals_filter(sqlite3_vtab_cursor *cursor, int number, const char *name, int count, sqlite3_value **values)
 {
     Intervals *found = (Intervals *)cursor;
     Text list;
-    size_t room, keys;
-    uint8_t nothing[1];
-    size_t none[1];
     (void)number, (void)name;
     forget(found);
     if (count == 0 || !is_text(values[0], &list))
@@ -355,34 +379,26 @@ static int cover_filter(sqlite3_vtab_cursor *cursor, int number, const char *nam
     found->specs = sqlite3_value_dup(values[0]);
     if (found->specs == NULL)
         return SQLITE_NOMEM;
-    uint8_t status = pep440_cover_keys(list.bytes, list.length, nothing, 0, none, 0, &room, &keys);
-    if (status == PEP440_NO_ROOM) {
-        found->keys = sqlite3_malloc64(room + 1);
-        found->ends = sqlite3_malloc64(keys * sizeof *found->ends + 1);
-        if (found->keys == NULL || found->ends == NULL)
-            return SQLITE_NOMEM;
-        status = pep440_cover_keys(list.bytes, list.length, found->keys, room, found->ends, keys, &room, &keys);
-    }
-    if (status != PEP440_OK)
-        return no_cover(cursor, list, status);
-    found->count = keys / 2;
-    return SQLITE_OK;
+    uint8_t status = find(found, list);
+    if (status == PEP440_NO_SET)
+        status = find_equal(found, list);
+    return status == PEP440_OK ? SQLITE_OK : no_intervals(cursor, list, status);
 }
 
-static int cover_next(sqlite3_vtab_cursor *cursor)
+static int intervals_next(sqlite3_vtab_cursor *cursor)
 {
     ((Intervals *)cursor)->at++;
     return SQLITE_OK;
 }
 
-static int cover_eof(sqlite3_vtab_cursor *cursor)
+static int intervals_eof(sqlite3_vtab_cursor *cursor)
 {
     const Intervals *found = (const Intervals *)cursor;
     return found->at >= found->count;
 }
 
 /* No low key is an empty blob, since each key is at least that; no high key is NULL. */
-static int cover_column(sqlite3_vtab_cursor *cursor, sqlite3_context *context, int column)
+static int intervals_column(sqlite3_vtab_cursor *cursor, sqlite3_context *context, int column)
 {
     const Intervals *found = (const Intervals *)cursor;
     if (column == SPECS) {
@@ -399,25 +415,25 @@ static int cover_column(sqlite3_vtab_cursor *cursor, sqlite3_context *context, i
     return SQLITE_OK;
 }
 
-static int cover_rowid(sqlite3_vtab_cursor *cursor, sqlite3_int64 *rowid)
+static int intervals_rowid(sqlite3_vtab_cursor *cursor, sqlite3_int64 *rowid)
 {
     *rowid = (sqlite3_int64)((const Intervals *)cursor)->at;
     return SQLITE_OK;
 }
 
 /* Without xCreate the table is there in each database, and nobody makes another of its kind. */
-static const sqlite3_module COVER = {
+static const sqlite3_module INTERVALS = {
     .iVersion = 0,
-    .xConnect = cover_connect,
-    .xBestIndex = cover_best_index,
-    .xDisconnect = cover_disconnect,
-    .xOpen = cover_open,
-    .xClose = cover_close,
-    .xFilter = cover_filter,
-    .xNext = cover_next,
-    .xEof = cover_eof,
-    .xColumn = cover_column,
-    .xRowid = cover_rowid,
+    .xConnect = intervals_connect,
+    .xBestIndex = intervals_best_index,
+    .xDisconnect = intervals_disconnect,
+    .xOpen = intervals_open,
+    .xClose = intervals_close,
+    .xFilter = intervals_filter,
+    .xNext = intervals_next,
+    .xEof = intervals_eof,
+    .xColumn = intervals_column,
+    .xRowid = intervals_rowid,
 };
 
 /* SQLite finds this name for a file pep440.so: it drops digits. */
@@ -440,5 +456,5 @@ __attribute__((visibility("default"))) int sqlite3_pep_init(sqlite3 *db, char **
         status = sqlite3_create_function_v2(db, each->name, each->arguments, flags, each, each->run, NULL, NULL, NULL);
     if (status == SQLITE_OK)
         status = sqlite3_create_collation_v2(db, "pep440", SQLITE_UTF8, db, collate, NULL);
-    return status == SQLITE_OK ? sqlite3_create_module_v2(db, "pep440_cover", &COVER, NULL, NULL) : status;
+    return status == SQLITE_OK ? sqlite3_create_module_v2(db, "pep440_intervals", &INTERVALS, NULL, NULL) : status;
 }

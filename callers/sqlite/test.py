@@ -1,6 +1,6 @@
 """Holds the extension against the page, against itself without an index, and against refused memory: python3 test.py EXTENSION [PROGRAM|--small]
 
-EXTENSION is the built pep440.so; PROGRAM, if given, is `pep440`, whose `filter` must contain what `pep440_match` does. It wants a Python whose
+EXTENSION is the built pep440.so; PROGRAM, if given, is `pyver`, whose `filter --pre` must print what `pep440_match` does. It wants a Python whose
 sqlite3 loads extensions. With --small there are fewer rows, and no time is compared. The last line is `N passed, M failed`.
 """
 import pathlib
@@ -16,7 +16,9 @@ HERE = pathlib.Path(__file__).resolve().parent
 SMALL = "--small" in sys.argv
 ROWS = 5_000 if SMALL else 1_000_000
 PROGRAM = sys.argv[2] if len(sys.argv) > 2 and not sys.argv[2].startswith("--") else None
-LISTS = ["", ">=1.0,<2.0,!=1.5.*", "==2.1.0+cu118", "<=2.1.0", "<1.0.post1,>=1.0", "~=1.4.2", "===1.10", "!=1.0", ">2.0,<1.0", "==1.*", ">1!0"]
+LISTS = ["", ">=1.0,<2.0,!=1.5.*", "==2.1.0+cu118", "<=2.1.0", "<1.0.post1,>=1.0", "~=1.4.2", "!=1.0", ">2.0,<1.0", "==1.*", ">1!0", ">1.2rc1,<=1.2.post2", "<1.3.post2,!=1.1,>1"]
+# of these the intervals hold more than the list matches
+EXACT = ["===1.10", "===1.4+cu7,>=1"]
 
 
 def database(file=":memory:"):
@@ -83,6 +85,7 @@ def test_functions():
         ("pep440_specs_valid(NULL)", None),
         # what begins as compiled bytes is a text like others
         ("pep440_specs_valid(char(5))", 0),
+        ("pep440_specs_valid(char(6, 1, 2, 0, 0, 5))", 0),
         ("pep440_normalize(CAST(X'0400020100500010000001' AS TEXT))", None),
         ("pep440_is_prerelease('1.0.dev1')", 1),
         ("pep440_is_prerelease('1.0.post1')", 0),
@@ -96,12 +99,20 @@ def test_functions():
         ("pep440_match('>=1.0', 'x')", None),
         ("pep440_match('', '1.0')", 1),
         ("pep440_match('>1.0rc1', '1.0+cpu')", 1),
+        ("pep440_match('>1.0rc1', '1.0.post1')", 1),
+        ("pep440_match('>1.0', '1.0.post1')", 0),
+        ("pep440_match('<1.0.post1', '1.0rc1')", 1),
+        ("pep440_match('<1.0', '1.0rc1')", 0),
+        ("pep440_match('===1.0', '1.0.0')", 0),
         ("pep440_key('1.0') = pep440_key('1.0.0')", 1),
         ("pep440_key('1.9') < pep440_key('1.10')", 1),
         ("typeof(pep440_key('1'))", "blob"),
-        ("(SELECT count(*) FROM pep440_cover('>2.0,<1.0'))", 0),
-        ("(SELECT count(*) FROM pep440_cover(NULL))", 0),
-        ("(SELECT low = X'' AND high IS NULL FROM pep440_cover(''))", 1),
+        ("(SELECT count(*) FROM pep440_intervals('>2.0,<1.0'))", 0),
+        ("(SELECT count(*) FROM pep440_intervals(NULL))", 0),
+        ("(SELECT low = X'' AND high IS NULL FROM pep440_intervals(''))", 1),
+        ("(SELECT low = pep440_key('1') AND high = pep440_key('2.dev0') FROM pep440_intervals('>=1,<2'))", 1),
+        ("(SELECT low = pep440_key('1') AND high = pep440_key('1.post0.dev0') FROM pep440_intervals(' === 1,>=0'))", 1),
+        ("(SELECT high = pep440_key('1!0.dev0') FROM pep440_intervals('==18446744073709551615.*'))", 1),
     ]
     for expression, answer in wanted:
         found = value(db, f"SELECT {expression}")
@@ -138,12 +149,11 @@ def test_list_is_kept():
 
 def test_errors():
     db = database()
-    for query in ("SELECT pep440_match('>=1.0, =<2.0', '1.0')", "SELECT * FROM pep440_cover('>=1.0, =<2.0')"):
+    for query in ("SELECT pep440_match('>=1.0, =<2.0', '1.0')", "SELECT * FROM pep440_intervals('>=1.0, =<2.0')"):
         message = refused(db, query)
         assert "=<2.0" in message and "^" in message, message
-    for query in ("SELECT * FROM pep440_cover('==18446744073709551615.*')", "CREATE VIRTUAL TABLE t USING pep440_cover"):
-        assert refused(db, query), query
-    return "4 errors"
+    assert refused(db, "CREATE VIRTUAL TABLE t USING pep440_intervals")
+    return "3 errors"
 
 
 JOINS = [
@@ -155,18 +165,18 @@ RIGHT_JOINS = ["l RIGHT JOIN {0} AS k ON k.{1} = l.s", "l JOIN {0} AS k ON k.{1}
 
 
 def test_hidden_column():
-    """Joins on the list of a cover find what joins on the text of `json_each` do, whose arrays have as many members as the covers intervals."""
+    """Joins on the list of intervals find what joins on the text of `json_each` do, whose arrays have as many members as the lists intervals."""
     joins = JOINS + (RIGHT_JOINS if sqlite3.sqlite_version_info >= (3, 39) else [])
     found = []
-    for name, column, texts in (("pep440_cover", "specs", ["==1.*", ">=1,!=1.7.*", ">2,<1"]), ("json_each", "json", ["[1]", "[1,2]", "[]"])):
+    for name, column, texts in (("pep440_intervals", "specs", ["==1.*", ">=1,!=1.7.*", ">2,<1"]), ("json_each", "json", ["[1]", "[1,2]", "[]"])):
         db = database()
         db.executescript("CREATE TABLE l (s TEXT); CREATE TABLE o (s TEXT)")
         db.executemany("INSERT INTO l VALUES (?)", [(text,) for text in texts])
         db.executemany("INSERT INTO o VALUES (?)", [(text,) for text in texts[1:] + texts[1:]])
         places = {None: -1, **{text: place for place, text in enumerate(texts)}}
         found.append([sorted((places[text], count) for text, count in rows(db, f"SELECT k.{column}, count(*) FROM {join.format(name, column, texts[1])} GROUP BY 1")) for join in joins])
-    for join, cover, array in zip(joins, *found):
-        assert cover == array, (join, cover, array)
+    for join, intervals, array in zip(joins, *found):
+        assert intervals == array, (join, intervals, array)
     return f"{len(joins)} joins, {sum(map(bool, found[0]))} with rows"
 
 
@@ -195,23 +205,22 @@ def plan_of(db, query, *values):
 
 
 def test_index():
-    """Of each list: by the index and the cover, without an index, and by the program."""
+    """Of each list: by the index and the intervals, without an index, and by the program."""
     db = filled(ROWS)
-    by_index = """SELECT version FROM pep440_cover(?1) JOIN releases INDEXED BY by_key ON key >= low AND key < ifnull(high, x'ff')
-                  WHERE pep440_match(?1, version) ORDER BY key, id"""
+    by_index = "SELECT version FROM pep440_intervals(?1) JOIN releases INDEXED BY by_key ON key >= low AND key < ifnull(high, x'ff') {} ORDER BY key, id"
     alone = "SELECT version FROM releases NOT INDEXED WHERE pep440_match(?1, version) ORDER BY pep440_key(version), id"
-    plan = plan_of(db, by_index, "~=1.4.2")
+    plan = plan_of(db, by_index.format(""), "~=1.4.2")
     assert "SEARCH releases USING INDEX by_key (key>? AND key<?)" in plan, plan
     found = 0
     lines = "".join(text + "\n" for (text,) in rows(db, "SELECT version FROM releases ORDER BY id"))
-    for specs in LISTS:
-        one, other = rows(db, by_index, specs), rows(db, alone, specs)
+    for specs in LISTS + EXACT:
+        one, other = rows(db, by_index.format("WHERE pep440_match(?1, version)" if specs in EXACT else ""), specs), rows(db, alone, specs)
         assert one == other, specs
         found += len(one)
         if PROGRAM:
-            ran = subprocess.run([PROGRAM, "filter", specs], input=lines, capture_output=True, text=True, check=True)
-            assert sorted(ran.stdout.split("\n")[:-1]) == sorted(text.removeprefix("V") for (text,) in one), specs
-    return f"{len(LISTS)} lists over {ROWS} rows, {found} versions found, by an index as without" + (", and as `filter`" if PROGRAM else "")
+            ran = subprocess.run([PROGRAM, "filter", "--pre", specs], input=lines, capture_output=True, text=True, check=True)
+            assert sorted(ran.stdout.split("\n")[:-1]) == sorted(text for (text,) in one), specs
+    return f"{len(LISTS + EXACT)} lists over {ROWS} rows, {found} versions found, by an index as without" + (", and as `filter`" if PROGRAM else "")
 
 
 def test_collation():
@@ -290,7 +299,8 @@ def turns_with_less_memory(file):
     queries = [
         ("SELECT group_concat(pep440_normalize(version)) FROM releases", ()),
         ("SELECT hex(pep440_key(?))", (long,)),
-        ("SELECT count(*) FROM pep440_cover(?1) JOIN releases ON key >= low AND key < ifnull(high, x'ff') WHERE pep440_match(?1, version)", (">=1,!=1.5,!=1.7.*",)),
+        ("SELECT count(*) FROM pep440_intervals(?1) JOIN releases ON key >= low AND key < ifnull(high, x'ff') WHERE pep440_match(?1, version)", (">=1,!=1.5,!=1.7.*",)),
+        ("SELECT count(*) FROM pep440_intervals(?1) JOIN releases ON key >= low AND key < ifnull(high, x'ff')", ("===1.5",)),
         ("SELECT pep440_normalize(?)", (long,)),
         ("UPDATE releases SET version = version || '.post' || pep440_match(?1, version) || substr(?2, 1, 0)", (">=0", long)),
     ]

@@ -1,4 +1,4 @@
-/* Prints which versions a list of specifiers contains.
+/* Prints which versions a list of specifiers matches.
 
    $ ./match '>=1.16, <2.0' 1.15 1.16.0 1.20rc1 latest
    1.15: no

@@ -1,7 +1,7 @@
 /* Compiled bytes that no call wrote, and those of another process.
 
    bytes         literal bytes, made by hand of their definition; 200,000 random byte strings, and every change of one byte of 1,000 compiled
-                 versions and lists: each is rejected, or is a string, or is what its normalized form is compiled to, if a string denotes it
+                 versions and lists: each is rejected, or is a string, or is what its normalized form is compiled to, a list with or without its set
    bytes write   prints the 1,000 compiled forms, each behind its length
    bytes read    holds what another process wrote so against its own */
 #include <stdio.h>
@@ -22,7 +22,7 @@ typedef struct {
 #define TO(bytes_of) (bytes_of)->bytes, ROOM, &(bytes_of)->length
 
 static int wrong;
-static size_t rejected, printed, of_no_string, strings;
+static size_t rejected, printed, without_set, strings;
 
 static void hold(int is_right, const char *what)
 {
@@ -105,8 +105,9 @@ static int have_same_parts(const Bytes *form, const Bytes *text)
            parts.release_length == of_text.release_length && memcmp(release, release_of_text, parts.release_length * sizeof *release) == 0;
 }
 
-static const uint8_t list[] = {5, 25, 0, 2, 1, 0, 80, 0, 16, 0}, version[] = {4, 0, 2, 1, 0, 80, 0, 16, 0};
-static const uint8_t early_version[] = {4, 0, 2, 1, 0, 49, 2, 0, 16, 0}; /* 1b2 */
+/* >=1, with its set and without; 1; and 1b2. */
+static const uint8_t list[] = {6, 1, 11, 1, 8, 0, 2, 1, 0, 80, 0, 16, 0, 0, 5, 25, 0, 2, 1, 0, 80, 0, 16, 0}, members[] = {5, 25, 0, 2, 1, 0, 80, 0, 16, 0};
+static const uint8_t version[] = {4, 0, 2, 1, 0, 80, 0, 16, 0}, early_version[] = {4, 0, 2, 1, 0, 49, 2, 0, 16, 0};
 
 /* Calls that read compiled bytes as they lie: of any bytes they say that these are invalid, or write some result. */
 static void ask_in_place(const Bytes *form)
@@ -120,10 +121,14 @@ static void ask_in_place(const Bytes *form)
     hold(status == PEP440_INVALID_VERSION || (status == PEP440_OK && is <= 1 && early <= 1), "contains, a version");
     status = pep440_contains(OF(form), version, sizeof version, &is, &early);
     hold(status == PEP440_INVALID_LIST || (status == PEP440_OK && is <= 1 && early <= 1), "contains, a list");
-    status = pep440_allows(list, sizeof list, OF(form), &is);
-    hold(status == PEP440_INVALID_VERSION || (status == PEP440_OK && is <= 1), "allows, a version");
-    status = pep440_allows(OF(form), early_version, sizeof early_version, &is);
-    hold(status == PEP440_INVALID_LIST || (status == PEP440_OK && is <= 1), "allows, a list");
+    status = pep440_contains(members, sizeof members, OF(form), &is, &early);
+    hold(status == PEP440_INVALID_VERSION || (status == PEP440_OK && is <= 1 && early <= 1), "contains, a version, without the set");
+    for (uint8_t prereleases = 0; prereleases <= PEP440_ASKED_PRERELEASES; prereleases++) {
+        status = pep440_allows(list, sizeof list, OF(form), prereleases, &is);
+        hold(status == PEP440_INVALID_VERSION || (status == PEP440_OK && is <= 1), "allows, a version");
+        status = pep440_allows(OF(form), early_version, sizeof early_version, prereleases, &is);
+        hold(status == PEP440_INVALID_LIST || (status == PEP440_OK && is <= 1), "allows, a list");
+    }
 }
 
 /* Of bytes that are no version a string beside them does not matter: with it they are tested as a whole. */
@@ -142,7 +147,8 @@ static void hold_no_version(const Bytes *form)
     hold(pep440_compare(OF(form), (const uint8_t *)"1", 1, &order) == PEP440_INVALID_VERSION && order == 7, "compare with a string");
     hold(pep440_compare((const uint8_t *)"1", 1, OF(form), &order) == PEP440_INVALID_RIGHT && order == 7, "compare a string with it");
     hold(pep440_contains((const uint8_t *)">=1", 3, OF(form), &is, &early) == PEP440_INVALID_VERSION && is == 7, "contains, a list that is a string");
-    hold(pep440_allows((const uint8_t *)">=1", 3, OF(form), &is) == PEP440_INVALID_VERSION && is == 7, "allows, a list that is a string");
+    hold(pep440_allows((const uint8_t *)">=1", 3, OF(form), 1, &is) == PEP440_INVALID_VERSION && is == 7, "allows, a list that is a string");
+    hold(pep440_allows(members, sizeof members, OF(form), 1, &is) == PEP440_INVALID_VERSION && is == 7, "allows, a list without its set");
     hold(pep440_filter(list, sizeof list, &one, 1, &mark, 1) == PEP440_OK && mark == PEP440_NOT_A_VERSION, "filter");
     hold(pep440_sort(&one, 1, &index, 1, &index) == PEP440_INVALID_VERSION && index == 0, "sort");
 }
@@ -176,29 +182,45 @@ static void hold_version(const Bytes *form)
     hold(are_same(form, &again), "the bytes are those of the printed version");
 }
 
-/* The same of lists, if a string denotes them: none denotes that of `>=1.0+a`. */
+/* The same of bytes that are no list. */
+static void hold_no_list(const Bytes *form)
+{
+    Bytes found;
+    size_t ends[1], count = 7;
+    uint8_t any = 7, early = 7;
+    hold(pep440_any_prerelease(OF(form), &any) == PEP440_INVALID_LIST && any == 7, "any_prerelease");
+    hold(pep440_compile_list(OF(form), TO(&found)) == PEP440_INVALID_LIST, "compile_list");
+    hold(pep440_boundaries(OF(form), found.bytes, ROOM, ends, 1, &found.length, &count) == PEP440_INVALID_LIST && count == 7, "boundaries");
+    hold(pep440_contains(OF(form), (const uint8_t *)"1", 1, &any, &early) == PEP440_INVALID_LIST && any == 7, "contains a string");
+    hold(pep440_allows(OF(form), (const uint8_t *)"1", 1, 1, &any) == PEP440_INVALID_LIST && any == 7, "allows a string");
+    if (form->length == 0 || form->bytes[0] != 6)
+        hold(pep440_allows(OF(form), version, sizeof version, 1, &any) == PEP440_INVALID_LIST && any == 7, "allows, a list without its set");
+}
+
+/* Bytes that denote a list are a string, or those that its normalized form is compiled to, or these without the set. */
 static void hold_list(const Bytes *form)
 {
     Bytes text, again, own;
-    uint8_t any = 7, early = 7, status = pep440_normalize_list(OF(form), TO(&text)), told = pep440_list_error(OF(form), TO(&again));
-    int is_compiled = form->length > 0 && form->bytes[0] == 5;
+    uint8_t status = pep440_normalize_list(OF(form), TO(&text)), told = pep440_list_error(OF(form), TO(&again));
+    int is_compiled = form->length > 0 && (form->bytes[0] == 5 || form->bytes[0] == 6);
     hold(told == PEP440_OK && (again.length == 0) == (status == PEP440_OK), "list_error");
     if (status == PEP440_INVALID_LIST) {
         rejected++;
-        hold(pep440_any_prerelease(OF(form), &any) == PEP440_INVALID_LIST && any == 7, "any_prerelease");
-        hold(pep440_compile_list(OF(form), TO(&again)) == PEP440_INVALID_LIST, "compile_list");
-        hold(pep440_contains(OF(form), (const uint8_t *)"1", 1, &any, &early) == PEP440_INVALID_LIST && any == 7, "contains a string");
-        hold(pep440_allows(OF(form), (const uint8_t *)"1", 1, &any) == PEP440_INVALID_LIST && any == 7, "allows a string");
+        hold_no_list(form);
         return;
     }
     hold(status == PEP440_OK, "normalize_list");
-    hold(pep440_compile_list(OF(form), TO(&own)) == PEP440_OK && (!is_compiled || are_same(form, &own)), "a compiled list is its own compiled form");
-    if (is_compiled && pep440_compile_list(OF(&text), TO(&again)) == PEP440_INVALID_LIST) {
-        of_no_string++;
-        return;
+    hold(pep440_compile_list(OF(form), TO(&own)) == PEP440_OK && pep440_compile_list(OF(&text), TO(&again)) == PEP440_OK && are_same(&own, &again),
+         "the compiled form is that of the printed list");
+    if (!is_compiled)
+        strings++;
+    else if (form->bytes[0] == own.bytes[0])
+        printed++, hold(are_same(form, &own), "the bytes are those of the printed list");
+    else {
+        without_set++;
+        hold(form->bytes[0] == 5 && form->length < own.length && memcmp(own.bytes + own.length - form->length, form->bytes, form->length) == 0,
+             "the bytes are those of the printed list without its set");
     }
-    is_compiled ? printed++ : strings++;
-    hold(pep440_compile_list(OF(&text), TO(&again)) == PEP440_OK && are_same(&own, &again), "the compiled form is that of the printed list");
 }
 
 static void hold_bytes(const Bytes *form)
@@ -236,28 +258,38 @@ static const struct {
     {"1+a.0.7", BYTES(4, 0, 2, 1, 0, 80, 0, 16, 1, 'a', 0, 2, 3, 7, 0)},
 };
 
-/* 5, and of each member 16 and the number of its operator, and its version without the 4. */
+/* 6; how many bytes the set has; of each interval the low key and the high key, each after its size; and the members: 5, and of each 16 and the number
+   of its operator, and its version without the 4. With === the members alone. */
 static const struct {
     const char *text;
     Bytes bytes;
 } LIST_FORMS[] = {
-    {"", BYTES(5)},
-    {"==1", BYTES(5, 16, 0, 2, 1, 0, 80, 0, 16, 0)},
-    {"==1.*", BYTES(5, 17, 0, 2, 1, 0, 80, 0, 16, 0)},
+    {"", BYTES(6, 1, 2, 0, 0, 5)},
+    {"==1", BYTES(6, 1, 20, 1, 8, 0, 2, 1, 0, 80, 0, 16, 0, 1, 8, 0, 2, 1, 0, 80, 16, 0, 0, 5, 16, 0, 2, 1, 0, 80, 0, 16, 0)},
+    {"==1.*", BYTES(6, 1, 20, 1, 8, 0, 2, 1, 0, 16, 0, 0, 0, 1, 8, 0, 2, 2, 0, 16, 0, 0, 0, 5, 17, 0, 2, 1, 0, 80, 0, 16, 0)},
     {"===1", BYTES(5, 18, 0, 2, 1, 0, 80, 0, 16, 0)},
-    {"!=1", BYTES(5, 19, 0, 2, 1, 0, 80, 0, 16, 0)},
-    {"!=1.*", BYTES(5, 20, 0, 2, 1, 0, 80, 0, 16, 0)},
-    {"~=1.0", BYTES(5, 21, 0, 2, 1, 0, 80, 0, 16, 0, 1)},
-    {"<1", BYTES(5, 22, 0, 2, 1, 0, 80, 0, 16, 0)},
-    {"<=1", BYTES(5, 23, 0, 2, 1, 0, 80, 0, 16, 0)},
-    {">1", BYTES(5, 24, 0, 2, 1, 0, 80, 0, 16, 0)},
-    {">=1", BYTES(5, 25, 0, 2, 1, 0, 80, 0, 16, 0)},
-    {"==1+a,==1", BYTES(5, 16, 0, 2, 1, 0, 80, 0, 16, 0, 16, 0, 2, 1, 0, 80, 0, 16, 1, 'a', 0, 0)},
-    {"<2,>=1.0", BYTES(5, 25, 0, 2, 1, 0, 80, 0, 16, 0, 1, 22, 0, 2, 2, 0, 80, 0, 16, 0)},
+    {"!=1", BYTES(6, 1, 22, 0, 1, 8, 0, 2, 1, 0, 80, 0, 16, 0, 1, 8, 0, 2, 1, 0, 80, 16, 0, 0, 0, 5, 19, 0, 2, 1, 0, 80, 0, 16, 0)},
+    {"!=1.*", BYTES(6, 1, 22, 0, 1, 8, 0, 2, 1, 0, 16, 0, 0, 0, 1, 8, 0, 2, 2, 0, 16, 0, 0, 0, 0, 5, 20, 0, 2, 1, 0, 80, 0, 16, 0)},
+    {"~=1.0", BYTES(6, 1, 20, 1, 8, 0, 2, 1, 0, 80, 0, 16, 0, 1, 8, 0, 2, 2, 0, 16, 0, 0, 0, 5, 21, 0, 2, 1, 0, 80, 0, 16, 0, 1)},
+    {"<1", BYTES(6, 1, 11, 0, 1, 8, 0, 2, 1, 0, 16, 0, 0, 0, 5, 22, 0, 2, 1, 0, 80, 0, 16, 0)},
+    {"<=1", BYTES(6, 1, 11, 0, 1, 8, 0, 2, 1, 0, 80, 16, 0, 0, 5, 23, 0, 2, 1, 0, 80, 0, 16, 0)},
+    {">1", BYTES(6, 1, 11, 1, 8, 0, 2, 1, 0, 80, 32, 16, 0, 0, 5, 24, 0, 2, 1, 0, 80, 0, 16, 0)},
+    {">=1", BYTES(6, 1, 11, 1, 8, 0, 2, 1, 0, 80, 0, 16, 0, 0, 5, 25, 0, 2, 1, 0, 80, 0, 16, 0)},
+    {"==1+a", BYTES(6, 1, 27, 1, 11, 0, 2, 1, 0, 80, 0, 16, 1, 'a', 0, 0, 1, 12, 0, 2, 1, 0, 80, 0, 16, 1, 'a', 0, 0, 0, 5, 16, 0, 2, 1, 0, 80, 0,
+         16, 1, 'a', 0, 0)},
+    {"==1+a,==1", BYTES(6, 1, 27, 1, 11, 0, 2, 1, 0, 80, 0, 16, 1, 'a', 0, 0, 1, 12, 0, 2, 1, 0, 80, 0, 16, 1, 'a', 0, 0, 0, 5, 16, 0, 2, 1, 0, 80,
+         0, 16, 0, 16, 0, 2, 1, 0, 80, 0, 16, 1, 'a', 0, 0)},
+    {"<2,>=1.0", BYTES(6, 1, 20, 1, 8, 0, 2, 1, 0, 80, 0, 16, 0, 1, 8, 0, 2, 2, 0, 16, 0, 0, 0, 5, 25, 0, 2, 1, 0, 80, 0, 16, 0, 1, 22, 0, 2, 2, 0,
+         80, 0, 16, 0)},
+    {">1,<1", BYTES(6, 0, 5, 24, 0, 2, 1, 0, 80, 0, 16, 0, 22, 0, 2, 1, 0, 80, 0, 16, 0)},
+    {"!=1+a,<2rc1", BYTES(6, 1, 39, 0, 1, 11, 0, 2, 1, 0, 80, 0, 16, 1, 'a', 0, 0, 1, 12, 0, 2, 1, 0, 80, 0, 16, 1, 'a', 0, 0, 0, 1, 9, 0, 2, 2, 0,
+         65, 1, 0, 16, 0, 5, 19, 0, 2, 1, 0, 80, 0, 16, 1, 'a', 0, 0, 22, 0, 2, 2, 0, 65, 1, 0, 16, 0)},
+    {">=0.dev0", BYTES(6, 1, 2, 0, 0, 5, 25, 0, 0, 16, 0, 0, 0, 1)},
 };
 
 /* Of a version: other formats, no version, bytes after it, numbers with a zero in front or of nine bytes, a release that ends with a zero, ranks that
-   no string has, local strings that none has. Of a list: a version's format, no operator, an order that falls, ~= with one number. */
+   no string has, local strings that none has. Of a list: a version's format, no operator, an order that falls, ~= with one number, a local part beside >=;
+   no set, that of another list, one with ===, a size with a zero in front, one too great, no members, members of format 6. */
 static const Bytes NOTHING[] = {
     BYTES(0), BYTES(4), BYTES(5, 4), BYTES(1, 2, 0, 1, 0, 0, 0, 0xa0, 0, 0), BYTES(3, 0, 0, 0, 0, 0, 0, 0, 0), BYTES(4, 0, 0, 80, 0, 16, 0),
     BYTES(4, 0, 2, 1, 0, 80, 0, 16), BYTES(4, 0, 2, 1, 0, 80, 0, 16, 0, 2), BYTES(4, 0, 2, 1, 0, 80, 0, 16, 0, 1, 0), BYTES(4, 1, 0, 2, 1, 0, 80, 0, 16, 0),
@@ -268,9 +300,24 @@ static const Bytes NOTHING[] = {
     BYTES(4, 0, 2, 1, 0, 80, 0, 16, 1, 'A', 0, 0), BYTES(4, 0, 2, 1, 0, 80, 0, 16, 1, '7', 0, 0), BYTES(4, 0, 2, 1, 0, 80, 0, 16, 1, 'a', '.', 'b', 0, 0),
     BYTES(5, 26, 0, 2, 1, 0, 80, 0, 16, 0), BYTES(5, 15, 0, 2, 1, 0, 80, 0, 16, 0), BYTES(5, 9, 0, 2, 1, 0, 80, 0, 16, 0),
     BYTES(5, 22, 0, 2, 2, 0, 80, 0, 16, 0, 25, 0, 2, 1, 0, 80, 0, 16, 0, 1), BYTES(5, 21, 0, 2, 1, 0, 80, 0, 16, 0), BYTES(5, 16), BYTES(4, 25, 0, 2, 1),
-    BYTES(5, 25, 4, 0, 2, 1, 0, 80, 0, 16, 0), BYTES(5, 25, 0, 2, 1, 0, 80, 0, 16, 0, 1, 0)};
+    BYTES(5, 25, 4, 0, 2, 1, 0, 80, 0, 16, 0), BYTES(5, 25, 0, 2, 1, 0, 80, 0, 16, 0, 1, 0),
+    BYTES(5, 25, 0, 2, 1, 0, 80, 0, 16, 1, 'a', 0, 0), BYTES(6), BYTES(6, 0), BYTES(6, 0, 5), BYTES(6, 1, 2, 0, 0, 5, 25, 0, 2, 1, 0, 80, 0, 16, 0),
+    BYTES(6, 1, 2, 0, 0, 5, 18, 0, 2, 1, 0, 80, 0, 16, 0), BYTES(6, 2, 0, 2, 0, 0, 5), BYTES(6, 1, 3, 0, 0, 5), BYTES(6, 9, 1, 0, 0, 0, 0, 0, 0, 0, 2, 0, 0, 5),
+    BYTES(6, 1, 2, 0, 0), BYTES(6, 1, 2, 0, 0, 6, 1, 2, 0, 0, 5), BYTES(6, 1, 2, 0, 0, 5, 4)};
 
 #define EACH(place, table) (size_t place = 0; place < sizeof(table) / sizeof *(table); place++)
+
+/* Leaves the members, which are the list in format 5. */
+static void drop_set(Bytes *form)
+{
+    size_t number = 2 + form->bytes[1], set = 0;
+    if (form->bytes[0] == 5)
+        return;
+    for (size_t at = 2; at < number; at++)
+        set = set * 256 + form->bytes[at];
+    form->length -= number + set;
+    memmove(form->bytes, form->bytes + number + set, form->length);
+}
 
 static void hold_literals(void)
 {
@@ -285,6 +332,8 @@ static void hold_literals(void)
         hold(pep440_compile_list(text, strlen(LIST_FORMS[place].text), TO(&found)) == PEP440_OK && are_same(&found, &LIST_FORMS[place].bytes),
              LIST_FORMS[place].text);
         hold_bytes(&LIST_FORMS[place].bytes);
+        drop_set(&found);
+        hold_bytes(&found);
     }
     for EACH (place, NOTHING) {
         hold(pep440_normalize(OF(&NOTHING[place]), TO(&found)) == PEP440_INVALID_VERSION, "bytes that denote no version");
@@ -293,7 +342,7 @@ static void hold_literals(void)
     }
 }
 
-/* Random bytes; those that begin as a version or a list; or a compiled form, some of whose bytes are replaced, or which is cut. */
+/* Random bytes; those that begin as a version or a list; or a compiled form, maybe without its set, some of whose bytes are replaced, or which is cut. */
 static void some_bytes(Bytes *form)
 {
     unsigned kind = below(3);
@@ -305,8 +354,10 @@ static void some_bytes(Bytes *form)
         for (size_t at = 0; at < form->length; at++)
             form->bytes[at] = (uint8_t)(below(2) ? below(256) : below(4));
     if (kind == 1)
-        form->bytes[0] = (uint8_t)(4 + below(2));
+        form->bytes[0] = (uint8_t)(4 + below(3));
     if (kind == 2) {
+        if (form->bytes[0] == 6 && below(2))
+            drop_set(form);
         for (unsigned more = 1 + below(4); more > 0; more--)
             form->bytes[below((unsigned)form->length)] = (uint8_t)below(256);
         if (below(4) == 0)
@@ -365,13 +416,17 @@ int main(int count, char **words)
         some_form(number, &form);
         hold_bytes(&form);
         change_each_byte(&form);
+        if (form.bytes[0] == 6) {
+            drop_set(&form);
+            change_each_byte(&form);
+        }
     }
     for (size_t turn = 0; turn < RANDOM; turn++) {
         some_bytes(&form);
         hold_bytes(&form);
     }
-    hold(rejected > RANDOM && printed > VERSIONS + LISTS && of_no_string > 0 && strings > 0, "each result is met");
-    printf("%zu results: %zu rejected, %zu are what they are printed as, %zu lists no string denotes, %zu strings; %d wrong\n",
-           rejected + printed + of_no_string + strings, rejected, printed, of_no_string, strings, wrong);
+    hold(rejected > RANDOM && printed > VERSIONS + LISTS && without_set > LISTS && strings > 0, "each result is met");
+    printf("%zu results: %zu rejected, %zu are what they are printed as, %zu lists are it without their set, %zu strings; %d wrong\n",
+           rejected + printed + without_set + strings, rejected, printed, without_set, strings, wrong);
     return wrong ? EXIT_FAILURE : EXIT_SUCCESS;
 }

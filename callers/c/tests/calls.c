@@ -1,4 +1,4 @@
-/* Compares results of the calls with what PEP 440 and the header say: of strings, of compiled forms, and of both side by side.
+/* Compares results of the calls with what PEP 440, `packaging` 26.3 and the header say: of strings, of compiled forms, and of both side by side.
    What a call writes to is uninitialized before, which the header allows: valgrind finds no use of such bytes. */
 #include <stdio.h>
 #include <stdlib.h>
@@ -29,8 +29,8 @@ static void hold_text(const uint8_t *out, size_t written, const char *wanted)
     hold(written == strlen(wanted) && memcmp(out, wanted, written) == 0, wanted);
 }
 
-/* What a turn passes as a compiled form: versions, lists and what stands to the right, or all. */
-enum { STRINGS, VERSIONS, OTHERS, ALL };
+/* What a turn passes as a compiled form: versions, lists and what stands to the right, all, or all with the lists in format 5. */
+enum { STRINGS, VERSIONS, OTHERS, ALL, MEMBERS };
 
 static int turn;
 
@@ -40,8 +40,18 @@ static struct {
     char kind;
     int turn;
     pep440_string bytes;
-} kept[256];
+} kept[512];
 static size_t how_many;
+
+/* Leaves of a compiled list its members, which are format 5: without the byte 6, how many bytes the set has, and these. */
+static size_t drop_set(uint8_t *bytes, size_t length)
+{
+    size_t number = 2 + bytes[1], set = 0;
+    for (size_t at = 2; at < number; at++)
+        set = set * 256 + bytes[at];
+    memmove(bytes, bytes + number + set, length - number - set);
+    return length - number - set;
+}
 
 /* The compiled form; of a string that has none that of the other kind, which is as invalid. */
 static size_t compile(const char *text, char kind, uint8_t *out, size_t size)
@@ -49,7 +59,7 @@ static size_t compile(const char *text, char kind, uint8_t *out, size_t size)
     size_t length = 1;
     if ((kind == 'l' ? pep440_compile_list : pep440_compile)(TEXT(text), out, size, &length) != PEP440_OK)
         out[0] = kind == 'l' ? 4 : 5;
-    return length;
+    return turn == MEMBERS && out[0] == 6 ? drop_set(out, length) : length;
 }
 
 static const pep440_string *given(const char *text, char kind)
@@ -60,7 +70,7 @@ static const pep440_string *given(const char *text, char kind)
         at++;
     if (at == how_many) {
         memcpy(bytes, text, length);
-        if (turn == ALL || turn == (kind == 'v' ? VERSIONS : OTHERS))
+        if (turn >= ALL || turn == (kind == 'v' ? VERSIONS : OTHERS))
             length = compile(text, kind, bytes, sizeof bytes);
         copy = how_many++ < sizeof kept / sizeof *kept ? malloc(length + !length) : NULL;
         if (!copy)
@@ -166,14 +176,39 @@ static void compare_and_match(void)
     hold(pep440_contains(LIST(">=1.16; <2.0"), VERSION("1.19"), &is, &early) == PEP440_INVALID_LIST, "no list");
     hold(pep440_contains(LIST(">=1.16"), VERSION("latest"), &is, &early) == PEP440_INVALID_VERSION, "no version");
     hold(pep440_contains(LIST(">=1.16; <2.0"), VERSION("latest"), &is, &early) == PEP440_INVALID_LIST, "neither");
-    hold(pep440_allows(LIST(">=1.0"), VERSION("2.0rc1"), &is) == PEP440_OK && is == 0, "no pre-release is allowed");
-    hold(pep440_allows(LIST(">=1.0, !=1.5rc1"), VERSION("2.0.dev1"), &is) == PEP440_OK && is == 0, "!= asks for none");
-    hold(pep440_allows(LIST(">=1.0rc1"), VERSION("2.0rc1"), &is) == PEP440_OK && is == 1, "the list asks for one");
-    hold(pep440_allows(LIST(">=1.0"), VERSION("2.0.post1"), &is) == PEP440_OK && is == 1, "a post-release is a final one");
-    hold(pep440_allows(LIST(">=1.16; <2.0"), VERSION("latest"), &is) == PEP440_INVALID_LIST, "allows, neither");
-    hold(pep440_allows(LIST(">=1.16"), VERSION("latest"), &is) == PEP440_INVALID_VERSION, "allows, no version");
+    hold(pep440_contains(LIST("<1.0.post1"), VERSION("1.0rc1"), &is, &early) == PEP440_OK && is == 0, "the ported crate's rule: a pre-release of 1.0");
+    hold(pep440_contains(LIST(">1.0rc1"), VERSION("1.0.post1"), &is, &early) == PEP440_OK && is == 0, "the ported crate's rule: a post-release of 1.0");
     hold(pep440_any_prerelease(LIST(">=1.0, <2.0rc1"), &is) == PEP440_OK && is == 1, "a pre-release among them");
     hold(pep440_any_prerelease(LIST(">=1.0, <2.0"), &is) == PEP440_OK && is == 0, "none among them");
+}
+
+/* By today's rule, as SpecifierSet.contains of `packaging` 26.3 has it with False and with True; and with True if `prereleases` of the set is, else False. */
+static const struct {
+    const char *list, *version;
+    uint8_t allowed[3]; /* by the number of what is taken */
+} ALLOWED[] = {
+    {">=1.0", "1.9", {1, 1, 1}},          {">=1.0", "0.9", {0, 0, 0}},           {">=1.0", "2.0rc1", {0, 1, 0}},
+    {">=1.0, !=1.5rc1", "2.0.dev1", {0, 1, 0}}, {">=1.0rc1", "2.0rc1", {0, 1, 1}}, {">=1.0", "2.0.post1", {1, 1, 1}},
+    {"<1.0.post1", "1.0rc1", {0, 1, 0}},  {"<1.0.post1", "1.0.post1.dev0", {0, 0, 0}}, {"<1.0", "1.0rc1", {0, 0, 0}},
+    {"<1.0rc1", "1.0b2", {0, 1, 1}},      {">1.0rc1", "1.0.post1", {1, 1, 1}},   {">1.0rc1", "1.0+cpu", {1, 1, 1}},
+    {">1.0rc1", "1.0rc1.post1", {0, 0, 0}}, {">1.0", "1.0.post1", {0, 0, 0}},    {">1.0", "1.0+cpu", {0, 0, 0}},
+    {"<=1.0", "1.0+cu1", {1, 1, 1}},      {"!=1.0", "1.0+cu1", {0, 0, 0}},       {"==1.0+cu1", "1.0+cu1.2", {0, 0, 0}},
+    {"==1.5.*", "1.5.dev3", {0, 1, 0}},   {"~=1.4.2", "1.4.10", {1, 1, 1}},      {"===1.0", "1.0.0", {0, 0, 0}},
+    {">=1.16, !=1.5.*, ===1.17", "1.17", {1, 1, 1}}, {"", "1.0.dev1", {0, 1, 0}}, {">1!0", "2!0", {1, 1, 1}},
+};
+
+static void allow(void)
+{
+    uint8_t is;
+    for (size_t at = 0; at < sizeof ALLOWED / sizeof *ALLOWED; at++)
+        for (unsigned prereleases = 0; prereleases < 256; prereleases = prereleases == 3 ? 255 : prereleases + 1) {
+            uint8_t wanted = ALLOWED[at].allowed[prereleases > PEP440_ASKED_PRERELEASES ? PEP440_ASKED_PRERELEASES : prereleases];
+            is = 7;
+            hold(pep440_allows(LIST(ALLOWED[at].list), VERSION(ALLOWED[at].version), (uint8_t)prereleases, &is) == PEP440_OK && is == wanted, ALLOWED[at].list);
+        }
+    is = 7;
+    hold(pep440_allows(LIST(">=1.16; <2.0"), VERSION("latest"), PEP440_ALL_PRERELEASES, &is) == PEP440_INVALID_LIST && is == 7, "allows, neither");
+    hold(pep440_allows(LIST(">=1.16"), VERSION("latest"), PEP440_ALL_PRERELEASES, &is) == PEP440_INVALID_VERSION && is == 7, "allows, no version");
 }
 
 static void take_apart(void)
@@ -193,6 +228,12 @@ static void take_apart(void)
     hold(pep440_version_in(LIST("!=1.5, >=1.16"), out, sizeof out, &written) == PEP440_OK && written == 4 && memcmp(out, "1.16", 4) == 0, "a version in the list");
     hold(pep440_version_in(LIST("==1.0+cu1, <=1.0"), out, sizeof out, &written) == PEP440_OK && written == 7 && memcmp(out, "1.0+cu1", 7) == 0, "a local version");
     hold(pep440_version_in(LIST(">=1, <=1, !=1"), out, sizeof out, &written) == PEP440_OK && written == 0, "no version in the list");
+    hold(pep440_version_in(LIST(""), out, sizeof out, &written) == PEP440_OK && written == 6 && memcmp(out, "0.dev0", 6) == 0, "the least of all versions");
+    hold(pep440_version_in(LIST("<1.0.post1, >1.0a1"), out, sizeof out, &written) == PEP440_OK && written == 10 && memcmp(out, "1.0a2.dev0", 10) == 0, "by today's rule");
+    hold(pep440_version_in(LIST("===1.0, >=1"), out, sizeof out, &written) == PEP440_OK && written == 3 && memcmp(out, "1.0", 3) == 0, "the version of ===");
+    hold(pep440_version_in(LIST("===1.0, >1"), out, sizeof out, &written) == PEP440_OK && written == 0, "no version with ===");
+    hold(pep440_version_in(LIST(">1.0, <1.0.1.dev0"), out, sizeof out, &written) == PEP440_OK && written > 0, "a version where none is least");
+    hold(pep440_allows(LIST(">1.0, <1.0.1.dev0"), out, written, PEP440_ALL_PRERELEASES, &is) == PEP440_OK && is == 1, "which the list allows");
     hold(pep440_version_in(LIST("=1.0"), out, sizeof out, &written) == PEP440_INVALID_LIST, "no list, so no version in it");
     hold(pep440_ranges(LIST("==18446744073709551615.*"), out, sizeof out, &written) == PEP440_NUMBER_AT_MAX, "no range");
     hold(pep440_ranges(LIST("=1.0"), out, sizeof out, &written) == PEP440_INVALID_LIST, "no list, so no range");
@@ -244,23 +285,41 @@ static int is_within(const uint8_t *key, size_t length, const uint8_t *bounds, c
     return 0;
 }
 
-/* What a database does that has the keys in an index. */
-static void ask_keys(void)
+/* Whether the set has the version. */
+static int has(const char *version, const uint8_t *bounds, const size_t *ends, size_t count)
 {
-    uint8_t range[128], cover[128], key[64];
-    size_t range_ends[4], cover_ends[4], range_count, cover_count, length, written;
-    hold(pep440_range_keys(LIST(">=1.0,<2.0,!=1.5"), range, sizeof range, range_ends, 4, &written, &range_count) == PEP440_OK, "range_keys");
-    hold(range_count == 4 && range_ends[3] == written, "two segments");
-    hold(pep440_sort_key(VERSION("1.4.post1"), key, sizeof key, &length) == PEP440_OK, "key");
-    hold(is_within(key, length, range, range_ends, range_count), "1.4.post1 is in the range");
-    hold(pep440_sort_key(VERSION("1.5.0"), key, sizeof key, &length) == PEP440_OK, "key");
-    hold(!is_within(key, length, range, range_ends, range_count), "1.5.0 is not");
-    hold(pep440_range_keys(LIST("<=1.0"), range, sizeof range, range_ends, 4, &written, &range_count) == PEP440_OK, "range_keys");
-    hold(pep440_cover_keys(LIST("<=1.0"), cover, sizeof cover, cover_ends, 4, &written, &cover_count) == PEP440_OK, "cover_keys");
-    hold(range_count == 2 && range_ends[0] == 0 && cover_count == 2 && cover_ends[0] == 0, "no lower bound");
-    hold(pep440_sort_key(VERSION("1.0+cu1"), key, sizeof key, &length) == PEP440_OK, "key");
-    hold(!is_within(key, length, range, range_ends, 2) && is_within(key, length, cover, cover_ends, 2), "1.0+cu1 is in the cover alone");
-    hold(pep440_range_keys(LIST(">=1.0,<2.0,!=1.5"), range, 1, range_ends, 4, &written, &range_count) == PEP440_NO_ROOM && range_count == 4, "room");
+    uint8_t key[64];
+    size_t length;
+    hold(pep440_sort_key(VERSION(version), key, sizeof key, &length) == PEP440_OK, "key");
+    return is_within(key, length, bounds, ends, count);
+}
+
+/* What a database does that has the keys in an index. */
+static void ask_boundaries(void)
+{
+    /* The keys of 1.0 and of 2.0.dev0, and that above the post-releases of 1.0. */
+    static const uint8_t from_1_to_2[] = {0, 2, 1, 0, 80, 0, 16, 0, 0, 2, 2, 0, 16, 0, 0, 0}, above_1[] = {0, 2, 1, 0, 80, 32, 16, 0};
+    uint8_t set[128];
+    size_t ends[8], count, written;
+    hold(pep440_boundaries(LIST(">=1.0,<2.0"), set, sizeof set, ends, 8, &written, &count) == PEP440_OK && count == 2, "boundaries");
+    hold(written == 16 && ends[0] == 8 && ends[1] == 16 && memcmp(set, from_1_to_2, 16) == 0, "from 1.0 up to 2.0.dev0");
+    hold(pep440_boundaries(LIST(">1.0"), set, sizeof set, ends, 8, &written, &count) == PEP440_OK && count == 2, "boundaries");
+    hold(written == 8 && ends[0] == 8 && ends[1] == 8 && memcmp(set, above_1, 8) == 0, "above 1.0, without an end");
+    hold(pep440_boundaries(LIST(">=1.0,<2.0,!=1.5"), set, sizeof set, ends, 8, &written, &count) == PEP440_OK && count == 4 && ends[3] == written, "two intervals");
+    hold(has("1.4.post1", set, ends, count) && has("1.5.post1", set, ends, count) && has("1.5rc1", set, ends, count), "what it has");
+    hold(!has("1.5.0", set, ends, count) && !has("1.5+a", set, ends, count) && !has("2.0rc1", set, ends, count), "what it has not");
+    hold(pep440_boundaries(LIST("<=1.0"), set, sizeof set, ends, 8, &written, &count) == PEP440_OK && count == 2 && ends[0] == 0, "no lower bound");
+    hold(has("1.0+cu1", set, ends, count) && !has("1.0.post0.dev0", set, ends, count), "local versions too, and nothing above them");
+    hold(pep440_boundaries(LIST("<1.0.post1"), set, sizeof set, ends, 8, &written, &count) == PEP440_OK && has("1.0rc1", set, ends, count), "by today's rule");
+    hold(pep440_boundaries(LIST("==1.0+a,>=1"), set, sizeof set, ends, 8, &written, &count) == PEP440_OK && count == 2, "one local version");
+    hold(has("1.0+a", set, ends, count) && !has("1.0", set, ends, count) && !has("1.0+a.b", set, ends, count), "and none beside it");
+    hold(pep440_boundaries(LIST("==18446744073709551615.*"), set, sizeof set, ends, 8, &written, &count) == PEP440_OK && count == 2, "up to the next epoch");
+    hold(has("18446744073709551615.1", set, ends, count) && !has("1!0.dev0", set, ends, count), "the versions of that release");
+    hold(pep440_boundaries(LIST(">1,<1"), set, sizeof set, ends, 8, &written, &count) == PEP440_OK && written == 0 && count == 0, "no interval");
+    hold(pep440_boundaries(LIST(">=1.0,<2.0,!=1.5"), set, 1, ends, 8, &written, &count) == PEP440_NO_ROOM && count == 4, "room");
+    written = count = 77;
+    hold(pep440_boundaries(LIST(">=1, ===1.0"), set, sizeof set, ends, 8, &written, &count) == PEP440_NO_SET && written == 77 && count == 77, "no set");
+    hold(pep440_boundaries(LIST("=1.0"), set, sizeof set, ends, 8, &written, &count) == PEP440_INVALID_LIST && count == 77, "no list, so no set");
 }
 
 /* The bounds that the header names. */
@@ -289,9 +348,12 @@ static void many_at_once(void)
         texts[at] = *given(names[at], at % 2 ? 'v' : 'r');
     hold(pep440_filter(LIST(">1.9,<2.0"), texts, COUNT, marks, COUNT) == PEP440_OK, "filter");
     hold(memcmp(marks, wanted_marks, COUNT) == 0, "marks");
+    hold(pep440_filter(LIST("<1.10.post1,!=1.10"), texts, COUNT, marks, COUNT) == PEP440_OK && marks[0] == PEP440_NO_MATCH && marks[3] == PEP440_PRERELEASE_MATCH,
+         "filter by today's rule");
     hold(pep440_newest(LIST(""), texts, COUNT, &index) == PEP440_OK && index == 4, "the newest final release");
     hold(pep440_newest(LIST("<2.0,!=1.10,!=1.9"), texts, COUNT, &index) == PEP440_OK && index == 3, "the newest pre-release, where no final one is contained");
     hold(pep440_newest(LIST("<=1.10rc1"), texts, COUNT, &index) == PEP440_OK && index == 3, "pre-releases that are asked for");
+    hold(pep440_newest(LIST("<1.10.post1,>1.10a1,!=1.10"), texts, COUNT, &index) == PEP440_OK && index == 3, "newest by today's rule");
     index = 77;
     hold(pep440_newest(LIST(">3"), texts, COUNT, &index) == PEP440_NONE_FOUND && index == 77, "none is contained");
     hold(pep440_newest(LIST(">=1;"), texts, COUNT, &index) == PEP440_INVALID_LIST && index == 77, "newest, no list");
@@ -322,10 +384,11 @@ static void with_a_zero(void)
     hold(pep440_sort_key_string("1.0", key, sizeof key, &length) == PEP440_OK, "sort_key_string");
     hold(pep440_compile_string("1.0", bytes, sizeof bytes, &count) == PEP440_OK && count == length + 2 && memcmp(bytes + 1, key, length) == 0,
          "compile_string: the key between 4 and a 1");
-    hold(pep440_compile_list_string("==1", bytes, sizeof bytes, &length) == PEP440_OK && bytes[0] == 5, "compile_list_string");
+    hold(pep440_compile_list_string("==1", bytes, sizeof bytes, &length) == PEP440_OK && bytes[0] == 6, "compile_list_string");
+    hold(pep440_compile_list_string("===1", bytes, sizeof bytes, &length) == PEP440_OK && bytes[0] == 5, "compile_list_string, no set");
     hold(pep440_string_of("1.0").length == 3 && memcmp(pep440_string_of("1.0").bytes, "1.0", 3) == 0, "string_of");
-    for (uint8_t status = 0; status <= PEP440_INVALID_CHANGE; status++)
-        hold(strcmp(pep440_status_text(status), pep440_status_text(255)) != 0, "status_text");
+    for (uint8_t status = 0; status <= PEP440_NO_SET; status++)
+        hold(strcmp(pep440_status_text(status), pep440_status_text(255)) != 0 || status == 11, "status_text");
 }
 
 int main(void)
@@ -333,14 +396,15 @@ int main(void)
     hold(pep440_version_of_library() == PEP440_VERSION, "the library is of the header's version");
     take_strings();
     with_a_zero();
-    for (turn = STRINGS; turn <= ALL; turn++) {
+    for (turn = STRINGS; turn <= MEMBERS; turn++) {
         normalize();
         build();
         edit();
         compare_and_match();
+        allow();
         take_apart();
         keep_keys();
-        ask_keys();
+        ask_boundaries();
         ask_bounds();
         many_at_once();
     }

@@ -66,13 +66,13 @@ static uint8_t version_in(void) { return pep440_version_in(IN, OUT); }
 static uint8_t ranges(void) { return pep440_ranges(IN, OUT); }
 static uint8_t any_prerelease(void) { return pep440_any_prerelease(IN, flag); }
 static uint8_t specifiers_of(void) { return pep440_specifiers_of(IN, KEYS); }
-static uint8_t range_keys(void) { return pep440_range_keys(IN, KEYS); }
-static uint8_t cover_keys(void) { return pep440_cover_keys(IN, KEYS); }
+static uint8_t boundaries(void) { return pep440_boundaries(IN, KEYS); }
 static uint8_t range_bounds(void) { return pep440_range_bounds(IN, KEYS); }
 static uint8_t release_range_bounds(void) { return pep440_release_range_bounds(IN, KEYS); }
 static uint8_t compare(void) { return pep440_compare(IN, OTHER, order); }
 static uint8_t contains(void) { return pep440_contains(IN, OTHER, flag, early); }
-static uint8_t allows(void) { return pep440_allows(IN, OTHER, flag); }
+static uint8_t allows(void) { return pep440_allows(IN, OTHER, PEP440_ASKED_PRERELEASES, flag); }
+static uint8_t allows_all(void) { return pep440_allows(IN, OTHER, PEP440_ALL_PRERELEASES, flag); }
 static uint8_t filter(void) { return pep440_filter(IN, strings, many, out, size); }
 static uint8_t newest(void) { return pep440_newest(IN, strings, many, count); }
 static uint8_t sort(void) { return pep440_sort(strings, many, ends, ends_size, count); }
@@ -80,6 +80,7 @@ static uint8_t sort_keys(void) { return pep440_sort_keys(strings, many, out, siz
 
 #define LONG "1!1.2.300a2.post3.dev4+ubuntu.1"
 #define LIST ">=1.16, !=1.5.*, ===1.17+a, <2.0"
+#define WITH_SET ">=1.16, !=1.17, <2.0"
 
 /* The kinds of both arguments: a version or a list, each as a string and as a compiled form; or a string alone. A second one of a single
    letter is a batch (put_batch). */
@@ -100,15 +101,17 @@ static const struct {
     {"specifier_error", specifier_error, "s", ">=1.0prev", "", PEP440_OK},
     {"compile_specifier", compile_specifier, "s", "===" LONG, "", PEP440_OK}, {"normalize_list", normalize_list, "l", LIST, "", PEP440_OK},
     {"list_error", list_error, "l", LIST, "", PEP440_OK}, {"list_error, why", list_error, "s", LIST ",=<1", "", PEP440_OK},
-    {"compile_list", compile_list, "l", LIST, "", PEP440_OK}, {"version_in", version_in, "l", ">=1.16, !=1.17, <2.0", "", PEP440_OK}, {"ranges", ranges, "l", ">=1.16, !=1.17, <2.0", "", PEP440_OK},
+    {"compile_list", compile_list, "l", LIST, "", PEP440_OK}, {"compile_list, with its set", compile_list, "l", WITH_SET, "", PEP440_OK},
+    {"version_in", version_in, "l", WITH_SET, "", PEP440_OK}, {"ranges", ranges, "l", WITH_SET, "", PEP440_OK},
     {"any_prerelease", any_prerelease, "l", LIST, "", PEP440_OK}, {"specifiers_of", specifiers_of, "l", LIST, "", PEP440_OK},
-    {"range_keys", range_keys, "l", ">=1.16, !=1.17, <2.0", "", PEP440_OK}, {"cover_keys", cover_keys, "l", ">=1.16, <=2.0", "", PEP440_OK},
-    {"range_bounds", range_bounds, "l", ">=1.16, !=1.17, <2.0", "", PEP440_OK},
+    {"boundaries", boundaries, "l", WITH_SET, "", PEP440_OK}, {"boundaries, no set", boundaries, "l", LIST, "", PEP440_NO_SET},
+    {"range_bounds", range_bounds, "l", WITH_SET, "", PEP440_OK},
     {"range_bounds, at max", range_bounds, "l", "==18446744073709551615.*", "", PEP440_NUMBER_AT_MAX},
     {"release_range_bounds", release_range_bounds, "l", ">1!1.0rc1", "", PEP440_OK}, {"compare", compare, "vv", LONG, "1!1.2.301", PEP440_OK},
     {"compare, invalid", compare, "vs", LONG, "1.0prev", PEP440_INVALID_RIGHT}, {"contains", contains, "lv", LIST, "1.17+a", PEP440_OK},
-    {"allows", allows, "lv", LIST, "1.17+a", PEP440_OK}, {"allows, early", allows, "lv", LIST, "1.17rc1", PEP440_OK},
-    {"filter", filter, "lv", LIST, "b", PEP440_OK}, {"newest", newest, "lv", ">=0", "b", PEP440_OK},
+    {"contains, with its set", contains, "lv", WITH_SET, "1.18", PEP440_OK}, {"allows", allows, "lv", LIST, "1.17+a", PEP440_OK},
+    {"allows, with its set", allows, "lv", WITH_SET, "1.18", PEP440_OK}, {"allows, early", allows, "lv", WITH_SET, "1.18rc1", PEP440_OK},
+    {"allows, all", allows_all, "lv", WITH_SET, "1.18rc1", PEP440_OK}, {"filter", filter, "lv", LIST, "b", PEP440_OK}, {"newest", newest, "lv", ">=0", "b", PEP440_OK},
     {"newest, none", newest, "lv", ">99", "b", PEP440_NONE_FOUND}, {"sort", sort, "sv", "", "c", PEP440_OK},
     {"sort, invalid", sort, "sv", "", "b", PEP440_INVALID_VERSION}, {"sort_keys", sort_keys, "sv", "", "c", PEP440_OK}};
 

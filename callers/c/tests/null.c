@@ -2,6 +2,7 @@
    something (docs/DECISIONS.md), so this is tested of each build of the library. */
 #include <stdio.h>
 #include <stdlib.h>
+#include <string.h>
 
 #include "pep440.h"
 
@@ -47,34 +48,35 @@ static void strings(void)
     hold(pep440_list_error(NONE, out, sizeof out, &written) == PEP440_OK && written == 0, "list_error");
     hold(pep440_contains(NONE, (const uint8_t *)"1", 1, &is, &early) == PEP440_OK && is == 1 && early == 0, "contains, list");
     hold(pep440_contains(EMPTY, NONE, &is, &early) == PEP440_INVALID_VERSION, "contains, version");
-    hold(pep440_allows(NONE, (const uint8_t *)"1", 1, &is) == PEP440_OK && is == 1, "allows, list");
-    hold(pep440_allows(EMPTY, NONE, &is) == PEP440_INVALID_VERSION, "allows, version");
+    hold(pep440_allows(NONE, (const uint8_t *)"1", 1, PEP440_NO_PRERELEASES, &is) == PEP440_OK && is == 1, "allows, list");
+    hold(pep440_allows(EMPTY, NONE, PEP440_NO_PRERELEASES, &is) == PEP440_INVALID_VERSION, "allows, version");
     hold(pep440_any_prerelease(NONE, &is) == PEP440_OK && is == 0, "any_prerelease");
-    hold(pep440_version_in(NONE, out, sizeof out, &written) == PEP440_OK && written == 1 && out[0] == '0', "version_in");
+    hold(pep440_version_in(NONE, out, sizeof out, &written) == PEP440_OK && written == 6, "version_in"); /* 0.dev0 */
     hold(pep440_ranges(NONE, out, sizeof out, &written) == PEP440_OK && written == 7, "ranges");
     hold(pep440_specifiers_of(NONE, NONE, NONE, &written, &count) == PEP440_OK && written == 0 && count == 0, "specifiers_of");
     hold(pep440_range_bounds(NONE, NONE, NONE, &written, &count) == PEP440_NO_ROOM && written == 2 && count == 2, "range_bounds");
     hold(pep440_release_range_bounds(NONE, NONE, NONE, &written, &count) == PEP440_NO_ROOM && written == 2 && count == 2, "release_range_bounds");
-    hold(pep440_range_keys(NONE, NONE, NONE, &written, &count) == PEP440_NO_ROOM && written == 0 && count == 2, "range_keys");
-    hold(pep440_cover_keys(NONE, NONE, NONE, &written, &count) == PEP440_NO_ROOM && written == 0 && count == 2, "cover_keys");
+    hold(pep440_boundaries(NONE, NONE, NONE, &written, &count) == PEP440_NO_ROOM && written == 0 && count == 2, "boundaries");
 }
 
 static void compiled(void)
 {
-    static const uint8_t version[] = {4, 0, 2, 1, 0, 80, 0, 16, 0}, list[] = {5};
+    static const uint8_t version[] = {4, 0, 2, 1, 0, 80, 0, 16, 0}, list[] = {6, 1, 2, 0, 0, 5}, members[] = {5};
     uint8_t out[128], is, early;
     int8_t order;
     size_t written;
     hold(pep440_compile(NONE, out, sizeof out, &written) == PEP440_INVALID_VERSION, "compile");
     hold(pep440_compile_specifier(NONE, out, sizeof out, &written) == PEP440_INVALID_LIST, "compile_specifier");
-    hold(pep440_compile_list(NONE, out, sizeof out, &written) == PEP440_OK && written == 1 && out[0] == 5, "compile_list");
+    hold(pep440_compile_list(NONE, out, sizeof out, &written) == PEP440_OK && written == sizeof list && memcmp(out, list, sizeof list) == 0, "compile_list");
     hold(pep440_build_error(PEP440_EQUAL, NONE, 0, out, sizeof out, &written) == PEP440_INVALID_VERSION, "build_error");
     hold(pep440_compare(NONE, version, sizeof version, &order) == PEP440_INVALID_VERSION, "compare with a compiled one");
     hold(pep440_compare(version, sizeof version, NONE, &order) == PEP440_INVALID_RIGHT, "compare a compiled one");
     hold(pep440_contains(NONE, version, sizeof version, &is, &early) == PEP440_OK && is == 1 && early == 0, "contains a compiled one");
     hold(pep440_contains(list, sizeof list, NONE, &is, &early) == PEP440_INVALID_VERSION, "contains, a compiled list");
-    hold(pep440_allows(NONE, version, sizeof version, &is) == PEP440_OK && is == 1, "allows a compiled one");
-    hold(pep440_allows(list, sizeof list, NONE, &is) == PEP440_INVALID_VERSION, "allows, a compiled list");
+    hold(pep440_allows(NONE, version, sizeof version, PEP440_NO_PRERELEASES, &is) == PEP440_OK && is == 1, "allows a compiled one");
+    hold(pep440_allows(list, sizeof list, NONE, PEP440_NO_PRERELEASES, &is) == PEP440_INVALID_VERSION, "allows, a compiled list");
+    hold(pep440_contains(members, sizeof members, NONE, &is, &early) == PEP440_INVALID_VERSION, "contains, a compiled list without its set");
+    hold(pep440_allows(members, sizeof members, NONE, PEP440_NO_PRERELEASES, &is) == PEP440_INVALID_VERSION, "allows, a compiled list without its set");
 }
 
 static void buffers(void)

@@ -36,13 +36,12 @@ static void *version_error(void *unused) { pep440_version_error(GIVEN, OUT); ret
 static void *list_error(void *unused) { pep440_list_error(LIST, OUT); return unused; }
 static void *compare(void *unused) { pep440_compare(GIVEN, RIGHT, &order); return unused; }
 static void *contains(void *unused) { pep440_contains(LIST, GIVEN, &flag, &early); return unused; }
-static void *allows(void *unused) { pep440_allows(LIST, GIVEN, &flag); return unused; }
+static void *allows(void *unused) { pep440_allows(LIST, GIVEN, PEP440_ASKED_PRERELEASES, &flag); return unused; }
 static void *any_prerelease(void *unused) { pep440_any_prerelease(LIST, &flag); return unused; }
 static void *parts_of(void *unused) { pep440_parts_of(GIVEN, &parts, release, LONG); return unused; }
 static void *sort_key(void *unused) { pep440_sort_key(GIVEN, OUT); return unused; }
 static void *word(void *unused) { pep440_word(GIVEN, &packed); return unused; }
-/* (its time grows with the square of the list) */
-static void *version_in(void *unused) { return list.length > 4096 ? unused : (pep440_version_in(LIST, OUT), unused); }
+static void *version_in(void *unused) { pep440_version_in(LIST, OUT); return unused; }
 static void *ranges(void *unused) { pep440_ranges(LIST, OUT); return unused; }
 static void *specifiers_of(void *unused)
 {
@@ -72,14 +71,9 @@ static void *release_range_bounds(void *unused)
     pep440_release_range_bounds(LIST, out, (size_t)LONG * 64, ends, MANY, &written, &at);
     return unused;
 }
-static void *range_keys(void *unused)
+static void *boundaries(void *unused)
 {
-    pep440_range_keys(LIST, out, (size_t)LONG * 64, ends, MANY, &written, &at);
-    return unused;
-}
-static void *cover_keys(void *unused)
-{
-    pep440_cover_keys(LIST, out, (size_t)LONG * 64, ends, MANY, &written, &at);
+    pep440_boundaries(LIST, out, (size_t)LONG * 64, ends, MANY, &written, &at);
     return unused;
 }
 static void *compile(void *unused) { pep440_compile(GIVEN, OUT); return unused; }
@@ -114,8 +108,7 @@ static const struct {
              {"specifier_error", specifier_error},
              {"range_bounds", range_bounds},
              {"release_range_bounds", release_range_bounds},
-             {"range_keys", range_keys},
-             {"cover_keys", cover_keys},
+             {"boundaries", boundaries},
              {"specifiers_of", specifiers_of},
              {"specifier", specifier},
              {"pattern", pattern},

@@ -49,11 +49,12 @@ typedef struct {
 } Given;
 
 static Given longer = {.text = LONG}, shorter = {.text = "1.17"}, packed = {.text = "1.2.3.post4"}, left_one = {.text = "1.0+a.b"}, right_one = {.text = "1.0.0+a.c"};
+static Given with_set = {.text = ">=1.16, !=1.5.*, !=1.18.7, <2.0"}, same_set = {.text = ">=1.16, !=1.5.*, !=1.18.7, <2.0"};
 static Given members = {.text = MEMBERS}, early = {.text = MEMBERS ",>=1.0a1"}, at_max = {.text = ">=1.0, ==18446744073709551615.*"};
 static Given release_at_max = {.text = "~=18446744073709551615.0"};
 
 /* Those that are invalid: a string, and a compiled form of the other kind, or one that is cut. */
-static Given invalid = {.text = "1.0prev"}, no_list = {.text = ">=1.16; <2.0"}, cut = {.text = LONG}, cut_list = {.text = MEMBERS};
+static Given invalid = {.text = "1.0prev"}, no_list = {.text = ">=1.16; <2.0"}, cut = {.text = LONG}, cut_list = {.text = MEMBERS}, cut_set = {.text = ">=1.16, <2.0"};
 
 /* Whether the first argument of a call is compiled, and whether the second one is. */
 static int is_first, is_second;
@@ -107,6 +108,7 @@ static uint8_t edit_error_max(Answer *answer) { return pep440_edit_error(FIRST(l
 static uint8_t normalize_list(Answer *answer) { return pep440_normalize_list(FIRST(members), OUT); }
 static uint8_t normalize_no_list(Answer *answer) { return pep440_normalize_list(FIRST(no_list), OUT); }
 static uint8_t normalize_cut_list(Answer *answer) { return pep440_normalize_list(FIRST(cut_list), OUT); }
+static uint8_t normalize_cut_set(Answer *answer) { return pep440_normalize_list(FIRST(cut_set), OUT); }
 static uint8_t list_error(Answer *answer) { return pep440_list_error(FIRST(no_list), OUT); }
 static uint8_t list_error_cut(Answer *answer) { return pep440_list_error(FIRST(cut_list), OUT); }
 static uint8_t any_prerelease(Answer *answer) { return pep440_any_prerelease(FIRST(early), &answer->is); }
@@ -122,12 +124,15 @@ static uint8_t range_bounds_no_list(Answer *answer) { return pep440_range_bounds
 static uint8_t release_range_bounds(Answer *answer) { return pep440_release_range_bounds(FIRST(members), KEYS); }
 static uint8_t release_range_bounds_at_max(Answer *answer) { return pep440_release_range_bounds(FIRST(release_at_max), KEYS); }
 static uint8_t release_range_bounds_no_list(Answer *answer) { return pep440_release_range_bounds(FIRST(no_list), KEYS); }
-static uint8_t range_keys(Answer *answer) { return pep440_range_keys(FIRST(members), KEYS); }
-static uint8_t range_keys_at_max(Answer *answer) { return pep440_range_keys(FIRST(at_max), KEYS); }
-static uint8_t range_keys_no_list(Answer *answer) { return pep440_range_keys(FIRST(no_list), KEYS); }
-static uint8_t cover_keys(Answer *answer) { return pep440_cover_keys(FIRST(members), KEYS); }
-static uint8_t cover_keys_no_list(Answer *answer) { return pep440_cover_keys(FIRST(no_list), KEYS); }
+static uint8_t boundaries(Answer *answer) { return pep440_boundaries(FIRST(with_set), KEYS); }
+static uint8_t boundaries_same_set(Answer *answer) { return pep440_boundaries(FIRST(same_set), KEYS); }
+static uint8_t boundaries_at_max(Answer *answer) { return pep440_boundaries(FIRST(at_max), KEYS); }
+static uint8_t boundaries_no_set(Answer *answer) { return pep440_boundaries(FIRST(members), KEYS); }
+static uint8_t boundaries_no_list(Answer *answer) { return pep440_boundaries(FIRST(no_list), KEYS); }
+static uint8_t version_in_set(Answer *answer) { return pep440_version_in(FIRST(with_set), OUT); }
 static uint8_t compile_list(Answer *answer) { return pep440_compile_list(FIRST(members), OUT); }
+static uint8_t compile_list_set(Answer *answer) { return pep440_compile_list(FIRST(with_set), OUT); }
+static uint8_t compile_list_same_set(Answer *answer) { return pep440_compile_list(FIRST(same_set), OUT); }
 static uint8_t compile_no_list(Answer *answer) { return pep440_compile_list(FIRST(no_list), OUT); }
 
 /* Of two, and of a batch, whose items are strings and compiled forms in turn. */
@@ -138,10 +143,14 @@ static uint8_t contains(Answer *answer) { return pep440_contains(FIRST(members),
 static uint8_t contains_not(Answer *answer) { return pep440_contains(FIRST(members), SECOND(longer), &answer->is, &answer->early); }
 static uint8_t contains_no_list(Answer *answer) { return pep440_contains(FIRST(no_list), SECOND(invalid), &answer->is, &answer->early); }
 static uint8_t contains_invalid(Answer *answer) { return pep440_contains(FIRST(members), SECOND(invalid), &answer->is, &answer->early); }
-static uint8_t allows(Answer *answer) { return pep440_allows(FIRST(members), SECOND(shorter), &answer->is); }
-static uint8_t allows_not(Answer *answer) { return pep440_allows(FIRST(members), SECOND(longer), &answer->is); }
-static uint8_t allows_no_list(Answer *answer) { return pep440_allows(FIRST(no_list), SECOND(invalid), &answer->is); }
-static uint8_t allows_invalid(Answer *answer) { return pep440_allows(FIRST(members), SECOND(invalid), &answer->is); }
+static uint8_t contains_set(Answer *answer) { return pep440_contains(FIRST(with_set), SECOND(shorter), &answer->is, &answer->early); }
+static uint8_t contains_same_set(Answer *answer) { return pep440_contains(FIRST(same_set), SECOND(shorter), &answer->is, &answer->early); }
+static uint8_t allows(Answer *answer) { return pep440_allows(FIRST(members), SECOND(shorter), PEP440_ASKED_PRERELEASES, &answer->is); }
+static uint8_t allows_set(Answer *answer) { return pep440_allows(FIRST(with_set), SECOND(shorter), PEP440_ASKED_PRERELEASES, &answer->is); }
+static uint8_t allows_same_set(Answer *answer) { return pep440_allows(FIRST(same_set), SECOND(shorter), PEP440_ALL_PRERELEASES, &answer->is); }
+static uint8_t allows_not(Answer *answer) { return pep440_allows(FIRST(with_set), SECOND(longer), PEP440_NO_PRERELEASES, &answer->is); }
+static uint8_t allows_no_list(Answer *answer) { return pep440_allows(FIRST(no_list), SECOND(invalid), PEP440_ALL_PRERELEASES, &answer->is); }
+static uint8_t allows_invalid(Answer *answer) { return pep440_allows(FIRST(with_set), SECOND(invalid), PEP440_ALL_PRERELEASES, &answer->is); }
 static pep440_string batch[5], stopped[2];
 static uint8_t filter(Answer *answer) { return pep440_filter(FIRST(members), batch, 5, answer->marks, 8); }
 static uint8_t newest(Answer *answer) { return pep440_newest(FIRST(members), batch, 5, &answer->count); }
@@ -207,12 +216,15 @@ static const Call CALLS[] = {
     CALL(release_range_bounds, PEP440_OK, 1),
     CALL(release_range_bounds_at_max, PEP440_NUMBER_AT_MAX, 1),
     CALL(release_range_bounds_no_list, PEP440_INVALID_LIST, 1),
-    CALL(range_keys, PEP440_OK, 1),
-    CALL(range_keys_at_max, PEP440_NUMBER_AT_MAX, 1),
-    CALL(range_keys_no_list, PEP440_INVALID_LIST, 1),
-    CALL(cover_keys, PEP440_OK, 1),
-    CALL(cover_keys_no_list, PEP440_INVALID_LIST, 1),
+    CALL(boundaries, PEP440_OK, 1),
+    CALL(boundaries_same_set, PEP440_OK, 1),
+    CALL(boundaries_at_max, PEP440_OK, 1),
+    CALL(boundaries_no_set, PEP440_NO_SET, 1),
+    CALL(boundaries_no_list, PEP440_INVALID_LIST, 1),
+    CALL(version_in_set, PEP440_OK, 1),
     CALL(compile_list, PEP440_OK, 1),
+    CALL(compile_list_set, PEP440_OK, 1),
+    CALL(compile_list_same_set, PEP440_OK, 1),
     CALL(compile_no_list, PEP440_INVALID_LIST, 1),
     CALL(compare, PEP440_OK, 2),
     CALL(compare_invalid, PEP440_INVALID_VERSION, 2),
@@ -221,7 +233,10 @@ static const Call CALLS[] = {
     CALL(contains_not, PEP440_OK, 2),
     CALL(contains_no_list, PEP440_INVALID_LIST, 2),
     CALL(contains_invalid, PEP440_INVALID_VERSION, 2),
+    CALL(contains_set, PEP440_OK, 2),
     CALL(allows, PEP440_OK, 2),
+    CALL(allows_set, PEP440_OK, 2),
+    CALL(allows_same_set, PEP440_OK, 2),
     CALL(allows_not, PEP440_OK, 2),
     CALL(allows_no_list, PEP440_INVALID_LIST, 2),
     CALL(allows_invalid, PEP440_INVALID_VERSION, 2),
@@ -246,11 +261,12 @@ static const Call GUESSING[] = {
 
 /* Of compiled bytes alone, which are cut. */
 static const Call CUT[] = {CALL(normalize_cut, PEP440_INVALID_VERSION, 1), CALL(version_error_cut, PEP440_OK, 1), CALL(sort_key_cut, PEP440_INVALID_VERSION, 1),
-                           CALL(normalize_cut_list, PEP440_INVALID_LIST, 1), CALL(list_error_cut, PEP440_OK, 1)};
+                           CALL(normalize_cut_list, PEP440_INVALID_LIST, 1), CALL(normalize_cut_set, PEP440_INVALID_LIST, 1), CALL(list_error_cut, PEP440_OK, 1)};
 
 /* Calls of compiled forms alone that allocate nothing. */
-static const Call WITHOUT[] = {CALL(compare, PEP440_OK, 2), CALL(contains, PEP440_OK, 2), CALL(contains_not, PEP440_OK, 2),
-                                CALL(allows, PEP440_OK, 2),  CALL(allows_not, PEP440_OK, 2)};
+static const Call WITHOUT[] = {CALL(compare, PEP440_OK, 2),      CALL(contains, PEP440_OK, 2),          CALL(contains_not, PEP440_OK, 2),
+                                CALL(contains_set, PEP440_OK, 2), CALL(contains_same_set, PEP440_OK, 2), CALL(allows_set, PEP440_OK, 2),
+                                CALL(allows_not, PEP440_OK, 2)};
 
 /* Wrong results of this call; `failed` counts the allocations that failed. */
 static int sweep(uint8_t (*call)(Answer *), uint8_t wanted, int may_guess, int *failed)
@@ -276,6 +292,14 @@ static int sweep(uint8_t (*call)(Answer *), uint8_t wanted, int may_guess, int *
     }
 }
 
+/* Leaves the members, which are the list in format 5: the set has less than 256 bytes. */
+static void drop_set(Given *given)
+{
+    size_t before = 3 + (size_t)given->bytes[2];
+    given->length -= before;
+    memmove(given->bytes, given->bytes + before, given->length);
+}
+
 /* The compiled form of a version or a list; of what has none, that of the other kind. */
 static int compile_one(Given *given, int is_list)
 {
@@ -285,14 +309,16 @@ static int compile_one(Given *given, int is_list)
         given->length = 1;
         return status == PEP440_OK;
     }
-    given->length -= given == &cut ? 1 : given == &cut_list ? 2 : 0;
+    given->length -= given == &cut ? 1 : given == &cut_list || given == &cut_set ? 2 : 0;
+    if (given == &same_set)
+        drop_set(given);
     return status != PEP440_OK;
 }
 
 static int compile_all(void)
 {
     Given *const versions[] = {&longer, &shorter, &packed, &left_one, &right_one, &invalid, &cut};
-    Given *const lists[] = {&members, &early, &at_max, &release_at_max, &no_list, &cut_list};
+    Given *const lists[] = {&members, &with_set, &same_set, &early, &at_max, &release_at_max, &no_list, &cut_list, &cut_set};
     int failed = 0;
     for (size_t place = 0; place < sizeof versions / sizeof *versions; place++)
         failed += compile_one(versions[place], 0);

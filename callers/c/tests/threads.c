@@ -76,8 +76,7 @@ static void of_list(Memory *m, pep440_string list)
     fold(m, pep440_compile_specifier(OF(list), OUT));
     fold(m, pep440_ranges(OF(list), OUT));
     fold(m, pep440_version_in(OF(list), OUT));
-    fold(m, pep440_range_keys(OF(list), KEYS));
-    fold(m, pep440_cover_keys(OF(list), KEYS));
+    fold(m, pep440_boundaries(OF(list), KEYS));
     fold(m, pep440_range_bounds(OF(list), KEYS));
     fold(m, pep440_release_range_bounds(OF(list), KEYS));
 }
@@ -91,8 +90,10 @@ static void *call_all(void *memory)
             of_version(m, some[v]);
             for (size_t other = 0; other < VERSIONS; other++)
                 fold(m, pep440_compare(OF(some[v]), OF(others[other]), &m->order));
-            for (size_t l = 0; l < LISTS; l++)
-                fold(m, pep440_contains(OF(several[l]), OF(some[v]), &m->flag, &m->early)), fold(m, pep440_allows(OF(several[l]), OF(some[v]), &m->flag));
+            for (size_t l = 0; l < LISTS; l++) {
+                fold(m, pep440_contains(OF(several[l]), OF(some[v]), &m->flag, &m->early));
+                fold(m, pep440_allows(OF(several[l]), OF(some[v]), (uint8_t)(l % 3), &m->flag));
+            }
         }
         for (size_t l = 0; l < LISTS; l++) {
             of_list(m, several[l]);
