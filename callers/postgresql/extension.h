@@ -16,14 +16,14 @@ typedef struct {
 typedef struct {
     Bytes key;
     Bytes bytes;
-    bool is_plain; /* epoch 0 and a release alone */
 } Version;
 
-/* The keys of a cover, as pep440_cover_keys writes them. */
+/* Keys of intervals, as pep440_boundaries writes them, that cover a list. */
 typedef struct {
     const uint8_t *keys;
     const size_t *ends;
     size_t count;
+    bool is_exact; /* whether the list has no `===`, and so contains whatever lies in an interval */
 } Cover;
 
 /* A call of the library that reads a string and writes bytes. */
@@ -43,8 +43,8 @@ typedef struct {
     uint8_t bytes[MOST_COMPILED];
 } VersionBuffer;
 
-/* The first byte of compiled versions and lists. */
-enum { VERSION_FORMAT = 4, LIST_FORMAT = 5 };
+/* The first byte of compiled versions, of the members of a list, which an earlier release stored alone, and of lists. */
+enum { VERSION_FORMAT = 4, MEMBERS_FORMAT = 5, LIST_FORMAT = 6 };
 
 /* The argument of a function that takes a text. */
 Bytes utf8_argument(FunctionCallInfo fcinfo);
@@ -84,12 +84,14 @@ char *normal_argument(FunctionCallInfo fcinfo);
 extern PGDLLEXPORT Datum specs_out(PG_FUNCTION_ARGS);
 /* What the library takes as the list: compiled bytes, or the normal form where an older release stored the value. */
 Bytes list_of(const struct varlena *stored);
+/* The members in a compiled list. */
+Bytes members_of(Bytes compiled);
 /* The value of a compiled version. */
 struct varlena *make_version(Bytes compiled);
 struct varlena *read_version(Bytes text, Node *context);
 
-/* The keys of the cover of a list; or PEP440_NUMBER_AT_MAX. Any other failure is an error. */
-uint8_t cover_of(Bytes list, Cover *cover);
+/* The keys that cover a list. */
+Cover cover_of(Bytes list);
 /* The key number `place` of a cover. */
 Bytes cover_key(const Cover *cover, size_t place);
 /* The lowest key of a cover, and the one above all of it; no bytes where there is no such bound. Nothing lies in an empty cover. */

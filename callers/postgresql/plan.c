@@ -1,7 +1,7 @@
 /* What the planner asks: which condition an index on the versions can serve for `specs @> version`, and how many rows that is.
 
-   The condition is `version >= low AND version < high`, with the ends of the list's cover. It holds for each version that the list contains, and
-   maybe for others, so the server rechecks each row by matching. */
+   The condition is `version >= low AND version < high`, with the ends of the list's cover. It holds for each version that the list contains. Where the
+   list may have gaps or `===` it may hold for others, and the server rechecks each row by matching. */
 #include "extension.h"
 
 /* `version OPERATOR key`, or null where the operator family has no such operator. */
@@ -22,6 +22,8 @@ static List *interval_conditions(Oid family, Node *version, Oid type, Bytes low,
     List *found = NIL;
     Expr *above = low.length == 0 ? NULL : make_bound(family, version, type, BTGreaterEqualStrategyNumber, make_key(low));
     Expr *below = high.length == 0 ? NULL : make_bound(family, version, type, BTLessStrategyNumber, make_key(high));
+    if ((above == NULL && low.length != 0) || (below == NULL && high.length != 0))
+        return NIL;
     if (above != NULL)
         found = lappend(found, above);
     if (below != NULL)
@@ -29,15 +31,16 @@ static List *interval_conditions(Oid family, Node *version, Oid type, Bytes low,
     return found;
 }
 
-/* A list that is known: the keys stand in the plan. */
-static List *constant_conditions(Oid family, Node *version, Oid type, const Const *list)
+/* A list that is known: the keys stand in the plan. Of a single interval, or none, nothing is rechecked. */
+static List *constant_conditions(SupportRequestIndexCondition *request, Node *version, Oid type, const Const *list)
 {
-    Cover cover;
     Bytes low, high;
-    if (list->constisnull || cover_of(list_of(PG_DETOAST_DATUM_PACKED(list->constvalue)), &cover) != PEP440_OK)
+    if (list->constisnull)
         return NIL;
+    Cover cover = cover_of(list_of(PG_DETOAST_DATUM_PACKED(list->constvalue)));
+    request->lossy = !cover.is_exact || cover.count > 2;
     ends_of_cover(&cover, &low, &high);
-    return interval_conditions(family, version, type, low, high);
+    return interval_conditions(request->opfamily, version, type, low, high);
 }
 
 /* A call of a function of the extension that takes the list and returns a key. */
@@ -63,7 +66,7 @@ static List *later_conditions(Oid family, Node *version, Oid type, Node *list, O
     return above == NULL || below == NULL ? NIL : list_make2(above, below);
 }
 
-static List *index_conditions(const SupportRequestIndexCondition *request, bool version_is_first)
+static List *index_conditions(SupportRequestIndexCondition *request, bool version_is_first)
 {
     List *arguments;
     if (request->index->relam != BTREE_AM_OID)
@@ -79,7 +82,7 @@ static List *index_conditions(const SupportRequestIndexCondition *request, bool 
     Node *version = list_nth(arguments, request->indexarg), *list = list_nth(arguments, 1 - request->indexarg);
     Oid type = exprType(version);
     if (IsA(list, Const))
-        return constant_conditions(request->opfamily, version, type, (Const *)list);
+        return constant_conditions(request, version, type, (Const *)list);
     if (!is_pseudo_constant_for_index(request->root, list, request->index))
         return NIL;
     return later_conditions(request->opfamily, version, type, list, request->funcid);
@@ -144,8 +147,10 @@ static double known_selectivity(PlannerInfo *root, Oid operator, Oid collation, 
         found = generic_restriction_selectivity(root, operator, collation, arguments, relation, DEFAULT_RANGE_INEQ_SEL);
     else if (is_known && ((Const *)list)->constisnull)
         found = 0;
-    else if (is_known && cover_of(list_of(PG_DETOAST_DATUM_PACKED(((Const *)list)->constvalue)), &cover) == PEP440_OK)
+    else if (is_known) {
+        cover = cover_of(list_of(PG_DETOAST_DATUM_PACKED(((Const *)list)->constvalue)));
         found = intervals_selectivity(root, relation, &variable, &cover);
+    }
     ReleaseVariableStats(variable);
     return found;
 }

@@ -15,8 +15,9 @@ FOLDER, PREFIX, PROGRAM = pathlib.Path(WORDS[0]), WORDS[1], (WORDS + [None])[2]
 SMALL = "--small" in sys.argv
 ROWS = 20_000 if SMALL else 1_000_000
 STRINGS = 10_000
-LISTS = ["", ">=1.0,<2.0,!=1.5.*", "==2.1.0+cu118", "<=2.1.0", "<1.0.post1,>=1.0", "~=1.4.2", "===1.10", "!=1.0", ">2.0,<1.0", "==1.*", ">1!0", ">=4.29.100", "==3.9.post1,!=3.9"]
+LISTS = ["", ">=1.0,<2.0,!=1.5.*", "==2.1.0+cu118", "<=2.1.0", "<1.0.post1,>=1.0", "~=1.4.2", "===1.10", "!=1.0", ">2.0,<1.0", "==1.*", ">1!0", ">=4.29.100", "==3.9.post1,!=3.9", "==1.4.*,!=1.4.2"]
 NARROW = ["==2.1.0+cu118", "~=1.4.2", "<1.0.post1,>=1.0", ">2.0,<1.0", ">1!0", ">=4.29.100", "==3.9.post1,!=3.9"]
+RECHECKED = ["===1.10", "==1.4.*,!=1.4.2"]
 NO_INDEX = "SET enable_indexscan = off; SET enable_indexonlyscan = off; SET enable_bitmapscan = off;"
 NO_TABLE = "SET enable_seqscan = off;"
 OUT_OF_MEMORY = "53200"

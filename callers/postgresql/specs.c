@@ -88,29 +88,36 @@ Datum specs_version(PG_FUNCTION_ARGS)
     PG_RETURN_POINTER(read_version(version, NULL));
 }
 
-/* ---- order and hashes: lists are equal if they have the same normal form, and then their compiled bytes are the same. The order is that of these bytes,
-   so that lists can be sorted and indexed, and has no other meaning. */
+/* ---- order and hashes: lists are equal if they have the same normal form, and then their compiled members are the same bytes. The order is that of these
+   bytes, so that lists can be sorted and indexed, and has no other meaning. */
 
-static Bytes compiled_list(const struct varlena *stored)
+static bool is_compiled(const struct varlena *stored)
 {
-    Bytes list = list_of(stored), compiled;
-    if (list.bytes == bytes_of(stored).bytes)
-        return list;
-    expect_ok(write_all(pep440_compile_list, list, &compiled));
-    return compiled;
+    return list_of(stored).bytes == bytes_of(stored).bytes;
 }
 
-static void free_list(FunctionCallInfo fcinfo, int number, struct varlena *stored, Bytes list)
+static Bytes compiled_members(const struct varlena *stored)
 {
-    if (list.bytes != bytes_of(stored).bytes)
-        pfree(unconstify(uint8_t *, list.bytes));
+    Bytes list = list_of(stored), compiled;
+    if (is_compiled(stored))
+        return members_of(list);
+    expect_ok(write_all(pep440_compile_list, list, &compiled));
+    Bytes members = members_of(compiled);
+    memmove(unconstify(uint8_t *, compiled.bytes), members.bytes, members.length);
+    return (Bytes){compiled.bytes, members.length};
+}
+
+static void free_list(FunctionCallInfo fcinfo, int number, struct varlena *stored, Bytes members)
+{
+    if (!is_compiled(stored))
+        pfree(unconstify(uint8_t *, members.bytes));
     PG_FREE_IF_COPY(stored, number);
 }
 
 static int order_of_lists(FunctionCallInfo fcinfo)
 {
     struct varlena *left = GET_STORED(0), *right = GET_STORED(1);
-    Bytes one = compiled_list(left), other = compiled_list(right);
+    Bytes one = compiled_members(left), other = compiled_members(right);
     int order = compare_bytes(one, other);
     free_list(fcinfo, 0, left, one);
     free_list(fcinfo, 1, right, other);
@@ -129,9 +136,9 @@ SQL_FUNCTION(specs_cmp, Int32GetDatum(order_of_lists(fcinfo)));
 static Datum hash_of_list(FunctionCallInfo fcinfo)
 {
     struct varlena *stored = GET_STORED(0);
-    Bytes list = compiled_list(stored);
-    Datum hash = hash_of(list, fcinfo);
-    free_list(fcinfo, 0, stored, list);
+    Bytes members = compiled_members(stored);
+    Datum hash = hash_of(members, fcinfo);
+    free_list(fcinfo, 0, stored, members);
     return hash;
 }
 
@@ -140,45 +147,53 @@ SQL_FUNCTION(specs_hash_extended, hash_of_list(fcinfo));
 
 /* ---- covers */
 
-/* The cover of all versions: one interval with no bound. */
-static Cover whole_cover(void)
-{
-    size_t *ends = palloc0(2 * sizeof *ends);
-    return (Cover){palloc0(1), ends, 2};
-}
-
 static void free_cover(const Cover *cover)
 {
     pfree(unconstify(uint8_t *, cover->keys));
     pfree(unconstify(size_t *, cover->ends));
 }
 
-/* A call that writes keys of intervals. */
-typedef uint8_t (*Intervals)(const uint8_t *, size_t, uint8_t *, size_t, size_t *, size_t, size_t *, size_t *);
-
-/* A first call has what nearly all lists need; where that is not enough, a second one has the room that the first told. */
-static uint8_t intervals_of(Intervals call, Bytes list, Cover *cover)
+/* The keys of the list's set, or PEP440_NO_SET. A first call has what nearly all lists need; where that is not enough, a second one has the room that the
+   first told. */
+static uint8_t boundaries_of(Bytes list, Cover *cover)
 {
     size_t room = 64 + 2 * list.length, keys = 4 + list.length / 2;
     for (;;) {
         uint8_t *written = palloc(room + 1);
         size_t *ends = palloc((keys + 1) * sizeof *ends);
         CHECK_FOR_INTERRUPTS();
-        uint8_t status = call(list.bytes, list.length, written, room, ends, keys, &room, &keys);
-        *cover = (Cover){written, ends, keys};
+        uint8_t status = pep440_boundaries(list.bytes, list.length, written, room, ends, keys, &room, &keys);
+        *cover = (Cover){written, ends, keys, true};
         if (status == PEP440_OK)
             return status;
         free_cover(cover);
-        if (status == PEP440_NUMBER_AT_MAX)
+        if (status == PEP440_NO_SET)
             return status;
         if (status != PEP440_NO_ROOM)
             fail(status);
     }
 }
 
-uint8_t cover_of(Bytes list, Cover *cover)
+/* The list with `==` for each `===`: it contains what the list contains, and other spellings of that. */
+static Bytes loosened(Bytes list)
 {
-    return intervals_of(pep440_cover_keys, list, cover);
+    char *text = normal_text(pep440_normalize_list, list), *end = text;
+    for (const char *at = text; *at != 0; at++)
+        if (strncmp(at, "===", 3) != 0)
+            *end++ = *at;
+    return (Bytes){(const uint8_t *)text, (size_t)(end - text)};
+}
+
+Cover cover_of(Bytes list)
+{
+    Cover cover;
+    if (boundaries_of(list, &cover) == PEP440_OK)
+        return cover;
+    Bytes loose = loosened(list);
+    expect_ok(boundaries_of(loose, &cover));
+    pfree(unconstify(uint8_t *, loose.bytes));
+    cover.is_exact = false;
+    return cover;
 }
 
 Bytes cover_key(const Cover *cover, size_t place)
@@ -198,55 +213,29 @@ void ends_of_cover(const Cover *cover, Bytes *low, Bytes *high)
 
 /* ---- matching */
 
-/* The list of the last call; and, since it came a second time, its cover, and the intervals in which each version without a local part is contained. */
+/* The list of the last call; and, since it came a second time, its cover. */
 typedef struct {
     Bytes list;
     bool is_known;
     Cover cover;
-    Cover contained;
 } Kept;
 
 static void keep_list(FmgrInfo *function, Bytes list)
 {
     Kept *kept = MemoryContextAllocZero(function->fn_mcxt, sizeof *kept + list.length), *last = function->fn_extra;
     kept->list = (Bytes){memcpy(kept + 1, list.bytes, list.length), list.length};
-    if (last != NULL && last->is_known) {
+    if (last != NULL && last->is_known)
         free_cover(&last->cover);
-        free_cover(&last->contained);
-    }
     if (last != NULL)
         pfree(last);
     function->fn_extra = kept;
 }
 
-/* Whether the range of the list holds no version without a local part that the list does not contain (docs/PROMISES.md, "Conversions into
-   ranges"): so it is where no operator is `===`, which goes by the normal form, or `>`, whose range holds post-releases too. */
-static bool is_decided_by_range(Bytes list)
-{
-    size_t room = PEP440_COMPILED_BOUND(list.length), count;
-    uint8_t *bytes = palloc(room);
-    size_t *ends = palloc(room * sizeof *ends);
-    bool is_decided = pep440_specifiers_of(list.bytes, list.length, bytes, room, ends, room, &room, &count) == PEP440_OK;
-    for (size_t each = 0; is_decided && each < count; each += 2) {
-        size_t start = each == 0 ? 0 : ends[each - 1], length = ends[each] - start;
-        is_decided = !(length == 3 || (length == 1 && bytes[start] == '>'));
-    }
-    pfree(bytes);
-    pfree(ends);
-    return is_decided;
-}
-
-/* Finds the intervals of a list that came again, in the memory that the function keeps. */
+/* Finds the cover of a list that came again, in the memory that the function keeps. */
 static void know_list(FmgrInfo *function, Kept *kept, Bytes list)
 {
     MemoryContext before = MemoryContextSwitchTo(function->fn_mcxt);
-    Cover cover, contained;
-    if (cover_of(list, &cover) != PEP440_OK)
-        cover = whole_cover();
-    if (!is_decided_by_range(list) || intervals_of(pep440_range_keys, list, &contained) != PEP440_OK)
-        contained = (Cover){palloc(1), palloc(sizeof(size_t)), 0};
-    kept->cover = cover;
-    kept->contained = contained;
+    kept->cover = cover_of(list);
     kept->is_known = true;
     MemoryContextSwitchTo(before);
 }
@@ -282,19 +271,20 @@ static const Kept *known_list(FmgrInfo *function, Bytes list)
     return kept;
 }
 
-/* Most versions are told by their keys; the library tells the others. */
+/* Whether the list contains the version, pre-releases like others: by its key where this decides, else by the library. */
 static bool contains(FmgrInfo *function, Bytes list, const struct varlena *stored)
 {
     VersionBuffer buffer;
-    uint8_t contained, prerelease;
+    uint8_t allowed;
     Version version = version_of(stored, &buffer);
     const Kept *known = known_list(function, list);
-    if (known != NULL && !is_in_cover(&known->cover, version.key))
-        return false;
-    if (known != NULL && version.is_plain && is_in_cover(&known->contained, version.key))
-        return true;
-    expect_ok(pep440_contains(list.bytes, list.length, version.bytes.bytes, version.bytes.length, &contained, &prerelease));
-    return contained != 0;
+    if (known != NULL) {
+        bool is_covered = is_in_cover(&known->cover, version.key);
+        if (!is_covered || known->cover.is_exact)
+            return is_covered;
+    }
+    expect_ok(pep440_allows(list.bytes, list.length, version.bytes.bytes, version.bytes.length, PEP440_ALL_PRERELEASES, &allowed));
+    return allowed != 0;
 }
 
 SQL_FUNCTION(specs_contains, BoolGetDatum(contains(fcinfo->flinfo, GET_LIST(0), GET_STORED(1))));
@@ -312,14 +302,12 @@ Datum specs_any_prerelease(PG_FUNCTION_ARGS)
 
 /* ---- what the planner calls, and who joins by keys */
 
-/* The two ends of the list's cover, as an index condition needs them: with no bound the lowest key, and one above all keys. Where the keys
-   cannot be had, all keys lie between them. */
+/* The two ends of the list's cover, as an index condition needs them: with no bound the lowest key, and one above all keys. */
 static Datum end_of(FunctionCallInfo fcinfo, bool upper)
 {
-    Cover cover;
-    Bytes low = {ABOVE_ALL, 0}, high = {ABOVE_ALL, 0};
-    if (cover_of(GET_LIST(0), &cover) == PEP440_OK)
-        ends_of_cover(&cover, &low, &high);
+    Bytes low, high;
+    Cover cover = cover_of(GET_LIST(0));
+    ends_of_cover(&cover, &low, &high);
     if (high.length == 0)
         high = (Bytes){ABOVE_ALL, 1};
     PG_RETURN_BYTEA_P(make_bytea(upper ? high : low));
@@ -332,9 +320,7 @@ SQL_FUNCTION(specs_cover_end, end_of(fcinfo, true));
 PG_FUNCTION_INFO_V1(specs_cover);
 Datum specs_cover(PG_FUNCTION_ARGS)
 {
-    Cover cover;
-    if (cover_of(GET_LIST(0), &cover) != PEP440_OK)
-        ereport(ERROR, (errcode(ERRCODE_NUMERIC_VALUE_OUT_OF_RANGE), errmsg("a bound of the cover would lie above 18446744073709551615")));
+    Cover cover = cover_of(GET_LIST(0));
     InitMaterializedSRF(fcinfo, 0);
     ReturnSetInfo *result = (ReturnSetInfo *)fcinfo->resultinfo;
     for (size_t each = 0; each < cover.count; each += 2) {

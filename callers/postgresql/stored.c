@@ -5,8 +5,8 @@
    0x80. Such a value has less than 128 bytes.
 
    Before 0.3 a value was lengths, other bytes and the normal form. If its first byte is at least 0x80, it has at least 128 bytes; and it ends with an
-   ASCII character, or is an empty list that does not begin with its format. Compiled versions end with 0 or 1; so do compiled lists, but for the empty
-   one, which is its format alone. So each value shows how it is stored. */
+   ASCII character, or is an empty list that does not begin with a format. Compiled versions end with 0 or 1; so do compiled lists, but for the empty
+   one, which ends with the format of members. So each value shows how it is stored. */
 #include "extension.h"
 
 /* No local part, no dev release, no post-release, and that it is no pre-release: what ends a sort key, and follows the numbers of a release alone. */
@@ -69,7 +69,7 @@ static Version short_version(Bytes value, VersionBuffer *buffer)
     buffer->bytes[0] = VERSION_FORMAT;
     buffer->bytes[1] = 0;
     memset(buffer->bytes + length, ZERO, MOST_ZEROS);
-    return (Version){.key = {buffer->bytes + 1, length - 1}, .bytes = {buffer->bytes, length + zeros}, .is_plain = end_of(value) == RELEASE_ALONE};
+    return (Version){.key = {buffer->bytes + 1, length - 1}, .bytes = {buffer->bytes, length + zeros}};
 }
 
 /* Most numbers have one or two digits. */
@@ -214,7 +214,7 @@ Bytes list_of(const struct varlena *stored)
 {
     Bytes value = bytes_of(stored);
     uint32_t length;
-    if (value.length > 0 && value.bytes[0] == LIST_FORMAT && last_of(value) <= LIST_FORMAT)
+    if (value.length > 0 && (value.bytes[0] == LIST_FORMAT || value.bytes[0] == MEMBERS_FORMAT) && last_of(value) <= MEMBERS_FORMAT)
         return value;
     /* Of releases before 0.3: a length, compiled bytes and the normal form. */
     if (value.length < sizeof length)
@@ -224,4 +224,16 @@ Bytes list_of(const struct varlena *stored)
         fail(PEP440_INVALID_LIST);
     size_t before = sizeof length + length;
     return (Bytes){value.bytes + before, value.length - before};
+}
+
+/* Before the members are the format, how many bytes the set takes, and the set; how many bytes the number takes is in the one before it. */
+Bytes members_of(Bytes compiled)
+{
+    const uint8_t *at = compiled.bytes + 2, *end = compiled.bytes + compiled.length;
+    uint64 length;
+    if (compiled.bytes[0] == MEMBERS_FORMAT)
+        return compiled;
+    if (at >= end || !read_number(&at, end, at[-1], &length) || length >= (uint64)(end - at))
+        fail(PEP440_INVALID_LIST);
+    return (Bytes){at + length, (size_t)(end - at) - length};
 }

@@ -15,7 +15,7 @@ import sys
 import test_hostile
 import test_values
 from libpq import Refused
-from server import (FOLDER, HERE, INVALID_REGULAR_EXPRESSION, LISTS, NARROW, NO_INDEX, NO_TABLE, OUT_OF_MEMORY, PREFIX, PROGRAM, ROWS, SMALL, STRINGS, USER, Server, copied, fill,
+from server import (FOLDER, HERE, INVALID_REGULAR_EXPRESSION, LISTS, NARROW, NO_INDEX, NO_TABLE, OUT_OF_MEMORY, PREFIX, PROGRAM, RECHECKED, ROWS, SMALL, STRINGS, USER, Server, copied, fill,
                     instructions, milliseconds, plan_of, time_of, version)
 
 # ---- what a running server is asked
@@ -57,9 +57,9 @@ def test_lists(server):
         alone = copied(db, query, "alone")
         assert "by_version" not in plan_of(db, query), specs
         db.rows("RESET ALL")
-        if specs in NARROW:
+        if specs in NARROW + RECHECKED:
             plan = plan_of(db, query)
-            assert "by_version" in plan and re.search(r"Index Cond: \(+version >=", plan) and " @> version" in plan, plan
+            assert "by_version" in plan and re.search(r"Index Cond: \(+version >=", plan) and (" @> version" in plan) == (specs in RECHECKED), plan
         db.rows(NO_TABLE)
         assert copied(db, query, "by_index") == alone == copied(db, other, "by_index"), specs
         assert "by_version" in plan_of(db, query), specs
@@ -103,7 +103,7 @@ def test_older(server):
     """Values as older releases stored them: key and compiled bytes, then the normal form. They are what those are that are stored now."""
     server.connect().rows("CREATE DATABASE older")
     db = server.connect("older")
-    db.rows("CREATE EXTENSION pep440; CREATE CAST (bytea AS pep440) WITHOUT FUNCTION; CREATE CAST (bytea AS pep440_specs) WITHOUT FUNCTION")
+    db.rows("CREATE EXTENSION pep440; CREATE CAST (bytea AS pep440) WITHOUT FUNCTION; CREATE CAST (bytea AS pep440_specs) WITHOUT FUNCTION; CREATE CAST (pep440_specs AS bytea) WITHOUT FUNCTION")
     key, packed = bytes([0, 2, 1, 0, 80, 0, 16, 0]), bytes([1, 2, 0, 1, 0, 0, 0, 0xA0, 0, 0])
     local_key = key[:-1] + b"\x01cu118\0\0"
     unpacked = bytes([2]) + b"".join(number.to_bytes(8, "big") for number in (0, 2, 1, 0)) + bytes(5) + (1).to_bytes(8, "big") + b"\x01" + (5).to_bytes(8, "big") + b"cu118"
@@ -117,8 +117,18 @@ def test_older(server):
     stored = len(old_list).to_bytes(4, "little") + old_list + b">=1.0"
     found = db.rows(f"SELECT s, s @> '1.0', s @> '0.9', pep440_any_prerelease(s) FROM (SELECT '\\x{stored.hex()}'::bytea::pep440_specs AS s) AS one")
     assert found == [(">=1.0", "t", "f", "f")], found
+    members = bytes([5, 16 + 9]) + key + bytes([1])
+    for name, made in (("older", f"'\\x{members.hex()}'::bytea::pep440_specs"), ("newer", "'>=1.0'::pep440_specs")):
+        db.rows(f"CREATE TABLE {name} (specs pep440_specs); INSERT INTO {name} SELECT {made} FROM generate_series(1, 100)")
+    found = db.rows("SELECT DISTINCT o.specs, o.specs = n.specs, o.specs < n.specs, pep440_specs_hash(o.specs) = pep440_specs_hash(n.specs), o.specs * n.specs, o.specs @> '1.0.post1', o.specs @> '1.0rc1', "
+                    "isempty(o.specs), pep440_any_prerelease(o.specs) FROM older o, newer n")
+    assert found == [(">=1.0", "t", "f", "t", ">=1.0, >=1.0", "t", "f", "f", "f")], found
+    interval = bytes([1, len(key)]) + key + bytes(1)
+    assert db.value("SELECT encode(specs::bytea, 'hex') FROM newer LIMIT 1") == (bytes([6, 1, len(interval)]) + interval + members).hex()
+    db.rows("CREATE INDEX ON older (specs); CREATE INDEX ON older USING hash (specs); INSERT INTO older SELECT * FROM newer;" + NO_TABLE)
+    assert db.value("SELECT count(*) FROM older WHERE specs = '>= 1.0'") == "200" and db.value("SELECT count(DISTINCT specs) FROM older") == "1"
     db.close()
-    return f"{len(older)} versions and a list of an older release"
+    return f"{len(older)} versions and two lists of older releases"
 
 
 def test_joins(server):
@@ -240,7 +250,7 @@ def test_receive(server):
         number = int(db.value(f"SELECT '{kind}'::regtype::oid"))
         for _ in range(STRINGS):
             given = random_bytes(rng, make())
-            is_text = given[:1] == b"\1" and b"\0" not in given and given[1:2] not in (b"\4", b"\5")
+            is_text = given[:1] == b"\1" and b"\0" not in given and given[1:2] not in (b"\4", b"\5", b"\6")
             wanted = normal(call, given[1:]) if is_text else None
             try:
                 ((found,),) = db.with_binary("SELECT $1", number, given)

@@ -11,6 +11,8 @@ from server import FOLDER, HERE, LISTS, NO_TABLE, ROWS, SMALL, instructions, pla
 
 UNIQUE_VIOLATION, CANCELED, NO_PRIVILEGE = "23505", "57014", "42501"
 SPELLINGS = [">=1.0,<2.0", "<2.0 , >=1.0", ">=v1.0, <2.0"]  # of one list
+SUFFIXES = ["", "rc1", "a1", ".post1", ".dev0", "rc1.dev1", "rc1.post1", ".post1.dev0", "+a", ".post1+a", "rc1+a.1"]
+NEAR = [f"{release}{suffix}" for release in ("0.0", "0.1", "1.0", "1.0.5", "1.1", "2.0") for suffix in SUFFIXES]
 OPERATORS = [">=", "<", "==", "!=", "~=", "<=", ">", "==="]
 
 
@@ -143,10 +145,12 @@ def test_estimates(server):
 
 
 def test_packaging(server):
-    """The order of all rows, and how many each list contains, beside the library `packaging`."""
+    """The order of all rows, and how many each list contains, beside the library `packaging`; and what random lists contain of versions near to theirs."""
     sys.path.insert(0, str(HERE.parent / "python" / "tests"))
+    peer = importlib.import_module("peer")
+    peer.RELEASES = ("26.0", "26.1", "26.2", "26.3")
     try:
-        versions, specifiers_of, name = importlib.import_module("peer").load()
+        versions, specifiers_of, name = peer.load()
     except unittest.SkipTest as reason:
         return f"left out: {reason}"
     db = server.connect()
@@ -159,10 +163,15 @@ def test_packaging(server):
         wanted = sum(int(count) for string, count in strings if those.contains(parsed[string]))
         found = int(db.value(f"SELECT count(*) FROM releases WHERE '{specs}' @> version"))
         assert found == wanted, (specs, found, wanted)
-    theirs = specifiers_of.SpecifierSet(">1.0rc1", prereleases=True).contains("1.0+cpu")
-    assert theirs == (name >= "packaging 26") and db.value("SELECT '>1.0rc1' @> '1.0+cpu'::pep440") == "t", (name, theirs)
+    db.rows("CREATE TABLE near (version pep440 PRIMARY KEY); INSERT INTO near VALUES " + ",".join(f"('{it}')" for it in NEAR) + ";" + NO_TABLE)
+    rng = random.Random(655)
+    for _ in range(400):
+        specs = ",".join(filter(None, (specifiers(rng), rng.choice(["", "", "==1.0.*", "!=1.0+a", "<1.0.post1", ">1.0rc1"]))))
+        wanted = [it for it in NEAR if specifiers_of.SpecifierSet(specs, prereleases=True).contains(it)]
+        found = [it for (it,) in db.rows(f"SELECT version FROM near WHERE '{specs}' @> version")]
+        assert sorted(found) == sorted(wanted), (specs, found, wanted)
     db.close()
-    return f"{ROWS} rows, {len(in_order)} versions in order, {len(LISTS)} lists as in {name}"
+    return f"{ROWS} rows, {len(in_order)} versions in order, {len(LISTS)} lists and 400 random ones as in {name}"
 
 
 def test_sizes(server):

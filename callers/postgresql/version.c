@@ -17,7 +17,7 @@ void fail(uint8_t status)
 static Bytes utf8_of(const char *text, int length)
 {
     const char *utf8 = pg_server_to_any(text, length, PG_UTF8);
-    if (length > 0 && (utf8[0] == VERSION_FORMAT || utf8[0] == LIST_FORMAT))
+    if (length > 0 && utf8[0] >= VERSION_FORMAT && utf8[0] <= LIST_FORMAT)
         return (Bytes){(const uint8_t *)"\1", 1};
     return (Bytes){(const uint8_t *)utf8, utf8 == text ? (size_t)length : strlen(utf8)};
 }

@@ -67,14 +67,31 @@ static int gather(PyObject *given, Batch *batch)
     return -1;
 }
 
-/* The marks of pep440_filter; of what is contained, a pre-release is left out unless it is asked for. */
+/* The mark of a string, as pep440_filter has them, by the rule of pep440_contains. */
+static uint8_t mark_text(pep440_string list, pep440_string text, uint8_t *mark)
+{
+    Compiled compiled;
+    uint8_t contained, early, status = compile(pep440_compile, text, &compiled);
+    if (status == PEP440_OK) {
+        status = pep440_contains(list.bytes, list.length, compiled.bytes, compiled.length, &contained, &early);
+        *mark = !contained ? PEP440_NO_MATCH : early ? PEP440_PRERELEASE_MATCH : PEP440_MATCH;
+        drop_compiled(&compiled);
+    } else if (status == PEP440_INVALID_VERSION) {
+        *mark = PEP440_NOT_A_VERSION;
+        status = PEP440_OK;
+    }
+    return status;
+}
+
+/* The marks of the batch; of what is contained, a pre-release is left out unless it is asked for. */
 static uint8_t mark(const Batch *batch, const pep440_string *list, int prereleases, uint8_t *marks)
 {
     PyThreadState *state = PyEval_SaveThread();
     uint8_t status = PEP440_OK;
     for (size_t start = 0; status == PEP440_OK && start < batch->count; start += CHUNK) {
-        size_t count = batch->count - start < CHUNK ? batch->count - start : CHUNK;
-        status = pep440_filter(list->bytes, list->length, batch->texts + start, count, marks + start, count);
+        size_t end = batch->count - start < CHUNK ? batch->count : start + CHUNK;
+        for (size_t place = start; status == PEP440_OK && place < end; place++)
+            status = mark_text(*list, batch->texts[place], &marks[place]);
         if (status == PEP440_OK && look_between(&state) < 0)
             status = PEP440_OUT_OF_MEMORY;
     }

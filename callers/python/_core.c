@@ -49,7 +49,14 @@ static PyObject *made_of_list(Writer call, PyObject *list, Maker make)
 
 static PyObject *ranges(PyObject *module, PyObject *list) { return made_of_list(pep440_ranges, list, PyUnicode_FromStringAndSize); }
 
-static PyObject *compile_list(PyObject *module, PyObject *list) { return made_of_list(pep440_compile_list, list, PyBytes_FromStringAndSize); }
+/* The bytes of a compiled list without its set. */
+static PyObject *without_set(const char *compiled, Py_ssize_t length)
+{
+    size_t start = list_start((const uint8_t *)compiled);
+    return PyBytes_FromStringAndSize(compiled + start, length - (Py_ssize_t)start);
+}
+
+static PyObject *compile_list(PyObject *module, PyObject *list) { return made_of_list(pep440_compile_list, list, without_set); }
 
 /* use(member_class, set_class, reader_of_others) */
 static PyObject *use(PyObject *module, PyObject *const *args, Py_ssize_t count)

@@ -212,13 +212,50 @@ static inline int has_word(pep440_string text)
 static uint8_t compile_specifier(PyObject *print, Compiled *compiled)
 {
     pep440_string text;
+    size_t start;
+    uint8_t status = PEP440_OK;
     int is_any = operator_width(print) == ARBITRARY ? is_any_text(print) : 0;
     if (is_any < 0 || view_str(print, &text) < 0)
         return PEP440_OUT_OF_MEMORY;
-    if (!is_any)
-        return compile(pep440_compile_specifier, text, compiled);
-    compiled->bytes = memcpy(compiled->few, EMPTY_LIST, LIST_HEAD);
-    compiled->length = LIST_HEAD;
+    if (is_any) {
+        compiled->bytes = memcpy(compiled->few, EMPTY_LIST, LIST_HEAD);
+        compiled->length = LIST_HEAD;
+    } else if ((status = compile(pep440_compile_specifier, text, compiled)) == PEP440_OK) {
+        start = list_start(compiled->bytes);
+        compiled->length -= start;
+        memmove(compiled->bytes, compiled->bytes + start, compiled->length);
+    }
+    return status;
+}
+
+/* The number of an operator that any version without a local part may stand behind. */
+static uint8_t operator_of(const uint8_t *at)
+{
+    int has_equal = at[1] == '=';
+    if (at[0] == '<')
+        return has_equal ? PEP440_LESS_EQUAL : PEP440_LESS;
+    if (at[0] == '>')
+        return has_equal ? PEP440_GREATER_EQUAL : PEP440_GREATER;
+    return at[0] == '!' ? PEP440_NOT_EQUAL : PEP440_EQUAL;
+}
+
+/* Compiles a specifier that has a word: its version, which takes few bytes then, behind the head of the list of it alone. */
+static uint8_t compile_known(PyObject *print, Compiled *compiled)
+{
+    pep440_string text, version;
+    size_t width;
+    uint8_t status;
+    if (view_str(print, &text) < 0)
+        return PEP440_OUT_OF_MEMORY;
+    width = text.bytes[1] == '=' ? 2 : 1;
+    version = (pep440_string){text.bytes + width, text.length - width};
+    status = compile(pep440_compile, version, compiled);
+    if (status != PEP440_OK)
+        return status;
+    memmove(compiled->bytes + MEMBER_HEAD, compiled->bytes + 1, compiled->length - 1);
+    compiled->bytes[0] = LIST;
+    compiled->bytes[1] = OPERATOR + operator_of(text.bytes);
+    compiled->length++;
     return PEP440_OK;
 }
 
@@ -279,7 +316,7 @@ static int compile_list_of(Specifiers *self)
         return self->compiled ? 0 : -1;
     if (!is_specifier(self))
         return compile_members(self);
-    status = compile_specifier(self->text, &compiled);
+    status = compile_known(self->text, &compiled);
     if (status == PEP440_OK)
         return hold(self, &compiled);
     raise_by(status, NULL, NULL);

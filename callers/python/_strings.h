@@ -21,8 +21,8 @@ typedef struct {
 } Held;
 
 /* The forms (docs/PROMISES.md, "Compiled versions"): a version is a byte, its sort key, and a byte 1 for each zero that ends its release; a list is a
-   byte, and for each member its operator, and key and zeros of its version. */
-enum { VERSION = 4, LIST = 5, LIST_HEAD = 1, OPERATOR = 16, MEMBER_HEAD = 2 };
+   byte, and for each member its operator, and key and zeros of its version. The library writes a set before the list, which is not kept here. */
+enum { VERSION = 4, LIST = 5, SET = 6, LIST_HEAD = 1, OPERATOR = 16, MEMBER_HEAD = 2 };
 
 /* ---- objects that are used again */
 
@@ -96,7 +96,7 @@ static int view_str(PyObject *given, pep440_string *text)
             return -1;
         PyErr_Clear();
     }
-    if (!bytes || *bytes == VERSION || *bytes == LIST) {
+    if (!bytes || (*bytes >= VERSION && *bytes <= SET)) {
         bytes = (const char *)NO_TEXT;
         length = sizeof NO_TEXT - 1;
     }
@@ -292,22 +292,27 @@ static void drop_compiled(Compiled *compiled)
         free(compiled->bytes);
 }
 
-/* Compiles a string in one call. To be dropped where the status is PEP440_OK. */
+/* Compiles a string. To be dropped where the status is PEP440_OK. */
 static uint8_t compile(Writer call, pep440_string text, Compiled *compiled)
 {
-    size_t room = sizeof compiled->few;
-    uint8_t status;
-    compiled->bytes = compiled->few;
-    if (text.length > (room - PEP440_COMPILED_BOUND(0)) / 3) {
-        room = PEP440_COMPILED_BOUND(text.length);
-        compiled->bytes = text.length <= SIZE_MAX / 4 ? malloc(room) : NULL;
-        if (!compiled->bytes)
-            return PEP440_OUT_OF_MEMORY;
-    }
-    status = call(text.bytes, text.length, compiled->bytes, room, &compiled->length);
+    uint8_t status = call(text.bytes, text.length, compiled->few, sizeof compiled->few, &compiled->length);
+    compiled->bytes = status == PEP440_NO_ROOM ? malloc(compiled->length) : compiled->few;
+    if (status == PEP440_NO_ROOM)
+        status = compiled->bytes ? call(text.bytes, text.length, compiled->bytes, compiled->length, &compiled->length) : PEP440_OUT_OF_MEMORY;
     if (status != PEP440_OK)
         drop_compiled(compiled);
     return status;
+}
+
+/* Where the list begins in what the library compiled: after a byte, how many bytes the set takes, and the set, if there is one. */
+static size_t list_start(const uint8_t *compiled)
+{
+    size_t length = 0, at = 2;
+    if (compiled[0] != SET)
+        return 0;
+    while (at < 2 + (size_t)compiled[1])
+        length = length << 8 | compiled[at++];
+    return at + length;
 }
 
 /* Room for bytes: `few`, or where they are more than `room`, a block of its own. NULL where there is no memory. */

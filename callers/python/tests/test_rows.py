@@ -100,7 +100,9 @@ class Versions(unittest.TestCase):
         """The library takes compiled forms in place of strings; a str with their bytes is neither a version nor a list."""
         version = (b"\4" + Version("1.0").sort_key + b"\1").decode()
         several = _core.compile_list(">=1.0").decode()
+        bounded = f"\6\1\x0b\1\x08{Version('1.0').sort_key.decode()}\0{several}"
         calls = [lambda: Version(version), lambda: "1.0" in SpecifierSet(several), lambda: version in SpecifierSet(">=1.0"), lambda: Specifier(several)]
+        calls += [lambda: "1.0" in SpecifierSet(bounded), lambda: Specifier(bounded)]
         calls += [lambda: Specifier(">=" + version), lambda: Specifier(">= " + version), lambda: SpecifierSet("<3,!=" + version)]
         calls += [lambda: sort_texts([version]), lambda: sort_keys([version]), lambda: filter_texts(">=1.0", [version])]
         for call in calls:

@@ -2,7 +2,7 @@
 //!
 //! A version is 4, its sort key, and a byte 1 for each zero that ends its release. A list is 5, and each member: 16 and the number of its
 //! operator, then key and zeros of its version. In a key a number is a base and how many bytes follow, and then these, the
-//! greatest first.
+//! greatest first. Before a list without `===` the library writes its set: 6, how many bytes it takes, and these. It is not kept here.
 //!
 //! A version that no string parses to has a key, too, with a sentinel in place of its stage or its post-release, and with 255 after
 //! each zero byte of a local string. The library rejects such bytes wherever it reads the whole of them.
@@ -15,6 +15,7 @@ use alloc::vec::Vec;
 
 pub(crate) const VERSION: u8 = 4;
 const LIST: u8 = 5;
+const SET: u8 = 6;
 const OPERATOR: u8 = 16;
 /// The rank of a sentinel `min`, which stands for the stage.
 const MIN: u8 = 0;
@@ -73,6 +74,16 @@ fn has_sentinel(bytes: &[u8]) -> bool {
 /// The parts of the version of this key, with the zeros after it.
 pub(crate) fn read_parts(bytes: &[u8]) -> Parts {
     Rest(bytes).parts()
+}
+
+/// The list in what the library compiled, without the set before it.
+pub(crate) fn without_set(compiled: &[u8]) -> &[u8] {
+    let [SET, bytes @ ..] = compiled else { return compiled };
+    let mut rest = Rest(bytes);
+    let count = rest.byte();
+    let length = rest.number(count);
+    rest.take(length.try_into().expect(WRITTEN));
+    rest.0
 }
 
 /// The members of the list that the bytes denote.

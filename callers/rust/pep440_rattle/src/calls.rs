@@ -5,6 +5,7 @@
 //! its alignment. The library has no state and keeps no pointer, so any thread may call.
 #![allow(unsafe_code)]
 
+use crate::bytes;
 use alloc::alloc::handle_alloc_error;
 use alloc::boxed::Box;
 use alloc::vec;
@@ -106,12 +107,12 @@ fn needed<T>() {
     const { panic!("{}", env!("PEP440_NEEDED")) }
 }
 
-/// The bytes of a string. Compiled versions and lists begin with 4 and 5, and each call takes them in place of strings; no valid string
+/// The bytes of a string. Compiled versions and lists begin with 4, 5 and 6, and each call takes them in place of strings; no valid string
 /// begins so.
 #[inline]
 fn bytes_of(string: &str) -> Result<&[u8], Refusal> {
     match string.as_bytes() {
-        [4 | 5, ..] => Err(Refusal::Invalid),
+        [4..=6, ..] => Err(Refusal::Invalid),
         bytes => Ok(bytes),
     }
 }
@@ -120,6 +121,8 @@ fn bytes_of(string: &str) -> Result<&[u8], Refusal> {
 const STACK: usize = 128;
 /// As many bytes of a compiled version.
 const STACK_OF_VERSION: usize = 64;
+/// As many bytes of a compiled list.
+const STACK_OF_LIST: usize = 256;
 
 /// Calls `read` with what `call` writes of `input`.
 #[inline]
@@ -195,12 +198,17 @@ pub(crate) fn specifier<T>(operator: &str, version: &str, read: impl FnOnce(&str
 
 /// Calls `read` with the compiled bytes of a list.
 pub(crate) fn compile_list<T>(list: &str, read: impl FnOnce(&[u8]) -> T) -> Result<T, Refusal> {
-    written(pep440_compile_list, bytes_of(list)?, read)
+    compiled(pep440_compile_list, list, read)
 }
 
 /// Calls `read` with the compiled bytes of the list of one specifier.
 pub(crate) fn compile_specifier<T>(specifier: &str, read: impl FnOnce(&[u8]) -> T) -> Result<T, Refusal> {
-    written(pep440_compile_specifier, bytes_of(specifier)?, read)
+    compiled(pep440_compile_specifier, specifier, read)
+}
+
+/// Calls `read` with the list that `call` compiles, without its set.
+fn compiled<T>(call: Writer, list: &str, read: impl FnOnce(&[u8]) -> T) -> Result<T, Refusal> {
+    written_to_room::<STACK_OF_LIST, _>(writer(call, bytes_of(list)?), |room, length| read(bytes::without_set(&room[..length])))
 }
 
 // What bytes were to be.
@@ -222,7 +230,7 @@ fn error(kind: u8, string: &str) -> Box<str> {
     match bytes_of(string) {
         Ok(bytes) => said(bytes),
         // Another character that no valid string begins with, and that is written alike.
-        Err(_) => said(["\u{6}", &string[1..]].concat().as_bytes()).replacen('\u{6}', &string[..1], 1).into(),
+        Err(_) => said(["\u{1}", &string[1..]].concat().as_bytes()).replacen('\u{1}', &string[..1], 1).into(),
     }
 }
 

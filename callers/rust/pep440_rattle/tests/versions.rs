@@ -279,12 +279,15 @@ fn size_and_threads() {
 #[test]
 fn compiled_bytes_are_no_strings() {
     let (compiled, list) = ("\u{4}\0\u{2}\u{1}\0P\0\u{10}\0", "\u{5}\u{19}\0\u{2}\u{1}\0P\0\u{10}\0");
+    let with_set = "\u{6}\u{1}\u{b}\u{1}\u{8}\0\u{2}\u{1}\0P\0\u{10}\0\0".to_owned() + list;
     let wanted = "expected version to start with a number, but no leading ASCII digits were found";
     assert_eq!(compiled.parse::<Version>().unwrap_err().to_string(), wanted);
     assert_eq!(compiled.parse::<VersionPattern>().unwrap_err().to_string(), wanted);
     let wanted = "Unexpected end of version specifier, expected operator";
-    assert_eq!(list.parse::<VersionSpecifier>().unwrap_err().to_string(), wanted);
-    let error = list.parse::<VersionSpecifiers>().unwrap_err();
-    assert!(error.to_string().starts_with(&format!("Failed to parse version: {wanted}:\n{list}\n")), "{error}");
+    for list in [list, &with_set] {
+        assert_eq!(list.parse::<VersionSpecifier>().unwrap_err().to_string(), wanted);
+        let error = list.parse::<VersionSpecifiers>().unwrap_err();
+        assert!(error.to_string().starts_with(&format!("Failed to parse version: {wanted}:\n{list}\n")), "{error}");
+    }
     assert!(">=\u{4}\0\u{2}\u{1}\0P\0\u{10}\0".parse::<VersionSpecifier>().is_err());
 }
