@@ -185,9 +185,9 @@ uint8_t pep440_compare(const uint8_t *left, size_t left_length, const uint8_t *r
 
 /* ---- two rules of matching
 
-   PEP 440, "Exclusive ordered comparison", is read in two ways. By today's rule, that of pip 26 and
-   `packaging` 26, `<V` leaves out the pre-releases of V, and `>V` the post-releases of V. By that
-   of the ported crate, pep440_rs 0.7.3, they leave out those of every version of V's release: so
+   PEP 440, "Exclusive ordered comparison", is read in two ways. By today's rule, which pip 26 and
+   `packaging` 26 follow, `<V` leaves out the pre-releases of V, and `>V` the post-releases of V. The
+   ported crate, pep440_rs 0.7.3, leaves out the ones of every version of V's release: so
    `<1.0.post1` does not contain `1.0rc1`, and `>1.0rc1` not `1.0.post1`, which today's rule
    matches. What a list contains by the crate's rule, it matches by today's. A string and both
    formats of its compiled form give one result:
@@ -195,10 +195,10 @@ uint8_t pep440_compare(const uint8_t *left, size_t left_length, const uint8_t *r
    call                                               rule           pre-releases
    pep440_contains                                    the crate's    contained, and reported
    pep440_ranges, pep440_range_bounds                 the crate's    contained
-   pep440_release_range_bounds                        the crate's    releases alone count
+   pep440_release_range_bounds                        the crate's    only releases count
    pep440_allows                                      today's        by `prereleases`
    pep440_filter                                      today's        matched, with their own mark
-   pep440_newest                                      today's        if asked for, or alone
+   pep440_newest                                      today's        if asked for, or nothing else matches
    pep440_version_in, pep440_boundaries               today's        matched
 
    By no rule of matching go pep440_any_prerelease and the calls that print or compile a list. */
@@ -348,7 +348,7 @@ uint8_t pep440_release_range_bounds(const uint8_t *list, size_t length, uint8_t 
    after how many bytes it takes: a number is a byte that says how many bytes follow, and these, the
    greatest first, none for 0, as in sort keys. The members are the byte 5, and of each specifier 16
    and the number of its operator (below), and then its version without the byte 4. A list with
-   `===` has no set, and format 5: the members alone. Of a list no size suffices by its length: ask
+   `===` has no set, and format 5: just the members. Of a list no size suffices by its length: ask
    for it, with null and a size of 0. `>=1.0, <2.0` takes 44 bytes.
 
    Lists without `===` that an earlier library wrote have format 5, too. Every call takes them, but
