@@ -9,7 +9,7 @@ use Rattle.pep440_rs.specs.Lists.ListGrammar.{pieces}
 use Rattle.pep440_pick.specs.Names.{is_name}
 use Rattle.pep440_rs.specs.Blanks.{opens, trim_blanks}
 use Rattle.pep440_pick.specs.RequirementReading.{bracketed, split_at_byte, extras_at, extras_in, listed_extras}
-use Rattle.pep440_pick.proofs.Splitting.{HasNo, first, later}
+use Rattle.pep440_pick.proofs.Joined.{HasNo, first, later}
 
 -- a text without a comma is one piece
 pieces_whole : (t : List ℕ) → HasNo 44 t → pieces t ≡ t ∷ []

@@ -1,10 +1,6 @@
 pub mod Normal
-pub mod Splitting
 pub mod Choosing
 pub mod Extras
-pub mod Listing
-pub mod Copies
-pub mod Prefixes
 pub mod Parts
 pub mod Positions
 pub mod Tells

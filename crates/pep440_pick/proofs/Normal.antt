@@ -1,8 +1,8 @@
--- Names in their normal form, byte by byte.
-use Rattle.std.proofs.Common.{◌≡◌, ◌+◌, ◌∙◌, ℕ, suc, List, [], ◌∷◌, Bool, true, false, cond, refl, sym, ap, arith, inl, inr}
+-- Names in their normal form, byte by byte, and clones of them.
+use Rattle.std.proofs.Common.{◌≡◌, ◌+◌, ◌∙◌, ℕ, suc, List, [], ◌∷◌, Bool, true, false, cond, refl, sym, ap, arith, inl, inr, map}
 use Rattle.std.proofs.lemmas.Bool.{cases_Bool}
 use Rattle.std.specs.Char.{to_ascii_lowercase}
-use Rattle.std.specs.List.{prefix_len}
+use Rattle.std.specs.List.{prefix_len, AllZip}
 use Rattle.pep440_version.specs.Grammar.{is_separator}
 use Rattle.pep440_version.specs.Reading.{past}
 use Rattle.pep440_pick.specs.Names.{normal}
@@ -33,6 +33,10 @@ run_is_one b (c ∷ rest) e = elim (cases_Bool (is_separator c)) [
   | inr f ↦ run_stops b c rest e f ∙ ap (λ t. 45 ∷ normal t) (sym (past_none c rest f))
 ]
 
--- a byte that is no separator stays, in lower case
-pub byte_stays : (b : ℕ) (rest : List ℕ) → is_separator b ≡ false → normal (b ∷ rest) ≡ to_ascii_lowercase b ∷ normal rest
-byte_stays b rest e = rw e refl
+-- ---- a clone says the same
+
+pub same_views : {X : Type 0} (view : X → List ℕ) (xs ys : List X) → AllZip (λ x y. view y ≡ view x) xs ys → map view ys ≡ map view xs
+same_views view [] [] h = refl
+same_views view [] (y ∷ ys) h = elim h [ ]
+same_views view (x ∷ xs) [] h = elim h [ ]
+same_views view (x ∷ xs) (y ∷ ys) h = λ i. h.0 i ∷ same_views view xs ys h.1 i

@@ -1,17 +1,19 @@
 -- Extras and the text of a list: reading and grammar agree.
-use Rattle.std.proofs.Common.{◌≡◌, ◌==◌, ◌+◌, ◌∙◌, ◌&&◌, ℕ, suc, List, [], ◌∷◌, ◌++◌, Bool, true, false, cond, drop, map, Option, Some, None, option_map, refl, sym, ap, subst, arith, inl, inr, eqb-true}
+use Rattle.std.proofs.Common.{◌≡◌, ◌==◌, ◌+◌, ◌∙◌, ◌&&◌, ℕ, suc, List, [], ◌∷◌, ◌++◌, Bool, true, false, cond, drop, map, Option, Some, None, option_map, refl, sym, ap, subst, arith, inl, inr, eqb-true, Ok, Err}
 use Rattle.std.proofs.lemmas.Bool.{and_parts, cases_Bool}
 use Rattle.std.proofs.lemmas.Bool.Decides.{nat_tests}
-use Rattle.std.specs.Char.{is_ascii_whitespace}
+use Rattle.std.specs.Char.{is_ascii_whitespace, is_ascii_alphanumeric}
 use Rattle.std.specs.List.{list_all, prefix_len}
 use Rattle.pep440_version.specs.Reading.{past}
 use Rattle.pep440_rs.specs.Lists.ListGrammar.{pieces}
-use Rattle.pep440_pick.specs.Names.{is_name}
+use Rattle.pep440_pick.specs.Names.{is_name, is_name_byte}
 use Rattle.pep440_rs.specs.Blanks.{opens, trim_blanks, trimmed_end}
-use Rattle.pep440_pick.specs.RequirementGrammar.{AreExtras, HasExtras, HasList, has_byte}
-use Rattle.pep440_pick.specs.RequirementReading.{bracketed, split_at_byte, extras_at, extras_in, list_in, without_end}
-use Rattle.pep440_pick.proofs.Splitting.{split_first, end_found}
+use Rattle.pep440_pick.specs.RequirementGrammar.{AreExtras, HasExtras, HasList, has_byte, InvalidExtras, InvalidName, Unclosed}
+use Rattle.pep440_pick.specs.RequirementReading.{bracketed, split_at_byte, extras_at, extras_in, list_in, without_end, prefix_after_name, with_extras, with_list}
+use Rattle.pep440_pick.proofs.Joined.{split_first, end_found}
 use Rattle.pep440_pick.proofs.Extras.{in_bracket, no_bracket, no_extras, some_extras}
+use Rattle.pep440_version.specs.Grammar.{starts}
+use Rattle.pep440_version.specs.Rejections.{ends}
 
 -- ---- blanks alone
 
@@ -161,3 +163,35 @@ list_complete behind list (inl (plain, is)) =
 list_complete behind list (inr (inner, decomposition, is)) =
     ap list_in decomposition ∙ ap (λ (c : Bool). cond c (option_map trim_blanks (without_end 41 (inner ++ 41 ∷ []))) (Some (40 ∷ (inner ++ 41 ∷ [])))) (opens_so 40 (inner ++ 41 ∷ []))
     ∙ ap (option_map trim_blanks) (end_found 41 inner) ∙ ap (λ (l : List ℕ). Some l) (sym is)
+
+-- ---- the parts of a text, as its readers find them
+
+pub not_named : (name rest : List ℕ) → is_name name ≡ false → prefix_after_name name rest ≡ Err InvalidName
+unfolding prefix_after_name
+not_named name rest e = rw e refl
+
+-- bytes of names, which were read as these, are a name by their ends alone
+pub ends_decide : (name bytes : List ℕ) (b : Bool) → list_all is_name_byte name ≡ true → bytes ≡ name → (starts is_ascii_alphanumeric bytes && ends is_ascii_alphanumeric bytes) ≡ b → is_name name ≡ b
+ends_decide name bytes b all same e =
+    ap (λ (x : Bool). x && (starts is_ascii_alphanumeric name && ends is_ascii_alphanumeric name)) all ∙ ap (λ (t : List ℕ). starts is_ascii_alphanumeric t && ends is_ascii_alphanumeric t) (sym same) ∙ e
+
+pub is_named : (name rest : List ℕ) → is_name name ≡ true → prefix_after_name name rest ≡ with_extras name (extras_at rest)
+unfolding prefix_after_name
+is_named name rest e = rw e refl
+
+-- extras that are none
+pub no_extras_named : (name rest : List ℕ) → is_name name ≡ true → extras_at rest ≡ None → prefix_after_name name rest ≡ Err InvalidExtras
+no_extras_named name rest is none = is_named name rest is ∙ ap (with_extras name) none
+
+with_extras_is : (name rest behind inner : List ℕ) (extras : List (List ℕ)) (list : Option (List ℕ)) → is_name name ≡ true → extras_at rest ≡ Some (extras, behind) → inner ≡ trim_blanks behind → list ≡ list_in inner
+    → prefix_after_name name rest ≡ with_list name extras list
+with_extras_is name rest behind inner extras list is found inside text =
+    is_named name rest is ∙ ap (with_extras name) found ∙ ap (λ t. with_list name extras (list_in t)) (sym inside) ∙ ap (with_list name extras) (sym text)
+
+pub found_named : (name rest behind inner list : List ℕ) (extras : List (List ℕ)) → is_name name ≡ true → extras_at rest ≡ Some (extras, behind) → inner ≡ trim_blanks behind → Some list ≡ list_in inner
+    → prefix_after_name name rest ≡ Ok (record { name = name; extras = extras; list = list })
+found_named name rest behind inner list extras is found inside text = with_extras_is name rest behind inner extras (Some list) is found inside text
+
+pub unclosed_named : (name rest behind inner : List ℕ) (extras : List (List ℕ)) → is_name name ≡ true → extras_at rest ≡ Some (extras, behind) → inner ≡ trim_blanks behind → None ≡ list_in inner
+    → prefix_after_name name rest ≡ Err Unclosed
+unclosed_named name rest behind inner extras is found inside text = with_extras_is name rest behind inner extras None is found inside text

@@ -1,5 +1,5 @@
 -- The positions of errors of requirements.
-use Rattle.std.proofs.Common.{◌≡◌, ◌∙◌, ℕ, List, [], Option, Some, ap, sym}
+use Rattle.std.proofs.Common.{◌≡◌, ◌∙◌, ℕ, List, [], Option, Some, ap, sym, None, option_map, subst}
 use Rattle.std.specs.Char.{is_ascii_whitespace}
 use Rattle.std.specs.Option.{option_map_or}
 use Rattle.std.specs.Prelude.{IfSome}
@@ -8,9 +8,14 @@ use Rattle.std.proofs.lemmas.Option.{IfSome_then}
 use Rattle.pep440_version.specs.Reading.{lead, past}
 use Rattle.pep440_rs.proofs.Blanks.{start_trimmed}
 use Rattle.pep440_pick.specs.Names.{is_name_byte}
-use Rattle.pep440_pick.specs.RequirementGrammar.{RequirementRejection}
+use Rattle.pep440_pick.specs.RequirementGrammar.{RequirementRejection, Specifiers}
 use Rattle.pep440_pick.specs.RequirementReading.{behind_extras, behind_name, extras_at, list_position, name_of, rejection_position}
 use Rattle.pep440_pick.specs.Requirements.{IsOfList}
+use Rattle.pep440_rs.specs.Lists.ListResults.{line_for}
+use Rattle.pep440_rs.specs.Lists.ListErrors.{list_rejection_of}
+use Rattle.pep440_rs.specs.Lists.ListGrammar.{PieceRejection}
+use Rattle.pep440_rs.specs.declared.list.error.SpecifiersErrorKind.{SpecifiersErrorKind}
+use Rattle.pep440_rs.specs.declared.list.error.SpecifiersErrorKind.TheVariants.{Piece, OutOfMemory}
 
 -- the name that was read, and what follows it
 pub name_read : (text start name : List ℕ) → IsTrimAsciiStart text start → name ≡ lead is_name_byte start → name ≡ name_of text
@@ -27,3 +32,19 @@ behind_read text rest behind end extras named read is =
 -- the error of the list is at the list
 pub at_list : (text list : List ℕ) (o : Option RequirementRejection) (position : ℕ) → position ≡ list_position text → IfSome o (IsOfList list) → IfSome o (λ f. position ≡ rejection_position text f)
 at_list text list o position is of_list = IfSome_then o of_list (λ g h. is ∙ ap (rejection_position text) (sym h.2))
+
+-- ---- the error of a list, as the error of a requirement
+
+with_line : (o : Option PieceRejection) (text line : List ℕ) (P : RequirementRejection → Type 0) → line ≡ text → IfSome o (λ f. P (Specifiers text f)) → IfSome (option_map (λ f. Specifiers line f) o) P
+with_line None text line P e h = tt
+with_line (Some f) text line P e h = subst (λ l. P (Specifiers l f)) (sym e) h
+
+by_kind : (kind : SpecifiersErrorKind) (text line : List ℕ) (P : RequirementRejection → Type 0) → line ≡ line_for text kind → IfSome (list_rejection_of kind) (λ f. P (Specifiers text f))
+    → IfSome (option_map (λ f. Specifiers line f) (list_rejection_of kind)) P
+by_kind (Piece error start stop) text line P e h = with_line (list_rejection_of (Piece error start stop)) text line P e h
+by_kind OutOfMemory text line P e h = tt
+
+-- what holds of the list's refusal holds of the requirement's
+pub of_refusal : (kind : SpecifiersErrorKind) (text line : List ℕ) (o : Option RequirementRejection) (P : RequirementRejection → Type 0) → o ≡ option_map (λ f. Specifiers line f) (list_rejection_of kind)
+    → line ≡ line_for text kind → IfSome (list_rejection_of kind) (λ f. P (Specifiers text f)) → IfSome o P
+of_refusal kind text line o P is e h = subst (λ x. IfSome x P) (sym is) (by_kind kind text line P e h)

@@ -11,8 +11,7 @@ use Rattle.pep440_pick.specs.Names.{is_name, is_name_byte}
 use Rattle.pep440_rs.specs.Blanks.{trim_blanks}
 use Rattle.pep440_pick.specs.RequirementGrammar.{RequirementParts, HasExtras, HasRequirementPrefix, HasList, HasNoMarkerOrUrl, RejectsRequirement, RequirementRejection, InvalidExtras, InvalidName, Marker, Specifiers, Unclosed, Url, has_byte}
 use Rattle.pep440_pick.specs.RequirementReading.{RequirementPrefix, behind_name, extras_at, list_in, name_of, prefix_after_name, read_prefix, with_extras, with_list}
-use Rattle.pep440_pick.proofs.Prefixes.{is_named, not_named}
-use Rattle.pep440_pick.proofs.Parts.{brackets_complete, brackets_sound, list_complete, list_sound}
+use Rattle.pep440_pick.proofs.Parts.{is_named, not_named, brackets_complete, brackets_sound, list_complete, list_sound}
 
 -- ---- every text has one cut
 

@@ -1,6 +1,5 @@
 -- Texts with their numbers that are read one after another: what was found in those before, and those that are left.
-use Rattle.std.proofs.Common.{◌≡◌, ◌+◌, ◌<◌, ◌≤◌, ◌∙◌, ℕ, List, [], ◌∷◌, ◌++◌, length, get_or, Option, Some, true, inl, inr, drop, map, refl, sym, ap, subst, arith, append_assoc, append-nil}
-use Rattle.std.proofs.lemmas.List.{drop_all, length-map}
+use Rattle.std.proofs.Common.{◌≡◌, ◌+◌, ◌<◌, ◌≤◌, ◌∙◌, ℕ, List, [], ◌∷◌, ◌++◌, length, get_or, Option, Some, true, inl, inr, drop, map, refl, sym, ap, subst, append_assoc, append-nil}
 use Rattle.std.proofs.lemmas.List.{map-append}
 use Rattle.std.proofs.lemmas.List.Elements.{filter-append}
 use Rattle.std.proofs.lemmas.List.Folds.{flat_map-map}
@@ -77,9 +76,6 @@ words_left view ys i = enumerate_from (i + 1) (drop i (map view ys))
 
 pub word_left : {Y : Type 0} (view : Y → List ℕ) (ys : List Y) (i : ℕ) (y : Y) → i < length ys → y ≡ get_or ys i y → words_left view ys i ≡ (i + 1, view y) ∷ words_left view ys (i + 1)
 word_left view ys i y inside is = ap (enumerate_from (i + 1)) (rest_is view ys i y y inside is)
-
-pub no_word_left : {Y : Type 0} (view : Y → List ℕ) (ys : List Y) (i : ℕ) → length ys ≤ i → words_left view ys i ≡ []
-no_word_left view ys i end = ap (enumerate_from (i + 1)) (drop_all i (map view ys) (omega (arith, length-map ys view)))
 
 -- ---- what is shown
 

@@ -1,5 +1,4 @@
 pub mod Each
-pub mod LinesLeft
 pub mod OneAnswer
 pub mod Rejected
 pub mod RunEnds

@@ -1,5 +1,5 @@
 -- How runs end, by what was written.
-use Rattle.std.proofs.Common.{◌≡◌, ◌⊎◌, ◌≤◌, ℕ, List, [], Option, inl, inr, refl}
+use Rattle.std.proofs.Common.{◌≡◌, ◌⊎◌, ◌≤◌, ℕ, List, [], Option, inl, inr, refl, Bor, ◌+◌, ◌<◌, ◌^◌, ◌∙◌, ◌∷◌, Bool, cond, not, length, Some, IfSome, arith, ap}
 use Rattle.std.proofs.KnownBytes.{Appends-nil}
 use Rattle.std.specs.Io.KnownBytes.{Appends}
 use Rattle.cli_io.proofs.Bytes.{WroteBeginning-none}
@@ -9,6 +9,9 @@ use Rattle.pep440_tool.specs.Answers.{ToolAnswer}
 use Rattle.pep440_tool.specs.Commands.{IsAnswer, request_of_words, reads_input}
 use Rattle.pep440_tool.specs.Runs.{RunEnds, TookInput}
 use Rattle.pep440_tool.specs.Texts.{memory_text}
+use Rattle.pep440_tool.specs.Lines.{numbered_from}
+use Rattle.cli_io.specs.Newlines.{input_lines}
+use Rattle.pep440_tool.specs.LinesLeft.{left_of}
 
 module _ {R W : Type 0} (remaining : R → Option (List ℕ)) (contents : W → Option (List ℕ)) (words : List (List ℕ)) (reader reader' : R) (writer writer' : W) (status : ℕ) where
   -- the message of an allocation that failed was written, or a beginning of it
@@ -40,3 +43,22 @@ module _ {R W : Type 0} (remaining : R → Option (List ℕ)) (contents : W → 
         begins = inl (wrote, WroteBeginning-none (contents writer') []);
       }),
     )
+
+-- ---- the lines that are left of an input
+
+-- one line more was read, of what was left
+one_line : (read : ℕ) (rest : Option (Bor (List ℕ))) (text : Bor (List ℕ)) (line : List ℕ) (later : List (List ℕ)) → rest ≡ Some text → input_lines text.now ≡ line ∷ later → left_of read rest ≡ numbered_from (read + 1) (line ∷ later)
+one_line read rest text line later is decomposition = ap (left_of read) is ∙ ap (numbered_from (read + 1)) decomposition
+
+choice : (b : Bool) (x : ℕ × List ℕ) (xs : List (ℕ × List ℕ)) (c : Bool) → b ≡ c → cond (not b) (x ∷ xs) xs ≡ cond (not c) (x ∷ xs) xs
+choice b x xs c e = ap (λ (d : Bool). cond (not d) (x ∷ xs) xs) e
+
+-- fewer lines were read than there are bytes
+abbrev pub HasRoom : ℕ → Option (Bor (List ℕ)) → Type 0
+HasRoom read rest = (r : Bor (List ℕ)) → rest ≡ Some r → read + length r.now < 2 ^ 63
+
+pub room_more : (read : ℕ) (rest : Option (Bor (List ℕ))) (text : Bor (List ℕ)) (later : Option (Bor (List ℕ))) → rest ≡ Some text → IfSome later (λ r. length r.now < length text.now) → HasRoom read rest → HasRoom (read + 1) later
+room_more read rest text later is shorter room = λ r at.
+    let less : length r.now < length text.now = rw at at shorter in
+    let here : read + length text.now < 2 ^ 63 = room text is in
+    omega (arith, less, here)

@@ -1,3 +1,2 @@
 -- What a held version means.
 pub mod NumbersFit
-pub mod Clones

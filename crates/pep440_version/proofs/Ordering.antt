@@ -1,4 +1,2 @@
 -- Comparisons one after another, and zeros at the end of a release.
 pub mod Comparisons
-pub mod ListEnds
-pub mod ReleaseEnds

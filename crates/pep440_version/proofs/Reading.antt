@@ -1,13 +1,8 @@
 -- What is read of a text is what the grammar derives.
 pub mod Prefixes
-pub mod DerivedIsRead
 pub mod ReadIsDerived
-pub mod Boundaries
 pub mod Digits
 pub mod SpelledIsRead
-pub mod SuffixesAreRead
-pub mod ReadIsSpelled
-pub mod NumbersInTurn
 pub mod Endings
 pub mod LocalAgrees
 pub mod AfterRelease
@@ -15,11 +10,6 @@ pub mod PartsAgree
 pub mod PrintedParts
 pub mod Agreement
 pub mod WordAsPrefix
-pub mod SegmentsInTurn
-pub mod AfterSpelling
 pub mod PublicAnswers
-pub mod AfterFirstNumber
 pub mod NormalParts
-pub mod NormalVersions
-pub mod PrintedNumbers
 pub mod WithoutMemory

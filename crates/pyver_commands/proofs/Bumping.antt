@@ -1,9 +1,9 @@
 -- What parts that are raised change of a version.
-use Rattle.std.proofs.Common.{◌≡◌, ◌+◌, ◌<◌, ◌≤◌, ◌==◌, ◌||◌, ◌∙◌, ◌⊎◌, ℕ, zero, suc, List, [], ◌∷◌, Bool, true, false, Option, Some, None, Result, Ok, Err, arith, get_or, if◌then◌else◌, is_some, inl, inr, length, map, nat_le, refl, sym, ap, subst}
-use Rattle.std.proofs.lemmas.Bool.{leb-false, ne_eqb}
+use Rattle.std.proofs.Common.{◌≡◌, ◌+◌, ◌<◌, ◌≤◌, ◌==◌, ◌||◌, ◌∙◌, ◌⊎◌, ℕ, zero, suc, List, [], ◌∷◌, Bool, true, false, Option, Some, None, Result, Ok, Err, arith, get_or, if◌then◌else◌, is_some, inl, inr, length, map, nat_le, refl, sym, ap, subst, codes, ◌^◌, ◌&&◌, nat_lt}
+use Rattle.std.proofs.lemmas.Bool.{leb-false, ne_eqb, ltb-true}
 use Rattle.std.proofs.lemmas.List.{length-map}
 use Rattle.std.specs.Cmp.{nat_cmp_is}
-use Rattle.std.specs.List.{list_any}
+use Rattle.std.specs.List.{list_any, list_all}
 use Rattle.std.specs.Ordering.{is_gt, nat_cmp, ordering_reverse, ordering_then}
 use Rattle.std.specs.declared.cmp.Ordering.{Ordering}
 use Rattle.std.specs.declared.cmp.Ordering.TheVariants.{Less, Equal, Greater}
@@ -14,8 +14,17 @@ use Rattle.pep440_version.specs.declared.prerelease.PrereleaseKind.{PrereleaseKi
 use Rattle.pyver_commands.specs.BumpLaws.{BumpsAreGreater, BumpsChangeOnly, ChangesOnly, ReleasesAreBumped, changes_number, changes_post, changes_pre, changes_release}
 use Rattle.pyver_commands.specs.Bumps.{bump_dev, bump_from, bump_part, bump_post, bump_pre, bump_stable, is_later_kind, knows_release, release_with, require_greater, then_bump, with_number}
 use Rattle.pyver_commands.specs.declared.bump.BumpError.{BumpError}
-use Rattle.pyver_commands.specs.declared.bump.BumpError.TheVariants as error
 use Rattle.pyver_commands.specs.declared.bump.BumpPart.{BumpPart}
+use Rattle.pyver_commands.specs.BumpInputs.{only_outcome}
+use Rattle.pyver_commands.specs.Outcomes.{message_outcome}
+use Rattle.pyver_commands.specs.Sources.VersionLineViews.{version_line_of}
+use Rattle.pyver_commands.specs.declared.sources.version_line.VersionLine.{VersionLine}
+use Rattle.std.specs.Char.{is_ascii_digit}
+use Rattle.std.specs.Result.{result_ok}
+use Rattle.std.specs.Str.Parse.{digits_value, ParsesUnsigned}
+use Rattle.pep440_version.proofs.Reading.Digits.{value_of}
+use Rattle.pyver_commands.specs.Numbers.{are_digits, word_number}
+use Rattle.pyver_commands.specs.declared.bump.BumpError.TheVariants as error
 use Rattle.pyver_commands.specs.declared.bump.BumpPart.TheVariants as part
 
 -- ---- the result is greater
@@ -204,3 +213,26 @@ releases_are_bumped index v small =
     let up : is_gt (record_cmp q v) ≡ true = ap is_gt (raised_record index v) in
     ap (λ (b : Bool). require_greater v (then_bump (with_number (if b then Err error.Greatest else Ok (old + 1)) (λ n. epoch_and_release v.epoch (release_with index n v.release))) (bump_from true None []))) test
     ∙ ap (λ (b : Bool). if b then Ok q else Err error.NotGreater) up
+
+-- ---- more than one version on standard input
+
+pub many_versions : (to : Option ℕ) (parts : List BumpPart) (lines : List VersionLine) → 2 ≤ length lines → only_outcome to parts (map version_line_of lines) ≡ message_outcome (codes "pyver: more than one version on standard input\n")
+many_versions to parts [] many = absurd (omega (arith, many))
+many_versions to parts (line ∷ []) many = absurd (omega (arith, many))
+many_versions to parts (line ∷ (next ∷ rest)) many = refl
+
+-- ---- what digits write
+
+both : (a b : Bool) → (a && b) ≡ true → (a ≡ true) × (b ≡ true)
+both true b e = (refl, e)
+both false b e = cc e
+
+first_holds : {A : Type 0} (a b : Bool) (x y : A) → a ≡ true → (if a && b then x else y) ≡ (if b then x else y)
+first_holds true b x y e = refl
+first_holds false b x y e = cc e
+
+pub number_when : {E : Type 0} (text : List ℕ) (r : Result ℕ E) → are_digits text ≡ true → ParsesUnsigned 64 10 text r → result_ok r ≡ word_number text
+number_when text r run p =
+    let parts = both (nat_lt 0 (length text)) (list_all is_ascii_digit text) run in
+    value_of text r parts.1 (ltb-true 0 (length text) parts.0) p
+    ∙ sym (first_holds (are_digits text) (nat_lt (digits_value 10 text) (2 ^ 64)) (Some (digits_value 10 text)) None run)

@@ -31,7 +31,7 @@ use Rattle.pyver_commands.specs.CommonRanges.{ArrangesAll, FindsCommon, ListRead
 use Rattle.pyver_commands.specs.Matches.{DenotesList, ListFails}
 use Rattle.cli_io.specs.Runs.{Outcome}
 use Rattle.pyver_commands.specs.RangeLaws.{AllowsVersion, NoVersionHasItsStatus, NoVersionIsCommon, VersionIsCommon}
-use Rattle.pep440_version.proofs.Reading.DerivedIsRead.{number_first}
+use Rattle.pep440_version.proofs.Reading.ReadIsDerived.{number_first}
 use Rattle.pep440_version.proofs.RoundTrip.PrintIsRead.{decimal_number, derived_record, none_all}
 use Rattle.pep440_sets.proofs.CommonVersions.{common_is_denoted, common_matches, none_in_common}
 use Rattle.pep440_sets.proofs.Lists.{found_is_in, list_holds, list_is_set}
@@ -40,7 +40,7 @@ use Rattle.pep440_sets.specs.Emptiness.{IsUnsatisfiable}
 use Rattle.pep440_sets.specs.SetLines.{is_closed_start}
 use Rattle.pep440_sets.specs.Sets.{has_exact, list_set}
 use Rattle.pep440_sets.specs.Witnesses.{version_between}
-use Rattle.pyver_commands.proofs.InTurn.{all_more}
+use Rattle.pyver_commands.proofs.Outputs.{all_more}
 
 -- ---- one list after another
 

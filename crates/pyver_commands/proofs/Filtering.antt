@@ -61,10 +61,6 @@ keeps_none rule a is front k = subst (λ l. Keeps rule l a) (sym (append-nil fro
 pub keeps_all : (rule : FilterRule) (xs ys : List ReadLine) (a b c : NewestLines) → KeepsMore rule xs a b → KeepsMore rule ys b c → KeepsMore rule (xs ++ ys) a c
 keeps_all rule xs ys a b c k m is front h = subst (λ l. Keeps rule l c) (append_assoc front xs ys) (m is (front ++ xs) (k is front h))
 
--- a line without a version
-pub keeps_other : (rule : FilterRule) (x : ReadLine) (a : NewestLines) → version_lines (x ∷ []) ≡ [] → KeepsMore rule (x ∷ []) a a
-keeps_other rule x a none is front k = subst (λ l. KeepsNewest rule.takes rule.list l a) (sym (version_lines-append front (x ∷ []) ∙ ap (λ l. version_lines front ++ l) none ∙ append-nil (version_lines front))) k
-
 -- a line with a version
 pub keeps_version : (rule : FilterRule) (line : SourceLine) (r : Record) (a b : NewestLines)
     → ((lines : List VersionLine) → KeepsNewest rule.takes rule.list lines a → KeepsNewest rule.takes rule.list (lines ++ record { text = line.text; version = r } ∷ []) b) → KeepsMore rule (record { line = line; reading = Entry (Denotes r) } ∷ []) a b

@@ -1,5 +1,3 @@
-pub mod Told
-pub mod InTurn
 pub mod InputLines
 pub mod Filtering
 pub mod SourceFilters
@@ -8,10 +6,7 @@ pub mod SourceReads
 pub mod Sorting
 pub mod Choosing
 pub mod NewestAnswers
-pub mod Appended
 pub mod CommonRanges
 pub mod Bumping
-pub mod Digits
 pub mod Releases
-pub mod BumpInputs
 pub mod Outputs

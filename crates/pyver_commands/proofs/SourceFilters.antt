@@ -91,20 +91,6 @@ module _ {R W E : Type 0} (files : List ℕ → KnownFile) (remaining : R → Op
     stops = stops;
   })
 
-  pub file_reads : {S : Type 0} (left_of : S → Option (List ℕ)) (b : FilterState) (file file' : S) (reader : R) (out out' : W) (err err' : E) → is_input origin.name ≡ false → MayOpen (files origin.name) (left_of file)
-      → SourceFinishes left_of contents error_contents rule origin earlier b file file' out out' err err' → OneReads files remaining contents error_contents rule origin earlier b reader reader out out' err err'
-  file_reads left_of b file file' reader out out' err err' named opens k = record {
-    source = record { origin = origin; lines = input_lines k.read };
-    reads = record {
-      text = k.read;
-      left = left_of file';
-      reads = subst (λ t. ReadsText files remaining t (files origin.name) reader reader k.read (left_of file')) (sym named) (left_of file, opens, k.consumed, refl);
-      end = k.end;
-      is = refl;
-    };
-    wrote = k.wrote;
-  }
-
   pub file_stops : {S : Type 0} (left_of : S → Option (List ℕ)) (file file' : S) (reader : R) (out out' : W) (err err' : E) (stop : RunFailure) → is_input origin.name ≡ false → MayOpen (files origin.name) (left_of file)
       → SourceFails left_of contents error_contents rule origin earlier file file' out out' err err' → IsRunFailureOf (Some origin.name) stop → OneFails files remaining contents error_contents rule origin earlier reader reader out out' err err' stop
   file_stops left_of file file' reader out out' err err' stop named opens k stops = inr (record {
@@ -121,10 +107,6 @@ module _ {R W E : Type 0} (files : List ℕ → KnownFile) (remaining : R → Op
     wrote = k.wrote;
     stops = stops;
   })
-
-  -- an allocation failed before the file was opened
-  pub unopened_stops : (reader : R) (out : W) (err : E) → is_input origin.name ≡ false → OneFails files remaining contents error_contents rule origin earlier reader reader out out err err run_failure.OutOfMemory
-  unopened_stops reader out err named = inl (record { file = named; memory = refl; reader_kept = refl; out_kept = refl; err_kept = refl })
 
 -- ---- one source after another
 

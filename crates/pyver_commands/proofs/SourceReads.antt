@@ -1,6 +1,6 @@
 -- Sources that are read to their ends one after another.
 use Rattle.std.proofs.Common.{◌≡◌, ◌∙◌, ◌+◌, ℕ, List, [], ◌∷◌, ◌++◌, Bool, true, false, Option, None, Some, inl, inr, length, map, refl, sym, ap, subst, arith, append-nil}
-use Rattle.std.specs.Io.KnownBytes.{Consumes, IsAtEnd}
+use Rattle.std.specs.Io.KnownBytes.{Consumes}
 use Rattle.std.specs.Str.{IsUtf8}
 use Rattle.std.proofs.KnownBytes.{Consumes-nil}
 use Rattle.std.proofs.lemmas.List.{map-append}
@@ -27,14 +27,6 @@ sources_pushed xs x = map-append source_of xs (x ∷ [])
 -- ---- one source
 
 module _ {R : Type 0} (files : List ℕ → KnownFile) (remaining : R → Option (List ℕ)) (name : List ℕ) where
-  pub input_whole : (reader reader' : R) (text : List ℕ) → is_input name ≡ true → Consumes (remaining reader) (remaining reader') text → IsAtEnd (remaining reader') → ReadsWhole files remaining name reader reader' text
-  input_whole reader reader' text named consumed end =
-      (remaining reader', subst (λ t. ReadsText files remaining t (files name) reader reader' text (remaining reader')) (sym named) (consumed, refl), end)
-
-  pub file_whole : {S : Type 0} (left_of : S → Option (List ℕ)) (file file' : S) (reader : R) (text : List ℕ) → is_input name ≡ false → MayOpen (files name) (left_of file) → Consumes (left_of file) (left_of file') text → IsAtEnd (left_of file') → ReadsWhole files remaining name reader reader text
-  file_whole left_of file file' reader text named opens consumed end =
-      (left_of file', subst (λ t. ReadsText files remaining t (files name) reader reader text (left_of file')) (sym named) (left_of file, opens, consumed, refl), end)
-
   pub input_part : (why : RunFailure) (reader reader' : R) (text : List ℕ) → IsUtf8 name → is_input name ≡ true → Consumes (remaining reader) (remaining reader') text → IsReadingFailure name why → FailsInText files remaining name reader reader' why
   input_part why reader reader' text utf8 named consumed stops = inr (record {
     utf8 = utf8;
@@ -57,10 +49,6 @@ module _ {R : Type 0} (files : List ℕ → KnownFile) (remaining : R → Option
   -- an allocation failed before anything was read
   pub stops_before : (reader : R) → FailsInText files remaining name reader reader run_failure.OutOfMemory
   stops_before reader = inl (refl, refl)
-
-  -- an allocation failed after all was read
-  pub stops_behind : (reader reader' : R) (text : List ℕ) → IsUtf8 name → ReadsWhole files remaining name reader reader' text → FailsInText files remaining name reader reader' run_failure.OutOfMemory
-  stops_behind reader reader' text utf8 (left, reads, end) = inr (record { utf8 = utf8; text = text; rest = left; part = reads; stops = tt })
 
 -- a run that stops in a source stops with its message
 reading_stops : (name : List ℕ) (why : RunFailure) → IsReadingFailure name why → IsRunFailureOf (Some name) why
@@ -145,12 +133,6 @@ module _ {R : Type 0} (files : List ℕ → KnownFile) (remaining : R → Option
   alone_read names a b reader reader' empty none k =
       subst (λ n. ReadsInput files remaining (source_names n) reader reader' (record { sources = b; unopened = None })) (sym empty)
       (all_ends (source_names []) b reader reader' (all_more files remaining [] true input_name a b reader reader reader' refl (refl, none) k))
-
-  pub alone_refused : (names : List (List ℕ)) (a b : List Source) (reader reader' : R) (failure : OpenFailure) → names ≡ [] → a ≡ [] → GainsSource files remaining input_origin a b reader reader' (Some failure)
-      → ReadsInput files remaining (source_names names) reader reader' (record { sources = b; unopened = Some (record { name = input_name; failure = failure }) })
-  alone_refused names a b reader reader' failure empty none k =
-      subst (λ n. ReadsInput files remaining (source_names n) reader reader' (record { sources = b; unopened = Some (record { name = input_name; failure = failure }) })) (sym empty)
-      (all_refused files remaining [] true input_name a b reader reader reader' refl (refl, none) [] failure k)
 
   pub alone_stopped : (names : List (List ℕ)) (stop : RunFailure) (reader reader' : R) → names ≡ [] → FailsInSource files remaining input_origin reader reader' stop → FailsInSources files remaining (source_names names) reader reader' stop
   alone_stopped names stop reader reader' empty stops =

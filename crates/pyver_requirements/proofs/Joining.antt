@@ -38,14 +38,6 @@ filled-append xs ys =
     let test = λ (l : Line). not (length l.text == 0) in
     ap (filter test) (map-append read xs ys) ∙ filter-append test (map read xs) (map read ys)
 
--- a line that continues
-pub push_on : (a b : LineJoiner) (text : List ℕ) → continues text ≡ true → b.lines.items ≡ a.lines.items → b.first ≡ a.first → b.text.items ≡ a.text.items ++ added text → b.next ≡ a.next + 1
-    → (rest : List (List ℕ)) → lines_with b rest ≡ lines_with a (text ∷ rest)
-push_on a b text on lines first more next rest =
-    (λ i. map logical_line_of (lines i) ++ filled (prefixed (first i) (more i) (joined_from (next i) rest)))
-    ∙ ap (λ l. map logical_line_of a.lines.items ++ filled l)
-    (sym (prefixed_twice a.first a.next a.text.items (added text) (joined_from (a.next + 1) rest)) ∙ ap (prefixed a.first a.text.items) (sym (joined_on a.next text rest on)))
-
 -- a line that ends its logical line
 pub push_end : (a b : LineJoiner) (text : List ℕ) → continues text ≡ false → map logical_line_of b.lines.items ≡ map logical_line_of a.lines.items ++ filled (line a.first (a.text.items ++ added text) ∷ [])
     → b.text.items ≡ [] → b.first ≡ a.next + 1 → b.next ≡ a.next + 1 → (rest : List (List ℕ)) → lines_with b rest ≡ lines_with a (text ∷ rest)

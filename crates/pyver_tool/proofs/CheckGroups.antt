@@ -1,9 +1,16 @@
 -- Groups of words that `check` checks in turn.
-use Rattle.std.proofs.Common.{arith, ◌≡◌, ◌≤◌, ◌<◌, ◌-◌, ℕ, List, [], ◌∷◌, Bool, true, false, Option, ap, drop, inl, inr, length, map, refl, subst, sym, take, take_all}
-use Rattle.pyver_tool.specs.Checks.{CheckResult, ChecksGroup, ChecksGroups, FailsInGroup, FailsInGroups, word_groups}
-use Rattle.pyver_commands.specs.Sources.{KnownFile, source_names}
+use Rattle.std.proofs.Common.{arith, ◌≡◌, ◌≤◌, ◌<◌, ◌-◌, ℕ, List, [], ◌∷◌, false, Option, ap, drop, inl, inr, length, map, refl, subst, sym, take, take_all, ◌∙◌, ◌++◌, append_assoc, if◌then◌else◌}
+use Rattle.pyver_tool.specs.Checks.{CheckResult, ChecksGroup, ChecksGroups, FailsInGroup, FailsInGroups, summary, together_note}
+use Rattle.pyver_commands.specs.Sources.{KnownFile, source_names, input_name}
 use Rattle.pyver_tool.specs.declared.file_kind.FileKind.{FileKind}
 use Rattle.pyver_commands.specs.declared.sources.stream.RunFailure.{RunFailure}
+use Rattle.std.specs.Prelude.{Err, IfOk, Ok, Result, is_ok}
+use Rattle.pyver_findings.specs.ReportTexts.{summary_text}
+use Rattle.pyver_findings.specs.Reports.{Report}
+use Rattle.pyver_tool.proofs.FileReads.{stops_at_once}
+use Rattle.pyver_tool.specs.RequirementFiles.{FailsInFiles, word_file}
+use Rattle.pyver_tool.specs.declared.check.CheckOptions.{CheckOptions}
+use Rattle.pyver_commands.specs.declared.sources.stream.RunFailure.TheVariants as run_failure
 
 -- all words but the first
 later_words : {X : Type 0} (x : X) (words : List X) → words ≡ take (length (x ∷ words) - 1) words
@@ -28,9 +35,6 @@ module _ {R : Type 0} (kind : FileKind) (files : List ℕ → KnownFile) (paths 
       ((b : CheckResult) (reader' : R) → ChecksGroups kind files paths remaining left c b middle reader' → ChecksGroups kind files paths remaining all a b reader reader')
       × ((why : RunFailure) (reader' : R) → FailsInGroups kind files paths remaining left c middle reader' why → FailsInGroups kind files paths remaining all a reader reader' why)
 
-  pub continues_start : (all : List (List (List ℕ))) (a : CheckResult) (reader : R) → Continues all all a a reader reader
-  continues_start all a reader = (λ b reader' k. k, λ why reader' k. k)
-
   module _ (all left others : List (List (List ℕ))) (first : List (List ℕ)) (a c : CheckResult) (reader middle : R) (is : left ≡ first ∷ others) (h : Continues all left a c reader middle) where
     pub continues_more : (d : CheckResult) (later : R) → ChecksGroup kind files paths remaining first c d middle later → Continues all others a d reader later
     continues_more d later step = (
@@ -41,30 +45,33 @@ module _ {R : Type 0} (kind : FileKind) (files : List ℕ → KnownFile) (paths 
     pub continues_stop : (why : RunFailure) (reader' : R) → FailsInGroup kind files paths remaining first middle reader' why → FailsInGroups kind files paths remaining all a reader reader' why
     continues_stop why reader' stops = h.1 why reader' (subst (λ l. FailsInGroups kind files paths remaining l c middle reader' why) (sym is) (inl stops))
 
-  pub continues_end : (all left : List (List (List ℕ))) (a c : CheckResult) (reader middle : R) → [] ≡ left → Continues all left a c reader middle → ChecksGroups kind files paths remaining all a c reader middle
-  continues_end all left a c reader middle is h = h.0 c middle (subst (λ l. ChecksGroups kind files paths remaining l c c middle middle) is (refl, refl))
-
   -- ---- the groups of the words
 
   module _ {X : Type 0} (f : X → List ℕ) (words : List X) (a b : CheckResult) (reader reader' : R) where
-    pub all_checked : (each : Bool) → each ≡ false → ChecksGroup kind files paths remaining (source_names (map f words)) a b reader reader' → ChecksGroups kind files paths remaining (word_groups each (map f words)) a b reader reader'
-    all_checked true is step = let no : true ≡ false = is in cc no
-    all_checked false is step = (b, reader', step, (refl, refl))
 
-    pub all_stops : (each : Bool) (why : RunFailure) → each ≡ false → FailsInGroup kind files paths remaining (source_names (map f words)) reader reader' why → FailsInGroups kind files paths remaining (word_groups each (map f words)) a reader reader' why
-    all_stops true why is stops = let no : true ≡ false = is in cc no
-    all_stops false why is stops = inl stops
+-- ---- how `check` begins, and its last message
 
-    pub input_checked : (each : Bool) → each ≡ true → words ≡ [] → ChecksGroup kind files paths remaining (source_names (map f words)) a b reader reader' → ChecksGroups kind files paths remaining (word_groups each (map f words)) a b reader reader'
-    input_checked false is none step = let no : false ≡ true = is in cc no
-    input_checked true is none step = subst (λ l. ChecksGroup kind files paths remaining (source_names (map f l)) a b reader reader' → ChecksGroups kind files paths remaining (word_groups true (map f l)) a b reader reader') (sym none) (λ k. (b, reader', k, (refl, refl))) step
+-- there is a first source
+some_source : (names : List (List ℕ)) → (name : List ℕ) × (left : List (List ℕ)) × (source_names names ≡ name ∷ left)
+some_source [] = (input_name, [], refl)
+some_source (name ∷ names) = (name, names, refl)
 
-    pub input_stops_group : (each : Bool) (why : RunFailure) → each ≡ true → words ≡ [] → FailsInGroup kind files paths remaining (source_names (map f words)) reader reader' why → FailsInGroups kind files paths remaining (word_groups each (map f words)) a reader reader' why
-    input_stops_group false why is none stops = let no : false ≡ true = is in cc no
-    input_stops_group true why is none stops = subst (λ l. FailsInGroup kind files paths remaining (source_names (map f l)) reader reader' why → FailsInGroups kind files paths remaining (word_groups true (map f l)) a reader reader' why) (sym none) (λ k. inl k) stops
+module _ {R : Type 0} (kind : FileKind) (files : List ℕ → KnownFile) (paths : List ℕ → Option (List ℕ)) (remaining : R → Option (List ℕ)) where
+  -- an allocation failed before anything was read
+  pub group_stops_at_once : (words : List (List ℕ)) (reader : R) → FailsInFiles kind files paths remaining (source_names words) reader reader run_failure.OutOfMemory
+  group_stops_at_once words reader = let first = some_source words in
+      subst (λ w. FailsInFiles kind files paths remaining w reader reader run_failure.OutOfMemory) (sym first.2)
+      (stops_at_once kind files paths remaining (map word_file (first.0 ∷ first.1)) (word_file first.0) (map word_file first.1) reader refl)
 
--- the groups of each word, of which there is one
-pub groups_of_each : {X : Type 0} (f : X → List ℕ) (words : List X) (each : Bool) → each ≡ true → 1 ≤ length words → map (λ word. word ∷ []) (map f words) ≡ word_groups each (map f words)
-groups_of_each f words false is some = let no : false ≡ true = is in cc no
-groups_of_each f [] true is some = absurd (omega (arith, some))
-groups_of_each f (x ∷ words) true is some = refl
+-- a last write, of which this comes
+pub written_last : {T E : Type 0} (r : Result T E) (new old more all : List ℕ) → new ≡ (if is_ok r then old ++ more else old) → old ++ more ≡ all → IfOk r (λ _. new ≡ all)
+written_last (Ok x) new old more all e k = e ∙ k
+written_last (Err x) new old more all e k = tt
+
+-- the note and the counts were written
+pub summary_is : (options : CheckOptions) (words : List (List ℕ)) (r : Report) (old now note counts : List ℕ) → options.quiet ≡ false → now ≡ old ++ note → note ≡ together_note options words r.findings → counts ≡ summary_text r
+    → now ++ counts ≡ old ++ summary options words r
+summary_is options words r old now note counts loud noted is counted =
+    let both : note ++ counts ≡ together_note options words r.findings ++ summary_text r = ap (λ n. n ++ counts) is ∙ ap (λ s. together_note options words r.findings ++ s) counted in
+    ap (λ b. b ++ counts) noted ∙ append_assoc old note counts
+    ∙ ap (λ t. old ++ t) (subst (λ q. note ++ counts ≡ (if q then [] else together_note options words r.findings ++ summary_text r)) (sym loud) both)

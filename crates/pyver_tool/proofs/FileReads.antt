@@ -1,11 +1,11 @@
 -- Requirements files that are read one after another.
-use Rattle.std.proofs.Common.{◌≡◌, ◌⊎◌, ◌∙◌, ◌+◌, ◌-◌, ◌*◌, ◌≤◌, ◌<◌, ℕ, List, [], ◌∷◌, ◌++◌, true, false, Option, None, Some, inl, inr, length, map, take, refl, sym, ap, subst, arith, append_assoc, append-nil, length-append}
+use Rattle.std.proofs.Common.{◌≡◌, ◌⊎◌, ◌∙◌, ◌+◌, ◌-◌, ◌*◌, ◌≤◌, ◌<◌, ℕ, List, [], ◌∷◌, ◌++◌, false, Option, None, Some, inl, inr, length, map, take, refl, sym, ap, subst, arith, append_assoc, append-nil, length-append}
 use Rattle.std.proofs.Math.Seq.{take-append_seam}
 use Rattle.std.proofs.lemmas.Grind.{flat_map-append}
 use Rattle.std.specs.List.{flat_map}
 use Rattle.std.specs.Str.{IsUtf8}
 use Rattle.pyver_commands.proofs.SourceReads.{stops_before}
-use Rattle.pyver_tool.specs.FileSteps.{GainsFile, GainsUnopened, HasNames, HasReads, OpensStep, ReadsStep, StepsOrFailsOpening, names_in, names_of_files, read_of}
+use Rattle.pyver_tool.specs.FileSteps.{GainsFile, GainsUnopened, HasNames, HasReads, ReadsStep, StepsOrFailsOpening, names_in, names_of_files, read_of}
 use Rattle.pyver_tool.specs.RequirementFiles.{FilesRead, HasPath, ReadsFilesInTurn, ReadsNames, ReadsNext, FailsInNames, file_with, has_path, none_read, with_unopened}
 use Rattle.pyver_commands.specs.Sources.SourceTexts.{FailsInText}
 use Rattle.pyver_commands.specs.Sources.{KnownFile, ReadsWhole}
@@ -30,17 +30,6 @@ names_gain (file_kind.Document kind) first a b file path h k =
     k.names ∙ append-nil (names_of_files a) ∙ h ∙ ap (λ (r : FilesRead). first ++ flat_map named_files r.requirements) (sym k.read)
 
 module _ {R : Type 0} (kind : FileKind) (files : List ℕ → KnownFile) (paths : List ℕ → Option (List ℕ)) (remaining : R → Option (List ℕ)) where
-  -- a source with the path had been read
-  pub step_known : (name path : List ℕ) (a : RequirementFiles) (reader : R) → IsUtf8 name → HasPath kind files paths remaining name path → has_path (read_of a) path ≡ true → HasReads a → OpensStep kind files paths remaining name a a reader reader
-  step_known name path a reader utf8 is has reads = record {
-    next = (utf8, path, is, inl (has, refl, refl));
-    names = λ first h. h;
-    more = [];
-    behind = sym (append-nil (names_of_files a));
-    advances = inr (refl, refl);
-    reads = reads;
-  }
-
   -- it was read
   pub step_opened : (name path text : List ℕ) (a b : RequirementFiles) (reader reader' : R) → IsUtf8 name → HasPath kind files paths remaining name path → has_path (read_of a) path ≡ false → ReadsWhole files remaining name reader reader' text
       → GainsFile (kind_by_name kind name) a b (file_with name text) path → a.read_count < b.read_count → HasReads b → StepsOrFailsOpening kind files paths remaining name a b reader reader' None
@@ -72,10 +61,6 @@ module _ {R : Type 0} (kind : FileKind) (files : List ℕ → KnownFile) (paths 
         advances = inr (count, ap (λ n. length n.items) names);
         reads = subst (λ n. n ≤ 562949953421312) (sym count) reads;
       }
-
-  -- an allocation failed after it was not opened
-  pub stops_refused : (name : List ℕ) (why : OpenFailure) (a b : RequirementFiles) (reader reader' : R) → StepsOrFailsOpening kind files paths remaining name a b reader reader' (Some why) → FailsInText files remaining name reader reader' run_failure.OutOfMemory
-  stops_refused name why a b reader reader' (refuses, same, kept) = inl (refl, kept)
 
   -- ---- one source after another
 
@@ -126,8 +111,3 @@ taken all more front rest name i is long =
     let size : length (front ++ name ∷ []) ≡ i + 1 = search (length-append, long, arith) in
     ap (λ l. take (i + 1) (l ++ more)) is ∙ ap (λ l. take (i + 1) (l ++ more)) (sym (append_assoc front (name ∷ []) rest)) ∙ ap (take (i + 1)) (append_assoc (front ++ name ∷ []) rest more)
     ∙ subst (λ n. take n ((front ++ name ∷ []) ++ (rest ++ more)) ≡ front ++ name ∷ []) size (take-append_seam (front ++ name ∷ []) (rest ++ more))
-
--- the reads that may be made get fewer, or the names that are left
-pub measure_less : (a b i m n : ℕ) → (a < b) ⊎ ((b ≡ a) × (n ≡ m)) → b ≤ 562949953421312 → i < m → n < 18446744073709551616 → (562949953421312 - b) * 18446744073709551616 + (n - (i + 1)) < (562949953421312 - a) * 18446744073709551616 + (m - i)
-measure_less a b i m n (inl less) most inside fits = omega (arith, less, most, inside, fits)
-measure_less a b i m n (inr (same, long)) most inside fits = omega (arith, same, long, most, inside, fits)

@@ -1,5 +1,5 @@
 -- How runs end, by what was written.
-use Rattle.std.proofs.Common.{◌≡◌, ◌⊎◌, ◌∙◌, ◌≤◌, ℕ, List, [], ◌++◌, Option, None, Some, inl, inr, refl, sym, ap, subst, append_assoc}
+use Rattle.std.proofs.Common.{◌≡◌, ◌⊎◌, ◌∙◌, ◌≤◌, ℕ, List, [], ◌++◌, Option, None, Some, inl, inr, refl, sym, ap, subst, append_assoc, Bor, true, false, drop}
 use Rattle.std.proofs.KnownBytes.{Appends-trans}
 use Rattle.std.specs.Io.KnownBytes.{Appends}
 use Rattle.std.specs.Prelude.{Bool, Err, IfErr, IfOk, Ok, Result}
@@ -19,8 +19,13 @@ use Rattle.pyver_tool.specs.declared.check.CheckOptions.{CheckOptions}
 use Rattle.pyver_commands.specs.declared.answer.Answer.{Answer}
 use Rattle.pyver_commands.specs.declared.filter.FilterRule.{FilterRule}
 use Rattle.pyver_commands.specs.declared.sources.stream.RunFailure.{RunFailure}
-use Rattle.pyver_commands.specs.declared.sources.stream.RunFailure.TheVariants as run_failure
 use Rattle.pyver_commands.specs.declared.whole_input.Question.{Question}
+use Rattle.std.specs.Option.{option_copied, MatchOption}
+use Rattle.std.specs.Str.{IsCharBoundary}
+use Rattle.std.specs.Str.Pattern.{FindsTextPrefix, StripsPrefix}
+use Rattle.std.proofs.lemmas.Str.Pattern.{starts_text}
+use Rattle.pyver_tool.specs.SplitWords.{value_behind}
+use Rattle.pyver_commands.specs.declared.sources.stream.RunFailure.TheVariants as run_failure
 
 -- a beginning of the message after what was written before
 told_more : (a b c : Option (List ℕ)) (xs message : List ℕ) → Appends a b xs → WroteBeginning b c message → WroteBeginning a c (xs ++ message)
@@ -47,9 +52,6 @@ fails_by (Ok a) Q stopped why is = absurd is
 fails_by (Err failure) Q stopped why is = subst Q (sym is) stopped
 
 module _ {W E : Type 0} (contents : W → Option (List ℕ)) (error_contents : E → Option (List ℕ)) (out out' : W) (err err' : E) (status : ℕ) where
-  pub ends_written : (a : Answer) → Appends (contents out) (contents out') a.output.items → Appends (error_contents err) (error_contents err') a.errors.items → status ≡ a.status → status ≤ 2 → AnswerEnds (Ok a) contents error_contents out out' err err' status
-  ends_written a output errors ended low = inl (record { outcome = outcome_of a; is = refl; output = output; errors = errors; ended = ended; low = low })
-
   pub ends_in_output : (a : Answer) (message : List ℕ) → IsWriteFailure status message → WroteBeginning (contents out) (contents out') a.output.items → WroteBeginning (error_contents err) (error_contents err') message
       → AnswerEnds (Ok a) contents error_contents out out' err err' status
   ends_in_output a message why output errors = inr (record { begun = AtOnce (outcome_of a); message = message; why = (refl, why); begins = inl (output, errors) })
@@ -162,3 +164,13 @@ module _ {R W E : Type 0} (files : List ℕ → KnownFile) (paths : List ℕ →
               record { told = k.errors.written; untold = k.errors.left; split = k.errors.whole; wrote = told_more _ _ _ k.errors.written message k.errors.wrote wrote },
             );
           })
+
+-- ---- what stands after the beginning of a word
+
+-- `strip_prefix` at a string
+pub behind_is : (start word : List ℕ) (r : Option (Bor (List ℕ))) → MatchOption r (FindsTextPrefix start word None) (λ x. StripsPrefix (FindsTextPrefix start) word x.now) → option_copied r ≡ value_behind start word
+behind_is start word None h = rw (← starts_text false start word h) refl
+behind_is start word (Some x) (k, f, is, len) =
+    let at : IsCharBoundary word k = subst (IsCharBoundary word) (sym f.0) f.2 in
+    let begins = starts_text true start word (k, f, at) in
+    rw (← begins) (ap Some (is ∙ ap (λ (m : ℕ). drop m word) f.0))

@@ -1,11 +1,11 @@
 -- The words of a call, one after another.
-use Rattle.std.proofs.Common.{◌≡◌, ◌∙◌, ◌-◌, ◌≤◌, ◌++◌, ℕ, List, [], ◌∷◌, true, false, Some, None, append_assoc, arith, ap, bytes_eq, codes, cond, drop, get_or, length, map, refl, sym, take}
-use Rattle.std.proofs.lemmas.List.{take_all}
+use Rattle.std.proofs.Common.{◌≡◌, ◌∙◌, ◌-◌, ◌≤◌, ◌++◌, ℕ, List, [], ◌∷◌, true, false, Some, None, append_assoc, arith, ap, bytes_eq, codes, cond, drop, get_or, length, map, refl, sym, take, Option}
+use Rattle.std.proofs.lemmas.List.{take_all, map-append}
 use Rattle.std.specs.Prelude.{Bool, ◌||◌}
 use Rattle.pyver_tool.specs.Options.{Row}
-use Rattle.pyver_tool.specs.Tasks.{Help, NameVersion, help_task, named_task, task_of}
-use Rattle.pyver_tool.specs.declared.help.Topic.TheVariants as topic
+use Rattle.pyver_tool.specs.Tasks.{Help, NameVersion, help_task, named_task, task_of, bump_operands, by_last}
 use Rattle.pyver_tool.specs.SplitWords.{Awaits, End, Given, Missing, Named, Split, UnknownWord, Whole, before, by_end, is_option, split_words, word_options}
+use Rattle.pyver_tool.specs.declared.help.Topic.TheVariants as topic
 
 -- the first word and the others
 pub first_word : {W : Type 0} (f : W → List ℕ) (words : List W) (w : W) (text : List ℕ) → 1 ≤ length words → w ≡ get_or words 0 w → text ≡ f w → map f words ≡ text ∷ map f (take (length words - 1) (drop 1 words))
@@ -58,3 +58,25 @@ named_word word rest no_h no_help no_v no_version no_word =
     let after_version = cond (bytes_eq word (codes "help")) (help_task rest) (named_task word rest) in
     let after_help = cond (bytes_eq word (codes "-V") || bytes_eq word (codes "--version")) NameVersion after_version in
     ap (λ b. cond b (Help topic.Program) after_help) (neither _ _ no_h no_help) ∙ ap (λ b. cond b NameVersion after_version) (neither _ _ no_v no_version) ∙ ap (λ b. cond b (help_task rest) (named_task word rest)) no_word
+
+-- ---- how the words of `bump` are distinguished
+
+front : (first : List ℕ) (words : List (List ℕ)) (last : List ℕ) → take (length (words ++ last ∷ [])) (first ∷ (words ++ last ∷ [])) ≡ first ∷ words
+front first [] last = refl
+front first (word ∷ words) last = ap (λ (ws : List (List ℕ)). first ∷ ws) (front word words last)
+
+end : (first : List ℕ) (words : List (List ℕ)) (last : List ℕ) → get_or (first ∷ (words ++ last ∷ [])) (length (words ++ last ∷ [])) [] ≡ last
+end first [] last = refl
+end first (word ∷ words) last = end word words last
+
+last_word : (to : Option ℕ) (before : List (List ℕ)) (last : List ℕ) → bump_operands to (before ++ last ∷ []) ≡ by_last to (before ++ last ∷ []) before last
+last_word to [] last = refl
+last_word to (word ∷ words) last =
+    ap (λ ws. by_last to (word ∷ (words ++ last ∷ [])) ws (get_or (word ∷ (words ++ last ∷ [])) (length (words ++ last ∷ [])) [])) (front word words last)
+    ∙ ap (by_last to (word ∷ (words ++ last ∷ [])) (word ∷ words)) (end word words last)
+
+-- the operands end with this word
+pub operands_end : {X : Type 0} (view : X → List ℕ) (to : Option ℕ) (words before : List X) (last : X) → words ≡ before ++ last ∷ [] → bump_operands to (map view words) ≡ by_last to (map view words) (map view before) (view last)
+operands_end view to words before last is =
+    let viewed : map view words ≡ map view before ++ view last ∷ [] = ap (map view) is ∙ map-append view before (last ∷ []) in
+    ap (bump_operands to) viewed ∙ last_word to (map view before) (view last) ∙ ap (λ ws. by_last to ws (map view before) (view last)) (sym viewed)

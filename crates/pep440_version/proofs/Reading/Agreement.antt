@@ -9,8 +9,7 @@ use Rattle.pep440_version.specs.Record.{Record, epoch_and_release}
 use Rattle.pep440_version.specs.Rejections.{PatternRejection, OfVersion, WildcardNotTrailing}
 use Rattle.pep440_version.specs.Whole.{parse_release_after_epoch, parse_epoch_and_release, parse_through_release, parse_parts, parse_end, parse_after_release, starts_with_star, without_star, pattern_from, read_pattern, version_of, read_version}
 use Rattle.pep440_version.proofs.Reading.Prefixes.{both_first, both_second, past-run, lead-all}
-use Rattle.pep440_version.proofs.Reading.ReadIsDerived.{bind_ok, chosen, inside, split, number_takes, release_takes, drop_one, v_takes, blank_end}
-use Rattle.pep440_version.proofs.Reading.DerivedIsRead.{number_first, number_again, release_first, release_again, blanks_stop, v_again, v_not_blank}
+use Rattle.pep440_version.proofs.Reading.ReadIsDerived.{bind_ok, chosen, inside, split, number_takes, release_takes, drop_one, v_takes, blank_end, number_first, number_again, release_first, release_again, blanks_stop, v_again, v_not_blank}
 use Rattle.pep440_version.proofs.Reading.Endings.{some_numbers}
 use Rattle.pep440_version.proofs.Reading.AfterRelease.{follows_local, follows_dev, follows_post, follows_pre}
 use Rattle.pep440_version.proofs.Reading.PartsAgree.{Parts, from_parts, parts_take, parts_again}

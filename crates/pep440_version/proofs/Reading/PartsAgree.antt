@@ -10,10 +10,9 @@ use Rattle.pep440_version.specs.Suffixes.{spelled, skip_separator, after_spellin
 use Rattle.pep440_version.specs.Whole.{parse_parts}
 use Rattle.pep440_version.proofs.Reading.Prefixes.{both_first, both_second}
 use Rattle.pep440_version.proofs.Reading.ReadIsDerived.{bind_ok, chosen, inside, number_takes, drop_one}
-use Rattle.pep440_version.proofs.Reading.ReadIsSpelled.{suffix_takes}
-use Rattle.pep440_version.proofs.Reading.SuffixesAreRead.{pre_again, post_again, dev_again}
+use Rattle.pep440_version.proofs.Reading.SpelledIsRead.{suffix_takes}
+use Rattle.pep440_version.proofs.Reading.AfterRelease.{pre_again, post_again, dev_again, quiet_local}
 use Rattle.pep440_version.proofs.Reading.LocalAgrees.{local_takes, local_again}
-use Rattle.pep440_version.proofs.Reading.AfterRelease.{quiet_local}
 
 none_takes : {A : Type 0} (table : Spellings A) (t after : List ℕ) → parse_suffix table t ≡ Ok (None, after) → t ≡ after
 none_takes {A} table t after e = by (spelled table (skip_separator t)) e

@@ -1,5 +1,5 @@
 -- Fronts of texts.
-use Rattle.std.proofs.Common.{◌≡◌, ◌∙◌, ◌<◌, ◌+◌, ◌-◌, ◌==◌, ◌&&◌, ℕ, suc, zero, Bool, true, false, List, [], ◌∷◌, ◌++◌, refl, sym, ap, arith, length, inl, inr, get_or}
+use Rattle.std.proofs.Common.{◌≡◌, ◌∙◌, ◌<◌, ◌+◌, ◌-◌, ◌==◌, ◌&&◌, ℕ, suc, zero, Bool, true, false, List, [], ◌∷◌, ◌++◌, refl, sym, ap, arith, length, inl, inr, get_or, ◌≤◌, subst}
 use Rattle.std.proofs.lemmas.Bool.{cases_Bool}
 use Rattle.std.proofs.lemmas.Bool.Decides.{nat_tests}
 use Rattle.std.proofs.Math.Seq.{drop-append_seam, take-append_seam}
@@ -7,6 +7,8 @@ use Rattle.std.specs.Char.{is_ascii_digit, is_ascii_alphanumeric, is_ascii_white
 use Rattle.std.specs.List.{prefix_len, list_all}
 use Rattle.pep440_version.specs.Grammar.{starts, is_v}
 use Rattle.pep440_version.specs.Reading.{lead, past}
+use Rattle.std.proofs.lemmas.Str.{IsCharBoundary-start, IsCharBoundary-after_ascii}
+use Rattle.std.specs.Str.{IsCharBoundary, IsUtf8}
 
 pub both_first : (a b : Bool) → (a && b) ≡ true → a ≡ true
 both_first true b e = refl
@@ -87,3 +89,12 @@ digit_ascii b e = grind (arith, nat_tests)
 
 pub alphanumeric_ascii : (b : ℕ) → is_ascii_alphanumeric b ≡ true → b < 128
 alphanumeric_ascii b e = grind (arith, nat_tests)
+
+-- ---- where a text may be cut
+
+pub split_after_ascii : (bs : List ℕ) (n : ℕ) → IsUtf8 bs → n ≤ length bs → (0 < n → get_or bs (n - 1) 0 < 128) → IsCharBoundary bs n
+split_after_ascii bs zero u inside ascii = IsCharBoundary-start bs u
+split_after_ascii bs (suc k) u inside ascii =
+    let back : suc k - 1 ≡ k = omega arith in
+    let next : k + 1 ≡ suc k = omega arith in
+    subst (IsCharBoundary bs) next (IsCharBoundary-after_ascii bs k u (omega (arith, inside)) (subst (λ j. get_or bs j 0 < 128) back (ascii (omega arith))))

@@ -11,12 +11,12 @@ use Rattle.pep440_version.specs.Rejections.{Rejection}
 use Rattle.pep440_version.specs.Suffixes.{parse_pre, parse_post, parse_dev}
 use Rattle.pep440_version.specs.Whole.{parse_release_after_first, parse_epoch_and_release, parse_through_release, parse_parts, parse_end, parse_after_release, starts_with_star, pattern_from, read_pattern}
 use Rattle.pep440_version.specs.Word.{is_packed}
-use Rattle.pep440_version.proofs.Reading.AfterFirstNumber.{more_on}
+use Rattle.pep440_version.proofs.Reading.AfterRelease.{more_on}
 use Rattle.pep440_version.proofs.Reading.Agreement.{end_takes, sure, without_star_is}
-use Rattle.pep440_version.proofs.Reading.NumbersInTurn.{with_prefix}
+use Rattle.pep440_version.proofs.Reading.Digits.{with_prefix}
 use Rattle.pep440_version.proofs.Reading.PartsAgree.{parts_take}
 use Rattle.pep440_version.proofs.Reading.ReadIsDerived.{bind_ok, chosen, inside}
-use Rattle.pep440_version.proofs.Words.Packed.{packed}
+use Rattle.pep440_version.proofs.Words.Blocks.{packed}
 
 -- where a fault of a part is a fault of the whole, and the whole is read, the part is read
 pub read_too : {X Y : Type 0} (read : Read X) (out : Read Y) → ((f : Rejection) → read ≡ Err f → out ≡ Err f) → (y : Y) → out ≡ Ok y → (x : X) × (read ≡ Ok x)

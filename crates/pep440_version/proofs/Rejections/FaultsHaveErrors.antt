@@ -10,17 +10,13 @@ use Rattle.pep440_version.specs.Record.{Record}
 use Rattle.pep440_version.specs.Rejections.{Rejection, Wildcard, NumberTooBig, NoLeadingNumber, NoLeadingReleaseNumber, LocalEmpty, UnexpectedEnd, OfVersion, ends, Opens, IsBigRun, HasStar, RejectsEarlier, Rejects}
 use Rattle.pep440_version.specs.Whole.{parse_release_after_epoch, parse_through_release, parse_epoch_and_release, parse_parts, parse_end, starts_with_star, without_star, pattern_from, read_pattern, version_of, read_version}
 use Rattle.pep440_version.proofs.Reading.Prefixes.{both_first, both_second, past-stops, lead-all, digit_not_blank, digit_not_v}
-use Rattle.pep440_version.proofs.Reading.ReadIsDerived.{chosen, inside, split, drop_one, number_takes}
-use Rattle.pep440_version.proofs.Reading.DerivedIsRead.{number_first, number_again}
+use Rattle.pep440_version.proofs.Reading.ReadIsDerived.{chosen, inside, split, drop_one, number_takes, number_first, number_again}
 use Rattle.pep440_version.proofs.Reading.Agreement.{prefix_takes, drop_two}
 use Rattle.pep440_version.proofs.Rejections.LongerTexts.{IsEnd, IsLater, end_of, number_end}
 use Rattle.pep440_version.proofs.Rejections.LongerParts.{opening_end, opening_split, end_long}
-use Rattle.pep440_version.proofs.Rejections.LongestPrefix.{Fault, AtOpening, AtStar, AtParts, AtEnd, fails, fault, longest, prefix_derived, some_rest}
-use Rattle.pep440_version.proofs.Rejections.ZeroForDigits.{IsRun, run_starts, run_refused, Twin, Stays, Stops, Fails, ends_append, ends_last, starts_not, starts_stays, past_stays, number_stays}
-use Rattle.pep440_version.proofs.Rejections.ZeroInParts.{opening_twins, v_stays, all_release, fuel, release_one, prefix_zero, no_room, goes_short}
-use Rattle.pep440_version.proofs.Rejections.FaultsOfParts.{Stop, StopLater, number_error, bind_err}
-use Rattle.pep440_version.proofs.Rejections.FaultsOfLocals.{PartsFault, parts_error, not_later}
-use Rattle.pep440_version.proofs.Rejections.NoPlus.{lacks_derived, lacks_prefix}
+use Rattle.pep440_version.proofs.Rejections.LongestPrefix.{Fault, AtOpening, AtStar, AtParts, AtEnd, fails, fault, longest, prefix_derived, some_rest, lacks_derived, lacks_prefix}
+use Rattle.pep440_version.proofs.Rejections.ZeroForDigits.{IsRun, run_starts, run_refused, Twin, Stays, Stops, Fails, ends_append, ends_last, starts_not, starts_stays, past_stays, number_stays, opening_twins, v_stays, all_release, fuel, release_one, prefix_zero, no_room, goes_short}
+use Rattle.pep440_version.proofs.Rejections.FaultsOfParts.{Stop, StopLater, number_error, bind_err, PartsFault, parts_error, not_later}
 use Rattle.pep440_version.proofs.Rejections.LinesDecide.{first_decides}
 
 -- ---- the release

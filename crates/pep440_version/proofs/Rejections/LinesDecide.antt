@@ -11,14 +11,11 @@ use Rattle.pep440_version.specs.Record.{Record, LocalSegmentValue}
 use Rattle.pep440_version.specs.Rejections.{Rejection, Wildcard, NumberTooBig, NoLeadingNumber, NoLeadingReleaseNumber, LocalEmpty, UnexpectedEnd, Opens, RejectsEarlier}
 use Rattle.pep440_version.specs.Whole.{parse_through_release, parse_epoch_and_release, parse_parts, starts_with_star, pattern_from, version_of, read_version}
 use Rattle.pep440_version.proofs.Reading.Prefixes.{both_first, past-run, lead-run}
-use Rattle.pep440_version.proofs.Reading.ReadIsDerived.{inside}
-use Rattle.pep440_version.proofs.Reading.DerivedIsRead.{number_first, number_again}
-use Rattle.pep440_version.proofs.Reading.SuffixesAreRead.{IsQuiet, pre_again, post_again, dev_again}
-use Rattle.pep440_version.proofs.Reading.AfterRelease.{Follows, follows_pre, follows_post, follows_dev, plus_no_letter}
+use Rattle.pep440_version.proofs.Reading.ReadIsDerived.{inside, number_first, number_again}
+use Rattle.pep440_version.proofs.Reading.AfterRelease.{IsQuiet, pre_again, post_again, dev_again, Follows, follows_pre, follows_post, follows_dev, plus_no_letter}
 use Rattle.pep440_version.proofs.Reading.Agreement.{prefix_again, opening_again, only}
 use Rattle.pep440_version.proofs.Rejections.LongestPrefix.{Whole, whole}
-use Rattle.pep440_version.proofs.Rejections.ZeroForDigits.{IsRun, run_starts, Twin, Stays, Stops, Fails, ends_end}
-use Rattle.pep440_version.proofs.Rejections.ZeroInParts.{opening_twins, parts_twin, star_stays, lacks_end}
+use Rattle.pep440_version.proofs.Rejections.ZeroForDigits.{IsRun, run_starts, Twin, Stays, Stops, Fails, ends_end, opening_twins, parts_twin, star_stays, lacks_end}
 use Rattle.pep440_version.proofs.Reading.LocalAgrees.{segment_first, separator_no_alphanumeric}
 
 pub opens_again : (text rest : List ℕ) → Opens text rest → parse_through_release text ≡ parse_epoch_and_release rest

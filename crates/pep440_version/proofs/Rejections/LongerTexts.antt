@@ -11,8 +11,7 @@ use Rattle.pep440_version.specs.Rejections.{Rejection}
 use Rattle.pep440_version.specs.Suffixes.{starts_with_word, spelled, skip_separator, parse_count, after_spelling, parse_suffix, suffix_number, suffix_prerelease, parse_pre, is_implicit_post, parse_post, parse_dev}
 use Rattle.pep440_version.proofs.Reading.Prefixes.{both_first, both_second}
 use Rattle.pep440_version.proofs.Reading.ReadIsDerived.{bind_ok, chosen, inside, split, drop_one}
-use Rattle.pep440_version.proofs.Reading.SpelledIsRead.{BeginWithLetters, letters_pre, letters_post, letters_dev}
-use Rattle.pep440_version.proofs.Reading.ReadIsSpelled.{some}
+use Rattle.pep440_version.proofs.Reading.SpelledIsRead.{BeginWithLetters, letters_pre, letters_post, letters_dev, some}
 
 abbrev pub Reader : Type 0 → Type 0
 Reader A = List ℕ → Result (A × List ℕ) Rejection

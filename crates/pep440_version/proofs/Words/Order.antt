@@ -5,8 +5,7 @@ use Rattle.pep440_version.specs.Key.{record_cmp, release_cmp}
 use Rattle.pep440_version.specs.Record.{Record}
 use Rattle.pep440_version.specs.Word.{is_packed, word_of, word}
 use Rattle.pep440_version.proofs.Ordering.Comparisons.{then_assoc}
-use Rattle.pep440_version.proofs.Words.Blocks.{nat_cmp_block, release_four, four_cmp}
-use Rattle.pep440_version.proofs.Words.Packed.{IsShort, packed}
+use Rattle.pep440_version.proofs.Words.Blocks.{nat_cmp_block, release_four, four_cmp, IsShort, packed}
 use Rattle.pep440_version.proofs.Words.Suffixes.{Suffix, class_of, number_of, class_lt, record_of, places_cmp, suffixes_in_order}
 
 -- the sum of products as numbers one behind another

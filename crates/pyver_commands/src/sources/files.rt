@@ -55,7 +55,7 @@ pub fn find_output<'a, F: Files>(names: &'a [String], files: &F) -> Option<&'a s
     find_among(names, files)
 }
 
-// The same of the sources with these names.
+// The first of these names whose source is also the output.
 fn find_among<'a, F: Files>(names: &'a [String], files: &F) -> Option<&'a str>
     ensures { FindsOutput (F.output files.now) (map string_bytes names.now) (option_map (λ n. n.now) result) }
 {

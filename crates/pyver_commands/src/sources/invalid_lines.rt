@@ -12,7 +12,7 @@ use std::alloc::{AllocError, Global};
 pub enum InvalidLines {
     /// They are named, and the status is 2.
     Error,
-    /// The same; no option leaves them out.
+    /// They are named, the status is 2, and no option leaves them out.
     AlwaysError,
     /// They are left out and counted.
     Skip,

@@ -3,7 +3,7 @@ use Rattle.std.proofs.lemmas.Bool.{ne_eqb}
 use Rattle.std.proofs.lemmas.List.{take_rest}
 use Rattle.std.proofs.lemmas.List.Elements.{All-more}
 use Rattle.std.proofs.lemmas.List.Splits.{slice_split_none}
-use Rattle.cli_io.proofs.FirstLine.{line_read}
+use Rattle.cli_io.proofs.Bytes.{line_read}
 use Rattle.cli_io.proofs.newlines.split_line.Goals as goal
 
 pub returns-then-byte-eq10-clause-lines : goal.returns-then-byte-eq10-clause-lines

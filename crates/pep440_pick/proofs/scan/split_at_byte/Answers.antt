@@ -1,5 +1,5 @@
 use Rattle.std.proofs.lemmas.Str.Pattern.{split_parts}
-use Rattle.pep440_pick.proofs.Splitting.{split_is}
+use Rattle.pep440_pick.proofs.Joined.{split_is}
 use Rattle.pep440_pick.proofs.scan.split_at_byte.Goals as goal
 
 pub returns : goal.returns

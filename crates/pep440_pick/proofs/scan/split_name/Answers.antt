@@ -1,7 +1,6 @@
-use Rattle.pep440_version.proofs.Reading.Boundaries.{split_after_ascii}
-use Rattle.pep440_version.proofs.Reading.Prefixes.{prefix_ascii}
+use Rattle.pep440_version.proofs.Reading.Prefixes.{split_after_ascii, prefix_ascii}
 use Rattle.pep440_pick.specs.Names.{is_name_byte}
-use Rattle.pep440_pick.proofs.Splitting.{name_byte_ascii}
+use Rattle.pep440_pick.proofs.Joined.{name_byte_ascii}
 use Rattle.pep440_pick.proofs.scan.split_name.Goals as goal
 
 pub split_at-requires : goal.split_at-requires

@@ -1,5 +1,5 @@
 use Rattle.std.proofs.lemmas.Str.Pattern.{strip_suffix_char}
-use Rattle.pep440_pick.proofs.Splitting.{end_is}
+use Rattle.pep440_pick.proofs.Joined.{end_is}
 use Rattle.pep440_pick.proofs.scan.strip_end.Goals as goal
 
 pub returns : goal.returns

@@ -1,5 +1,5 @@
 use Rattle.std.proofs.lemmas.Str.Pattern.{strip_prefix_char}
-use Rattle.pep440_pick.proofs.Splitting.{prefix_is}
+use Rattle.pep440_pick.proofs.Joined.{prefix_is}
 use Rattle.pep440_pick.proofs.scan.strip_start.Goals as goal
 
 pub returns : goal.returns

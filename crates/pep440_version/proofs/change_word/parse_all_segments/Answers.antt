@@ -1,8 +1,7 @@
 use Rattle.std.proofs.Common.{[], ◌∷◌, get_or, map, refl}
 use Rattle.std.proofs.lemmas.List.{map-append}
 use Rattle.pep440_version.specs.Segments.{segment}
-use Rattle.pep440_version.proofs.ChangeWords.Items.{more, no_text, stop}
-use Rattle.pep440_version.proofs.ChangeWords.NotRead.{not_read}
+use Rattle.pep440_version.proofs.ChangeWords.Items.{more, no_text, stop, not_read}
 use Rattle.pep440_version.specs.Changes.ChangeWords.{local_segment_of}
 use Rattle.pep440_version.proofs.change_word.parse_all_segments.Goals as goal
 

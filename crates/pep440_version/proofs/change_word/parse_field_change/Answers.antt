@@ -6,7 +6,7 @@ use Rattle.pep440_version.specs.declared.change_word.ChangeWordError.{ChangeWord
 use Rattle.pep440_version.specs.Changes.{Edit, edit, Release, Local}
 use Rattle.pep440_version.specs.Changes.ChangeWords.{field_change}
 use Rattle.pep440_version.specs.Changes.ChangeWordResults.{ReadsAs}
-use Rattle.pep440_version.proofs.ChangeWords.NotRead.{not_read}
+use Rattle.pep440_version.proofs.ChangeWords.Items.{not_read}
 use Rattle.pep440_version.proofs.change_word.parse_field_change.Goals as goal
 
 -- the change that a value is made into

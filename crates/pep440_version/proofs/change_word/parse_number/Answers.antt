@@ -1,5 +1,5 @@
 use Rattle.std.proofs.Common.{◌∙◌}
-use Rattle.pep440_version.proofs.ChangeWords.Numbers.{number_when}
+use Rattle.pep440_version.proofs.ChangeWords.Items.{number_when}
 use Rattle.pep440_version.proofs.change_word.parse_number.Goals as goal
 
 pub returns : goal.returns

@@ -1,6 +1,6 @@
 use Rattle.std.proofs.Common.{◌≡◌, ◌∙◌, ap, arith, sym, take}
 use Rattle.pep440_version.specs.Key.Trim.{trim}
-use Rattle.pep440_version.proofs.Ordering.ListEnds.{trim-drop_zero, trim-prefix}
+use Rattle.pep440_version.proofs.Ordering.Comparisons.{trim-drop_zero, trim-prefix}
 use Rattle.pep440_version.proofs.key.trim_trailing_zeros.Goals as goal
 use Rattle.pep440_version.proofs.key.trim_trailing_zeros.Goals.{then-loop-end-test+else-numbers-end-eq0, else-loop-end-test}
 

@@ -3,8 +3,8 @@ use Rattle.std.proofs.lemmas.Result.{err_from_is_err_and}
 use Rattle.pep440_version.specs.Errors.{rejection_of}
 use Rattle.pep440_version.specs.Reading.{parse_number, starts_with_number}
 use Rattle.pep440_version.specs.Whole.{parse_epoch_and_release}
-use Rattle.pep440_version.proofs.Reading.NumbersInTurn.{fault_on}
-use Rattle.pep440_version.proofs.Reading.AfterFirstNumber.{prefix_plain, prefix_epoch, prefix_err}
+use Rattle.pep440_version.proofs.Reading.Digits.{fault_on}
+use Rattle.pep440_version.proofs.Reading.AfterRelease.{prefix_plain, prefix_epoch, prefix_err}
 use Rattle.pep440_version.proofs.Reading.WithoutMemory.{read_too}
 use Rattle.pep440_version.proofs.parse.parse_epoch_and_release.Goals as goal
 

@@ -8,7 +8,7 @@ use Rattle.pep440_version.specs.Segments.{segment}
 use Rattle.pep440_version.specs.Suffixes.{parse_dev, parse_post, parse_pre}
 use Rattle.pep440_version.specs.Whole.{parse_parts}
 use Rattle.pep440_version.proofs.Reading.LocalAgrees.{local_takes}
-use Rattle.pep440_version.proofs.Reading.NumbersInTurn.{fault_on}
+use Rattle.pep440_version.proofs.Reading.Digits.{fault_on}
 use Rattle.pep440_version.proofs.RoundTrip.PrintIsRead.{local_is}
 use Rattle.pep440_version.proofs.Reading.WithoutMemory.{pre_too, post_too, local_too, no_local}
 use Rattle.pep440_version.proofs.parse.parse_parts.Goals as goal

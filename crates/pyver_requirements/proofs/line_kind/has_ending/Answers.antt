@@ -2,7 +2,7 @@ use Rattle.std.proofs.Common.{◌-◌, ◌∙◌, ℕ, List, ap, drop, length, t
 use Rattle.std.proofs.lemmas.List.{take_rest}
 use Rattle.std.specs.Char.{eq_ignore_ascii_case}
 use Rattle.std.specs.Cmp.Lexicographic.{pointwise}
-use Rattle.pyver_requirements.proofs.Endings.{case_ignored}
+use Rattle.pyver_requirements.proofs.Lines.{case_ignored}
 use Rattle.pyver_requirements.proofs.line_kind.has_ending.Goals as goal
 
 pub returns : goal.returns

@@ -1,4 +1,4 @@
-use Rattle.pyver_tool.proofs.Starts.{behind_is}
+use Rattle.pyver_tool.proofs.RunEnds.{behind_is}
 use Rattle.pyver_tool.proofs.split_words.value_behind.Goals as goal
 
 pub returns : goal.returns

@@ -1,5 +1,5 @@
 use Rattle.std.proofs.Common.{◌≡◌, map, string_bytes}
-use Rattle.pep440_pick.proofs.Copies.{same_views}
+use Rattle.pep440_pick.proofs.Normal.{same_views}
 use Rattle.pep440_pick.proofs.requirement.RequirementClone.clone.Goals as goal
 
 pub returns : goal.returns

@@ -1,7 +1,7 @@
 use Rattle.std.proofs.Common.{◌≡◌, ◌∙◌, ap, sym, map}
 use Rattle.pep440_version.specs.Changes.{Local, edit}
 use Rattle.pep440_version.specs.Segments.{segment}
-use Rattle.pep440_version.proofs.Meaning.Clones.{same_segments}
+use Rattle.pep440_version.proofs.Meaning.NumbersFit.{same_segments}
 use Rattle.pep440_version.proofs.change.ChangeClone.clone.Goals as goal
 
 pub returns-in_ok-clone-in-Local : goal.returns-in_ok-clone-in-Local

@@ -1,6 +1,6 @@
 use Rattle.std.proofs.Common.{◌≡◌, ◌∙◌, arith, sym}
 use Rattle.pep440_version.specs.Word.{word_of}
-use Rattle.pep440_version.proofs.Reading.NormalVersions.{packs, short_is}
+use Rattle.pep440_version.proofs.Reading.NormalParts.{packs, short_is}
 use Rattle.pep440_version.proofs.packed.Packed.of_suffix.Goals as goal
 
 pub returns-then-not-are_small-clause-none : goal.returns-then-not-are_small-clause-none

@@ -2,7 +2,7 @@ use Rattle.std.proofs.Common.{◌≡◌, ◌∙◌, ap, arith, length}
 use Rattle.pep440_version.specs.Form.{unpacked_record}
 use Rattle.pep440_version.specs.Record.{Record}
 use Rattle.pep440_version.specs.Word.{word_of}
-use Rattle.pep440_version.proofs.Words.Shown.{given, shown}
+use Rattle.pep440_version.proofs.Words.Replaced.{given, shown}
 use Rattle.pep440_version.proofs.packed.Packed.pack.Goals as goal
 
 pub returns-clause-some : goal.returns-clause-some

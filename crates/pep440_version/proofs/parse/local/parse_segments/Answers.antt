@@ -2,7 +2,7 @@ use Rattle.std.proofs.Common.{◌≡◌, ◌-◌, ◌+◌, ◌∙◌, suc, sym, 
 use Rattle.std.specs.Char.{is_ascii_alphanumeric}
 use Rattle.pep440_version.specs.Reading.{lead}
 use Rattle.pep440_version.specs.Segments.{segment}
-use Rattle.pep440_version.proofs.Reading.SegmentsInTurn.{segments_end, segments_on, no_segment, no_fuel, lead_empty}
+use Rattle.pep440_version.proofs.Reading.LocalAgrees.{segments_end, segments_on, no_segment, no_fuel, lead_empty}
 use Rattle.pep440_version.proofs.parse.local.parse_segments.Goals as goal
 
 pub returns-then-is_empty : goal.returns-then-is_empty

@@ -3,7 +3,7 @@ use denote.Text.{Utf8}
 use denote.Shadow.{shadow}
 use Rattle.pep440_version.specs.Locals.{parse_segments}
 use Rattle.pep440_version.specs.Segments.{segment}
-use Rattle.pep440_version.proofs.Reading.SegmentsInTurn.{with_segments}
+use Rattle.pep440_version.proofs.Reading.LocalAgrees.{with_segments}
 use Rattle.pep440_version.proofs.parse.local.parse_segments.Given as goal
 
 abbrev pub invariant-loop-round : goal.invariant-loop-round

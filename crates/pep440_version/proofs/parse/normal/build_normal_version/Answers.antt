@@ -3,7 +3,7 @@ use Rattle.pep440_version.specs.Form.{record_in}
 use Rattle.pep440_version.specs.Grammar.{Derives}
 use Rattle.pep440_version.specs.Reading.{skip_v}
 use Rattle.pep440_version.specs.Record.{IsRecord}
-use Rattle.pep440_version.proofs.Reading.NormalVersions.{normal}
+use Rattle.pep440_version.proofs.Reading.NormalParts.{normal}
 use Rattle.pep440_version.proofs.Reading.ReadIsDerived.{v_takes}
 use Rattle.pep440_version.proofs.RoundTrip.PrintIsRead.{derived_record}
 use Rattle.pep440_version.proofs.parse.normal.build_normal_version.Goals as goal

@@ -3,7 +3,7 @@ use Rattle.std.proofs.lemmas.Grind.{common_steps}
 use Rattle.std.specs.List.{starts_with}
 use Rattle.std.specs.Prelude.{if◌then◌else◌}
 use Rattle.pep440_version.specs.Normal.{IsClass, spelling}
-use Rattle.pep440_version.proofs.Reading.ReadIsSpelled.{some}
+use Rattle.pep440_version.proofs.Reading.SpelledIsRead.{some}
 use Rattle.pep440_version.proofs.parse.normal.parse_class.Goals as goal
 
 -- the class that leads, and the rest

@@ -2,8 +2,8 @@ use Rattle.std.proofs.Common.{◌≡◌, ◌∙◌, ◌+◌, ◌*◌, [], ap, ar
 use Rattle.std.proofs.lemmas.List.{drop_all, nil_from_length}
 use Rattle.std.specs.Char.{is_ascii_digit}
 use Rattle.pep440_version.specs.Grammar.{starts}
-use Rattle.pep440_version.proofs.Reading.NormalVersions.{Digits, digit_more, number_ends, rest_of, starts_at}
-use Rattle.pep440_version.proofs.Reading.PrintedNumbers.{printed_bounds, printed_ends, printed_starts}
+use Rattle.pep440_version.proofs.Reading.NormalParts.{Digits, digit_more, number_ends, rest_of, starts_at}
+use Rattle.pep440_version.proofs.Reading.PrintedParts.{printed_bounds, printed_ends, printed_starts}
 use Rattle.pep440_version.proofs.parse.normal.parse_small_number.Goals as goal
 
 pub returns-then-not-is_ascii_digit-2-clause-number : goal.returns-then-not-is_ascii_digit-2-clause-number

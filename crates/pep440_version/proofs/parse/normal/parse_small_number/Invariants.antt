@@ -1,5 +1,5 @@
 use Rattle.std.proofs.Common.{◌≤◌}
-use Rattle.pep440_version.proofs.Reading.NormalVersions.{Digits}
+use Rattle.pep440_version.proofs.Reading.NormalParts.{Digits}
 use Rattle.pep440_version.proofs.parse.normal.parse_small_number.Given as goal
 
 abbrev pub invariant-loop-i : goal.invariant-loop-i

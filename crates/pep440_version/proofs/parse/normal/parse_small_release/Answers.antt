@@ -1,6 +1,6 @@
 use Rattle.std.proofs.Common.{arith}
-use Rattle.pep440_version.proofs.Reading.NormalVersions.{number_more, one_number}
-use Rattle.pep440_version.proofs.Reading.PrintedNumbers.{goes_on_first, goes_on_next, goes_on_no_more}
+use Rattle.pep440_version.proofs.Reading.NormalParts.{number_more, one_number}
+use Rattle.pep440_version.proofs.Reading.PrintedParts.{goes_on_first, goes_on_next, goes_on_no_more}
 use Rattle.pep440_version.proofs.parse.normal.parse_small_release.Goals as goal
 
 pub loop-count-init : goal.loop-count-init

@@ -1,6 +1,6 @@
 use Rattle.std.proofs.Common.{take}
-use Rattle.pep440_version.proofs.Reading.NormalVersions.{Released}
-use Rattle.pep440_version.proofs.Reading.PrintedNumbers.{GoesOn, OfPrinted}
+use Rattle.pep440_version.proofs.Reading.NormalParts.{Released}
+use Rattle.pep440_version.proofs.Reading.PrintedParts.{GoesOn, OfPrinted}
 use Rattle.pep440_version.proofs.parse.normal.parse_small_release.Given as goal
 
 abbrev pub invariant-loop-count : goal.invariant-loop-count

@@ -2,8 +2,8 @@ use Rattle.std.proofs.Common.{◌≡◌, ◌-◌, ◌+◌, ◌∙◌, ℕ, suc, 
 use Rattle.std.proofs.lemmas.Result.{err_from_is_err_and}
 use Rattle.pep440_version.specs.Errors.{rejection_of}
 use Rattle.pep440_version.specs.Reading.{parse_number, parse_release_from}
-use Rattle.pep440_version.proofs.Reading.NumbersInTurn.{fault_on}
-use Rattle.pep440_version.proofs.Reading.AfterFirstNumber.{more_on, more_err, more_shorter}
+use Rattle.pep440_version.proofs.Reading.Digits.{fault_on}
+use Rattle.pep440_version.proofs.Reading.AfterRelease.{more_on, more_err, more_shorter}
 use Rattle.pep440_version.proofs.Reading.WithoutMemory.{read_too, still_more}
 use Rattle.pep440_version.proofs.parse.number.parse_release_from.Goals as goal
 

@@ -2,7 +2,7 @@ use Rattle.std.proofs.Common.{◌≡◌, ◌≤◌, ◌-◌, length}
 use denote.Text.{Utf8}
 use denote.Shadow.{shadow}
 use Rattle.pep440_version.specs.Reading.{parse_more_numbers, parse_release_from}
-use Rattle.pep440_version.proofs.Reading.NumbersInTurn.{with_prefix}
+use Rattle.pep440_version.proofs.Reading.Digits.{with_prefix}
 use Rattle.pep440_version.proofs.parse.number.parse_release_from.Given as goal
 
 abbrev pub invariant-loop-round : goal.invariant-loop-round

@@ -1,4 +1,4 @@
-use Rattle.pep440_version.proofs.Reading.Boundaries.{split_after_ascii}
+use Rattle.pep440_version.proofs.Reading.Prefixes.{split_after_ascii}
 use Rattle.pep440_version.proofs.parse.scan.split_at_ascii.Goals as goal
 
 pub split_at-requires : goal.split_at-requires

@@ -3,9 +3,9 @@ use Rattle.std.proofs.lemmas.Result.{err_from_is_err_and}
 use Rattle.pep440_version.specs.Errors.{rejection_of}
 use Rattle.pep440_version.specs.Grammar.{dev_spellings}
 use Rattle.pep440_version.specs.Suffixes.{spelled, skip_separator, parse_count, parse_dev}
-use Rattle.pep440_version.proofs.Reading.NumbersInTurn.{fault_on}
+use Rattle.pep440_version.proofs.Reading.Digits.{fault_on}
 use Rattle.pep440_version.proofs.Reading.WithoutMemory.{read_too}
-use Rattle.pep440_version.proofs.Reading.AfterSpelling.{number_err}
+use Rattle.pep440_version.proofs.Reading.AfterRelease.{number_err}
 use Rattle.pep440_version.proofs.parse.suffix.parse_dev.Goals as goal
 
 pub returns-in_err-number-in-Some-clause-reads : goal.returns-in_err-number-in-Some-clause-reads

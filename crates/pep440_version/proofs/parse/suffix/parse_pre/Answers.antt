@@ -4,9 +4,9 @@ use Rattle.pep440_version.specs.declared.prerelease.PrereleaseKind.{PrereleaseKi
 use Rattle.pep440_version.specs.Errors.{rejection_of}
 use Rattle.pep440_version.specs.Grammar.{pre_spellings}
 use Rattle.pep440_version.specs.Suffixes.{spelled, skip_separator, parse_count, parse_pre}
-use Rattle.pep440_version.proofs.Reading.NumbersInTurn.{fault_on}
+use Rattle.pep440_version.proofs.Reading.Digits.{fault_on}
 use Rattle.pep440_version.proofs.Reading.WithoutMemory.{read_too}
-use Rattle.pep440_version.proofs.Reading.AfterSpelling.{pre_ok, pre_err}
+use Rattle.pep440_version.proofs.Reading.AfterRelease.{pre_ok, pre_err}
 use Rattle.pep440_version.proofs.parse.suffix.parse_pre.Goals as goal
 
 pub returns-in_err-number-in-Some-clause-reads : goal.returns-in_err-number-in-Some-clause-reads

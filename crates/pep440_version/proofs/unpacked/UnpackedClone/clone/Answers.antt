@@ -1,6 +1,6 @@
 use Rattle.std.proofs.Common.{◌≡◌, map, refl}
 use Rattle.pep440_version.specs.Segments.{segment}
-use Rattle.pep440_version.proofs.Meaning.Clones.{same_segments}
+use Rattle.pep440_version.proofs.Meaning.NumbersFit.{same_segments}
 use Rattle.pep440_version.proofs.unpacked.UnpackedClone.clone.Goals as goal
 
 pub returns : goal.returns

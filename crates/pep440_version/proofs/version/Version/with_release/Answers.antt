@@ -6,7 +6,7 @@ use Rattle.pep440_version.specs.Form.{unpacked_record}
 use Rattle.pep440_version.specs.Key.{record_cmp}
 use Rattle.pep440_version.specs.Record.{IsRecord, Record}
 use Rattle.pep440_version.proofs.Meaning.NumbersFit.{fits_release}
-use Rattle.pep440_version.proofs.Ordering.ReleaseEnds.{zeros_tie}
+use Rattle.pep440_version.proofs.Ordering.Comparisons.{zeros_tie}
 use Rattle.pep440_version.proofs.version.Version.with_release.Goals as goal
 
 pub returns-clause-zeros : goal.returns-clause-zeros
