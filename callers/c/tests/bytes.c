@@ -61,8 +61,10 @@ static void some_version(Bytes *text)
         add(text, ".post%u", 2097152 + below(9));
     else if (below(4) == 0)
         add(text, ".dev%u", below(4));
+    /* (C says no order for two random numbers in one call, and each machine is to make the same forms) */
+    const char *local = part != 2 ? "" : below(2) ? "+ubuntu.%u" : "+%u";
     if (part == 2)
-        add(text, below(2) ? "+ubuntu.%u" : "+%u", below(9));
+        add(text, local, below(9));
 }
 
 static void some_list(Bytes *list)
@@ -342,6 +344,8 @@ static void hold_literals(void)
     }
 }
 
+static void change_byte(Bytes *form, unsigned at) { form->bytes[at] = (uint8_t)below(256); }
+
 /* Random bytes; those that begin as a version or a list; or a compiled form, maybe without its set, some of whose bytes are replaced, or which is cut. */
 static void some_bytes(Bytes *form)
 {
@@ -359,7 +363,7 @@ static void some_bytes(Bytes *form)
         if (form->bytes[0] == 6 && below(2))
             drop_set(form);
         for (unsigned more = 1 + below(4); more > 0; more--)
-            form->bytes[below((unsigned)form->length)] = (uint8_t)below(256);
+            change_byte(form, below((unsigned)form->length));
         if (below(4) == 0)
             form->length = below((unsigned)form->length);
     }
