@@ -204,7 +204,7 @@ export function isSubset(left, right) {
 }
 
 export function boundaries(list) {
-  const keys = (lib.piecesOf('range_keys', list, false) ?? rejectList(list)).map((key) => (key.length ? key : null));
+  const keys = (lib.piecesOf('boundaries', list, false) ?? rejectList(list)).map((key) => (key.length ? key : null));
   return keys.flatMap((key, i) => (i % 2 ? [[keys[i - 1], key]] : []));
 }
 

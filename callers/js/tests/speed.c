@@ -15,9 +15,9 @@ static char names[BATCH][24];
 static pep440_string strings[BATCH];
 static uint8_t allowed;
 
-static void of_strings(size_t i) { pep440_allows((const uint8_t *)list, sizeof list - 1, strings[i].bytes, strings[i].length, &allowed); }
-static void of_compiled_list(size_t i) { pep440_allows(compiled, compiled_length, strings[i].bytes, strings[i].length, &allowed); }
-static void of_compiled_both(size_t i) { (void)i; pep440_allows(compiled, compiled_length, one, one_length, &allowed); }
+static void of_strings(size_t i) { pep440_allows((const uint8_t *)list, sizeof list - 1, strings[i].bytes, strings[i].length, 2, &allowed); }
+static void of_compiled_list(size_t i) { pep440_allows(compiled, compiled_length, strings[i].bytes, strings[i].length, 2, &allowed); }
+static void of_compiled_both(size_t i) { (void)i; pep440_allows(compiled, compiled_length, one, one_length, 2, &allowed); }
 static void of_a_batch(size_t i) { (void)i; pep440_filter((const uint8_t *)list, sizeof list - 1, strings, BATCH, marks, BATCH); }
 
 static void measure(const char *name, void (*call)(size_t), size_t count)
