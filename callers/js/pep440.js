@@ -137,7 +137,8 @@ export function compareKeys(left, right) {
 
 // ---- matching
 
-function modeOf({ prereleases } = {}) {
+function modeOf(options) {
+  const prereleases = options?.prereleases;
   return prereleases === undefined || prereleases === null ? lib.AS_THE_LIST_ASKS : prereleases ? lib.ANY_PRERELEASES : lib.NO_PRERELEASES;
 }
 
