@@ -31,13 +31,19 @@ function read(lines) {
   });
 }
 
-// For each position of the order how many before it are pre-releases, and how wide the steps before it are together.
+// How wide the step to a version is from the one before it, which mostly stays the same.
+function widthOf(it, before) {
+  if (it.before !== before) Object.assign(it, { before, width: it.key === before.key ? 0 : stepBetween(before.release, it.release) });
+  return it.width;
+}
+
+// For each position of the order how many before it are pre-releases, and how wide the step to it is.
 function summed(order) {
   const pres = new Int32Array(order.length + 1), widths = new Float64Array(order.length);
-  order.forEach((it, i) => {
-    pres[i + 1] = pres[i] + (it.isPre ? 1 : 0);
-    if (i) widths[i] = it.key === order[i - 1].key ? 0 : stepBetween(order[i - 1].release, it.release);
-  });
+  for (let i = 0; i < order.length; i++) {
+    pres[i + 1] = pres[i] + (order[i].isPre ? 1 : 0);
+    if (i) widths[i] = widthOf(order[i], order[i - 1]);
+  }
   return { pres, widths };
 }
 
@@ -67,7 +73,11 @@ function difference(left, right) {
   return { from, behind: next < 0 ? 0 : right.length - next };
 }
 
-const numberOfLines = (text, end) => text.slice(0, end).split('\n').length - 1;
+function numberOfLines(text, end) {
+  let count = 0;
+  for (let at = text.indexOf('\n'); at >= 0 && at < end; at = text.indexOf('\n', at + 1)) count++;
+  return count;
+}
 
 function withoutVersion(order, { key, line }) {
   let at = countBelow({ order }, key);
