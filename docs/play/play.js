@@ -222,6 +222,7 @@ function saveSoon() {
 
 function readAddress() {
   if (location.hash === saved) return;
+  saved = location.hash;
   const state = new URLSearchParams(location.hash.slice(1));
   lists[0].value = state.get('a') ?? EXAMPLE.a;
   lists[1].value = state.get('b') ?? '';

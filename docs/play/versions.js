@@ -27,13 +27,16 @@ function read(lines) {
   lines.forEach((line, i) => {
     if (marks[i] === NOT_A_VERSION) return known.set(line, { line, fault: pep440.versionError(line) });
     const normal = pep440.valid(line);
-    known.set(line, { line, normal, key: keyText(keys[next++]), isPre: marks[i] === PRERELEASE, release: releaseOf(normal) });
+    known.set(line, { line, normal, key: keyText(keys[next++]), isPre: marks[i] === PRERELEASE, release: releaseOf(normal), before: null, width: 0 });
   });
 }
 
 // How wide the step to a version is from the one before it, which mostly stays the same.
 function widthOf(it, before) {
-  if (it.before !== before) Object.assign(it, { before, width: it.key === before.key ? 0 : stepBetween(before.release, it.release) });
+  if (it.before !== before) {
+    it.before = before;
+    it.width = it.key === before.key ? 0 : stepBetween(before.release, it.release);
+  }
   return it.width;
 }
 
@@ -62,15 +65,23 @@ function readAll(text) {
   return { text, order, bad: faultsOf(lines, 0), ...summed(order) };
 }
 
+// The greatest number up to `most` for which it holds, as it does for all below.
+function greatest(most, holds) {
+  let low = 0;
+  for (let high = most; low < high; ) {
+    const middle = (low + high + 1) >> 1;
+    if (holds(middle)) low = middle;
+    else high = middle - 1;
+  }
+  return low;
+}
+
 // Where two texts differ, in whole lines: from, and how many characters from their ends.
 function difference(left, right) {
-  const most = Math.min(left.length, right.length);
-  let from = 0, behind = 0;
-  while (from < most && left.charCodeAt(from) === right.charCodeAt(from)) from++;
-  while (behind < most - from && left.charCodeAt(left.length - 1 - behind) === right.charCodeAt(right.length - 1 - behind)) behind++;
-  from = from ? left.lastIndexOf('\n', from - 1) + 1 : 0;
+  const most = Math.min(left.length, right.length), same = greatest(most, (it) => left.startsWith(right.slice(0, it)));
+  const behind = greatest(most - same, (it) => left.endsWith(right.slice(right.length - it)));
   const next = right.indexOf('\n', right.length - behind);
-  return { from, behind: next < 0 ? 0 : right.length - next };
+  return { from: same ? left.lastIndexOf('\n', same - 1) + 1 : 0, behind: next < 0 ? 0 : right.length - next };
 }
 
 function numberOfLines(text, end) {
