@@ -83,7 +83,7 @@ export function sortKey(version: Text): Uint8Array | null;
 export function sortKeys(versions: readonly Text[]): Uint8Array[];
 /** Negative, 0 or positive. */
 export function compareKeys(left: Uint8Array, right: Uint8Array): number;
-/** Bytes that every call takes in place of the string, and reads faster; null if it is no version. */
+/** Bytes that every call takes in place of the string; null if it is no version. Matching a compiled version with a compiled list is fastest. */
 export function compile(version: Text): Uint8Array | null;
 /** The same of a list. */
 export function compileList(list: Text): Uint8Array | null;

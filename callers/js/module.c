@@ -138,7 +138,6 @@ EXPORT(bytes_taken)(void) { return (uint32_t)(top - aligned((size_t)&__heap_base
 WRITES(normalize)
 WRITES(normalize_list)
 WRITES(version_in)
-WRITES(ranges)
 WRITES(sort_key)
 WRITES(compile)
 WRITES(compile_list)
@@ -152,8 +151,7 @@ WRITES(compile_list)
     }
 
 WRITES_PIECES(specifiers_of)
-WRITES_PIECES(range_keys)
-WRITES_PIECES(range_bounds)
+WRITES_PIECES(boundaries)
 
 EXPORT(error)(uint32_t kind, uint32_t at, uint32_t length, uint32_t out, uint32_t size, uint32_t written)
 {
@@ -171,17 +169,10 @@ EXPORT(compare)(uint32_t left, uint32_t left_length, uint32_t right, uint32_t ri
     return with_answer(status, (uint8_t)(order + 1));
 }
 
-enum { NO_PRERELEASES, ANY_PRERELEASES, AS_THE_LIST_ASKS };
-
 EXPORT(allows)(uint32_t list, uint32_t list_length, uint32_t version, uint32_t length, uint32_t prereleases)
 {
-    uint8_t allowed = 0, is_prerelease = 0, status;
-    if (prereleases == AS_THE_LIST_ASKS) {
-        status = pep440_allows(AT(list), list_length, AT(version), length, &allowed);
-        return with_answer(status, allowed);
-    }
-    status = pep440_contains(AT(list), list_length, AT(version), length, &allowed, &is_prerelease);
-    return with_answer(status, allowed && (prereleases == ANY_PRERELEASES || !is_prerelease));
+    uint8_t allowed = 0, status = pep440_allows(AT(list), list_length, AT(version), length, (uint8_t)prereleases, &allowed);
+    return with_answer(status, allowed);
 }
 
 /* ---- batches: the host writes the strings one behind the other, and where each ends */
@@ -206,12 +197,6 @@ EXPORT(filter)(uint32_t list, uint32_t list_length, uint32_t bytes, uint32_t end
 {
     pep440_string *strings = strings_of(bytes, ends, count);
     return strings ? pep440_filter(AT(list), list_length, strings, count, AT(marks), count) : PEP440_OUT_OF_MEMORY;
-}
-
-EXPORT(newest)(uint32_t list, uint32_t list_length, uint32_t bytes, uint32_t ends, uint32_t count, uint32_t index)
-{
-    pep440_string *strings = strings_of(bytes, ends, count);
-    return strings ? pep440_newest(AT(list), list_length, strings, count, AT(index)) : PEP440_OUT_OF_MEMORY;
 }
 
 EXPORT(sort)(uint32_t bytes, uint32_t ends, uint32_t count, uint32_t indices, uint32_t index)

@@ -29,6 +29,8 @@ export class Pep440Error extends Error {
 
 const encoder = new TextEncoder(), decoder = new TextDecoder();
 let module, calls, bytes, words, unfinished;
+// The calls that are made most, which are found faster so.
+let reserve, askAllows, askOrder;
 
 /** Takes a compiled module, or its bytes. */
 export function start(from) {
@@ -40,6 +42,7 @@ export function start(from) {
 function renew() {
   unfinished = true;
   calls = new WebAssembly.Instance(module).exports;
+  ({ begin: reserve, allows: askAllows, compare: askOrder } = calls);
   look();
   unfinished = false;
 }
@@ -53,7 +56,7 @@ function look() {
 // Where `length` bytes for strings and answers begin. If the engine ended the call before, the stack of the module is lost.
 function begin(length) {
   if (unfinished || bytes.length > KEPT) renew();
-  const at = length < MOST ? calls.begin(length) : 0;
+  const at = length < MOST ? reserve(length) : 0;
   if (at === 0) throw new Pep440Error('OUT_OF_MEMORY');
   if (bytes.length === 0) look();
   unfinished = true;
@@ -72,23 +75,31 @@ function end(returned) {
 // What a string, or compiled bytes, takes at most. Arrays come before strings, so that they are aligned.
 const room = (string) => (typeof string === 'string' ? 3 * string.length : (string?.length ?? 0)) + 1;
 
-const roomOf = (strings) => strings.reduce((sum, it) => sum + room(it), 0);
+function roomOf(strings) {
+  let sum = 0;
+  for (let i = 0; i < strings.length; i++) sum += room(strings[i]);
+  return sum;
+}
 
 // Writes a string, or compiled bytes, and returns how many bytes that is.
 function put(at, string) {
   if (typeof string !== 'string') return putBytes(at, string);
-  for (let i = 0; i < string.length; i++) {
+  const out = bytes, length = string.length;
+  for (let i = 0; i < length; i++) {
     const unit = string.charCodeAt(i);
     if (unit > 127) return putUnicode(at, string);
-    bytes[at + i] = unit;
+    out[at + i] = unit;
   }
-  return string.length;
+  return length;
 }
 
 function putBytes(at, given) {
-  const taken = given instanceof Uint8Array ? given : [NO_STRING];
-  bytes.set(taken, at);
-  return taken.length;
+  if (!(given instanceof Uint8Array)) return bytes[at] = NO_STRING, 1;
+  const out = bytes, length = given.length;
+  // a loop is faster for few bytes
+  if (length > 64) out.set(given, at);
+  else for (let i = 0; i < length; i++) out[at + i] = given[i];
+  return length;
 }
 
 function putUnicode(at, string) {
@@ -166,15 +177,15 @@ function pieces(out, ends, count, read) {
 
 /** Whether the list allows the version: 1 or 0, or null. */
 export function allows(list, version, prereleases) {
-  const at = begin(room(list) + room(version)), next = at + room(list);
-  const returned = calls.allows(at, put(at, list), next, put(next, version), prereleases);
+  const first = room(list), at = begin(first + room(version)), next = at + first;
+  const returned = askAllows(at, put(at, list), next, put(next, version), prereleases);
   return end(returned) === 0 ? returned >> 8 : null;
 }
 
 /** -1, 0 or 1; or which of both is no version: 'left' or 'right'. */
 export function order(left, right) {
   const at = begin(room(left) + room(right)), next = at + room(left);
-  const returned = calls.compare(at, put(at, left), next, put(next, right)), status = end(returned);
+  const returned = askOrder(at, put(at, left), next, put(next, right)), status = end(returned);
   return status === 0 ? (returned >> 8) - 1 : status === 1 ? 'left' : 'right';
 }
 
@@ -182,9 +193,22 @@ export function order(left, right) {
 
 const roomOfEnds = (count) => 8 * Math.ceil(count / 2);
 
+// Writes all as one string, if they are strings of ASCII alone; else returns false.
+function putJoined(ends, from, strings) {
+  const at = ends >> 2, found = words;
+  let joined = '';
+  for (let i = 0; i < strings.length; i++) {
+    if (typeof strings[i] !== 'string') return false;
+    joined += strings[i];
+    found[at + i] = joined.length;
+  }
+  return encoder.encodeInto(joined, bytes.subarray(from, from + 3 * joined.length)).written === joined.length;
+}
+
 // Returns where the strings begin.
 function putAll(ends, strings) {
   const from = ends + roomOfEnds(strings.length);
+  if (putJoined(ends, from, strings)) return from;
   let at = from;
   for (let i = 0; i < strings.length; i++) {
     at += put(at, strings[i]);

@@ -137,7 +137,8 @@ export function compareKeys(left, right) {
 
 // ---- matching
 
-function modeOf({ prereleases } = {}) {
+function modeOf(options) {
+  const prereleases = options?.prereleases;
   return prereleases === undefined || prereleases === null ? lib.AS_THE_LIST_ASKS : prereleases ? lib.ANY_PRERELEASES : lib.NO_PRERELEASES;
 }
 
@@ -204,7 +205,7 @@ export function isSubset(left, right) {
 }
 
 export function boundaries(list) {
-  const keys = (lib.piecesOf('range_keys', list, false) ?? rejectList(list)).map((key) => (key.length ? key : null));
+  const keys = (lib.piecesOf('boundaries', list, false) ?? rejectList(list)).map((key) => (key.length ? key : null));
   return keys.flatMap((key, i) => (i % 2 ? [[keys[i - 1], key]] : []));
 }
 

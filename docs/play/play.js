@@ -1,7 +1,7 @@
 // The page: what is typed, what the library says of it, and the address that keeps it.
 import * as pep440 from './pep440-rattle/index.js';
 import { drawLine, escaped, many } from './line.js';
-import { conflictOf, readList, spansOf } from './sets.js';
+import { conflictOf, exampleOf, readList, spansOf } from './sets.js';
 import { readVersions } from './versions.js';
 
 const $ = (id) => document.getElementById(id);
@@ -96,7 +96,7 @@ function askAll() {
 function showVerdict({ rows, last, specifiers }) {
   const wrong = rows.findIndex((it) => !it.isValid);
   if (wrong >= 0) return `The ${rows.length === 1 ? '' : wrong ? 'second ' : 'first '}list is not valid.`;
-  if (last.isEmpty) {
+  if (last.example === null) {
     const why = conflictOf(specifiers);
     return `Nothing satisfies ${rows.length > 1 ? 'both' : 'the list'}: ${why.map(code).join(' and ')} ${why.length > 1 ? 'exclude each other' : 'allows no version'}.`;
   }
@@ -122,11 +122,11 @@ function prereleaseText({ prereleases, spans }) {
 function showFacts({ last }) {
   const facts = !last.isValid ? {} : {
     normal: last.normal ? code(last.normal) : 'empty: everything',
-    witness: last.isEmpty ? 'nothing' : code(last.witness),
+    example: last.example === null ? 'nothing' : code(last.example),
     intervals: last.why || last.intervals.map((it) => code(intervalText(it))).join(' ') || 'none',
     prereleases: prereleaseText(last),
   };
-  for (const id of ['normal', 'witness', 'intervals', 'prereleases']) $(id).innerHTML = facts[id] ?? '&ndash;';
+  for (const id of ['normal', 'example', 'intervals', 'prereleases']) $(id).innerHTML = facts[id] ?? '&ndash;';
 }
 
 // Why a version matches, or does not: each specifier is asked alone.
@@ -176,7 +176,7 @@ function update() {
   answer = { rows, last, specifiers: rows.slice(0, 2).flatMap((it) => it.specifiers ?? []) };
   lists.forEach((input, i) => showListErrors(input, rows[i]?.errors ?? []));
   if (rows.some((it) => !it.isValid)) answer.last = { isValid: false };
-  else Object.assign(last, { witness: pep440.witness(list) }, { isEmpty: pep440.isEmpty(list) });
+  else Object.assign(last, { example: exampleOf(list, answer.specifiers) });
   $('verdict').innerHTML = showVerdict(answer);
   showFacts(answer);
   showRows(FIRST_ROWS);
@@ -222,6 +222,7 @@ function saveSoon() {
 
 function readAddress() {
   if (location.hash === saved) return;
+  saved = location.hash;
   const state = new URLSearchParams(location.hash.slice(1));
   lists[0].value = state.get('a') ?? EXAMPLE.a;
   lists[1].value = state.get('b') ?? '';

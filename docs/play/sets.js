@@ -6,6 +6,12 @@ const NO_SET = 'NO_SET', NUMBER_AT_MAX = 'NUMBER_AT_MAX', MOST_STEPS = 20000;
 
 const raised = (release) => release.replace(/\d+$/, (number) => String(BigInt(number) + 1n));
 
+/** A version of the list for readers: rather a release that a specifier names, or the next one, than what is just above a boundary. Null if there is none. */
+export function exampleOf(list, specifiers) {
+  const named = specifiers.slice(0, 40).map(({ version }) => /^(?:\d+!)?[\d.]*\d/.exec(version)[0]);
+  return [...named, ...named.map(raised), '1.0'].find((it) => pep440.satisfies(it, list)) ?? pep440.witness(list);
+}
+
 // The labels of the low and the high end of a specifier's interval, and whether the version is in it.
 function labelsOf({ operator, version }) {
   const isStar = version.endsWith('.*'), base = isStar ? version.slice(0, -2) : version;

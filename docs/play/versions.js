@@ -27,17 +27,26 @@ function read(lines) {
   lines.forEach((line, i) => {
     if (marks[i] === NOT_A_VERSION) return known.set(line, { line, fault: pep440.versionError(line) });
     const normal = pep440.valid(line);
-    known.set(line, { line, normal, key: keyText(keys[next++]), isPre: marks[i] === PRERELEASE, release: releaseOf(normal) });
+    known.set(line, { line, normal, key: keyText(keys[next++]), isPre: marks[i] === PRERELEASE, release: releaseOf(normal), before: null, width: 0 });
   });
 }
 
-// For each position of the order how many before it are pre-releases, and how wide the steps before it are together.
+// How wide the step to a version is from the one before it, which mostly stays the same.
+function widthOf(it, before) {
+  if (it.before !== before) {
+    it.before = before;
+    it.width = it.key === before.key ? 0 : stepBetween(before.release, it.release);
+  }
+  return it.width;
+}
+
+// For each position of the order how many before it are pre-releases, and how wide the step to it is.
 function summed(order) {
   const pres = new Int32Array(order.length + 1), widths = new Float64Array(order.length);
-  order.forEach((it, i) => {
-    pres[i + 1] = pres[i] + (it.isPre ? 1 : 0);
-    if (i) widths[i] = it.key === order[i - 1].key ? 0 : stepBetween(order[i - 1].release, it.release);
-  });
+  for (let i = 0; i < order.length; i++) {
+    pres[i + 1] = pres[i] + (order[i].isPre ? 1 : 0);
+    if (i) widths[i] = widthOf(order[i], order[i - 1]);
+  }
   return { pres, widths };
 }
 
@@ -56,18 +65,30 @@ function readAll(text) {
   return { text, order, bad: faultsOf(lines, 0), ...summed(order) };
 }
 
-// Where two texts differ, in whole lines: from, and how many characters from their ends.
-function difference(left, right) {
-  const most = Math.min(left.length, right.length);
-  let from = 0, behind = 0;
-  while (from < most && left.charCodeAt(from) === right.charCodeAt(from)) from++;
-  while (behind < most - from && left.charCodeAt(left.length - 1 - behind) === right.charCodeAt(right.length - 1 - behind)) behind++;
-  from = from ? left.lastIndexOf('\n', from - 1) + 1 : 0;
-  const next = right.indexOf('\n', right.length - behind);
-  return { from, behind: next < 0 ? 0 : right.length - next };
+// The greatest number up to `most` for which it holds, as it does for all below.
+function greatest(most, holds) {
+  let low = 0;
+  for (let high = most; low < high; ) {
+    const middle = (low + high + 1) >> 1;
+    if (holds(middle)) low = middle;
+    else high = middle - 1;
+  }
+  return low;
 }
 
-const numberOfLines = (text, end) => text.slice(0, end).split('\n').length - 1;
+// Where two texts differ, in whole lines: from, and how many characters from their ends.
+function difference(left, right) {
+  const most = Math.min(left.length, right.length), same = greatest(most, (it) => left.startsWith(right.slice(0, it)));
+  const behind = greatest(most - same, (it) => left.endsWith(right.slice(right.length - it)));
+  const next = right.indexOf('\n', right.length - behind);
+  return { from: same ? left.lastIndexOf('\n', same - 1) + 1 : 0, behind: next < 0 ? 0 : right.length - next };
+}
+
+function numberOfLines(text, end) {
+  let count = 0;
+  for (let at = text.indexOf('\n'); at >= 0 && at < end; at = text.indexOf('\n', at + 1)) count++;
+  return count;
+}
 
 function withoutVersion(order, { key, line }) {
   let at = countBelow({ order }, key);

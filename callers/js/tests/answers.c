@@ -41,7 +41,7 @@ static void print(uint8_t status, size_t length)
 static void print_intervals(const uint8_t *list, size_t length)
 {
     size_t written, count;
-    uint8_t status = pep440_range_keys(list, length, out, ROOM, ends, ROOM, &written, &count);
+    uint8_t status = pep440_boundaries(list, length, out, ROOM, ends, ROOM, &written, &count);
     for (size_t i = 0; !status && i < count; i++)
         printf("%zu ", ends[i]);
     print(status, written);
@@ -64,7 +64,7 @@ static void answer(char call, size_t count)
     case 'i': status = pep440_compile_list(A, out, ROOM, &written); break;
     case 'w': status = pep440_version_in(A, out, ROOM, &written); break;
     case 'c': status = pep440_compare(A, B, (int8_t *)out); length = 1; break;
-    case 'a': status = pep440_allows(A, B, out); length = 1; break;
+    case 'a': status = pep440_allows(A, B, 2, out); length = 1; break;
     case 'f': status = pep440_filter(A, given + 1, count - 1, out, ROOM); length = count - 1; break;
     case 'b': print_intervals(A); return;
     case 'o':

@@ -137,6 +137,14 @@ test('a version is in the set of its boundaries exactly if the list contains it'
   }
 });
 
+test('matching is today\'s', () => {
+  // PEP 440, "Exclusive ordered comparison": only the given version's own pre-releases, post-releases and local versions are left out
+  const matches = (version, list) => pep440.satisfies(version, list, { prereleases: true });
+  assert.ok(matches('1.0.post1', '>1.0rc1') && matches('1.0rc1', '<1.0.post1') && matches('1.0+local', '<=1.0') && matches('1.0.post1', '>1.0.post0'));
+  assert.ok(!matches('1.0.post1', '>1.0') && !matches('2.0rc1', '<2.0') && !matches('1.0+local', '>1.0') && !matches('1.0.0', '===1.0'));
+  for (const call of [() => pep440.boundaries('===1'), () => pep440.isSubset('===1', ''), () => pep440.isSubset('', '>1,===1')]) assert.throws(call, { code: 'NO_SET' });
+});
+
 test('a witness is of its list', () => {
   for (const list of ['>=1.16', '', '==1.0.*', '>1.0,<1.1', '!=1.0', '~=2.2']) assert.ok(pep440.satisfies(pep440.witness(list), list, { prereleases: true }), list);
   assert.equal(pep440.witness('>2,<1'), null);

@@ -10,6 +10,7 @@ import contextlib
 import functools
 import http.server
 import json
+import os
 import pathlib
 import shutil
 import socket
@@ -25,7 +26,8 @@ TOP = pathlib.Path(__file__).resolve().parents[3]
 PAGE, SHOTS = (pathlib.Path(word) for word in (sys.argv[1:] + [TOP / "out/js/play", TOP / "out/js/shots"][len(sys.argv) - 1 :]))
 BACKSPACE, TAB, SHIFT_TAB = "\ue003", "\ue004", "\ue008\ue004"
 PORTS = []  # of the page, and of one without its module
-FRAME, LONG_PASTE, FIRST_ANSWER = 16, 1000, 200
+# Milliseconds; longer where other programs want the processors too.
+FRAME, LONG_PASTE, FIRST_ANSWER = (it * max(1, os.getloadavg()[0] / os.cpu_count()) for it in (16, 1000, 200))
 
 
 class Chromium:
@@ -330,15 +332,14 @@ class Tests:
     def test_many_versions(self):
         self.open()
         pasted = self.updated("v", "it.value = Array.from({ length: 10000 }, (_, i) => `${i % 50}.${i % 97}.${i}` + ['', '', '', 'rc1', '.post2', '.dev3', '+local'][i % 7]).join('\\n')")
-        assert self.text("caption") == "The newest 60 of 10,000 versions, the newest first" or "10,000" in self.text("caption"), self.text("caption")
+        assert self.text("caption") == "The newest 60 of 10,000 versions", self.text("caption")
         texts = (">=2", ">=2.", ">=2.5", ">=2.5,", ">=2.5, <", ">=2.5, <3", ">=2.5, <30, !=7.*")
         steps = [min(self.updated("a", f"it.value = {text!r}") for _ in range(5)) for text in texts]
-        lines = [self.updated("v", f"it.value += {text!r}") for text in 2 * ["\n9", ".", "9", "9", "r", "c", "1", "\n1", ".", "2", ".", "3"]]
-        print(f"    10,000 versions: pasted {pasted:.0f} ms; a character of a list at most {max(steps):.1f} ms, of a version {sorted(lines)[len(lines) // 4]:.1f}")
-        # the least of some turns, since other programs run beside
-        assert max(steps) <= FRAME and sorted(lines)[len(lines) // 4] <= FRAME and pasted < LONG_PASTE, (steps, lines, pasted)
+        lines = [min(self.updated("v", f"it.value += {text!r}") for _ in range(5)) for text in ("\n9", ".1", "\n1.2rc3", "4", "\n1.")]
+        print(f"    10,000 versions: pasted {pasted:.0f} ms; a character of a list at most {max(steps):.1f} ms, of a version {max(lines):.1f}")
+        assert max(steps) <= FRAME and max(lines) <= FRAME and pasted < LONG_PASTE, (steps, lines, pasted)
         self.run("document.getElementById('more').click()")
-        assert len(self.rows()) == 560
+        assert len([it for it in self.rows() if not it.startswith("line ")]) == 560
         self.wait(lambda: self.run("return !document.getElementById('too-long').hidden"))
         self.shot("many")
 
@@ -346,9 +347,9 @@ class Tests:
         times = []
         for _ in range(10):
             self.open()
-            times.append(self.run("const [load] = performance.getEntriesByType('navigation'), [ready] = performance.getEntriesByName('ready'); return [ready.startTime, ready.startTime - load.domInteractive]"))
-        print(f"    first answer {min(it[0] for it in times):.0f} ms after the navigation began")
-        assert min(it[0] for it in times) < FIRST_ANSWER, times
+            times.append(self.run("return performance.getEntriesByName('ready')[0].startTime - performance.getEntriesByType('navigation')[0].responseEnd"))
+        print(f"    first answer {min(times):.0f} ms after the page was loaded")
+        assert min(times) < FIRST_ANSWER, times
 
     def test_phone_and_dark(self):
         for width in (360, 320) if isinstance(self.browser, Chromium) else (500,):

@@ -45,7 +45,7 @@ function caught(call) {
   }
 }
 
-const STATUSES = { INVALID_VERSION: '1 ', INVALID_LIST: '2 ', NUMBER_AT_MAX: '5 ' };
+const STATUSES = { INVALID_VERSION: '1 ', INVALID_LIST: '2 ', NUMBER_AT_MAX: '5 ', NO_SET: '12 ' };
 const orNull = (found, status) => (found === null ? status : `0 ${text(found)}`);
 const orError = (call, write) => {
   const found = caught(call);

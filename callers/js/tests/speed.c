@@ -1,4 +1,4 @@
-/* What the C library takes for the calls of speed.js, in nanoseconds: a line for each, its name and the least of nine turns. */
+/* What the C library takes for the calls of speed.js, in nanoseconds of processor: a line for each, its name and the least of 25 turns. */
 #define _POSIX_C_SOURCE 199309L
 #include <stdio.h>
 #include <stdlib.h>
@@ -6,7 +6,7 @@
 
 #include "pep440.h"
 
-enum { TURNS = 9, CALLS = 200000, BATCH = 10000 };
+enum { TURNS = 25, CALLS = 50000, BATCH = 10000 };
 
 static const char list[] = ">=1.16, <2.0, !=1.19.*";
 static uint8_t compiled[256], one[64], marks[BATCH];
@@ -15,9 +15,9 @@ static char names[BATCH][24];
 static pep440_string strings[BATCH];
 static uint8_t allowed;
 
-static void of_strings(size_t i) { pep440_allows((const uint8_t *)list, sizeof list - 1, strings[i].bytes, strings[i].length, &allowed); }
-static void of_compiled_list(size_t i) { pep440_allows(compiled, compiled_length, strings[i].bytes, strings[i].length, &allowed); }
-static void of_compiled_both(size_t i) { (void)i; pep440_allows(compiled, compiled_length, one, one_length, &allowed); }
+static void of_strings(size_t i) { pep440_allows((const uint8_t *)list, sizeof list - 1, strings[i].bytes, strings[i].length, 2, &allowed); }
+static void of_compiled_list(size_t i) { pep440_allows(compiled, compiled_length, strings[i].bytes, strings[i].length, 2, &allowed); }
+static void of_compiled_both(size_t i) { (void)i; pep440_allows(compiled, compiled_length, one, one_length, 2, &allowed); }
 static void of_a_batch(size_t i) { (void)i; pep440_filter((const uint8_t *)list, sizeof list - 1, strings, BATCH, marks, BATCH); }
 
 static void measure(const char *name, void (*call)(size_t), size_t count)
@@ -25,10 +25,10 @@ static void measure(const char *name, void (*call)(size_t), size_t count)
     double least = 1e18;
     for (int turn = 0; turn < TURNS; turn++) {
         struct timespec from, to;
-        clock_gettime(CLOCK_MONOTONIC, &from);
+        clock_gettime(CLOCK_PROCESS_CPUTIME_ID, &from);
         for (size_t i = 0; i < count; i++)
             call(i % BATCH);
-        clock_gettime(CLOCK_MONOTONIC, &to);
+        clock_gettime(CLOCK_PROCESS_CPUTIME_ID, &to);
         double taken = ((double)(to.tv_sec - from.tv_sec) * 1e9 + (double)(to.tv_nsec - from.tv_nsec)) / (double)count;
         if (taken < least)
             least = taken;
