@@ -186,20 +186,20 @@ uint8_t pep440_compare(const uint8_t *left, size_t left_length, const uint8_t *r
 /* ---- two rules of matching
 
    PEP 440, "Exclusive ordered comparison", is read in two ways. By today's rule, which pip 26 and
-   `packaging` 26 follow, `<V` leaves out the pre-releases of V, and `>V` the post-releases of V. The
-   ported crate, pep440_rs 0.7.3, leaves out the ones of every version of V's release: so
+   `packaging` 26 follow, `<V` leaves out the pre-releases of V, and `>V` the post-releases of V.
+   The ported crate, pep440_rs 0.7.3, leaves out the ones of every version of V's release: so
    `<1.0.post1` does not contain `1.0rc1`, and `>1.0rc1` not `1.0.post1`, which today's rule
    matches. What a list contains by the crate's rule, it matches by today's. A string and both
    formats of its compiled form give one result:
 
-   call                                               rule           pre-releases
-   pep440_contains                                    the crate's    contained, and reported
-   pep440_ranges, pep440_range_bounds                 the crate's    contained
-   pep440_release_range_bounds                        the crate's    only releases count
-   pep440_allows                                      today's        by `prereleases`
-   pep440_filter                                      today's        matched, with their own mark
-   pep440_newest                                      today's        if asked for, or nothing else matches
-   pep440_version_in, pep440_boundaries               today's        matched
+   call                                       rule          pre-releases
+   pep440_contains                            the crate's   contained, and reported
+   pep440_ranges, pep440_range_bounds         the crate's   contained
+   pep440_release_range_bounds                the crate's   only releases count
+   pep440_allows                              today's       by `prereleases`
+   pep440_filter                              today's       matched, with their own mark
+   pep440_newest                              today's       if asked for, or nothing else matches
+   pep440_version_in, pep440_boundaries       today's       matched
 
    By no rule of matching go pep440_any_prerelease and the calls that print or compile a list. */
 

@@ -7,7 +7,7 @@
 
 #include "pep440.h"
 
-enum { ROOM = 4096, ENDS = 256, MANY = 5 };
+enum { ROOM = 4096, ENDS = 256, MANY = 5, CALLS = 29 };
 
 typedef struct {
     uint8_t bytes[ROOM];
@@ -136,7 +136,7 @@ static uint8_t call(unsigned number)
 {
     pep440_string changes[] = {{OF(change)}};
     /* (C says no order for two of these in one call) */
-    uint8_t operator_number = (uint8_t)(1 + below(8)), star = (uint8_t)below(2), kind = (uint8_t)below(5);
+    uint8_t operator_number = (uint8_t)(1 + below(8)), star = (uint8_t)below(2), kind = (uint8_t)below(5), prereleases = (uint8_t)below(4);
     switch (number) {
     case 0: return pep440_normalize(OF(version), OUT);
     case 1: return pep440_normalize_list(OF(list), OUT);
@@ -148,25 +148,24 @@ static uint8_t call(unsigned number)
     case 7: return pep440_error(kind, OF(invalid), OUT);
     case 8: return pep440_compare(OF(version), OF(other), &order);
     case 9: return pep440_contains(OF(list), OF(version), &flag, &early);
-    case 10: return pep440_allows(OF(list), OF(version), &flag);
+    case 10: return pep440_allows(OF(list), OF(version), prereleases, &flag);
     case 11: return pep440_any_prerelease(OF(list), &flag);
     case 12: return pep440_version_in(OF(list), OUT);
     case 13: return pep440_parts_of(OF(version), &parts, release, 64);
     case 14: return pep440_sort_key(OF(version), OUT);
     case 15: return pep440_word(OF(version), &word);
     case 16: return pep440_ranges(OF(list), OUT);
-    case 17: return pep440_range_keys(OF(list), KEYS);
-    case 18: return pep440_cover_keys(OF(list), KEYS);
-    case 19: return pep440_range_bounds(OF(list), KEYS);
-    case 20: return pep440_release_range_bounds(OF(list), KEYS);
-    case 21: return pep440_compile(OF(version), OUT);
-    case 22: return pep440_compile_list(OF(list), OUT);
-    case 23: return pep440_compile_specifier(OF(list), OUT);
-    case 24: return pep440_build_error(operator_number, OF(version), star, OUT);
-    case 25: return pep440_filter(OF(list), batch, MANY, marks, MANY);
-    case 26: return pep440_newest(OF(list), batch, MANY, &at);
-    case 27: count = MANY; return pep440_sort(batch, MANY, ends, MANY, &at);
-    case 28: count = MANY; return pep440_sort_keys(batch, MANY, out, sizeof out, ends, ENDS, &written, &at);
+    case 17: return pep440_boundaries(OF(list), KEYS);
+    case 18: return pep440_range_bounds(OF(list), KEYS);
+    case 19: return pep440_release_range_bounds(OF(list), KEYS);
+    case 20: return pep440_compile(OF(version), OUT);
+    case 21: return pep440_compile_list(OF(list), OUT);
+    case 22: return pep440_compile_specifier(OF(list), OUT);
+    case 23: return pep440_build_error(operator_number, OF(version), star, OUT);
+    case 24: return pep440_filter(OF(list), batch, MANY, marks, MANY);
+    case 25: return pep440_newest(OF(list), batch, MANY, &at);
+    case 26: count = MANY; return pep440_sort(batch, MANY, ends, MANY, &at);
+    case 27: count = MANY; return pep440_sort_keys(batch, MANY, out, sizeof out, ends, ENDS, &written, &at);
     default: count = 1, ends[0] = pep440_version_of_library(); return PEP440_OK;
     }
 }
@@ -175,10 +174,10 @@ int main(int words, char **values)
 {
     unsigned long calls = words > 1 ? strtoul(values[1], NULL, 10) : 1000000, by_status[16] = {0};
     for (unsigned long number = 0; number < calls; number++) {
-        if (number % 30 == 0)
+        if (number % CALLS == 0)
             write_arguments();
         clear_results();
-        uint8_t status = call(number % 30);
+        uint8_t status = call(number % CALLS);
         by_status[status & 15]++;
         mix_results(status);
     }
