@@ -69,30 +69,26 @@ static int gather(PyObject *given, Batch *batch)
     return -1;
 }
 
-/* The version that an item is, or NULL. */
-static inline Held *version_at(const Batch *batch, size_t place)
-{
-    PyObject *item = batch->items[place];
-    return !PyUnicode_Check(item) && PyObject_TypeCheck(item, HeldType) ? (Held *)item : NULL;
-}
-
 /* Lets the texts of versions be copies of their compiled forms, which they have made once. 0, or -1 with an error. No code of the caller runs here. */
 static int copy_forms(Batch *batch)
 {
-    Held *version;
     size_t length = 0;
     uint8_t *end;
-    for (size_t place = 0; place < batch->count; place++)
-        if ((version = version_at(batch, place))) {
-            if (!version->compiled && compile_held(version) < 0)
-                return -1;
-            length += version->length;
-        }
+    for (size_t place = 0; place < batch->count; place++) {
+        Held *version = (Held *)batch->items[place];
+        if (PyUnicode_Check(batch->items[place]) || !PyObject_TypeCheck(batch->items[place], HeldType))
+            continue;
+        if (!version->compiled && compile_held(version) < 0)
+            return -1;
+        batch->texts[place].bytes = NULL; /* until it is copied */
+        length += version->length;
+    }
     batch->forms = end = length ? PyMem_Malloc(length) : NULL;
     if (length && !end)
         PyErr_NoMemory();
     for (size_t place = 0; end && place < batch->count; place++)
-        if ((version = version_at(batch, place))) {
+        if (!batch->texts[place].bytes) {
+            const Held *version = (const Held *)batch->items[place];
             batch->texts[place] = (pep440_string){memcpy(end, version->compiled, version->length), version->length};
             end += version->length;
         }
