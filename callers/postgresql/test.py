@@ -59,7 +59,10 @@ def test_lists(server):
         db.rows("RESET ALL")
         if specs in NARROW + RECHECKED:
             plan = plan_of(db, query)
-            assert "by_version" in plan and re.search(r"Index Cond: \(+version >=", plan) and (" @> version" in plan) == (specs in RECHECKED), plan
+            assert "by_version" in plan and re.search(r"Index Cond: \(+version >=", plan), plan
+            db.rows(NO_TABLE + "SET enable_bitmapscan = off")
+            plan = plan_of(db, query)
+            assert "by_version" in plan and ("Filter: " in plan) == (specs in RECHECKED), plan
         db.rows(NO_TABLE)
         assert copied(db, query, "by_index") == alone == copied(db, other, "by_index"), specs
         assert "by_version" in plan_of(db, query), specs

@@ -23,10 +23,12 @@ typedef struct {
     size_t count;
     PyObject **items;
     pep440_string *texts;
+    uint8_t *forms; /* what `copy_forms` copies */
 } Batch;
 
 static void drop(Batch *batch)
 {
+    PyMem_Free(batch->forms);
     PyMem_Free(batch->texts);
     PyMem_Free(batch->items);
     Py_XDECREF(batch->tuple);
@@ -67,14 +69,51 @@ static int gather(PyObject *given, Batch *batch)
     return -1;
 }
 
-/* The mark of a string, as pep440_filter has them, by the rule of pep440_contains. */
+/* Lets the texts of versions be copies of their compiled forms, which they have made once. 0, or -1 with an error. No code of the caller runs here. */
+static int copy_forms(Batch *batch)
+{
+    size_t length = 0;
+    uint8_t *end;
+    for (size_t place = 0; place < batch->count; place++) {
+        Held *version = (Held *)batch->items[place];
+        if (PyUnicode_Check(batch->items[place]) || !PyObject_TypeCheck(batch->items[place], HeldType))
+            continue;
+        if (!version->compiled && compile_held(version) < 0)
+            return -1;
+        batch->texts[place].bytes = NULL; /* until it is copied */
+        length += version->length;
+    }
+    batch->forms = end = length ? PyMem_Malloc(length) : NULL;
+    if (length && !end)
+        PyErr_NoMemory();
+    for (size_t place = 0; end && place < batch->count; place++)
+        if (!batch->texts[place].bytes) {
+            const Held *version = (const Held *)batch->items[place];
+            batch->texts[place] = (pep440_string){memcpy(end, version->compiled, version->length), version->length};
+            end += version->length;
+        }
+    return end || !length ? 0 : -1;
+}
+
+/* The mark of a compiled version, as pep440_filter has it, by the rule of pep440_contains. */
+static uint8_t mark_form(pep440_string list, pep440_string form, uint8_t *mark)
+{
+    uint8_t contained, early, status = pep440_contains(list.bytes, list.length, form.bytes, form.length, &contained, &early);
+    if (status == PEP440_OK)
+        *mark = !contained ? PEP440_NO_MATCH : early ? PEP440_PRERELEASE_MATCH : PEP440_MATCH;
+    return status;
+}
+
+/* The same of a string or a compiled version. */
 static uint8_t mark_text(pep440_string list, pep440_string text, uint8_t *mark)
 {
     Compiled compiled;
-    uint8_t contained, early, status = compile(pep440_compile, text, &compiled);
+    uint8_t status;
+    if (text.length && text.bytes[0] == VERSION)
+        return mark_form(list, text, mark);
+    status = compile(pep440_compile, text, &compiled);
     if (status == PEP440_OK) {
-        status = pep440_contains(list.bytes, list.length, compiled.bytes, compiled.length, &contained, &early);
-        *mark = !contained ? PEP440_NO_MATCH : early ? PEP440_PRERELEASE_MATCH : PEP440_MATCH;
+        status = mark_form(list, (pep440_string){compiled.bytes, compiled.length}, mark);
         drop_compiled(&compiled);
     } else if (status == PEP440_INVALID_VERSION) {
         *mark = PEP440_NOT_A_VERSION;
@@ -129,12 +168,12 @@ static uint8_t *copy_list(const Specifiers *self, pep440_string *list)
 }
 
 /* Those of the batch that are contained. */
-static PyObject *kept_of(const Batch *batch, const Specifiers *self, int prereleases, int skip)
+static PyObject *kept_of(Batch *batch, const Specifiers *self, int prereleases, int skip)
 {
     pep440_string list;
     uint8_t *marks = NULL, *copy = copy_list(self, &list), status = PEP440_OUT_OF_MEMORY;
     PyObject *kept;
-    if (copy && (marks = PyMem_Calloc(batch->count + 1, 1)))
+    if (copy && copy_forms(batch) == 0 && (marks = PyMem_Calloc(batch->count + 1, 1)))
         status = mark(batch, &list, prereleases, marks);
     kept = status == PEP440_OK ? marked(batch, marks, skip) : raise_by(status, NULL, NULL);
     PyMem_Free(marks);
