@@ -1,4 +1,4 @@
--- Lists that are read from the left, item by item.
+-- Lists that are read from the left, item by item, and the numbers in them.
 use Rattle.std.proofs.Common.{Bor, ◌≡◌, ◌+◌, ◌<◌, ℕ, List, [], ◌∷◌, ◌++◌, length, drop, get_or, map, Option, Some, None, refl, sym, ap, ◌∙◌, append_assoc, option_and_then, Result, Ok, Err, subst, ◌^◌, ◌&&◌, Bool, true, false, nat_lt, if◌then◌else◌}
 use Rattle.std.specs.Option.{option_map}
 use Rattle.std.proofs.lemmas.List.{drop_more, get_or-map, length-map}
