@@ -198,14 +198,27 @@ static int is_any_text(PyObject *print)
     return found;
 }
 
-/* Whether behind an operator that any version without a local part may stand behind a version stands that has a word: then it is a specifier. */
+/* How many bytes `.*` takes at the end of a specifier with `==` or `!=`, behind digits and dots alone; 0 where it does not stand there. */
+static inline size_t star_length(pep440_string text)
+{
+    const uint8_t *at = text.bytes;
+    size_t end = text.length < 5 ? 0 : text.length - 2, place = 2;
+    if (!end || at[end] != '.' || at[end + 1] != '*' || at[1] != '=' || (at[0] != '=' && at[0] != '!'))
+        return 0;
+    while (place < end && ((at[place] >= '0' && at[place] <= '9') || at[place] == '.'))
+        place++;
+    return place == end ? 2 : 0;
+}
+
+/* Whether behind an operator that any version without a local part may stand behind a version stands that has a word, or such a release and a star: then it is
+   a specifier. */
 static inline int has_word(pep440_string text)
 {
     const uint8_t *at = text.bytes;
     size_t width = text.length > 2 && at[1] == '=' ? 2 : 1;
     uint64_t word;
     return text.length > width && (at[0] == '>' || at[0] == '<' || (width == 2 && (at[0] == '=' || at[0] == '!'))) && at[width] > ' ' &&
-           pep440_word(at + width, text.length - width, &word) == PEP440_OK;
+           pep440_word(at + width, text.length - width - star_length(text), &word) == PEP440_OK;
 }
 
 /* Compiles a specifier as the list of it alone, and one with `===` as the list of nothing, since any text may stand there: Python compares it. */
@@ -243,18 +256,19 @@ static uint8_t operator_of(const uint8_t *at)
 static uint8_t compile_known(PyObject *print, Compiled *compiled)
 {
     pep440_string text, version;
-    size_t width;
+    size_t width, star;
     uint8_t status;
     if (view_str(print, &text) < 0)
         return PEP440_OUT_OF_MEMORY;
     width = text.bytes[1] == '=' ? 2 : 1;
-    version = (pep440_string){text.bytes + width, text.length - width};
+    star = star_length(text);
+    version = (pep440_string){text.bytes + width, text.length - width - star};
     status = compile(pep440_compile, version, compiled);
     if (status != PEP440_OK)
         return status;
     memmove(compiled->bytes + MEMBER_HEAD, compiled->bytes + 1, compiled->length - 1);
     compiled->bytes[0] = LIST;
-    compiled->bytes[1] = OPERATOR + operator_of(text.bytes);
+    compiled->bytes[1] = (uint8_t)(OPERATOR + operator_of(text.bytes) + (star != 0)); /* the star forms come next */
     compiled->length++;
     return PEP440_OK;
 }
