@@ -3,17 +3,15 @@ use Rattle.std.proofs.Common.{◌≡◌, ℕ, List, inl, inr, refl, subst, sym}
 use Rattle.std.proofs.lemmas.List.Elements.{All-weaker}
 use Rattle.std.specs.List.{All}
 use Rattle.pep440_compiled.proofs.Exact.{parsed}
-use Rattle.pep440_compiled.specs.Lists.{IsParsedMember, IsParsedOperand}
+use Rattle.pep440_compiled.specs.Lists.{IsParsedMember}
 use Rattle.pep440_compiled.specs.Version.{DenotesVersion}
 use Rattle.pep440_version.specs.RoundTrip.{IsParsed}
 use Rattle.pep440_compiled.specs.declared.error.CompileError.{CompileError}
 use Rattle.pep440_compiled.specs.declared.error.CompileError.TheVariants.{NotParsed, OutOfMemory}
 use Rattle.pep440_rs.proofs.Agreement.Operands.{list_has_texts}
 use Rattle.pep440_rs.proofs.Denoted.{is_denotable}
-use Rattle.pep440_rs.specs.Denoted.{IsDenotable}
 use Rattle.pep440_rs.specs.Specifiers.SpecifierGrammar.{IsDenotedSpecifier}
 use Rattle.pep440_rs.specs.Specifiers.{Spec}
-use Rattle.pep440_sets.proofs.Lists.{parsed_denoted}
 use Rattle.pep440_version.specs.Grammar.{Derives}
 use Rattle.pep440_version.specs.Record.{Record}
 use Rattle.pep440_calls.proofs.Ascii.{derived_utf8}
@@ -23,25 +21,20 @@ use Rattle.pep440_calls.specs.CallerBytes.{BytesDenote, BytesDenoteList}
 use Rattle.pep440_calls.specs.Statuses.{Faults, fault_of_compile}
 use Rattle.pep440_calls.specs.declared.fault.Fault.{Fault}
 
-pub specifier_parsed : (s : Spec) → IsDenotedSpecifier s → IsParsedOperand s
-specifier_parsed s has =
-    let given = is_denotable s has in
-    (parsed given.1.0 s.version given.1.1, given.0)
+abbrev pub IsParsedSpec : Spec → Type 0
+IsParsedSpec s = IsParsed s.version
+
+pub specifier_parsed : (s : Spec) → IsDenotedSpecifier s → IsParsedSpec s
+specifier_parsed s has = let given = is_denotable s has in parsed given.1.0 s.version given.1.1
 
 pub means_parsed : (bytes : List ℕ) (r : Record) → BytesDenote bytes r → IsParsed r
 means_parsed bytes r (inl (plain, (utf8, d))) = parsed bytes r d
 means_parsed bytes r (inr d) = d.parsed
 
-operand_parsed : (s : Spec) → IsParsedMember s → IsParsedOperand s
-operand_parsed s p = (p.version, p.operand)
-
-pub members_parsed : (bytes : List ℕ) (list : List Spec) → BytesDenoteList bytes list → All IsParsedOperand list
-members_parsed bytes list (inl (plain, (utf8, means))) = All-weaker IsDenotedSpecifier IsParsedOperand specifier_parsed list (list_has_texts bytes list means)
-members_parsed bytes list (inr (inl d)) = All-weaker IsParsedMember IsParsedOperand operand_parsed list d.members
-members_parsed bytes list (inr (inr d)) = All-weaker IsParsedMember IsParsedOperand operand_parsed list d.members.members
-
-pub members_denotable : (bytes : List ℕ) (list : List Spec) → BytesDenoteList bytes list → All IsDenotable list
-members_denotable bytes list means = All-weaker IsParsedOperand IsDenotable (λ s p. (p.1, parsed_denoted s.version p.0)) list (members_parsed bytes list means)
+pub members_parsed : (bytes : List ℕ) (list : List Spec) → BytesDenoteList bytes list → All IsParsedSpec list
+members_parsed bytes list (inl (plain, (utf8, means))) = All-weaker IsDenotedSpecifier IsParsedSpec specifier_parsed list (list_has_texts bytes list means)
+members_parsed bytes list (inr (inl d)) = All-weaker IsParsedMember IsParsedSpec (λ s p. p.version) list d.members
+members_parsed bytes list (inr (inr d)) = All-weaker IsParsedMember IsParsedSpec (λ s p. p.version) list d.members.members
 
 -- so an error is out of memory
 pub only_memory : (version list range : Type 0) (f : Fault) (e : CompileError) → f ≡ fault_of_compile e → (e ≡ NotParsed → ⊥) → Faults version list range f

@@ -10,7 +10,6 @@ use Rattle.pep440_sets.specs.Common.{common_version}
 use Rattle.pep440_sets.specs.Emptiness.{IsUnsatisfiable}
 use Rattle.pep440_version.specs.Print.{print}
 use Rattle.pep440_version.specs.Record.{Record}
-use Rattle.pep440_calls.proofs.Compiling.{members_denotable}
 use Rattle.pep440_calls.proofs.Once.{one_bytes_list}
 use Rattle.pep440_calls.specs.CallerBytes.{BytesDenoteList}
 use Rattle.pep440_calls.specs.CallResults.{IsVersionIn}
@@ -20,9 +19,9 @@ of_found l words all None first is = inl is
 of_found l words all (Some v) first is =
     inr (v, is, subst (λ o. IfSome o IsDenoted) first (common_is_denoted l all), subst (λ o. IfSome o (λ w. IsTrue (list_matches_literally l w))) first (common_matches l all))
 
-pub matched : (bytes words : List ℕ) (l : List Spec) → IsVersionIn bytes words → BytesDenoteList bytes l → (words ≡ []) ⊎ ((v : Record) × (words ≡ print v) × IsDenoted v × IsTrue (list_matches_literally l v))
-matched bytes words l (m, means, is) list =
-    of_found l words (members_denotable bytes l list) (common_version l) refl (is ∙ ap (λ k. option_map_or print (common_version k) []) (one_bytes_list bytes m l means list))
+pub matched : (bytes words : List ℕ) (l : List Spec) → All IsDenotable l → IsVersionIn bytes words → BytesDenoteList bytes l → (words ≡ []) ⊎ ((v : Record) × (words ≡ print v) × IsDenoted v × IsTrue (list_matches_literally l v))
+matched bytes words l all (m, means, is) list =
+    of_found l words all (common_version l) refl (is ∙ ap (λ k. option_map_or print (common_version k) []) (one_bytes_list bytes m l means list))
 
-pub none : (bytes : List ℕ) (l : List Spec) → BytesDenoteList bytes l → common_version l ≡ None → IsUnsatisfiable l
-none bytes l means = none_in_common l (members_denotable bytes l means)
+pub none : (l : List Spec) → All IsDenotable l → common_version l ≡ None → IsUnsatisfiable l
+none = none_in_common

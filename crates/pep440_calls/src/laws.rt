@@ -1,5 +1,5 @@
 //! What holds of the bytes of a caller, as contracts of functions that do nothing.
-ghost use Rattle.std.specs.List.{list_any};
+ghost use Rattle.std.specs.List.{All, list_any};
 ghost use Rattle.std.specs.Ordering.{nat_cmp};
 ghost use Rattle.std.specs.Prelude.{length, ◌≤◌, ◌+◌, ◌*◌, ◌/◌, Bool, IsTrue, List, None, Some, [], ℕ, ◌↔◌, ◌≡◌, ◌⊎◌};
 ghost use Rattle.pep440_compiled.specs.Lists.{HasListFormat};
@@ -7,7 +7,7 @@ ghost use Rattle.pep440_compiled.specs.Version.{HasVersionFormat, compiled_bytes
 ghost use Rattle.pep440_keys.specs.RangeKeys.{is_within, segment_interval};
 ghost use Rattle.pep440_keys.specs.SortKeys.{key_bytes};
 ghost use Rattle.pep440_rs.specs.Bounds.{Segments, range_of};
-ghost use Rattle.pep440_rs.specs.Denoted.{IsDenoted};
+ghost use Rattle.pep440_rs.specs.Denoted.{IsDenotable, IsDenoted};
 ghost use Rattle.pep440_rs.specs.LiteralMatching.{list_matches_literally};
 ghost use Rattle.pep440_rs.specs.Specifiers.{Spec};
 ghost use Rattle.pep440_version.specs.Grammar.{Derives};
@@ -59,12 +59,12 @@ pub fn ranges_once()
     ensures one_error { (bytes : List ℕ) → LacksRange range_of bytes → RejectsListBytes bytes → ⊥ }
 {}
 
-/// What `pep440_version_in` writes is nothing or a version that the list matches literally; it writes nothing only if the list matches
-/// no version that a string denotes.
+/// What `pep440_version_in` writes of a list that some string denotes is nothing or a version that the list matches literally; it writes
+/// nothing only if the list matches no version that a string denotes.
 pub fn versions_in_lists()
-    ensures matched { (bytes words : List ℕ) (l : List Spec) → IsVersionIn bytes words → BytesDenoteList bytes l
+    ensures matched { (bytes words : List ℕ) (l : List Spec) → All IsDenotable l → IsVersionIn bytes words → BytesDenoteList bytes l
         → (words ≡ []) ⊎ ((v : Record) × (words ≡ print v) × IsDenoted v × IsTrue (list_matches_literally l v)) }
-    ensures none { (bytes : List ℕ) (l : List Spec) → BytesDenoteList bytes l → common_version l ≡ None → IsUnsatisfiable l }
+    ensures none { (l : List Spec) → All IsDenotable l → common_version l ≡ None → IsUnsatisfiable l }
 {}
 
 /// The words of strings, as numbers, are in the order of the versions, and equal exactly if these are; a string has at most one word.
@@ -74,9 +74,9 @@ pub fn words_are_ordered()
         → BytesDenote a r → BytesDenote b q → nat_cmp m n ≡ record_cmp r q }
 {}
 
-/// The sort key of a version lies in an interval of a list's set exactly if the list matches the version literally.
+/// The sort key of a version lies in an interval of a list's set exactly if the list, which some string denotes, matches the version literally.
 pub fn keys_tell_membership()
-    ensures { (bytes text : List ℕ) (set : Segments) (list : List Spec) (r : Record) → BytesDenoteSet bytes set → BytesDenoteList bytes list
+    ensures { (bytes text : List ℕ) (set : Segments) (list : List Spec) (r : Record) → All IsDenotable list → BytesDenoteSet bytes set → BytesDenoteList bytes list
         → BytesDenote text r → list_any (λ s. is_within (segment_interval s) (key_bytes r)) set ≡ list_matches_literally list r }
 {}
 

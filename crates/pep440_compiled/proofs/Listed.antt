@@ -8,12 +8,12 @@ use Rattle.std.specs.declared.cmp.Ordering.TheVariants as ordering
 use Rattle.pep440_compiled.proofs.Exact.{member_version}
 use Rattle.pep440_compiled.proofs.Members.{no_zero_first}
 use Rattle.pep440_compiled.proofs.Sized.{one_sized}
-use Rattle.pep440_compiled.specs.Lists.{DenotesList, DenotesMembers, DenotesWithSet, IsFormBy, IsListForm, IsParsedMember, member_bytes, members_bytes}
+use Rattle.pep440_compiled.specs.Lists.{DenotesList, DenotesMembers, DenotesWithSet, IsFormBy, IsListForm, IsParsedMember, has_set, member_bytes, members_bytes}
 use Rattle.pep440_compiled.specs.SetBytes.{set_bytes}
 use Rattle.pep440_rs.specs.OperatorLaws.{same_operator}
 use Rattle.pep440_rs.specs.Operators.{operator_rank}
 use Rattle.pep440_rs.specs.Specifiers.{Spec}
-use Rattle.pep440_sets.specs.Sets.{has_exact, list_set}
+use Rattle.pep440_sets.specs.Sets.{list_set}
 
 same_rank : (s t : Spec) → 16 + operator_rank s.operator ≡ 16 + operator_rank t.operator → s.operator ≡ t.operator
 same_rank s t e = same_operator s.operator t.operator (sym (nat_cmp_is (operator_rank s.operator) (operator_rank t.operator) ordering.Equal (omega (arith, e))))
@@ -53,32 +53,32 @@ never_members bytes later l e d = omega (arith, not_other 6 5 _ _ (sym e ∙ d.s
 
 -- the one form of a list
 pub one_form : (a b : List ℕ) (l : List Spec) → IsListForm a l → IsListForm b l → a ≡ b
-one_form a b l p q = go (has_exact l) p q
+one_form a b l p q = go (has_set l) p q
   where
     go : (e : Bool) → IsFormBy e a l → IsFormBy e b l → a ≡ b
     go true d e = d.same ∙ sym e.same
     go false d e = d.same ∙ sym e.same
 
 pub form_denotes : (bytes : List ℕ) (l : List Spec) → IsListForm bytes l → DenotesList bytes l
-form_denotes bytes l p = go (has_exact l) p
+form_denotes bytes l p = go (has_set l) p
   where
     go : (e : Bool) → IsFormBy e bytes l → DenotesList bytes l
-    go true d = inl d
-    go false d = inr d
+    go true d = inr d
+    go false d = inl d
 
 pub set_is_form : (bytes : List ℕ) (l : List Spec) → DenotesWithSet bytes l → IsListForm bytes l
-set_is_form bytes l d = subst (λ e. IsFormBy e bytes l) (sym d.without) d
+set_is_form bytes l d = subst (λ e. IsFormBy e bytes l) (sym d.given) d
 
-pub members_are_form : (bytes : List ℕ) (l : List Spec) → has_exact l ≡ true → DenotesMembers bytes l → IsListForm bytes l
+pub members_are_form : (bytes : List ℕ) (l : List Spec) → has_set l ≡ false → DenotesMembers bytes l → IsListForm bytes l
 members_are_form bytes l e d = subst (λ e. IsFormBy e bytes l) (sym e) d
 
 -- bytes that begin with the byte of sets and are a form, are that of a list with its set
 pub form_with_set : (later : List ℕ) (l : List Spec) → IsListForm (6 ∷ later) l → DenotesWithSet (6 ∷ later) l
-form_with_set later l p = go (has_exact l) p
+form_with_set later l p = go (has_set l) p
   where
     go : (e : Bool) → IsFormBy e (6 ∷ later) l → DenotesWithSet (6 ∷ later) l
-    go true d = absurd (omega (arith, not_other 6 5 _ _ d.same))
-    go false d = d
+    go true d = d
+    go false d = absurd (omega (arith, not_other 6 5 _ _ d.same))
 
 pub without_set : (members : List ℕ) (l : List Spec) → DenotesMembers members l → DenotesMembers (members_bytes l) l
 without_set members l d = record { members = d.members; order = d.order; same = refl }

@@ -1,28 +1,32 @@
 -- The set of a list as bytes: what its intervals are, and that they hold the keys of the versions that match literally.
-use Rattle.std.proofs.Common.{◌≡◌, ◌∙◌, ◌==◌, ◌&&◌, ◌||◌, ℕ, ◌<◌, Bool, true, false, not, List, [], ◌∷◌, ◌++◌, inl, inr, append_assoc, arith, length, map, refl, sym, ap, subst}
+use Rattle.std.proofs.Common.{◌≡◌, ◌∙◌, ◌==◌, ◌&&◌, ◌||◌, ℕ, ◌<◌, Bool, true, false, true≢false, not, is_none, Option, Some, None, List, [], ◌∷◌, ◌++◌, inl, inr, append_assoc, arith, length, map, refl, sym, ap, subst}
 use Rattle.std.proofs.Math.Dec.{eqb-suc-zero}
 use Rattle.std.proofs.lemmas.List.Elements.{All-from_recursion, All-weaker, recursion_from_All}
-use Rattle.std.specs.List.{All, AllByRecursion, list_any}
+use Rattle.std.specs.List.{All, AllByRecursion, list_all, list_any}
 use Rattle.std.specs.Option.{option_map_or}
 use Rattle.std.specs.Prelude.{unwrap_or}
 use Rattle.std.specs.declared.ops.Bound.{Bound}
 use Rattle.std.specs.declared.ops.Bound.TheVariants.{Included, Excluded, Unbounded}
 use Rattle.pep440_compiled.proofs.Fronts.{keyed}
-use Rattle.pep440_compiled.specs.Lists.{IsParsedMember}
+use Rattle.pep440_compiled.specs.Lists.{IsParsedMember, has_set, is_bare, may_stand}
 use Rattle.pep440_compiled.specs.SetBytes.{IsSized, IsSizedInterval, high_bytes, low_bytes, set_bytes, sized_bytes}
 use Rattle.pep440_keys.proofs.Membership.{in_range}
 use Rattle.pep440_keys.specs.RangeKeys.{HasKeys, IsKeyedBound, IsKeyedSegment, high_key, is_below_key, is_within, low_key, segment_interval}
 use Rattle.pep440_keys.specs.SortKeys.{HasNoZero, IsKeyed, key_bytes}
 use Rattle.pep440_ranges.specs.RangeSegments.{Segment, contains}
+use Rattle.pep440_rs.specs.Agreement.{HasNoLocalOrSentinel, HasOperand}
 use Rattle.pep440_rs.specs.Bounds.{Segments}
 use Rattle.pep440_rs.specs.Denoted.{IsDenotable}
 use Rattle.pep440_rs.specs.LiteralMatching.{list_matches_literally}
+use Rattle.pep440_rs.specs.Matching.{has_local}
 use Rattle.pep440_rs.specs.Specifiers.{Spec}
+use Rattle.pep440_rs.specs.declared.specifier.operator.Operator.{Operator}
+use Rattle.pep440_rs.specs.declared.specifier.operator.Operator.TheVariants.{Equal, EqualStar, ExactEqual, NotEqual, NotEqualStar, TildeEqual, LessThan, LessThanEqual, GreaterThan, GreaterThanEqual}
 use Rattle.pep440_sets.proofs.Lists.{list_holds, list_is_set, parsed_denoted}
 use Rattle.pep440_sets.specs.Boundaries.{IsAbovePosts, IsBelowVersion, IsEnd, IsInterval, IsStart, IsVersionSet}
 use Rattle.pep440_sets.specs.Sets.{has_exact, list_set}
 use Rattle.pep440_version.specs.Key.{record_cmp}
-use Rattle.pep440_version.specs.Record.{LocalSegmentValue, Record}
+use Rattle.pep440_version.specs.Record.{LocalSegmentValue, Record, epoch_and_release}
 use Rattle.pep440_version.specs.RoundTrip.{IsParsed}
 
 -- ---- the first interval
@@ -121,11 +125,86 @@ any_map key (s ∷ range) = ap (λ (b : Bool). is_within (segment_interval s) ke
 pub set_tells : (set : Segments) (r : Record) → IsVersionSet set → IsParsed r → list_any (λ s. is_within (segment_interval s) (key_bytes r)) set ≡ contains record_cmp set r
 set_tells set r h p = any_map (key_bytes r) set ∙ in_range set (set_has_keys set h) r (keyed r p)
 
-pub denotable : (list : List Spec) → All IsParsedMember list → All IsDenotable list
-denotable list all = All-weaker IsParsedMember IsDenotable (λ s p. (p.operand, parsed_denoted s.version p.version)) list all
+left_true : (a b : Bool) → a && b ≡ true → a ≡ true
+left_true true b h = refl
+left_true false b h = h
+
+right_true : (a b : Bool) → a && b ≡ true → b ≡ true
+right_true true b h = h
+right_true false b h = absurd (true≢false (sym h))
+
+turned : (a : Bool) → not a ≡ true → a ≡ false
+turned true h = absurd (true≢false (sym h))
+turned false h = refl
+
+is_none_is : {A : Type 0} (o : Option A) → is_none o ≡ true → o ≡ None
+is_none_is None h = refl
+is_none_is (Some x) h = absurd (true≢false (sym h))
+
+no_local_is : (v : Record) → not (has_local v) ≡ true → v.local ≡ []
+no_local_is v h = go v.local h
+  where
+    go : (l : List LocalSegmentValue) → not (has_local (record v { local = l })) ≡ true → l ≡ []
+    go [] h = refl
+    go (x ∷ l) h = absurd (true≢false (sym h))
+
+without_local : (v : Record) → IsParsed v → not (has_local v) ≡ true → HasNoLocalOrSentinel v
+without_local v p h = record { local = no_local_is v h; min = p.round_trips.no_min; max = p.round_trips.no_max }
+
+bare_is : (v : Record) → IsParsed v → is_bare v ≡ true → v ≡ epoch_and_release v.epoch v.release
+bare_is v p h =
+    let pre = is_none_is v.pre (left_true (is_none v.pre) _ h) in
+    let after_pre = right_true (is_none v.pre) _ h in
+    let post = is_none_is v.post (left_true (is_none v.post) _ after_pre) in
+    let after_post = right_true (is_none v.post) _ after_pre in
+    let dev = is_none_is v.dev (left_true (is_none v.dev) _ after_post) in
+    let local = no_local_is v (right_true (is_none v.dev) _ after_post) in
+    (λ i. record v { pre = pre i; post = post i; dev = dev i; local = local i; min = p.round_trips.no_min i; max = p.round_trips.no_max i })
+
+bare_local : (v : Record) → is_bare v ≡ true → not (has_local v) ≡ true
+bare_local v h = right_true (is_none v.dev) _ (right_true (is_none v.post) _ (right_true (is_none v.pre) _ h))
+
+operand : (o : Operator) (v : Record) → IsParsed v → may_stand o v ≡ true → HasOperand (record { operator = o; version = v })
+operand EqualStar v p h = record { star = λ e. bare_is v p h; plain = λ e. without_local v p (bare_local v h) }
+operand NotEqualStar v p h = record { star = λ e. bare_is v p h; plain = λ e. without_local v p (bare_local v h) }
+operand Equal v p h = record { star = λ e. absurd (true≢false (sym e)); plain = λ e. absurd (true≢false (sym e)) }
+operand NotEqual v p h = record { star = λ e. absurd (true≢false (sym e)); plain = λ e. absurd (true≢false (sym e)) }
+operand ExactEqual v p h = record { star = λ e. absurd (true≢false (sym e)); plain = λ e. absurd (true≢false (sym e)) }
+operand TildeEqual v p h = record { star = λ e. absurd (true≢false (sym e)); plain = λ e. without_local v p h }
+operand LessThan v p h = record { star = λ e. absurd (true≢false (sym e)); plain = λ e. without_local v p h }
+operand LessThanEqual v p h = record { star = λ e. absurd (true≢false (sym e)); plain = λ e. without_local v p h }
+operand GreaterThan v p h = record { star = λ e. absurd (true≢false (sym e)); plain = λ e. without_local v p h }
+operand GreaterThanEqual v p h = record { star = λ e. absurd (true≢false (sym e)); plain = λ e. without_local v p h }
+
+abbrev stands : Spec → Bool
+stands s = may_stand s.operator s.version
+
+each_denotable : (list : List Spec) → AllByRecursion IsParsedMember list → list_all stands list ≡ true → AllByRecursion IsDenotable list
+each_denotable [] all h = tt
+each_denotable (s ∷ list) all h =
+    ((operand s.operator s.version all.0.version (left_true (stands s) (list_all stands list) h), parsed_denoted s.version all.0.version), each_denotable list all.1 (right_true (stands s) (list_all stands list) h))
+
+pub denotable : (list : List Spec) → All IsParsedMember list → has_set list ≡ true → All IsDenotable list
+denotable list all given = All-from_recursion IsDenotable list (each_denotable list (recursion_from_All IsParsedMember list all) (right_true (not (has_exact list)) (list_all stands list) given))
 
 -- and of the set of a list exactly if the list matches the version literally
-pub list_tells : (list : List Spec) (r : Record) → All IsParsedMember list → has_exact list ≡ false → IsParsed r → list_any (λ s. is_within (segment_interval s) (key_bytes r)) (list_set list) ≡ list_matches_literally list r
-list_tells list r parsed none p =
-    let all = denotable list parsed in
+pub list_tells : (list : List Spec) (r : Record) → All IsParsedMember list → has_set list ≡ true → IsParsed r → list_any (λ s. is_within (segment_interval s) (key_bytes r)) (list_set list) ≡ list_matches_literally list r
+list_tells list r parsed given p =
+    let all = denotable list parsed given in
+    let none = turned (has_exact list) (left_true (not (has_exact list)) (list_all stands list) given) in
     set_tells (list_set list) r (list_is_set list all) p ∙ list_holds list all none r (parsed_denoted r p)
+
+-- ---- whether a list has a set
+
+pub no_operands : (list : List Spec) → list_all stands list ≡ false → has_set list ≡ false
+no_operands list h = go (not (has_exact list)) (list_all stands list) h
+  where
+    go : (a b : Bool) → b ≡ false → a && b ≡ false
+    go true b h = h
+    go false b h = refl
+
+pub exact_has_none : (list : List Spec) → has_exact list ≡ true → has_set list ≡ false
+exact_has_none list h = ap (λ b. not b && list_all stands list) h
+
+pub both_given : (list : List Spec) → has_exact list ≡ false → list_all stands list ≡ true → has_set list ≡ true
+both_given list none h = ap (λ b. not b && list_all stands list) none ∙ h

@@ -6,8 +6,8 @@ use std::alloc::{AllocError, AllocFailed};
 /// Why a version or a list has no compiled form.
 #[derive(Clone, Copy, Debug, PartialEq, Eq, thiserror::Error)]
 pub enum CompileError {
-    /// No string denotes it: a version has a sentinel, or a local segment that is not in normal form, or may not stand beside its operator.
-    #[error("no string denotes this")]
+    /// No string parses to the version: it has a sentinel, or a local segment that is not in normal form.
+    #[error("no string parses to this version")]
     NotParsed,
     /// Out of memory.
     #[error("out of memory")]

@@ -1,7 +1,7 @@
 //! Compiled lists of specifiers: made, read, asked.
 ghost use Rattle.std.specs.Prelude.{◌≡◌, ◌↔◌, ◌++◌, ◌∷◌, List, Ok, false, true, IfErr, IfOk, IfSome, MatchOption, string_bytes};
 ghost use Rattle.std.specs.List.{All};
-ghost use Rattle.pep440_compiled.specs.Lists.{DenotesList, DenotesMembers, DenotesWithSet, HasListFormat, HasMembersFormat, HasSetFormat, IsListForm, IsParsedOperand};
+ghost use Rattle.pep440_compiled.specs.Lists.{DenotesList, DenotesMembers, DenotesWithSet, HasListFormat, HasMembersFormat, HasSetFormat, IsListForm, has_set};
 ghost use Rattle.pep440_compiled.specs.SetBytes.{set_bytes, sized_bytes};
 ghost use Rattle.pep440_compiled.specs.Version.{DenotesVersion, HasVersionFormat};
 ghost use Rattle.pep440_compiled.specs.declared.error.CompileError.TheVariants.{NotParsed};
@@ -12,11 +12,13 @@ ghost use Rattle.pep440_rs.specs.LiteralMatching.{list_matches_literally};
 ghost use Rattle.pep440_rs.specs.Matching.{any_prerelease, list_matches};
 ghost use Rattle.pep440_rs.specs.Prereleases.{requests_prereleases};
 ghost use Rattle.pep440_rs.specs.Specifiers.{Spec};
-ghost use Rattle.pep440_sets.specs.Sets.{has_exact, list_set};
+ghost use Rattle.pep440_sets.specs.Sets.{list_set};
 ghost use Rattle.pep440_version.specs.Record.{Record};
+ghost use Rattle.pep440_version.specs.RoundTrip.{IsParsed};
 
 use crate::error::{CompileError, CompiledError, ContainsError, NotCompiled};
 use crate::list_members::{self, compile_members, has_members_format, read_members};
+use crate::operand::have_operands;
 use crate::set_bytes::{holds_key, push_sized, set_bytes, split_sized};
 use crate::views::view_version;
 use pep440_rs::{Ranges, Version, VersionSpecifiers};
@@ -42,7 +44,7 @@ pub fn has_set_format(bytes: &[u8]) -> bool
 
 // The set before the members.
 fn prepend_set(alloc: Global, set: &Ranges<Version>, members: &[u8]) -> Result<Vec<u8>, AllocError>
-    ensures { (l : List Spec) → DenotesMembers members.now l → has_exact l ≡ false → set.now ≡ list_set l
+    ensures { (l : List Spec) → DenotesMembers members.now l → has_set l ≡ true → set.now ≡ list_set l
         → IfOk result (λ bytes. DenotesWithSet bytes.items l) }
 {
     let set = set_bytes(alloc, set)?;
@@ -53,15 +55,18 @@ fn prepend_set(alloc: Global, set: &Ranges<Version>, members: &[u8]) -> Result<V
     Ok(bytes)
 }
 
-/// The compiled form of a list: its set and its members, or, with `===`, which has no set, just the members. `NotParsed` if no string
-/// denotes some member.
+/// The compiled form of a list: its set and its members; or, with `===`, which has no set, or with a member that no string denotes, just
+/// the members. `NotParsed` if no string parses to the version of some member.
 ///
 /// Allocates.
 pub fn compile_list(alloc: Global, list: &VersionSpecifiers) -> Result<Vec<u8>, CompileError>
     ensures ok { IfOk result (λ bytes. IsListForm bytes.items list.now) }
-    ensures err { IfErr result (λ e. e ≡ NotParsed → All IsParsedOperand list.now → ⊥) }
+    ensures err { IfErr result (λ e. e ≡ NotParsed → All (λ (s : Spec). IsParsed s.version) list.now → ⊥) }
 {
     let members = compile_members(alloc, list)?;
+    if !have_operands(list.as_slice()) {
+        return Ok(members);
+    }
     match specifiers_to_set(alloc, list.as_slice()) {
         Ok(set) => Ok(prepend_set(alloc, &set, members.as_slice())?),
         Err(SetError::ArbitraryEquality) => Ok(members),

@@ -2,7 +2,7 @@
 ghost use Rattle.std.specs.Prelude.{◌≡◌, ◌↔◌, ◌+◌, ◌++◌, ◌<◌, ◌≤◌, ℕ, not, if◌then◌else◌, List, false, true, length, Ok, Some, IfErr, IfOk, IfSome, MatchOption, OnOk};
 ghost use Rattle.std.specs.List.{All, flat_map};
 ghost use Rattle.pep440_compiled.specs.KeyParts.{BeginsOtherwise};
-ghost use Rattle.pep440_compiled.specs.Lists.{DenotesMembers, HasMembersFormat, IsParsedMember, IsParsedOperand, member_bytes};
+ghost use Rattle.pep440_compiled.specs.Lists.{DenotesMembers, HasMembersFormat, IsParsedMember, member_bytes};
 ghost use Rattle.pep440_compiled.specs.Version.{DenotesVersion, HasVersionFormat, version_bytes};
 ghost use Rattle.pep440_version.specs.RoundTrip.{IsParsed};
 ghost use Rattle.pep440_compiled.specs.KeyViews.{HasKey, HasParts, IsDecided};
@@ -12,7 +12,7 @@ ghost use Rattle.pep440_compiled.specs.declared.error.ContainsError.TheVariants.
 ghost use Rattle.pep440_rs.specs.Matching.{any_prerelease, has_prefix, list_matches, matches};
 ghost use Rattle.pep440_rs.specs.Operators.{operator_rank};
 ghost use Rattle.pep440_rs.specs.Prereleases.{requests_prerelease, requests_prereleases};
-ghost use Rattle.pep440_rs.specs.Specifiers.{IsSpec, Spec};
+ghost use Rattle.pep440_rs.specs.Specifiers.{Spec};
 ghost use Rattle.pep440_keys.specs.SortKeys.{key_bytes};
 ghost use Rattle.pep440_version.specs.Key.{record_cmp};
 ghost use Rattle.pep440_version.specs.Record.{Record};
@@ -22,7 +22,6 @@ use crate::decode::decode_version;
 use crate::error::{CompileError, CompiledError, ContainsError, NotCompiled};
 use crate::key_parts::skip_zeros;
 use crate::matching::{begins_with_release, matches_bytes, matches_order};
-use crate::operand::has_operand;
 use crate::parsed::is_parsed;
 use crate::version::push_version;
 use crate::views::{
@@ -50,20 +49,13 @@ pub(crate) fn has_members_format(bytes: &[u8]) -> bool
     bytes.first() == Some(&MEMBERS)
 }
 
-// Whether some string denotes the specifier.
-fn is_parsed_member(member: &VersionSpecifier) -> bool
-    ensures tells { (result ≡ true) ↔ IsParsedOperand member.now }
-    ensures valid { IsSpec member.now }
-{
-    is_parsed(member.version()) && has_operand(member)
-}
-
-fn are_parsed_members(members: &[VersionSpecifier]) -> bool
+// All versions are such that strings parse to them.
+fn have_parsed_versions(members: &[VersionSpecifier]) -> bool
     ensures members { result ≡ true → All IsParsedMember members.now }
-    ensures operands { All IsParsedOperand members.now → result ≡ true }
+    ensures versions { All (λ (s : Spec). IsParsed s.version) members.now → result ≡ true }
 {
     for member in members {
-        if !is_parsed_member(member) {
+        if !is_parsed(member.version()) {
             return false;
         }
     }
@@ -77,16 +69,16 @@ fn push_member(bytes: &mut Vec<u8>, member: &VersionSpecifier) -> Result<(), All
     push_version(bytes, member.version())
 }
 
-// The members of a list; `NotParsed` if no string denotes some member.
+// The members of a list; `NotParsed` if no string parses to the version of some member.
 pub(crate) fn compile_members(
     alloc: Global,
     list: &VersionSpecifiers,
 ) -> Result<Vec<u8>, CompileError>
     ensures ok { IfOk result (λ bytes. DenotesMembers bytes.items list.now) }
-    ensures err { IfErr result (λ e. e ≡ NotParsed → All IsParsedOperand list.now → ⊥) }
+    ensures err { IfErr result (λ e. e ≡ NotParsed → All (λ (s : Spec). IsParsed s.version) list.now → ⊥) }
 {
     let members = list.as_slice();
-    if !are_parsed_members(members) {
+    if !have_parsed_versions(members) {
         return Err(CompileError::NotParsed);
     }
     // An estimate: more bytes allocate again.

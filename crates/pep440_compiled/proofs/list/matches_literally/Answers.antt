@@ -12,4 +12,4 @@ returns-in-Some-holds_key-clause-found c l r d e =
     let version = c.in-Some.ensures.found r e in
     let held : Some c.in-Some-holds_key.held ≡ Some (list_any (λ s. is_within (segment_interval s) c.in-Some.version.key.now) (list_set l)) = sym c.in-Some-holds_key.is ∙ c.holds_key.ensures (list_set l) d.sizes set.0 in
     let same = ap (λ o. unwrap_or o c.in-Some-holds_key.held) held in
-    ap Ok (same ∙ ap (λ k. list_any (λ s. is_within (segment_interval s) k) (list_set l)) version.key ∙ list_tells l r d.members.members d.without version.parsed)
+    ap Ok (same ∙ ap (λ k. list_any (λ s. is_within (segment_interval s) k) (list_set l)) version.key ∙ list_tells l r d.members.members d.given version.parsed)

@@ -6,9 +6,9 @@ use Rattle.pep440_rs.specs.Specifiers.{Spec}
 
 pub returns-clause-ok : goal.returns-clause-ok
 returns-clause-ok c =
-    let holds : c.are_parsed_members.result ≡ true = cc in
+    let holds : c.have_parsed_versions.result ≡ true = cc in
     record {
-      members = subst (λ (l : List Spec). All IsParsedMember l) c.as_slice-members.ensures.value (c.are_parsed_members.ensures.members holds);
+      members = subst (λ (l : List Spec). All IsParsedMember l) c.as_slice-members.ensures.value (c.have_parsed_versions.ensures.members holds);
       order = c.as_slice-members.ensures.valid;
       same = c.loop-member.invariant ∙ ap (λ (l : List Spec). 5 ∷ flat_map member_bytes l) (take_all c.loop-member.member-index c.as_slice-members.result.now c.loop-member-test.false ∙ c.as_slice-members.ensures.value);
     }
