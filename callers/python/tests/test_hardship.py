@@ -334,6 +334,7 @@ print(total)
 class Memory(unittest.TestCase):
     @unittest.skipIf(SANITIZED, "a sanitizer comes first")
     @unittest.skipUnless(shutil.which("cc") and sys.platform == "linux", "no cc here")
+    @unittest.skipIf("PEP440_EMULATED" in os.environ, "the emulator would be refused memory, too")
     def test_each_request_refused_in_turn(self):
         with tempfile.TemporaryDirectory() as work:
             library = os.path.join(work, "refuse.so")
