@@ -146,7 +146,7 @@ no_local_is v h = go v.local h
   where
     go : (l : List LocalSegmentValue) → not (has_local (record v { local = l })) ≡ true → l ≡ []
     go [] h = refl
-    go (x ∷ l) h = absurd (true≢false (sym h))
+    go (x ∷ l) h = absurd (true≢false (sym h ∙ ap (λ b. not (not b)) (eqb-suc-zero (length l))))
 
 without_local : (v : Record) → IsParsed v → not (has_local v) ≡ true → HasNoLocalOrSentinel v
 without_local v p h = record { local = no_local_is v h; min = p.round_trips.no_min; max = p.round_trips.no_max }
