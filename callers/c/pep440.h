@@ -356,8 +356,9 @@ uint8_t pep440_release_range_bounds(const uint8_t *list, size_t length, uint8_t 
 
    Bytes denote at most one version or one list, and two strings have the same compiled bytes
    exactly if they have the same normal form: `1.0` and ` v1.0` have the same bytes, and `1.0.0` has
-   others, though the versions are equal. Bytes of what no string denotes, as `>=1.0+a`, are
-   invalid.
+   others, though the versions are equal. Bytes that pep440_compile_list did not write may denote, in
+   format 5, a list that no string denotes, as `>=1.0+a`, but each version in them is one of a
+   string.
 
    Bytes are never read beyond their length, whether they are compiled, cut, changed or chosen by an
    attacker. pep440_compare of two compiled versions, pep440_contains of a compiled list and a

@@ -290,7 +290,7 @@ static const struct {
 };
 
 /* Of a version: other formats, no version, bytes after it, numbers with a zero in front or of nine bytes, a release that ends with a zero, ranks that
-   no string has, local strings that none has. Of a list: a version's format, no operator, an order that falls, ~= with one number, a local part beside >=;
+   no string has, local strings that none has. Of a list: a version's format, no operator, an order that falls, ~= with one number; a local part beside >= with a set,
    no set, that of another list, one with ===, a size with a zero in front, one too great, no members, members of format 6. */
 static const Bytes NOTHING[] = {
     BYTES(0), BYTES(4), BYTES(5, 4), BYTES(1, 2, 0, 1, 0, 0, 0, 0xa0, 0, 0), BYTES(3, 0, 0, 0, 0, 0, 0, 0, 0), BYTES(4, 0, 0, 80, 0, 16, 0),
@@ -303,7 +303,7 @@ static const Bytes NOTHING[] = {
     BYTES(5, 26, 0, 2, 1, 0, 80, 0, 16, 0), BYTES(5, 15, 0, 2, 1, 0, 80, 0, 16, 0), BYTES(5, 9, 0, 2, 1, 0, 80, 0, 16, 0),
     BYTES(5, 22, 0, 2, 2, 0, 80, 0, 16, 0, 25, 0, 2, 1, 0, 80, 0, 16, 0, 1), BYTES(5, 21, 0, 2, 1, 0, 80, 0, 16, 0), BYTES(5, 16), BYTES(4, 25, 0, 2, 1),
     BYTES(5, 25, 4, 0, 2, 1, 0, 80, 0, 16, 0), BYTES(5, 25, 0, 2, 1, 0, 80, 0, 16, 0, 1, 0),
-    BYTES(5, 25, 0, 2, 1, 0, 80, 0, 16, 1, 'a', 0, 0), BYTES(6), BYTES(6, 0), BYTES(6, 0, 5), BYTES(6, 1, 2, 0, 0, 5, 25, 0, 2, 1, 0, 80, 0, 16, 0),
+    BYTES(6, 1, 2, 0, 0, 5, 25, 0, 2, 1, 0, 80, 0, 16, 1, 'a', 0, 0), BYTES(6), BYTES(6, 0), BYTES(6, 0, 5), BYTES(6, 1, 2, 0, 0, 5, 25, 0, 2, 1, 0, 80, 0, 16, 0),
     BYTES(6, 1, 2, 0, 0, 5, 18, 0, 2, 1, 0, 80, 0, 16, 0), BYTES(6, 2, 0, 2, 0, 0, 5), BYTES(6, 1, 3, 0, 0, 5), BYTES(6, 9, 1, 0, 0, 0, 0, 0, 0, 0, 2, 0, 0, 5),
     BYTES(6, 1, 2, 0, 0), BYTES(6, 1, 2, 0, 0, 6, 1, 2, 0, 0, 5), BYTES(6, 1, 2, 0, 0, 5, 4)};
 
