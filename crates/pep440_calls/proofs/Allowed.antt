@@ -7,7 +7,7 @@ use Rattle.pep440_rs.specs.Prereleases.{requests_prereleases}
 use Rattle.pep440_rs.specs.Specifiers.{Spec}
 use Rattle.pep440_version.specs.Record.{Record}
 use Rattle.pep440_calls.proofs.Once.{one_bytes_list, one_version}
-use Rattle.pep440_calls.specs.CallResults.{Allows, IsPrerelease, Matches, Takes, takes}
+use Rattle.pep440_calls.specs.CallResults.{Allows, IsPrerelease, MatchesLiterally, Takes, takes}
 use Rattle.pep440_calls.specs.CallerBytes.{BytesDenote, BytesDenoteList}
 use Rattle.pep440_calls.specs.Statuses.{HoldsOr}
 use Rattle.pep440_calls.specs.declared.fault.Fault.{Fault}
@@ -58,7 +58,7 @@ early_match false matched true e f = refl
 early_match false matched false e f = e ∙ sym f
 
 -- of compiled bytes
-module _ (list text : List ℕ) (prereleases : ℕ) (matched : Bool) (found : Matches list text matched) where
+module _ (list text : List ℕ) (prereleases : ℕ) (matched : Bool) (found : MatchesLiterally list text matched) where
   pub allows_none : matched ≡ false → Allows list text prereleases false
   allows_none none = (found.0, λ l r means also. sym (no_match (takes prereleases l) (list_matches_literally l r) (any_prerelease r) (sym (found.1 l r means also) ∙ none)))
 

@@ -170,8 +170,8 @@ takes (suc zero) list = true
 takes (suc (suc n)) list = requests_prereleases list
 
 -- whether the list matches the version literally, if the bytes denote them
-abbrev pub Matches : List ℕ → List ℕ → Bool → Type 0
-Matches list_text text matched = AreMatchable list_text text × ((list : List Spec) (r : Record) → BytesDenoteList list_text list → BytesDenote text r → matched ≡ list_matches_literally list r)
+abbrev pub MatchesLiterally : List ℕ → List ℕ → Bool → Type 0
+MatchesLiterally list_text text matched = AreMatchable list_text text × ((list : List Spec) (r : Record) → BytesDenoteList list_text list → BytesDenote text r → matched ≡ list_matches_literally list r)
 
 -- whether they are taken, if the bytes denote a list
 abbrev pub Takes : List ℕ → ℕ → Bool → Type 0

@@ -2,7 +2,7 @@
 ghost use Rattle.std.specs.Prelude.{List, ℕ, ◌≡◌};
 ghost use Rattle.pep440_compiled.specs.Lists.{HasListFormat, HasSetFormat};
 ghost use Rattle.pep440_compiled.specs.Version.{HasVersionFormat};
-ghost use Rattle.pep440_calls.specs.CallResults.{Allows, AllowsResult, Contains, ContainsResult, IsPrerelease, Matches, RejectsSecond, Takes, takes};
+ghost use Rattle.pep440_calls.specs.CallResults.{Allows, AllowsResult, Contains, ContainsResult, IsPrerelease, MatchesLiterally, RejectsSecond, Takes, takes};
 ghost use Rattle.pep440_calls.specs.CallerBytes.{RejectsListBytes};
 ghost use Rattle.pep440_calls.specs.Statuses.{HoldsOrFaults};
 
@@ -114,7 +114,7 @@ pub fn write_allowed(
 fn matches_compiled(list: &[u8], version: &[u8]) -> Result<bool, Fault>
     requires list { HasSetFormat list.now }
     requires version { HasVersionFormat version.now }
-    ensures { HoldsOrFaults (RejectsSecond list.now version.now) (RejectsListBytes list.now) ⊥ (Matches list.now version.now) result }
+    ensures { HoldsOrFaults (RejectsSecond list.now version.now) (RejectsListBytes list.now) ⊥ (MatchesLiterally list.now version.now) result }
 {
     match pep440_compiled::matches_literally(list, version) {
         Ok(found) => Ok(found),
