@@ -45,10 +45,6 @@ module _ {R : Type 0} (kind : FileKind) (files : List ℕ → KnownFile) (paths 
     pub continues_stop : (why : RunFailure) (reader' : R) → FailsInGroup kind files paths remaining first middle reader' why → FailsInGroups kind files paths remaining all a reader reader' why
     continues_stop why reader' stops = h.1 why reader' (subst (λ l. FailsInGroups kind files paths remaining l c middle reader' why) (sym is) (inl stops))
 
-  -- ---- the groups of the words
-
-  module _ {X : Type 0} (f : X → List ℕ) (words : List X) (a b : CheckResult) (reader reader' : R) where
-
 -- ---- how `check` begins, and its last message
 
 -- there is a first source
