@@ -1,4 +1,4 @@
-//! Sets of versions, given as lists without `===` or as compiled sets.
+//! Sets of versions, given as lists without `===`.
 ghost use Rattle.std.specs.List.{flat_map};
 ghost use Rattle.std.specs.Prelude.{IfOk, List, OnOk, [], option_map, unwrap_or, ℕ, ◌++◌, ◌≡◌};
 ghost use Rattle.pep440_keys.specs.RangeKeys.{segment_interval};
