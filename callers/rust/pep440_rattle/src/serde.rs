@@ -1,5 +1,6 @@
 //! Versions, specifiers and lists of them as strings.
 use crate::{Version, VersionSpecifier, VersionSpecifiers};
+use core::convert::identity;
 use core::fmt::{self, Display};
 use core::marker::PhantomData;
 use core::str::FromStr;
@@ -28,11 +29,24 @@ impl<T: FromStr<Err: Display>> Visitor<'_> for Parser<T> {
     }
 }
 
+/// A list without blanks behind its commas.
+struct Compact<'a>(&'a VersionSpecifiers);
+
+impl Display for Compact<'_> {
+    fn fmt(&self, f: &mut fmt::Formatter<'_>) -> fmt::Result {
+        for (place, member) in self.0.iter().enumerate() {
+            f.write_str(if place == 0 { "" } else { "," })?;
+            member.fmt(f)?;
+        }
+        Ok(())
+    }
+}
+
 macro_rules! strings {
-    ($($name:ident)*) => {$(
+    ($($name:ident as $text:expr;)*) => {$(
         impl Serialize for $name {
             fn serialize<S: Serializer>(&self, serializer: S) -> Result<S::Ok, S::Error> {
-                serializer.collect_str(self)
+                serializer.collect_str(&$text(self))
             }
         }
 
@@ -44,4 +58,8 @@ macro_rules! strings {
     )*};
 }
 
-strings! { Version VersionSpecifier VersionSpecifiers }
+strings! {
+    Version as identity;
+    VersionSpecifier as identity;
+    VersionSpecifiers as Compact;
+}

@@ -16,7 +16,7 @@ mod serde {
     fn values_are_strings() {
         assert_eq!(written::<Version>("v1.0-Alpha.2"), "\"1.0a2\"");
         assert_eq!(written::<VersionSpecifier>("== 1.*"), "\"==1.*\"");
-        assert_eq!(written::<VersionSpecifiers>("<2.0,>=1.16"), "\">=1.16, <2.0\"");
+        assert_eq!(written::<VersionSpecifiers>("<2.0,>=1.16"), "\">=1.16,<2.0\"");
     }
 
     /// A string of the input, one with an escape, one that is owned, and the bytes of one.
