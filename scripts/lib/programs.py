@@ -21,20 +21,20 @@ def built(name, file=None):
     raise SystemExit(f"{files[0]} is not there: `scripts/prove {name}` builds it, `scripts/unproved {name}` without a proof")
 
 
-def beside_packaging(doc, parts, count):
-    """The words of a script that compares with `packaging`: any of these parts, how many cases, a seed, and where the program and `packaging` are.
+def words_of(doc, parts, **options):
+    """The words that a script is given: any of these parts, flags, whose default is False, and options with these defaults, a number or a string."""
+    asked = argparse.ArgumentParser(usage=re.search(r"^Usage: (.*?)(?:    .*)?$", doc, re.M)[1])
+    asked.add_argument("part", nargs="*", choices=[[], *parts])
+    for name, default in options.items():
+        asked.add_argument(f"--{name}", default=default, **({"action": "store_true"} if default is False else {"type": type(default or "")}))
+    return asked.parse_args()
 
-    From then on `packaging` can be imported, from pip's own copy if it is nowhere else.
-    """
+
+def beside_packaging(doc, parts, count):
+    """The words of a script that compares with `packaging`, which can be imported from then on, from pip's own copy if it is nowhere else."""
     import pip._vendor
 
-    asked = argparse.ArgumentParser(usage=re.search(r"^Usage: (.*)$", doc, re.M)[1])
-    asked.add_argument("part", nargs="*", choices=[[], *parts])
-    asked.add_argument("--count", type=int, default=count)
-    asked.add_argument("--seed", type=int, default=1)
-    asked.add_argument("--packaging", default=".")
-    asked.add_argument("--program")
-    words = asked.parse_args()
+    words = words_of(doc, parts, count=count, seed=1, packaging=".", program="")
     sys.path[:0] = [words.packaging]
     sys.path += pip._vendor.__path__
     return words
