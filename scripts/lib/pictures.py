@@ -7,7 +7,7 @@ import shutil
 import subprocess
 import textwrap
 
-from lib.sources import TOP, crates, text_of
+from lib.sources import TOP, crates, text_of, with_below
 
 FOLDER = "docs/pictures"
 INK, FAINT, FAULT, BAR = "#1b2430", "#59616d", "#b3261e", "#9cc4ec"
@@ -190,12 +190,8 @@ TESTS = "Tests and examples"
 
 def direct(name):
     """What a crate of the repository depends on, less what others of these depend on already."""
-
-    def reached(it):
-        return {it}.union(*(reached(other) for other in crates()[it].uses if other in crates()))
-
     uses = [it for it in crates()[name].uses if it in crates()]
-    return [it for it in uses if not any(it in reached(other) for other in uses if other != it)]
+    return [it for it in uses if not any(it in with_below(other) for other in uses if other != it)]
 
 
 def boxes_and_arrows():

@@ -46,6 +46,11 @@ def crates():
     return found
 
 
+def with_below(name):
+    """The crate and all crates of the repository that it depends on, the lowest first."""
+    return list(dict.fromkeys([other for it in crates()[name].uses if it in crates() for other in with_below(it)] + [name]))
+
+
 def libraries():
     return sorted(name for name, it in crates().items() if it.is_library and not it.is_of_tests)
 
