@@ -134,13 +134,9 @@ def modules():
     return {(crate, ".".join(inner.parts)): read_module(path, text_of(path)) for (crate, path), inner in paths.items()}
 
 
-def cited_by(text, names, imports, crate, module):
-    """Where each name of definitions that a text has is defined."""
-    for word in set(WORD.findall(without_strings(text))):
-        if word in names:
-            yield crate, module, word
-        elif word in imports:
-            yield imports[word]
+def cited_in(text, places):
+    """Where each name of definitions that a text has is defined, by where these names are."""
+    return {places[it] for it in WORD.findall(without_strings(text)) if it in places}
 
 
 @functools.cache
@@ -151,7 +147,7 @@ def trusted():
         types = types_of(crate)
         for source in sources(crate):
             public = [*(it for it in source.blocks if it.owner in types), *(it for it in source.functions if it.is_public)]
-            wanted.update(name for it in public for clause in it.clauses for name in source.cited(clause))
+            wanted.update(name for it in public for *_, clause in it.clauses for name in source.cited(clause))
     seen, todo = {}, list(wanted)
     while todo:
         crate, module, name = todo.pop()
@@ -162,7 +158,7 @@ def trusted():
         if definition is None or definition.kind is None or definition in seen.values():
             continue
         seen[crate, module, definition.name.replace("◌", "")] = definition
-        todo.extend(cited_by("\n".join(definition.lines), here.names, here.imports, crate, module))
+        todo.extend(cited_in("\n".join(definition.lines), here.imports | {it: (crate, module, it) for it in here.names}))
     return seen
 
 
@@ -212,9 +208,9 @@ class Source:
         ends = [*(it.start() for it in heads[1:]), len(self.code)]
         self.functions = [self.function(head, end, types) for head, end in zip(heads, ends)]
 
-    def cited(self, clause):
-        """The definitions that a clause cites: crate, module and name of each."""
-        return set(cited_by(clause[2], {}, self.imports, None, None))
+    def cited(self, text):
+        """The definitions that a clause's text cites: crate, module and name of each."""
+        return cited_in(text, self.imports)
 
     def clauses(self, pattern, start, end):
         return [(*it.groups(), braced(self.code, it.end() - 1)) for it in pattern.finditer(self.code, start, end)]
@@ -261,6 +257,13 @@ def exports(crate):
 
 
 # ---- pages
+
+SECTIONS = r'PEP 440, ((?:"[^"]+"(?:, and |, | and )?)+(?:Appendix B)?)'
+
+
+def without_sections(comment):
+    """A comment without the sections of PEP 440 that it names."""
+    return re.sub(rf" ?\({SECTIONS}\)", "", " ".join(comment.split())).strip()
 
 
 def pages():
