@@ -240,15 +240,11 @@ ESCAPES = [(r"\\f(?:\(..|\[[^\]]*\]|.)|\\s[-+]?\d|\\&|\\c", ""), (r"\\\*?\(..|\\
 
 def text_of_manual(text):
     """The lines of a manual page that are text, without displays."""
-    lines, is_shown = [], True
-    for line in text.splitlines():
-        if re.match(r"\.(?:nf|EX|Bd -literal|ig|fi|EE|Ed|\.)(?:\s|$)", line):
-            is_shown = re.match(r"\.(?:nf|EX|Bd|ig)", line) is None
-        elif is_shown and line[:1] not in ("", ".", "'"):
-            for old, new in ESCAPES:
-                line = re.sub(old, new, line)
-            lines.append(line)
-    return " ".join(lines)
+    text = re.sub(r"^\.(?:nf|EX|Bd -literal|ig)\b.*?^\.(?:fi|EE|Ed|\.)$", "", text, flags=re.M | re.S)
+    text = " ".join(re.findall(r"^[^.'\n].*$", text, re.M))
+    for old, new in ESCAPES:
+        text = re.sub(old, new, text)
+    return text
 
 
 def text_of_page(text):

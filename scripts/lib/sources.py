@@ -1,8 +1,8 @@
 """What stands in the repository: crates, source files with their functions and clauses, definitions, pages."""
+import collections
 import functools
 import pathlib
 import re
-from typing import NamedTuple
 
 TOP = pathlib.Path(__file__).resolve().parent.parent.parent
 WORD = re.compile(r"[^\s(){}\[\],;:.λ∷]+")
@@ -26,14 +26,8 @@ def name_of(path):
 
 # ---- crates
 
-
-class Crate(NamedTuple):
-    """A crate of crates.txt: whether it is a static library, a library, of tests, and all that it depends on."""
-
-    is_static: bool
-    is_library: bool
-    is_of_tests: bool
-    uses: list
+# A crate of crates.txt: whether it is a static library, a library, of tests, and all that it depends on.
+Crate = collections.namedtuple("Crate", "is_static is_library is_of_tests uses")
 
 
 @functools.cache
@@ -62,21 +56,10 @@ def files(crate, folder):
 
 # ---- definitions
 
-
-class Definition:
-    """A definition or lemma of specs/: its name, its kind (None of a lemma), the comment above it, its lines, and the number of the first."""
-
-    def __init__(self, name, kind, comment, number):
-        self.name, self.kind, self.comment, self.number, self.lines = name, kind, comment, number, []
-
-
-class Module(NamedTuple):
-    """A file of specs/: its definitions in order, the same by name with constructors naming their data, and what it imports."""
-
-    path: pathlib.Path
-    definitions: list
-    names: dict
-    imports: dict
+# A definition or lemma of specs/: its name, its kind (None of a lemma), the comment above it, its lines, and the number of the first.
+Definition = collections.namedtuple("Definition", "name kind comment number lines")
+# A file of specs/: its definitions in order, the same by name with constructors naming their data, and what it imports.
+Module = collections.namedtuple("Module", "path definitions names imports")
 
 
 def imports_of(text):
@@ -93,18 +76,13 @@ def without_strings(text):
     return re.sub(r'"(\\.|[^"\\])*"', '""', text)
 
 
-def comments_after(above, line):
-    """The comment that stands above what follows, with one more line; a blank line or a heading ends it."""
-    is_comment = line.strip().startswith("--") and not line.strip().startswith("-- ----")
-    return [*above, line.strip().lstrip("-").strip()] if is_comment else []
-
-
 def read_module(path, text):
     found, names, current, inside, above = [], {}, None, False, []
     for number, line in enumerate(text.splitlines(), 1):
         bare = without_strings(line).split("--")[0].rstrip()
         if not bare or bare.startswith(("use ", "pub use ", "mod ", "pub mod ", "infix")):
-            above = comments_after(above, line)
+            # a blank line or a heading ends a comment
+            above = [*above, line.strip().lstrip("-").strip()] if re.match(r" *--(?! ----)", line) else []
             continue
         if not bare[0].isspace():
             inside = bare.startswith("module ")
@@ -116,7 +94,7 @@ def read_module(path, text):
         head = re.match(r"(?:(abbrev|unfoldable) )?(?:pub )?([^\s:({]+) :(?=\s|$)", bare)
         if data or head and not bare.startswith("unfolding"):
             kind, name = (data or head).groups()
-            current = Definition(name, kind, " ".join(above), number)
+            current = Definition(name, kind, " ".join(above), number, [])
             found.append(current)
             names[name.replace("◌", "")] = current
         elif current and current.kind == "data" and (constructor := re.match(r"\s+(\S+) :", bare)):
@@ -164,26 +142,10 @@ def trusted():
 
 # ---- code
 
-
-class Block(NamedTuple):
-    """A public trait or an impl: of which type or trait, the trait that is implemented or "", and the ghost members by name."""
-
-    start: int
-    end: int
-    owner: str
-    trait: str
-    clauses: list
-
-
-class Function(NamedTuple):
-    """A function: where its head begins and the next one's, its block or None, and its clauses: keyword, name and text."""
-
-    start: int
-    end: int
-    name: str
-    block: Block
-    clauses: list
-    is_public: bool
+# A public trait or an impl: of which type or trait, the trait that is implemented or "", and the ghost members by name.
+Block = collections.namedtuple("Block", "start end owner trait clauses")
+# A function: where its head begins and the next one's, its block or None, and its clauses: keyword, name and text.
+Function = collections.namedtuple("Function", "start end name block clauses is_public")
 
 
 def braced(text, start):
