@@ -9,6 +9,7 @@ import re
 import shutil
 import subprocess
 import tempfile
+import textwrap
 
 from lib.sources import TOP, code_of, crates, exports, files, libraries, modules, name_of, pages, prose, sources, text_of, trusted
 
@@ -192,8 +193,7 @@ WITH_EXAMPLES = ["docs/CALLING.md", "crates/pep440_rs/src/lib.rt"]
 
 def stands(block, text):
     """Whether the lines stand in the text one after the other, all indented alike."""
-    first, *rest = (re.escape(line) for line in block)
-    return re.search("\n".join([rf"^(?P<indent>[ ]*){first}$", *(rf"(?P=indent){line}$" if line else "$" for line in rest)]), text, re.M)
+    return any(f"\n{textwrap.indent(block, ' ' * depth)}\n" in f"\n{text}\n" for depth in range(0, 24, 4))
 
 
 def check_examples():
@@ -208,7 +208,7 @@ def check_examples():
             text = "\n".join(line[4:] if line.startswith("//! ") else "" for line in text.splitlines())
         for language, block in re.findall(r"^```(rust|antt)\n(.*?)(?:^```$|\Z)", text, re.M | re.S):
             found += 1
-            if not block or not any(stands(block.splitlines(), it) for it in code[".rt" if language == "rust" else ".antt"]):
+            if not block or not any(stands(block.rstrip("\n"), it) for it in code[".rt" if language == "rust" else ".antt"]):
                 yield f"{page}: a block stands in no file of examples: {block.partition(chr(10))[0]}"
     if not found:
         yield "no page has an example"

@@ -62,6 +62,11 @@ class Tally:
 # ---- what the programs say of themselves
 
 
+def counted(files, lines, found=0):
+    """What `pyver check` prints at its end."""
+    return f"pyver: lines read: {lines}\npyver: {found} problem{'s'[found == 1:]} in {files} file{'s'[files == 1:]}\n"
+
+
 def output_of(*words):
     """What a program prints, whatever its status."""
     return subprocess.run(words, stdin=subprocess.DEVNULL, capture_output=True, text=True, check=False).stdout

@@ -3,6 +3,7 @@ import collections
 import functools
 import pathlib
 import re
+import shutil
 
 TOP = pathlib.Path(__file__).resolve().parent.parent.parent
 WORD = re.compile(r"[^\s(){}\[\],;:.λ∷]+")
@@ -251,9 +252,7 @@ def row(*cells):
 def write_pages(folder, written):
     """Writes these pages, by the names of their crates, to a folder of out/docs, and removes all else there."""
     folder = TOP / "out/docs" / folder
-    folder.mkdir(parents=True, exist_ok=True)
-    for path in folder.glob("*.md"):
-        if path.stem not in written:
-            path.unlink()
+    shutil.rmtree(folder, ignore_errors=True)
+    folder.mkdir(parents=True)
     for crate, page in written.items():
         (folder / f"{crate}.md").write_text(page, encoding="utf-8")
