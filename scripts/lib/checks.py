@@ -234,7 +234,6 @@ MARKS = {
         rf"|(?:Beside|Behind|Of|To|Among|Between|Under|Above|Below|After|Before)(?: (?!there\b)[\w'-]+){{1,5}} {PLACED}|[A-Z]\w+ed (?:is|are)) (?:{SUBJECT}\b|[A-Z])",
     ),
 }
-LIMIT = 2
 ESCAPES = [(r"\\f(?:\(..|\[[^\]]*\]|.)|\\s[-+]?\d|\\&|\\c", ""), (r"\\\*?\(..|\\\[[^\]]*\]", " "), (r"\\(.)", r"\1")]
 
 
@@ -276,7 +275,7 @@ def check_english():
         words = sum(len(re.findall(r"[A-Za-z][\w'-]*", text)) for text in its.values())
         for mark, (rate, pattern) in MARKS.items():
             places = [f"    {name}: {text[max(0, it.start() - 40) : it.end() + 30]}" for name, text in its.items() for it in re.finditer(pattern, text)]
-            most = math.ceil(LIMIT * rate * words / 1000)
+            most = math.ceil(2 * rate * words / 1000)
             if len(places) > most:
                 yield "\n".join([f"{kind}: `{mark}` {len(places)} times in {words:,} words, at most {most}:", *places])
 

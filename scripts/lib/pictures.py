@@ -83,22 +83,16 @@ GROUPS = [
 ]
 
 
-def sentinels_of(program, texts):
-    """Each sentinel as the program prints it, and how many of the versions are below it: each is asked."""
-    for side, wanted in (("min", "<1.0"), ("max", ">1.0")):
-        below = [(ask(program, "range", f"{wanted},=={it}") == "empty") == (side == "max") for it in texts]
-        yield ask(program, "edit", "1.0", f"{side}=0"), sum(below)
-
-
 def order_picture(program):
     texts = [ask(program, "edit", "1.0", *changes.split()) for _, group in GROUPS for changes in group]
     y, step = 158, 47.5
     at = [48 + step * number for number in range(len(texts))]
     parts = [*axis(program, texts, at, y)]
-    for sentinel, count in sentinels_of(program, texts):
-        x = at[count] - step / 2
+    for side, wanted in (("min", "<1.0"), ("max", ">1.0")):
+        below = [it for it in texts if (ask(program, "range", f"{wanted},=={it}") == "empty") == (side == "max")]
+        x = at[len(below)] - step / 2
         parts += [path(f"M{x:g} {y - 8}v16", "mark"), path(f"M{x:g} {y + 24}v50", "mark", ' stroke-dasharray="4 3"')]
-        parts.append(text(x, y + 88, sentinel, "mono bold middle fault"))
+        parts.append(text(x, y + 88, ask(program, "edit", "1.0", f"{side}=0"), "mono bold middle fault"))
     ends = iter(at)
     for name, group in GROUPS:
         places = [next(ends) for _ in group]

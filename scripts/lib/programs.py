@@ -157,7 +157,6 @@ VERSIONS = {
     "callers/python/src/pep440_rattle/__init__.py": r'^__version__ = "(.*)"$',
     "callers/rust/pep440_rattle/Cargo.toml": r'^version = "(.*)"$',
 }
-LONGEST = 80
 SIGNS = {r"\e": "\\", r"\(aq": "'", r"\(ga": "`", r"\(ha": "^", r"\(ti": "~", r"\(dq": '"', r"\-": "-", r"\&": ""}
 LAYOUTS = {
     "mandoc": (["-T", "lint", "-W", "warning"], ["-T", "ascii", "-O", "width=200"]),
@@ -219,7 +218,7 @@ def faults_of_layout(page):
     """No line of text is too long or ends with a blank, and each tool that is here lays the page out without a warning, with each line of the examples."""
     shown = {first + at for first, display in displays(page) for at in range(len(display))}
     for at, line in enumerate(text_of(page).splitlines(), 1):
-        if line != line.rstrip() or len(line.encode()) > LONGEST and line[0] != "." and at not in shown:
+        if line != line.rstrip() or len(line.encode()) > 80 and line[0] != "." and at not in shown:
             yield f"{page}:{at}: too long, or a blank at its end: {line}"
     for tool, (lint, show) in LAYOUTS.items():
         if not shutil.which(tool):
