@@ -126,7 +126,7 @@ def link_fault(page, link):
 def check_links():
     """The links of each page, and the files that it names in backquotes, lead somewhere; those with a scheme and those that the toolchain makes are left alone."""
     count = 0
-    for page in pages():
+    for page in [*pages(), *sorted((TOP / "out/docs").rglob("*.md"))]:
         for number, line in prose(page):
             found = [(it, link_fault(page, it)) for it in LINK.findall(line)]
             found += [(it, "no such file" * (not (TOP / it).exists() and "/out/" not in it)) for it in NAMED.findall(line)]
@@ -256,12 +256,11 @@ def text_of_page(text):
 def english_texts():
     """Each text, by its kind and its name: pages, comments of code, help."""
     kinds = collections.defaultdict(dict)
-    for pattern in ("*.md", "docs/*.md", "docs/archives/*.md", "docs/pictures/*.md", "callers/**/README.md", "docs/*.1", "callers/c/pep440.h"):
-        for path in sorted(TOP.glob(pattern)):
-            text = text_of(path)
-            if path.suffix == ".h":
-                text = "\n".join(re.sub(r"^ +", "", it, flags=re.M) + "\n" for it in re.findall(r"/\*(.*?)\*/", text, re.S))
-            kinds["pages"][name_of(path)] = (text_of_manual if path.suffix == ".1" else text_of_page)(text)
+    for path in pages():
+        text = text_of(path)
+        if path.suffix == ".h":
+            text = "\n".join(re.sub(r"^ +", "", it, flags=re.M) + "\n" for it in re.findall(r"/\*(.*?)\*/", text, re.S))
+        kinds["pages"][name_of(path)] = (text_of_manual if path.suffix == ".1" else text_of_page)(text)
     for crate in crates():
         comments = [line for path in files(crate, "src") for line in [*re.findall(r"^\s*//[/!] ?(.*)$", text_of(path), re.M), ""]]
         kinds["comments"][f"crates/{crate}"] = text_of_page("\n".join(comments))

@@ -183,12 +183,6 @@ def manual_examples(name):
     yield [it for title, *shown in blocks for it in examples_of(f"docs/examples/{name}.txt, {title}", shown)]
 
 
-def commands_in(page, section, start):
-    """The commands of a section's lines, with their words."""
-    text = text_of(page).split(f".Sh {section}\n")[1].split("\n.Sh ")[0]
-    return [f"{command} {words}" for command, words in re.findall(rf"^\.{start}Cm (\w+) Ar (.*)$", text, re.M)]
-
-
 def faults_of_usage(name, program):
     """The synopsis has the words of each command, in the program's order; a description of commands with options leaves these out. Each option that a
     help lists has an entry, so that a search for it at the start of a line finds it."""
@@ -196,7 +190,8 @@ def faults_of_usage(name, program):
     usages = [it.usage for it in commands] or output_of(program).strip().removeprefix("usage: pep440 ").split(" / ")
     described = "DESCRIPTION" if name == "pep440" else "COMMANDS"
     for section_of, start, wanted in (("SYNOPSIS", "", usages), (described, "It ", [re.sub(r" \[-[^]]*\]", "", it) for it in usages])):
-        found = commands_in(MANUALS[name][0], section_of, start)
+        text = text_of(MANUALS[name][0]).split(f".Sh {section_of}\n")[1].split("\n.Sh ")[0]
+        found = [" ".join(it) for it in re.findall(rf"^\.{start}Cm (\w+) Ar (.*)$", text, re.M)]
         if found != wanted:
             yield f"{section_of} has the commands {found}, the program {wanted}"
     entries = " ".join(it for page in MANUALS[name] for it in re.findall(r"^\.It (Fl .*)", text_of(page), re.M))

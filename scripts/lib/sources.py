@@ -230,9 +230,10 @@ def without_sections(comment):
 
 
 def pages():
-    """Each page of the repository, and those that scripts wrote to out/docs."""
+    """Each page, the manuals of the programs, and the C header."""
     hidden = {".git", "out", "dist", "build", "target", "node_modules"}
-    return [it for it in sorted(TOP.rglob("*.md")) if not hidden & {*it.relative_to(TOP).parts}] + sorted((TOP / "out/docs").rglob("*.md"))
+    found = [it for it in sorted(TOP.rglob("*.md")) if not hidden & {*it.relative_to(TOP).parts}]
+    return [*found, *sorted(TOP.glob("docs/*.1")), TOP / "callers/c/pep440.h"]
 
 
 def prose(page):

@@ -5,7 +5,7 @@ stands in backquotes is not read.
 """
 import re
 
-from lib.sources import TOP, crates, files, libraries, modules, name_of, prose as page_prose, sources, text_of
+from lib.sources import TOP, crates, files, libraries, modules, name_of, pages, prose as page_prose, sources, text_of
 
 WORDS = [(re.compile(rf"\b(?:{old})\b", re.I), new) for old, new in [
     (r"refus(?:e|es|ed|ing|als?)", "reject, error; of an allocation: fail"),
@@ -61,7 +61,7 @@ def prose():
     for path in code():
         mark = "//" if path.suffix == ".rt" else "--"
         yield from ((at, line.partition(mark)[2]) for at, line in lines_of(path) if mark in line)
-    for path in [*TOP.glob("*.md"), *TOP.glob("docs/*.*"), *TOP.glob("docs/archives/*.md"), *TOP.glob("callers/**/README.md"), TOP / "callers/c/pep440.h"]:
+    for path in pages():
         yield from ((f"{name_of(path)}:{number}", line) for number, line in page_prose(path))
 
 
