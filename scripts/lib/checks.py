@@ -294,7 +294,9 @@ def allocating_calls(crate):
         for it in source.functions:
             is_own = it.block and not it.block.trait and source.code.startswith("impl", it.block.start)
             is_offered = is_own and it.block.owner in names if it.block else is_public or it.name in names
-            if it.is_public and is_offered and "alloc: Global" in source.signature(it):
+            # what stands before the clauses and the body
+            signature = re.split(r"\n\s*(?:requires|ensures)\b|\n?\s*\{\n|;\n", source.code[it.start : it.end], maxsplit=1)[0]
+            if it.is_public and is_offered and "alloc: Global" in signature:
                 yield f"{it.block.owner}::{it.name}" if it.block else it.name
 
 

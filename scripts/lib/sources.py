@@ -190,10 +190,6 @@ class Source:
         is_public = (not block or block.owner in types) and (bool(is_of_trait) or head[1] == "pub ")
         return Function(head.start(), end, head[2], block, self.clauses(CLAUSE, head.start(), end), is_public)
 
-    def signature(self, function):
-        """What stands before the clauses and the body."""
-        return re.split(r"\n\s*(?:requires|ensures)\b|\n?\s*\{\n|;\n", self.code[function.start : function.end], maxsplit=1)[0]
-
 
 def code_of(crate):
     """The files of code of a crate without its tests."""
