@@ -9,6 +9,7 @@ import re
 import shutil
 import subprocess
 import tempfile
+import textwrap
 
 from lib.sources import TOP, code_of, crates, exports, files, libraries, modules, name_of, pages, prose, sources, text_of, trusted
 
@@ -125,7 +126,7 @@ def link_fault(page, link):
 def check_links():
     """The links of each page, and the files that it names in backquotes, lead somewhere; those with a scheme and those that the toolchain makes are left alone."""
     count = 0
-    for page in pages():
+    for page in [*pages(), *sorted((TOP / "out/docs").rglob("*.md"))]:
         for number, line in prose(page):
             found = [(it, link_fault(page, it)) for it in LINK.findall(line)]
             found += [(it, "no such file" * (not (TOP / it).exists() and "/out/" not in it)) for it in NAMED.findall(line)]
@@ -192,8 +193,7 @@ WITH_EXAMPLES = ["docs/CALLING.md", "crates/pep440_rs/src/lib.rt"]
 
 def stands(block, text):
     """Whether the lines stand in the text one after the other, all indented alike."""
-    first, *rest = (re.escape(line) for line in block)
-    return re.search("\n".join([rf"^(?P<indent>[ ]*){first}$", *(rf"(?P=indent){line}$" if line else "$" for line in rest)]), text, re.M)
+    return any(f"\n{textwrap.indent(block, ' ' * depth)}\n" in f"\n{text}\n" for depth in range(0, 24, 4))
 
 
 def check_examples():
@@ -208,7 +208,7 @@ def check_examples():
             text = "\n".join(line[4:] if line.startswith("//! ") else "" for line in text.splitlines())
         for language, block in re.findall(r"^```(rust|antt)\n(.*?)(?:^```$|\Z)", text, re.M | re.S):
             found += 1
-            if not block or not any(stands(block.splitlines(), it) for it in code[".rt" if language == "rust" else ".antt"]):
+            if not block or not any(stands(block.rstrip("\n"), it) for it in code[".rt" if language == "rust" else ".antt"]):
                 yield f"{page}: a block stands in no file of examples: {block.partition(chr(10))[0]}"
     if not found:
         yield "no page has an example"
@@ -234,21 +234,16 @@ MARKS = {
         rf"|(?:Beside|Behind|Of|To|Among|Between|Under|Above|Below|After|Before)(?: (?!there\b)[\w'-]+){{1,5}} {PLACED}|[A-Z]\w+ed (?:is|are)) (?:{SUBJECT}\b|[A-Z])",
     ),
 }
-LIMIT = 2
 ESCAPES = [(r"\\f(?:\(..|\[[^\]]*\]|.)|\\s[-+]?\d|\\&|\\c", ""), (r"\\\*?\(..|\\\[[^\]]*\]", " "), (r"\\(.)", r"\1")]
 
 
 def text_of_manual(text):
     """The lines of a manual page that are text, without displays."""
-    lines, is_shown = [], True
-    for line in text.splitlines():
-        if re.match(r"\.(?:nf|EX|Bd -literal|ig|fi|EE|Ed|\.)(?:\s|$)", line):
-            is_shown = re.match(r"\.(?:nf|EX|Bd|ig)", line) is None
-        elif is_shown and line[:1] not in ("", ".", "'"):
-            for old, new in ESCAPES:
-                line = re.sub(old, new, line)
-            lines.append(line)
-    return " ".join(lines)
+    text = re.sub(r"^\.(?:nf|EX|Bd -literal|ig)\b.*?^\.(?:fi|EE|Ed|\.)$", "", text, flags=re.M | re.S)
+    text = " ".join(re.findall(r"^[^.'\n].*$", text, re.M))
+    for old, new in ESCAPES:
+        text = re.sub(old, new, text)
+    return text
 
 
 def text_of_page(text):
@@ -261,12 +256,11 @@ def text_of_page(text):
 def english_texts():
     """Each text, by its kind and its name: pages, comments of code, help."""
     kinds = collections.defaultdict(dict)
-    for pattern in ("*.md", "docs/*.md", "docs/archives/*.md", "docs/pictures/*.md", "callers/**/README.md", "docs/*.1", "callers/c/pep440.h"):
-        for path in sorted(TOP.glob(pattern)):
-            text = text_of(path)
-            if path.suffix == ".h":
-                text = "\n".join(re.sub(r"^ +", "", it, flags=re.M) + "\n" for it in re.findall(r"/\*(.*?)\*/", text, re.S))
-            kinds["pages"][name_of(path)] = (text_of_manual if path.suffix == ".1" else text_of_page)(text)
+    for path in pages():
+        text = text_of(path)
+        if path.suffix == ".h":
+            text = "\n".join(re.sub(r"^ +", "", it, flags=re.M) + "\n" for it in re.findall(r"/\*(.*?)\*/", text, re.S))
+        kinds["pages"][name_of(path)] = (text_of_manual if path.suffix == ".1" else text_of_page)(text)
     for crate in crates():
         comments = [line for path in files(crate, "src") for line in [*re.findall(r"^\s*//[/!] ?(.*)$", text_of(path), re.M), ""]]
         kinds["comments"][f"crates/{crate}"] = text_of_page("\n".join(comments))
@@ -280,7 +274,7 @@ def check_english():
         words = sum(len(re.findall(r"[A-Za-z][\w'-]*", text)) for text in its.values())
         for mark, (rate, pattern) in MARKS.items():
             places = [f"    {name}: {text[max(0, it.start() - 40) : it.end() + 30]}" for name, text in its.items() for it in re.finditer(pattern, text)]
-            most = math.ceil(LIMIT * rate * words / 1000)
+            most = math.ceil(2 * rate * words / 1000)
             if len(places) > most:
                 yield "\n".join([f"{kind}: `{mark}` {len(places)} times in {words:,} words, at most {most}:", *places])
 
@@ -300,7 +294,9 @@ def allocating_calls(crate):
         for it in source.functions:
             is_own = it.block and not it.block.trait and source.code.startswith("impl", it.block.start)
             is_offered = is_own and it.block.owner in names if it.block else is_public or it.name in names
-            if it.is_public and is_offered and "alloc: Global" in source.signature(it):
+            # what stands before the clauses and the body
+            signature = re.split(r"\n\s*(?:requires|ensures)\b|\n?\s*\{\n|;\n", source.code[it.start : it.end], maxsplit=1)[0]
+            if it.is_public and is_offered and "alloc: Global" in signature:
                 yield f"{it.block.owner}::{it.name}" if it.block else it.name
 
 

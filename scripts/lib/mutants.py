@@ -11,6 +11,8 @@ import shutil
 import sys
 from typing import NamedTuple
 
+from lib.sources import TOP, text_of, with_below
+
 FUNCTION = re.compile(r"^( *)(?:pub(?:\([a-z]+\))? )?(?:const )?(?:unsafe )?(?:extern \"C\" )?fn (\w+)", re.M)
 
 
@@ -59,7 +61,7 @@ class Mutant(NamedTuple):
             if file not in texts:
                 if not os.path.isfile(f"{folder}/{file}"):
                     raise BadMutant(f"there is no file {file}")
-                texts[file] = read(f"{folder}/{file}")
+                texts[file] = text_of(f"{folder}/{file}")
             if texts[file].count(old) != 1:
                 raise BadMutant(f"its text stands in {file} {texts[file].count(old)} times, and not once: {old}")
             texts[file] = texts[file].replace(old, new)
@@ -71,16 +73,11 @@ class Mutant(NamedTuple):
         """The bodies of functions that it changes, as it makes them, by file and index in `pieces_of`; or None where it changes more."""
         found = {}
         for file, text in self.texts(folder).items():
-            right, wrong = pieces_of(read(f"{folder}/{file}")), pieces_of(text)
+            right, wrong = pieces_of(text_of(f"{folder}/{file}")), pieces_of(text)
             if right[::2] != wrong[::2]:
                 return None
             found.update({(file, i): wrong[i] for i in range(1, len(right), 2) if wrong[i] != right[i]})
         return found
-
-
-def read(path):
-    with open(path, encoding="utf-8") as it:
-        return it.read()
 
 
 def write_all(folder, texts):
@@ -90,11 +87,10 @@ def write_all(folder, texts):
             it.write(text)
 
 
-def mutants_of(top, crate):
+def mutants_of(crate):
     """The mutants of the crate of this name, as its files have them."""
-    folder = f"{top}/crates/{crate}"
-    for path in sorted(glob.glob(f"{folder}/m*-*/**/*.edit*", recursive=True)):
-        shown, text = os.path.relpath(path, f"{top}/crates"), read(path)
+    for path in sorted(glob.glob(f"{TOP}/crates/{crate}/m*-*/**/*.edit*", recursive=True)):
+        shown, text = os.path.relpath(path, f"{TOP}/crates"), text_of(path)
         if path.endswith(".edit"):
             yield Mutant(crate, shown, os.path.basename(path)[: -len(".edit")], text)
             continue
@@ -129,7 +125,7 @@ def merge(folder, mutants, join):
     files = {}
     for mutant in mutants:
         for (file, i), body in mutant.bodies(folder).items():
-            pieces = files.setdefault(file, pieces_of(read(f"{folder}/{file}")))
+            pieces = files.setdefault(file, pieces_of(text_of(f"{folder}/{file}")))
             pieces[i] = join(mutant, body, pieces[i])
     return {file: "".join(pieces) for file, pieces in files.items()}
 
@@ -140,23 +136,10 @@ def module_of(file):
     return [] if parts in (["lib"], ["main"]) else parts
 
 
-def crates_below(top):
-    """The names of the crates in crates.txt, each with those that it depends on."""
-    lines = (line.partition("#")[0].partition(":") for line in read(f"{top}/crates.txt").split("\n"))
-    return {head.split()[0]: libraries.split() for head, _, libraries in lines if head.strip()}
-
-
-def copy(top, names, room, *left_out):
+def copy(names, room, *left_out):
     """Copies into this folder the crates of these names and those that they depend on, but for files and folders of the names left out."""
-    below, found, left = crates_below(top), set(), list(names)
-    while left:
-        name = left.pop()
-        if name in below and name not in found:
-            found.add(name)
-            left += below[name]
-    if os.path.isfile(f"{top}/HANDLES"):
-        shutil.copy(f"{top}/HANDLES", room)
-    lines = [line for line in read(f"{top}/crates.txt").split("\n") if set(line.partition(":")[0].split()[:1]) & found]
-    write_all(room, {"crates.txt": "".join(f"{line}\n" for line in lines)})
+    found = {it for name in names for it in with_below(name)}
+    listed = [line for line in text_of("crates.txt").splitlines(True) if re.match(r"\w*", line)[0] in found]
+    write_all(room, {"crates.txt": "".join(listed), "HANDLES": text_of("HANDLES")})
     for name in found:
-        shutil.copytree(f"{top}/crates/{name}", f"{room}/crates/{name}", symlinks=True, ignore=shutil.ignore_patterns(*left_out))
+        shutil.copytree(f"{TOP}/crates/{name}", f"{room}/crates/{name}", symlinks=True, ignore=shutil.ignore_patterns(*left_out))

@@ -3,11 +3,10 @@ import functools
 import html
 import itertools
 import re
-import shutil
 import subprocess
 import textwrap
 
-from lib.sources import TOP, crates, text_of
+from lib.sources import TOP, crates, text_of, with_below
 
 FOLDER = "docs/pictures"
 INK, FAINT, FAULT, BAR = "#1b2430", "#59616d", "#b3261e", "#9cc4ec"
@@ -84,22 +83,16 @@ GROUPS = [
 ]
 
 
-def sentinels_of(program, texts):
-    """Each sentinel as the program prints it, and how many of the versions are below it: each is asked."""
-    for side, wanted in (("min", "<1.0"), ("max", ">1.0")):
-        below = [(ask(program, "range", f"{wanted},=={it}") == "empty") == (side == "max") for it in texts]
-        yield ask(program, "edit", "1.0", f"{side}=0"), sum(below)
-
-
 def order_picture(program):
     texts = [ask(program, "edit", "1.0", *changes.split()) for _, group in GROUPS for changes in group]
     y, step = 158, 47.5
     at = [48 + step * number for number in range(len(texts))]
     parts = [*axis(program, texts, at, y)]
-    for sentinel, count in sentinels_of(program, texts):
-        x = at[count] - step / 2
+    for side, wanted in (("min", "<1.0"), ("max", ">1.0")):
+        below = [it for it in texts if (ask(program, "range", f"{wanted},=={it}") == "empty") == (side == "max")]
+        x = at[len(below)] - step / 2
         parts += [path(f"M{x:g} {y - 8}v16", "mark"), path(f"M{x:g} {y + 24}v50", "mark", ' stroke-dasharray="4 3"')]
-        parts.append(text(x, y + 88, sentinel, "mono bold middle fault"))
+        parts.append(text(x, y + 88, ask(program, "edit", "1.0", f"{side}=0"), "mono bold middle fault"))
     ends = iter(at)
     for name, group in GROUPS:
         places = [next(ends) for _ in group]
@@ -190,12 +183,8 @@ TESTS = "Tests and examples"
 
 def direct(name):
     """What a crate of the repository depends on, less what others of these depend on already."""
-
-    def reached(it):
-        return {it}.union(*(reached(other) for other in crates()[it].uses if other in crates()))
-
     uses = [it for it in crates()[name].uses if it in crates()]
-    return [it for it in uses if not any(it in reached(other) for other in uses if other != it)]
+    return [it for it in uses if not any(it in with_below(other) for other in uses if other != it)]
 
 
 def boxes_and_arrows():
@@ -225,12 +214,10 @@ def dot_source(boxes, arrows):
 
 
 def check_crates(writes=False):
-    """The boxes of crates.svg are the crates with their promises, and its arrows what they depend on. Graphviz draws it, and is not needed to read it."""
+    """The boxes of crates.svg are the crates with their promises, and its arrows what they depend on. Graphviz draws it (`dot`), and is not needed to read it."""
     boxes, arrows = boxes_and_arrows()
     file = TOP / FOLDER / "crates.svg"
-    if writes and not shutil.which("dot"):
-        yield "there is no dot here: apt-get install graphviz"
-    elif writes:
+    if writes:
         ran = subprocess.run(["dot", "-Tsvg"], input=dot_source(boxes, arrows), capture_output=True, text=True, check=True)
         file.write_text(ran.stdout, encoding="utf-8")
     groups = re.findall(r'<g id="\w+" class="(node|edge)">\s*<title>(.*?)</title>(.*?)</g>', file.read_text(encoding="utf-8"), re.S)

@@ -21,20 +21,20 @@ def built(name, file=None):
     raise SystemExit(f"{files[0]} is not there: `scripts/prove {name}` builds it, `scripts/unproved {name}` without a proof")
 
 
-def beside_packaging(doc, parts, count):
-    """The words of a script that compares with `packaging`: any of these parts, how many cases, a seed, and where the program and `packaging` are.
+def words_of(doc, parts, **options):
+    """The words that a script is given: any of these parts, flags, whose default is False, and options with these defaults, a number or a string."""
+    asked = argparse.ArgumentParser(usage=re.search(r"^Usage: (.*?)(?:    .*)?$", doc, re.M)[1])
+    asked.add_argument("part", nargs="*", choices=[[], *parts])
+    for name, default in options.items():
+        asked.add_argument(f"--{name}", default=default, **({"action": "store_true"} if default is False else {"type": type(default or "")}))
+    return asked.parse_args()
 
-    From then on `packaging` can be imported, from pip's own copy if it is nowhere else.
-    """
+
+def beside_packaging(doc, parts, count):
+    """The words of a script that compares with `packaging`, which can be imported from then on, from pip's own copy if it is nowhere else."""
     import pip._vendor
 
-    asked = argparse.ArgumentParser(usage=re.search(r"^Usage: (.*)$", doc, re.M)[1])
-    asked.add_argument("part", nargs="*", choices=[[], *parts])
-    asked.add_argument("--count", type=int, default=count)
-    asked.add_argument("--seed", type=int, default=1)
-    asked.add_argument("--packaging", default=".")
-    asked.add_argument("--program")
-    words = asked.parse_args()
+    words = words_of(doc, parts, count=count, seed=1, packaging=".", program="")
     sys.path[:0] = [words.packaging]
     sys.path += pip._vendor.__path__
     return words
@@ -60,6 +60,11 @@ class Tally:
 
 
 # ---- what the programs say of themselves
+
+
+def counted(files, lines, found=0):
+    """What `pyver check` prints at its end."""
+    return f"pyver: lines read: {lines}\npyver: {found} problem{'s'[found == 1:]} in {files} file{'s'[files == 1:]}\n"
 
 
 def output_of(*words):
@@ -152,7 +157,6 @@ VERSIONS = {
     "callers/python/src/pep440_rattle/__init__.py": r'^__version__ = "(.*)"$',
     "callers/rust/pep440_rattle/Cargo.toml": r'^version = "(.*)"$',
 }
-LONGEST = 80
 SIGNS = {r"\e": "\\", r"\(aq": "'", r"\(ga": "`", r"\(ha": "^", r"\(ti": "~", r"\(dq": '"', r"\-": "-", r"\&": ""}
 LAYOUTS = {
     "mandoc": (["-T", "lint", "-W", "warning"], ["-T", "ascii", "-O", "width=200"]),
@@ -179,12 +183,6 @@ def manual_examples(name):
     yield [it for title, *shown in blocks for it in examples_of(f"docs/examples/{name}.txt, {title}", shown)]
 
 
-def commands_in(page, section, start):
-    """The commands of a section's lines, with their words."""
-    text = text_of(page).split(f".Sh {section}\n")[1].split("\n.Sh ")[0]
-    return [f"{command} {words}" for command, words in re.findall(rf"^\.{start}Cm (\w+) Ar (.*)$", text, re.M)]
-
-
 def faults_of_usage(name, program):
     """The synopsis has the words of each command, in the program's order; a description of commands with options leaves these out. Each option that a
     help lists has an entry, so that a search for it at the start of a line finds it."""
@@ -192,7 +190,8 @@ def faults_of_usage(name, program):
     usages = [it.usage for it in commands] or output_of(program).strip().removeprefix("usage: pep440 ").split(" / ")
     described = "DESCRIPTION" if name == "pep440" else "COMMANDS"
     for section_of, start, wanted in (("SYNOPSIS", "", usages), (described, "It ", [re.sub(r" \[-[^]]*\]", "", it) for it in usages])):
-        found = commands_in(MANUALS[name][0], section_of, start)
+        text = text_of(MANUALS[name][0]).split(f".Sh {section_of}\n")[1].split("\n.Sh ")[0]
+        found = [" ".join(it) for it in re.findall(rf"^\.{start}Cm (\w+) Ar (.*)$", text, re.M)]
         if found != wanted:
             yield f"{section_of} has the commands {found}, the program {wanted}"
     entries = " ".join(it for page in MANUALS[name] for it in re.findall(r"^\.It (Fl .*)", text_of(page), re.M))
@@ -214,7 +213,7 @@ def faults_of_layout(page):
     """No line of text is too long or ends with a blank, and each tool that is here lays the page out without a warning, with each line of the examples."""
     shown = {first + at for first, display in displays(page) for at in range(len(display))}
     for at, line in enumerate(text_of(page).splitlines(), 1):
-        if line != line.rstrip() or len(line.encode()) > LONGEST and line[0] != "." and at not in shown:
+        if line != line.rstrip() or len(line.encode()) > 80 and line[0] != "." and at not in shown:
             yield f"{page}:{at}: too long, or a blank at its end: {line}"
     for tool, (lint, show) in LAYOUTS.items():
         if not shutil.which(tool):

@@ -1,8 +1,9 @@
 """What stands in the repository: crates, source files with their functions and clauses, definitions, pages."""
+import collections
 import functools
 import pathlib
 import re
-from typing import NamedTuple
+import shutil
 
 TOP = pathlib.Path(__file__).resolve().parent.parent.parent
 WORD = re.compile(r"[^\s(){}\[\],;:.λ∷]+")
@@ -26,14 +27,8 @@ def name_of(path):
 
 # ---- crates
 
-
-class Crate(NamedTuple):
-    """A crate of crates.txt: whether it is a static library, a library, of tests, and all that it depends on."""
-
-    is_static: bool
-    is_library: bool
-    is_of_tests: bool
-    uses: list
+# A crate of crates.txt: whether it is a static library, a library, of tests, and all that it depends on.
+Crate = collections.namedtuple("Crate", "is_static is_library is_of_tests uses")
 
 
 @functools.cache
@@ -44,6 +39,11 @@ def crates():
         is_library = (TOP / f"crates/{name}/src/lib.rt").exists()
         found[name] = Crate(kind == "staticlib", is_library, bool(re.search("(^|_)(tests?|testing|vectors)$", name)), uses.split())
     return found
+
+
+def with_below(name):
+    """The crate and all crates of the repository that it depends on, the lowest first."""
+    return list(dict.fromkeys([other for it in crates()[name].uses if it in crates() for other in with_below(it)] + [name]))
 
 
 def libraries():
@@ -57,21 +57,10 @@ def files(crate, folder):
 
 # ---- definitions
 
-
-class Definition:
-    """A definition or lemma of specs/: its name, its kind (None of a lemma), the comment above it, its lines, and the number of the first."""
-
-    def __init__(self, name, kind, comment, number):
-        self.name, self.kind, self.comment, self.number, self.lines = name, kind, comment, number, []
-
-
-class Module(NamedTuple):
-    """A file of specs/: its definitions in order, the same by name with constructors naming their data, and what it imports."""
-
-    path: pathlib.Path
-    definitions: list
-    names: dict
-    imports: dict
+# A definition or lemma of specs/: its name, its kind (None of a lemma), the comment above it, its lines, and the number of the first.
+Definition = collections.namedtuple("Definition", "name kind comment number lines")
+# A file of specs/: its definitions in order, the same by name with constructors naming their data, and what it imports.
+Module = collections.namedtuple("Module", "path definitions names imports")
 
 
 def imports_of(text):
@@ -88,18 +77,13 @@ def without_strings(text):
     return re.sub(r'"(\\.|[^"\\])*"', '""', text)
 
 
-def comments_after(above, line):
-    """The comment that stands above what follows, with one more line; a blank line or a heading ends it."""
-    is_comment = line.strip().startswith("--") and not line.strip().startswith("-- ----")
-    return [*above, line.strip().lstrip("-").strip()] if is_comment else []
-
-
 def read_module(path, text):
     found, names, current, inside, above = [], {}, None, False, []
     for number, line in enumerate(text.splitlines(), 1):
         bare = without_strings(line).split("--")[0].rstrip()
         if not bare or bare.startswith(("use ", "pub use ", "mod ", "pub mod ", "infix")):
-            above = comments_after(above, line)
+            # a blank line or a heading ends a comment
+            above = [*above, line.strip().lstrip("-").strip()] if re.match(r" *--(?! ----)", line) else []
             continue
         if not bare[0].isspace():
             inside = bare.startswith("module ")
@@ -111,7 +95,7 @@ def read_module(path, text):
         head = re.match(r"(?:(abbrev|unfoldable) )?(?:pub )?([^\s:({]+) :(?=\s|$)", bare)
         if data or head and not bare.startswith("unfolding"):
             kind, name = (data or head).groups()
-            current = Definition(name, kind, " ".join(above), number)
+            current = Definition(name, kind, " ".join(above), number, [])
             found.append(current)
             names[name.replace("◌", "")] = current
         elif current and current.kind == "data" and (constructor := re.match(r"\s+(\S+) :", bare)):
@@ -129,13 +113,9 @@ def modules():
     return {(crate, ".".join(inner.parts)): read_module(path, text_of(path)) for (crate, path), inner in paths.items()}
 
 
-def cited_by(text, names, imports, crate, module):
-    """Where each name of definitions that a text has is defined."""
-    for word in set(WORD.findall(without_strings(text))):
-        if word in names:
-            yield crate, module, word
-        elif word in imports:
-            yield imports[word]
+def cited_in(text, places):
+    """Where each name of definitions that a text has is defined, by where these names are."""
+    return {places[it] for it in WORD.findall(without_strings(text)) if it in places}
 
 
 @functools.cache
@@ -146,7 +126,7 @@ def trusted():
         types = types_of(crate)
         for source in sources(crate):
             public = [*(it for it in source.blocks if it.owner in types), *(it for it in source.functions if it.is_public)]
-            wanted.update(name for it in public for clause in it.clauses for name in source.cited(clause))
+            wanted.update(name for it in public for *_, clause in it.clauses for name in source.cited(clause))
     seen, todo = {}, list(wanted)
     while todo:
         crate, module, name = todo.pop()
@@ -157,32 +137,16 @@ def trusted():
         if definition is None or definition.kind is None or definition in seen.values():
             continue
         seen[crate, module, definition.name.replace("◌", "")] = definition
-        todo.extend(cited_by("\n".join(definition.lines), here.names, here.imports, crate, module))
+        todo.extend(cited_in("\n".join(definition.lines), here.imports | {it: (crate, module, it) for it in here.names}))
     return seen
 
 
 # ---- code
 
-
-class Block(NamedTuple):
-    """A public trait or an impl: of which type or trait, the trait that is implemented or "", and the ghost members by name."""
-
-    start: int
-    end: int
-    owner: str
-    trait: str
-    clauses: list
-
-
-class Function(NamedTuple):
-    """A function: where its head begins and the next one's, its block or None, and its clauses: keyword, name and text."""
-
-    start: int
-    end: int
-    name: str
-    block: Block
-    clauses: list
-    is_public: bool
+# A public trait or an impl: of which type or trait, the trait that is implemented or "", and the ghost members by name.
+Block = collections.namedtuple("Block", "start end owner trait clauses")
+# A function: where its head begins and the next one's, its block or None, and its clauses: keyword, name and text.
+Function = collections.namedtuple("Function", "start end name block clauses is_public")
 
 
 def braced(text, start):
@@ -207,9 +171,9 @@ class Source:
         ends = [*(it.start() for it in heads[1:]), len(self.code)]
         self.functions = [self.function(head, end, types) for head, end in zip(heads, ends)]
 
-    def cited(self, clause):
-        """The definitions that a clause cites: crate, module and name of each."""
-        return set(cited_by(clause[2], {}, self.imports, None, None))
+    def cited(self, text):
+        """The definitions that a clause's text cites: crate, module and name of each."""
+        return cited_in(text, self.imports)
 
     def clauses(self, pattern, start, end):
         return [(*it.groups(), braced(self.code, it.end() - 1)) for it in pattern.finditer(self.code, start, end)]
@@ -225,10 +189,6 @@ class Source:
         is_of_trait = block and (block.trait or self.code.startswith("pub trait", block.start))
         is_public = (not block or block.owner in types) and (bool(is_of_trait) or head[1] == "pub ")
         return Function(head.start(), end, head[2], block, self.clauses(CLAUSE, head.start(), end), is_public)
-
-    def signature(self, function):
-        """What stands before the clauses and the body."""
-        return re.split(r"\n\s*(?:requires|ensures)\b|\n?\s*\{\n|;\n", self.code[function.start : function.end], maxsplit=1)[0]
 
 
 def code_of(crate):
@@ -257,11 +217,19 @@ def exports(crate):
 
 # ---- pages
 
+SECTIONS = r'PEP 440, ((?:"[^"]+"(?:, and |, | and )?)+(?:Appendix B)?)'
+
+
+def without_sections(comment):
+    """A comment without the sections of PEP 440 that it names."""
+    return re.sub(rf" ?\({SECTIONS}\)", "", " ".join(comment.split())).strip()
+
 
 def pages():
-    """Each page of the repository, and those that scripts wrote to out/docs."""
+    """Each page, the manuals of the programs, and the C header."""
     hidden = {".git", "out", "dist", "build", "target", "node_modules"}
-    return [it for it in sorted(TOP.rglob("*.md")) if not hidden & {*it.relative_to(TOP).parts}] + sorted((TOP / "out/docs").rglob("*.md"))
+    found = [it for it in sorted(TOP.rglob("*.md")) if not hidden & {*it.relative_to(TOP).parts}]
+    return [*found, *sorted(TOP.glob("docs/*.1")), TOP / "callers/c/pep440.h"]
 
 
 def prose(page):
@@ -281,9 +249,7 @@ def row(*cells):
 def write_pages(folder, written):
     """Writes these pages, by the names of their crates, to a folder of out/docs, and removes all else there."""
     folder = TOP / "out/docs" / folder
-    folder.mkdir(parents=True, exist_ok=True)
-    for path in folder.glob("*.md"):
-        if path.stem not in written:
-            path.unlink()
+    shutil.rmtree(folder, ignore_errors=True)
+    folder.mkdir(parents=True)
     for crate, page in written.items():
         (folder / f"{crate}.md").write_text(page, encoding="utf-8")

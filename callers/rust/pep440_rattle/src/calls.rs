@@ -274,7 +274,7 @@ pub(crate) fn range_bounds<T>(list: &[u8], read: impl FnOnce(&[u8], &[usize]) ->
     written_with_ends(pep440_range_bounds, list, read)
 }
 
-/// The same of its release-only range.
+/// Calls `read` with the bounds of its release-only range, as `range_bounds` does.
 pub(crate) fn release_range_bounds<T>(list: &[u8], read: impl FnOnce(&[u8], &[usize]) -> T) -> Result<T, Refusal> {
     written_with_ends(pep440_release_range_bounds, list, read)
 }

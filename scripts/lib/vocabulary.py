@@ -1,15 +1,11 @@
-#!/usr/bin/env -S python3 -B
 """Holds comments, names and pages to one vocabulary, and each name to one meaning.
 
-Usage: scripts/vocabulary
-
 It reads the comments, clauses and names of crates/*/src, the comments and names of crates/*/specs, the pages, the manuals and the C header; what
-stands in backquotes is not read. Exit status: 0 where nothing is found, else 1, with a line each.
+stands in backquotes is not read.
 """
 import re
-import sys
 
-from lib.sources import TOP, crates, files, libraries, modules, name_of, prose as page_prose, sources, text_of
+from lib.sources import TOP, crates, files, libraries, modules, name_of, pages, prose as page_prose, sources, text_of
 
 WORDS = [(re.compile(rf"\b(?:{old})\b", re.I), new) for old, new in [
     (r"refus(?:e|es|ed|ing|als?)", "reject, error; of an allocation: fail"),
@@ -65,7 +61,7 @@ def prose():
     for path in code():
         mark = "//" if path.suffix == ".rt" else "--"
         yield from ((at, line.partition(mark)[2]) for at, line in lines_of(path) if mark in line)
-    for path in [*TOP.glob("*.md"), *TOP.glob("docs/*.*"), *TOP.glob("docs/archives/*.md"), *TOP.glob("callers/**/README.md"), TOP / "callers/c/pep440.h"]:
+    for path in pages():
         yield from ((f"{name_of(path)}:{number}", line) for number, line in page_prose(path))
 
 
@@ -118,7 +114,6 @@ def meanings():
     yield from (f"{name} -> a name for each: {' '.join(it.values())}" for name, it in found.items() if len(it) > 1 and name.split(" ")[1] not in ROLES)
 
 
-public = {it.name for crate in libraries() for source in sources(crate) for it in source.functions if it.is_public}
-faults = [*words(), *definitions(), *(it for crate in crates() for it in names(crate, public)), *meanings()]
-print(*faults, f"{len(faults)} words and names to mend", sep="\n")
-sys.exit(bool(faults))
+def check_vocabulary():
+    public = {it.name for crate in libraries() for source in sources(crate) for it in source.functions if it.is_public}
+    return [*words(), *definitions(), *(it for crate in crates() for it in names(crate, public)), *meanings()]
