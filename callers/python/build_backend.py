@@ -11,6 +11,7 @@ CC and CFLAGS in the environment are the C compiler (cc) and what else it is to 
 word for another machine than this. The source archive has the sources of the package, and the proved library and the objects of both programs for
 each machine for which they are built, each where it lies in the repository: it wants a C compiler and Python's headers alone.
 """
+import atexit
 import base64
 import gzip
 import hashlib
@@ -42,7 +43,8 @@ HEADER, RUNTIME = (TOP / "callers/c" / name for name in ("pep440.h", "runtime.c"
 LICENCES = {name: TOP / name for name in ("LICENSE", "NOTICE")}
 MACHINE = sysconfig.get_platform().rpartition("-")[2]
 PROGRAMS = ("pep440", "pyver")
-ROOM = tempfile.TemporaryDirectory()
+ROOM = pathlib.Path(tempfile.mkdtemp())
+atexit.register(shutil.rmtree, ROOM, ignore_errors=True)
 FIRST_TIME = "all of it the first time about an hour of processor"
 
 
@@ -96,7 +98,7 @@ def compile_by(*words):
 
 def linked(name):
     """The program of the object that the source archive has for this machine, linked with the machine's C library."""
-    linkable, program = CRATES / name / "out" / MACHINE / f"{name}.o", pathlib.Path(ROOM.name, name)
+    linkable, program = CRATES / name / "out" / MACHINE / f"{name}.o", ROOM / name
     if not linkable.is_file():
         return None
     compile_by("-DPEP440_PROGRAM", "-Wl,--wrap=main", "-o", program, linkable, RUNTIME)
