@@ -94,6 +94,7 @@ fn of_library(alloc: Global, call: &str, arguments: &[String]) -> Result<String,
         | "write_allowed_none"
         | "write_allowed_all"
         | "write_prerelease_flag"
+        | "write_subset"
         | "write_word"
         | "write_newest"
         | "write_marks"
