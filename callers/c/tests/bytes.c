@@ -199,7 +199,8 @@ static void hold_no_list(const Bytes *form)
         hold(pep440_allows(OF(form), version, sizeof version, 1, &any) == PEP440_INVALID_LIST && any == 7, "allows, a list without its set");
 }
 
-/* Bytes that denote a list are a string, or those that its normalized form is compiled to, or these without the set. */
+/* Bytes that denote a list are a string, or those that its normalized form is compiled to, or these without the set, or a list without a set that no
+   string denotes, as `>=1.0+a`. */
 static void hold_list(const Bytes *form)
 {
     Bytes text, again, own;
@@ -212,8 +213,12 @@ static void hold_list(const Bytes *form)
         return;
     }
     hold(status == PEP440_OK, "normalize_list");
-    hold(pep440_compile_list(OF(form), TO(&own)) == PEP440_OK && pep440_compile_list(OF(&text), TO(&again)) == PEP440_OK && are_same(&own, &again),
-         "the compiled form is that of the printed list");
+    hold(pep440_compile_list(OF(form), TO(&own)) == PEP440_OK, "compile_list");
+    if (pep440_compile_list(OF(&text), TO(&again)) == PEP440_INVALID_LIST) {
+        printed++, hold(form->bytes[0] == 5 && are_same(form, &own), "a list that no string denotes has no set");
+        return;
+    }
+    hold(are_same(&own, &again), "the compiled form is that of the printed list");
     if (!is_compiled)
         strings++;
     else if (form->bytes[0] == own.bytes[0])
