@@ -8,6 +8,7 @@
 
 #define TEXT(text) (const uint8_t *)(text), sizeof(text) - 1
 #define LIST ">=1.0,<2.0,!=1.5.*"
+#define OTHER ">=1.2,<3.0,!=2.1"
 #define LONGER "1!2.0rc1.post2.dev3+ubuntu.1"
 
 static uint8_t out[256];
@@ -33,6 +34,7 @@ static uint8_t sort_key_longer(void) { return pep440_sort_key(TEXT(LONGER), out,
 static uint8_t ranges(void) { return pep440_ranges(TEXT(LIST), out, sizeof out, &written); }
 static size_t ends[16], keys;
 static uint8_t boundaries(void) { return pep440_boundaries(TEXT(LIST), out, sizeof out, ends, 16, &written, &keys); }
+static uint8_t complement(void) { return pep440_complement(TEXT(LIST), out, sizeof out, &written); }
 static const pep440_string changes[] = {{TEXT("post=4")}};
 static uint8_t edit(void) { return pep440_edit(TEXT("1.2.3"), changes, 1, out, sizeof out, &written); }
 
@@ -42,7 +44,7 @@ typedef struct {
     size_t length;
 } Compiled;
 
-static Compiled compiled, next, list, one, dated, dated_next, dated_one, local, local_one, locals, locals_one, epoch, epoch_one, digits, digits_one;
+static Compiled compiled, next, list, other, one, dated, dated_next, dated_one, local, local_one, locals, locals_one, epoch, epoch_one, digits, digits_one;
 
 #define OF(form) (form).bytes, (form).length
 static uint8_t compile(void) { return pep440_compile(TEXT("1.2.3"), out, sizeof out, &written); }
@@ -74,6 +76,11 @@ static uint8_t allows_compiled_epoch(void) { return allows_if(&epoch_one, &epoch
 static uint8_t allows_compiled_digits(void) { return allows_if(&digits_one, &digits); }
 static uint8_t allows_mixed(void) { return pep440_allows(OF(list), TEXT("1.2.3"), PEP440_ASKED_PRERELEASES, &is); }
 
+static uint8_t complement_compiled(void) { return pep440_complement(OF(list), out, sizeof out, &written); }
+static uint8_t intersection_compiled(void) { return pep440_intersection(OF(list), OF(other), out, sizeof out, &written); }
+static uint8_t union_compiled(void) { return pep440_union(OF(list), OF(other), out, sizeof out, &written); }
+static uint8_t is_subset_compiled(void) { return pep440_is_subset(OF(list), OF(other), &is); }
+
 static void compile_one(Compiled *form, const char *text)
 {
     uint8_t status = (strpbrk(text, "<>=") ? pep440_compile_list : pep440_compile)((const uint8_t *)text, strlen(text), form->bytes, sizeof form->bytes, &form->length);
@@ -83,7 +90,7 @@ static void compile_one(Compiled *form, const char *text)
 
 static void compile_all(void)
 {
-    compile_one(&compiled, "1.2.3"), compile_one(&next, "1.2.4"), compile_one(&list, LIST), compile_one(&one, ">=1.0");
+    compile_one(&compiled, "1.2.3"), compile_one(&next, "1.2.4"), compile_one(&list, LIST), compile_one(&other, OTHER), compile_one(&one, ">=1.0");
     compile_one(&dated, "2024.10.20240101"), compile_one(&dated_next, "2024.10.20240102"), compile_one(&dated_one, ">=2024.10.20240101");
     compile_one(&local, "1.0+cu118"), compile_one(&local_one, "==1.0+cu118");
     compile_one(&locals, "1.0+cu118.20240101.abc"), compile_one(&locals_one, "==1.0+cu118.20240101.abc");
@@ -125,7 +132,11 @@ static const struct {
              {"allows_compiled_locals", allows_compiled_locals, PEP440_OK},
              {"allows_compiled_epoch", allows_compiled_epoch, PEP440_OK},
              {"allows_compiled_digits", allows_compiled_digits, PEP440_OK},
-             {"allows_mixed", allows_mixed, PEP440_OK}};
+             {"allows_mixed", allows_mixed, PEP440_OK},
+             {"complement", complement, PEP440_OK},         {"complement_compiled", complement_compiled, PEP440_OK},
+             {"intersection_compiled", intersection_compiled, PEP440_OK},
+             {"union_compiled", union_compiled, PEP440_OK},
+             {"is_subset_compiled", is_subset_compiled, PEP440_OK}};
 
 /* Versions of three numbers, scrambled: one in eight each with a pre-release, a post-release and a dev. */
 static pep440_string *some_texts(size_t how_many)

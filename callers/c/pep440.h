@@ -3,7 +3,7 @@
 
    A version or a list is passed as bytes and a length, with no zero at the end; for `const char *`
    see the calls at the end of this header. The bytes are a string, or a compiled form, made once of
-   a string (below): bytes that begin with 4, 5 or 6 are taken as one. Every call takes either, but
+   a string (below): bytes that begin with 4, 5, 6 or 7 are taken as one. Every call takes either, but
    the five of a pattern or a single specifier (pep440_pattern, pep440_pattern_error,
    pep440_specifier, pep440_specifier_error and pep440_compile_specifier), which take strings. Bytes
    that are neither are an invalid version or list. Each call returns a status. No call keeps a
@@ -69,12 +69,12 @@ enum {
     PEP440_OUT_OF_MEMORY = 3,
     PEP440_NO_ROOM = 4,
     PEP440_NUMBER_AT_MAX = 5,
-    PEP440_INVALID_RIGHT = 6,  /* only of pep440_compare: the right bytes are no version */
+    PEP440_INVALID_RIGHT = 6,  /* the right bytes are no version, of pep440_compare, or no list */
     PEP440_NOT_PACKED = 7,     /* only of pep440_word: the version has no word */
     PEP440_INVALID_CHANGE = 8, /* only of pep440_edit: a change is none, or cannot be made */
     PEP440_INVALID_KIND = 9,   /* only of pep440_error: `kind` is none of PEP440_A_VERSION.. */
     PEP440_NONE_FOUND = 10,    /* only of pep440_newest: the list matches no string of the batch */
-    PEP440_NO_SET = 12         /* only of pep440_boundaries: the list has `===` */
+    PEP440_NO_SET = 12         /* only of calls on sets: a list has `===` */
 };
 
 /* A version of a batch, or a change of pep440_edit. */
@@ -200,6 +200,8 @@ uint8_t pep440_compare(const uint8_t *left, size_t left_length, const uint8_t *r
    pep440_filter                              today's       matched, with their own mark
    pep440_newest                              today's       if asked for, or nothing else matches
    pep440_version_in, pep440_boundaries       today's       matched
+   pep440_complement, pep440_intersection,
+   pep440_union, pep440_is_subset             today's       matched
 
    By no rule of matching go pep440_any_prerelease and the calls that print or compile a list. */
 
@@ -308,6 +310,24 @@ uint8_t pep440_ranges(const uint8_t *list, size_t length, uint8_t *out, size_t s
 uint8_t pep440_boundaries(const uint8_t *list, size_t length, uint8_t *out, size_t size,
                           size_t *ends, size_t ends_size, size_t *written, size_t *count);
 
+/* Writes the set of the versions that are not in a set, in both of two sets, or in one of them, as a
+   set by itself; `out` and `written` as for pep440_normalize. Each set that is passed belongs to a
+   list, as pep440_boundaries has it, as a string or as a compiled form, or a set by itself (below).
+   PEP440_NO_SET if a list has `===`, or a member of a compiled one is such that no string denotes
+   it. PEP440_INVALID_LIST and PEP440_INVALID_RIGHT if bytes are neither. */
+uint8_t pep440_complement(const uint8_t *set, size_t length, uint8_t *out, size_t size,
+                          size_t *written);
+uint8_t pep440_intersection(const uint8_t *left, size_t left_length, const uint8_t *right,
+                            size_t right_length, uint8_t *out, size_t size, size_t *written);
+uint8_t pep440_union(const uint8_t *left, size_t left_length, const uint8_t *right,
+                     size_t right_length, uint8_t *out, size_t size, size_t *written);
+
+/* Writes to `inside` whether each version of the left set is in the right one, 1 or 0; sets and
+   errors as of pep440_union. So `<0.dev0`, which matches nothing, has each set in it that has no
+   version. */
+uint8_t pep440_is_subset(const uint8_t *left, size_t left_length, const uint8_t *right,
+                         size_t right_length, uint8_t *inside);
+
 /* The first byte of a bound: there is none; or its version is in the segment, or is not. */
 enum { PEP440_NO_BOUND = 0, PEP440_INCLUDED = 1, PEP440_EXCLUDED = 2 };
 
@@ -351,6 +371,9 @@ uint8_t pep440_release_range_bounds(const uint8_t *list, size_t length, uint8_t 
    `===` has no set, and format 5: just the members. Of a list no size suffices by its length: ask
    for it, with null and a size of 0. `>=1.0, <2.0` takes 44 bytes.
 
+   A set by itself has format 7: the byte 7, and its keys as in a list of format 6. The calls on sets
+   write and take it; all others, which need the members of a list, return PEP440_INVALID_LIST.
+
    Lists without `===` that an earlier library wrote have format 5, too. Every call takes them, but
    pep440_allows then costs what it does of a string; pep440_compile_list writes format 6 of them.
 
@@ -364,7 +387,7 @@ uint8_t pep440_release_range_bounds(const uint8_t *list, size_t length, uint8_t 
    attacker. pep440_compare of two compiled versions, pep440_contains of a compiled list and a
    compiled version, and pep440_allows of these in format 6 read them as they lie, and allocate
    nothing: of bytes that begin as a compiled form and are none they write any result, or return the
-   status of an invalid one. All other calls reject such bytes. So give bytes of unknown origin to
+   status of an invalid one. So do the calls on sets of formats 6 and 7. All other calls reject such bytes. So give bytes of unknown origin to
    pep440_normalize or pep440_normalize_list once. */
 
 /* How many bytes suffice, by the length of a string: for the normal form of a version, for its sort
@@ -470,7 +493,7 @@ PEP440_INLINE const char *pep440_status_text(uint8_t status)
     case PEP440_NUMBER_AT_MAX:
         return "a bound needs a number above 18446744073709551615";
     case PEP440_INVALID_RIGHT:
-        return "the right one is not a version";
+        return "the right one is invalid";
     case PEP440_NOT_PACKED:
         return "the version has no word";
     case PEP440_INVALID_CHANGE:

@@ -7,7 +7,7 @@
    $ ./compare 1.0 v1.0.0
    1.0 == v1.0.0
    $ ./compare 1.0 latest
-   compare: the right one is not a version */
+   compare: the right one is invalid */
 #include <err.h>
 #include <stdio.h>
 #include <stdlib.h>

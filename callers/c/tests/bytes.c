@@ -23,7 +23,7 @@ typedef struct {
 #define TO(bytes_of) (bytes_of)->bytes, ROOM, &(bytes_of)->length
 
 static int wrong;
-static size_t rejected, printed, without_set, unwritten, strings;
+static size_t rejected, printed, without_set, unwritten, strings, sets;
 
 static void hold(int is_right, const char *what)
 {
@@ -240,8 +240,30 @@ static void hold_list(const Bytes *form)
     }
 }
 
+/* Bytes that begin as a set by itself are taken as they lie, or rejected. */
+static void hold_set(const Bytes *form)
+{
+    Bytes outside;
+    if (form->length == 0 || form->bytes[0] != 7)
+        return;
+    uint8_t status = pep440_complement(OF(form), TO(&outside));
+    sets += status == PEP440_OK;
+    hold(status == PEP440_INVALID_LIST || (status == PEP440_OK && outside.bytes[0] == 7 && outside.length <= form->length + 2), "complement");
+}
+
+/* The set of a list is what is not in what is not in it. */
+static void hold_set_of(const Bytes *list)
+{
+    Bytes outside, inside;
+    uint8_t is = 7, back = 7;
+    hold(pep440_complement(OF(list), TO(&outside)) == PEP440_OK && pep440_complement(OF(&outside), TO(&inside)) == PEP440_OK, "complement of a list");
+    hold(pep440_is_subset(OF(list), OF(&inside), &is) == PEP440_OK && is == 1, "in its set");
+    hold(pep440_is_subset(OF(&inside), OF(list), &back) == PEP440_OK && back == 1, "no more than its set");
+}
+
 static void hold_bytes(const Bytes *form)
 {
+    hold_set(form);
     ask_in_place(form);
     hold_version(form);
     hold_list(form);
@@ -363,7 +385,7 @@ static void hold_literals(void)
 
 static void change_byte(Bytes *form, unsigned at) { form->bytes[at] = (uint8_t)below(256); }
 
-/* Random bytes; those that begin as a version or a list; or a compiled form, maybe without its set, some of whose bytes are replaced, or which is cut. */
+/* Random bytes; those that begin as a version, a list or a set; or a compiled form, maybe without its set, some of whose bytes are replaced, or which is cut. */
 static void some_bytes(Bytes *form)
 {
     unsigned kind = below(3);
@@ -375,7 +397,7 @@ static void some_bytes(Bytes *form)
         for (size_t at = 0; at < form->length; at++)
             form->bytes[at] = (uint8_t)(below(2) ? below(256) : below(4));
     if (kind == 1)
-        form->bytes[0] = (uint8_t)(4 + below(3));
+        form->bytes[0] = (uint8_t)(4 + below(4));
     if (kind == 2) {
         if (form->bytes[0] == 6 && below(2))
             drop_set(form);
@@ -438,6 +460,7 @@ int main(int count, char **words)
         hold_bytes(&form);
         change_each_byte(&form);
         if (form.bytes[0] == 6) {
+            hold_set_of(&form);
             drop_set(&form);
             change_each_byte(&form);
         }
@@ -446,7 +469,7 @@ int main(int count, char **words)
         some_bytes(&form);
         hold_bytes(&form);
     }
-    hold(rejected > RANDOM && printed > VERSIONS + LISTS && without_set > LISTS && unwritten > 0 && strings > 0, "each result is met");
+    hold(rejected > RANDOM && printed > VERSIONS + LISTS && without_set > LISTS && unwritten > 0 && strings > 0 && sets > 0, "each result is met");
     printf("%zu results: %zu rejected, %zu are what they are printed as, %zu lists are it without their set, %zu that no string denotes, %zu strings; %d wrong\n",
            rejected + printed + without_set + unwritten + strings, rejected, printed, without_set, unwritten, strings, wrong);
     return wrong ? EXIT_FAILURE : EXIT_SUCCESS;

@@ -322,6 +322,33 @@ static void ask_boundaries(void)
     hold(pep440_boundaries(LIST("=1.0"), set, sizeof set, ends, 8, &written, &count) == PEP440_INVALID_LIST && count == 77, "no list, so no set");
 }
 
+/* Sets by themselves, as the keys of their intervals. */
+static void ask_sets(void)
+{
+    /* Below 1.0 and from 2.0.dev0 on; from 1.0 up to 2.0.dev0. */
+    static const uint8_t outside[] = {7, 0, 1, 8, 0, 2, 1, 0, 80, 0, 16, 0, 1, 8, 0, 2, 2, 0, 16, 0, 0, 0, 0};
+    static const uint8_t inside[] = {7, 1, 8, 0, 2, 1, 0, 80, 0, 16, 0, 1, 8, 0, 2, 2, 0, 16, 0, 0, 0};
+    uint8_t set[128], again[128], form[64], is = 7;
+    size_t length, more, size;
+    hold(pep440_complement(LIST(">=1.0,<2.0"), set, sizeof set, &length) == PEP440_OK, "complement");
+    hold(length == sizeof outside && memcmp(set, outside, length) == 0, "what is not in it");
+    hold(pep440_complement(set, length, again, sizeof again, &more) == PEP440_OK && more == sizeof inside && memcmp(again, inside, more) == 0, "and what is");
+    hold(pep440_intersection(LIST("<2.0"), LIST(">=1.0"), again, sizeof again, &more) == PEP440_OK && more == sizeof inside && memcmp(again, inside, more) == 0, "both");
+    hold(pep440_union(LIST("<1.0"), LIST(">=1.0"), again, sizeof again, &more) == PEP440_OK && pep440_is_subset(again, more, LIST(""), &is) == PEP440_OK && is == 1, "in all");
+    hold(pep440_is_subset(LIST(""), again, more, &is) == PEP440_OK && is == 0, "not all: the pre-releases of 1.0 are in neither");
+    hold(pep440_compile_list(LIST(">=1.0,<2.0"), form, sizeof form, &size) == PEP440_OK, "compile_list");
+    hold(pep440_intersection(form, size, set, length, again, sizeof again, &more) == PEP440_OK && more == 1 && again[0] == 7, "nothing in both");
+    hold(pep440_is_subset(LIST("~=1.4"), form, size, &is) == PEP440_OK && is == 1, "in a compiled list");
+    hold(pep440_is_subset(LIST(">=1.0,<=2.0"), form, size, &is) == PEP440_OK && is == 0, "2.0 is not");
+    hold(pep440_is_subset(LIST(">1,<1"), LIST("<0.dev0"), &is) == PEP440_OK && is == 1, "no version");
+    hold(pep440_union(form, size, set, length, NULL, 0, &more) == PEP440_NO_ROOM && more == 3, "room");
+    more = 77, is = 7;
+    hold(pep440_union(LIST("=1.0"), LIST(">1"), again, sizeof again, &more) == PEP440_INVALID_LIST && more == 77, "the left one");
+    hold(pep440_union(LIST(">1"), LIST("=1.0"), again, sizeof again, &more) == PEP440_INVALID_RIGHT && more == 77, "the right one");
+    hold(pep440_is_subset(LIST(">1"), LIST("===1.0"), &is) == PEP440_NO_SET && is == 7, "no set");
+    hold(pep440_normalize_list(set, length, again, sizeof again, &more) == PEP440_INVALID_LIST, "a set has no members");
+}
+
 /* The bounds that the header names. */
 static void ask_bounds(void)
 {
@@ -405,6 +432,7 @@ int main(void)
         take_apart();
         keep_keys();
         ask_boundaries();
+        ask_sets();
         ask_bounds();
         many_at_once();
     }

@@ -7,7 +7,7 @@
 
 #include "pep440.h"
 
-enum { ROOM = 4096, ENDS = 256, MANY = 5, CALLS = 29 };
+enum { ROOM = 4096, ENDS = 256, MANY = 5, CALLS = 33 };
 
 typedef struct {
     uint8_t bytes[ROOM];
@@ -166,6 +166,10 @@ static uint8_t call(unsigned number)
     case 25: return pep440_newest(OF(list), batch, MANY, &at);
     case 26: count = MANY; return pep440_sort(batch, MANY, ends, MANY, &at);
     case 27: count = MANY; return pep440_sort_keys(batch, MANY, out, sizeof out, ends, ENDS, &written, &at);
+    case 28: return pep440_complement(OF(list), OUT);
+    case 29: return pep440_intersection(OF(list), OF(invalid), OUT);
+    case 30: return pep440_union(OF(list), OF(invalid), OUT);
+    case 31: return pep440_is_subset(OF(list), OF(invalid), &flag);
     default: count = 1, ends[0] = pep440_version_of_library(); return PEP440_OK;
     }
 }

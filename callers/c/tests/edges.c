@@ -67,6 +67,10 @@ static uint8_t ranges(void) { return pep440_ranges(IN, OUT); }
 static uint8_t any_prerelease(void) { return pep440_any_prerelease(IN, flag); }
 static uint8_t specifiers_of(void) { return pep440_specifiers_of(IN, KEYS); }
 static uint8_t boundaries(void) { return pep440_boundaries(IN, KEYS); }
+static uint8_t complement(void) { return pep440_complement(IN, OUT); }
+static uint8_t intersection(void) { return pep440_intersection(IN, OTHER, OUT); }
+static uint8_t unite(void) { return pep440_union(IN, OTHER, OUT); }
+static uint8_t is_subset(void) { return pep440_is_subset(IN, OTHER, flag); }
 static uint8_t range_bounds(void) { return pep440_range_bounds(IN, KEYS); }
 static uint8_t release_range_bounds(void) { return pep440_release_range_bounds(IN, KEYS); }
 static uint8_t compare(void) { return pep440_compare(IN, OTHER, order); }
@@ -105,7 +109,9 @@ static const struct {
     {"version_in", version_in, "l", WITH_SET, "", PEP440_OK}, {"ranges", ranges, "l", WITH_SET, "", PEP440_OK},
     {"any_prerelease", any_prerelease, "l", LIST, "", PEP440_OK}, {"specifiers_of", specifiers_of, "l", LIST, "", PEP440_OK},
     {"boundaries", boundaries, "l", WITH_SET, "", PEP440_OK}, {"boundaries, no set", boundaries, "l", LIST, "", PEP440_NO_SET},
-    {"range_bounds", range_bounds, "l", WITH_SET, "", PEP440_OK},
+    {"complement", complement, "l", WITH_SET, "", PEP440_OK}, {"intersection", intersection, "ll", WITH_SET, "<1.5", PEP440_OK},
+    {"union", unite, "ll", WITH_SET, "<1.5", PEP440_OK}, {"union, no set", unite, "ll", WITH_SET, LIST, PEP440_NO_SET},
+    {"is_subset", is_subset, "ll", WITH_SET, "<1.5", PEP440_OK}, {"range_bounds", range_bounds, "l", WITH_SET, "", PEP440_OK},
     {"range_bounds, at max", range_bounds, "l", "==18446744073709551615.*", "", PEP440_NUMBER_AT_MAX},
     {"release_range_bounds", release_range_bounds, "l", ">1!1.0rc1", "", PEP440_OK}, {"compare", compare, "vv", LONG, "1!1.2.301", PEP440_OK},
     {"compare, invalid", compare, "vs", LONG, "1.0prev", PEP440_INVALID_RIGHT}, {"contains", contains, "lv", LIST, "1.17+a", PEP440_OK},

@@ -57,6 +57,10 @@ static void strings(void)
     hold(pep440_range_bounds(NONE, NONE, NONE, &written, &count) == PEP440_NO_ROOM && written == 2 && count == 2, "range_bounds");
     hold(pep440_release_range_bounds(NONE, NONE, NONE, &written, &count) == PEP440_NO_ROOM && written == 2 && count == 2, "release_range_bounds");
     hold(pep440_boundaries(NONE, NONE, NONE, &written, &count) == PEP440_NO_ROOM && written == 0 && count == 2, "boundaries");
+    hold(pep440_complement(NONE, out, sizeof out, &written) == PEP440_OK && written == 1, "complement");
+    hold(pep440_intersection(NONE, NONE, out, sizeof out, &written) == PEP440_OK && written == 3, "intersection");
+    hold(pep440_union(NONE, NONE, NONE, &written) == PEP440_NO_ROOM && written == 3, "union");
+    hold(pep440_is_subset(NONE, NONE, &is) == PEP440_OK && is == 1, "is_subset");
 }
 
 static void compiled(void)

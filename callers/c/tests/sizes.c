@@ -122,6 +122,10 @@ static void of_either_list(pep440_string list, const char *part, size_t size)
     CHECK(pep440_compile_list(PARSED(list), OUT));
     CHECK(pep440_version_in(PARSED(list), OUT));
     CHECK(pep440_boundaries(PARSED(list), KEYS));
+    CHECK(pep440_complement(PARSED(list), OUT));
+    CHECK(pep440_intersection(PARSED(list), TEXT(">1"), OUT));
+    CHECK(pep440_union(PARSED(list), TEXT(">1"), OUT));
+    CHECK(pep440_is_subset(TEXT(">1"), PARSED(list), &is));
     for (int number = 0; number < 2; number++) {
         pep440_string compiled = compile(pep440_compile, versions[number], part, size);
         CHECK(pep440_contains(PARSED(list), PARSED(versions[number]), &is, &early));

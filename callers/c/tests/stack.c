@@ -76,6 +76,10 @@ static void *boundaries(void *unused)
     pep440_boundaries(LIST, out, (size_t)LONG * 64, ends, MANY, &written, &at);
     return unused;
 }
+static void *complement(void *unused) { pep440_complement(LIST, OUT); return unused; }
+static void *intersection(void *unused) { pep440_intersection(LIST, LIST, OUT); return unused; }
+static void *unite(void *unused) { pep440_union(LIST, LIST, OUT); return unused; }
+static void *is_subset(void *unused) { pep440_is_subset(LIST, LIST, &flag); return unused; }
 static void *compile(void *unused) { pep440_compile(GIVEN, OUT); return unused; }
 static void *compile_specifier(void *unused) { pep440_compile_specifier(LIST, OUT); return unused; }
 static void *compile_list(void *unused) { pep440_compile_list(LIST, OUT); return unused; }
@@ -109,6 +113,10 @@ static const struct {
              {"range_bounds", range_bounds},
              {"release_range_bounds", release_range_bounds},
              {"boundaries", boundaries},
+             {"complement", complement},
+             {"intersection", intersection},
+             {"union", unite},
+             {"is_subset", is_subset},
              {"specifiers_of", specifiers_of},
              {"specifier", specifier},
              {"pattern", pattern},

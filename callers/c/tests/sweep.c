@@ -129,6 +129,13 @@ static uint8_t boundaries_same_set(Answer *answer) { return pep440_boundaries(FI
 static uint8_t boundaries_at_max(Answer *answer) { return pep440_boundaries(FIRST(at_max), KEYS); }
 static uint8_t boundaries_no_set(Answer *answer) { return pep440_boundaries(FIRST(members), KEYS); }
 static uint8_t boundaries_no_list(Answer *answer) { return pep440_boundaries(FIRST(no_list), KEYS); }
+static uint8_t complement(Answer *answer) { return pep440_complement(FIRST(with_set), OUT); }
+static uint8_t complement_no_set(Answer *answer) { return pep440_complement(FIRST(members), OUT); }
+static uint8_t intersection(Answer *answer) { return pep440_intersection(FIRST(with_set), FIRST(same_set), OUT); }
+static uint8_t intersection_no_right(Answer *answer) { return pep440_intersection(FIRST(with_set), FIRST(no_list), OUT); }
+static uint8_t unite(Answer *answer) { return pep440_union(FIRST(with_set), FIRST(same_set), OUT); }
+static uint8_t unite_no_left(Answer *answer) { return pep440_union(FIRST(no_list), FIRST(with_set), OUT); }
+static uint8_t is_subset(Answer *answer) { return pep440_is_subset(FIRST(with_set), FIRST(same_set), &answer->is); }
 static uint8_t version_in_set(Answer *answer) { return pep440_version_in(FIRST(with_set), OUT); }
 static uint8_t compile_list(Answer *answer) { return pep440_compile_list(FIRST(members), OUT); }
 static uint8_t compile_list_set(Answer *answer) { return pep440_compile_list(FIRST(with_set), OUT); }
@@ -221,6 +228,13 @@ static const Call CALLS[] = {
     CALL(boundaries_at_max, PEP440_OK, 1),
     CALL(boundaries_no_set, PEP440_NO_SET, 1),
     CALL(boundaries_no_list, PEP440_INVALID_LIST, 1),
+    CALL(complement, PEP440_OK, 1),
+    CALL(complement_no_set, PEP440_NO_SET, 1),
+    CALL(intersection, PEP440_OK, 1),
+    CALL(intersection_no_right, PEP440_INVALID_RIGHT, 1),
+    CALL(unite, PEP440_OK, 1),
+    CALL(unite_no_left, PEP440_INVALID_LIST, 1),
+    CALL(is_subset, PEP440_OK, 1),
     CALL(version_in_set, PEP440_OK, 1),
     CALL(compile_list, PEP440_OK, 1),
     CALL(compile_list_set, PEP440_OK, 1),

@@ -77,6 +77,10 @@ static void of_list(Memory *m, pep440_string list)
     fold(m, pep440_ranges(OF(list), OUT));
     fold(m, pep440_version_in(OF(list), OUT));
     fold(m, pep440_boundaries(OF(list), KEYS));
+    fold(m, pep440_complement(OF(list), OUT));
+    fold(m, pep440_intersection(OF(list), OF(list), OUT));
+    fold(m, pep440_union(OF(list), OF(list), OUT));
+    fold(m, pep440_is_subset(OF(list), OF(list), &m->flag));
     fold(m, pep440_range_bounds(OF(list), KEYS));
     fold(m, pep440_release_range_bounds(OF(list), KEYS));
 }

@@ -21,16 +21,17 @@ ghost use Rattle.pep440_calls.specs.CallerBytes.{RejectsBytes, RejectsListBytes}
 ghost use Rattle.pep440_calls.specs.NewestString.{NewestResult};
 ghost use Rattle.pep440_calls.specs.PatternCalls.{IsCompiledSpecifier, IsSpecifier, PatternResult, RejectsOperand, RejectsOperator, RejectsSpecifierBytes};
 ghost use Rattle.pep440_calls.specs.Ranges.{IsRangeLines, LacksRange, JoinsRangeBounds};
-ghost use Rattle.pep440_calls.specs.SetCalls.{JoinsBoundaries, LacksSet};
-ghost use Rattle.pep440_calls.specs.Statuses.{IsFlagOf, SetFaults, WritesOrFails, WritesBytes};
+ghost use Rattle.pep440_calls.specs.SetCalls.{IsComplement, IsIntersection, IsUnion, JoinsBoundaries, LacksSet, SetFault, SubsetResult, TwoSetFaults};
+ghost use Rattle.pep440_calls.specs.Statuses.{IsFlagOf, SetFaults, WritesBytes, WritesBytesOr, WritesOrFails};
 
 use pep440_calls::{
     Parts, write_allowed, write_boundaries, write_build_error, write_compiled, write_compiled_list,
-    write_compiled_specifier, write_edit_error, write_edited, write_error, write_marks,
-    write_match, write_members, write_newest, write_normal_form, write_normal_list, write_order,
-    write_parts, write_pattern, write_positions, write_prerelease_flag, write_range,
-    write_range_bounds, write_release_range_bounds, write_sort_key, write_sort_keys,
-    write_specifier, write_version_in, write_word,
+    write_compiled_specifier, write_complement, write_edit_error, write_edited, write_error,
+    write_intersection, write_marks, write_match, write_members, write_newest, write_normal_form,
+    write_normal_list, write_order, write_parts, write_pattern, write_positions,
+    write_prerelease_flag, write_range, write_range_bounds, write_release_range_bounds,
+    write_sort_key, write_sort_keys, write_specifier, write_subset, write_union, write_version_in,
+    write_word,
 };
 use std::alloc::Global;
 
@@ -276,6 +277,55 @@ pub extern "C" fn pep440_boundaries(
         out.old out.new ends.old ends.new written.old written.new count.old count.new result }
 {
     write_boundaries(alloc, list, out, ends, written, count)
+}
+
+/// Writes the versions that are not in the set, of a list or by itself, as a set by itself.
+#[unsafe(no_mangle)]
+pub extern "C" fn pep440_complement(
+    alloc: Global,
+    set: &[u8],
+    out: &mut [u8],
+    written: &mut usize,
+) -> u8
+    ensures { WritesBytesOr (SetFault set.now) (IsComplement set.now) out.old out.new written.old written.new result }
+{
+    write_complement(alloc, set, out, written)
+}
+
+/// Writes the versions that are in both sets, of lists or by themselves, as a set by itself.
+#[unsafe(no_mangle)]
+pub extern "C" fn pep440_intersection(
+    alloc: Global,
+    left: &[u8],
+    right: &[u8],
+    out: &mut [u8],
+    written: &mut usize,
+) -> u8
+    ensures { WritesBytesOr (TwoSetFaults left.now right.now) (IsIntersection left.now right.now) out.old out.new written.old written.new result }
+{
+    write_intersection(alloc, left, right, out, written)
+}
+
+/// Writes the versions that are in one of the sets, of lists or by themselves, as a set by itself.
+#[unsafe(no_mangle)]
+pub extern "C" fn pep440_union(
+    alloc: Global,
+    left: &[u8],
+    right: &[u8],
+    out: &mut [u8],
+    written: &mut usize,
+) -> u8
+    ensures { WritesBytesOr (TwoSetFaults left.now right.now) (IsUnion left.now right.now) out.old out.new written.old written.new result }
+{
+    write_union(alloc, left, right, out, written)
+}
+
+/// Whether each version of the left set, of a list or by itself, is in the right one, 1 or 0.
+#[unsafe(no_mangle)]
+pub extern "C" fn pep440_is_subset(alloc: Global, left: &[u8], right: &[u8], inside: &mut u8) -> u8
+    ensures { SubsetResult left.now right.now inside.old inside.new result }
+{
+    write_subset(alloc, left, right, inside)
 }
 
 /// Writes the range of the list as bounds, two a segment, and where each of them ends: only 0 for no bound, else 1 for an included or 2 for an excluded version, and its compiled form; for one with a sentinel 4 and its sort key and zeros, as of other versions.

@@ -17,3 +17,4 @@ pub mod Bounded
 pub mod SpecifierOnce
 pub mod VersionsIn
 pub mod Sizes
+pub mod SetForming

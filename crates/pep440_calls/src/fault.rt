@@ -19,7 +19,7 @@ pub(crate) enum Fault {
     OutOfMemory,
     // A bound of a range would need a number above the greatest.
     NumberAtMax,
-    // The right one of two versions, or of two sets, is none.
+    // The right one of two versions, or of two lists that give sets, is none.
     InvalidRight,
     // A list with `===` has no set.
     NoSet,

@@ -41,7 +41,7 @@ pub fn write_compiled_list(alloc: Global, list: &[u8], out: &mut [u8], written: 
     put_bytes(compile_list(alloc, list), out, written)
 }
 
-fn compile_list(alloc: Global, list: &[u8]) -> Result<Vec<u8>, Fault>
+pub(crate) fn compile_list(alloc: Global, list: &[u8]) -> Result<Vec<u8>, Fault>
     ensures { HoldsOrFaults ⊥ (RejectsListBytes list.now) ⊥ (λ compiled. IsCompiledList list.now compiled.items) result }
 {
     let list = read_list(alloc, list)?;

@@ -12,7 +12,9 @@ pub mod Members
 pub mod Numbers
 pub mod Prefixes
 pub mod Rewritten
+pub mod SetAlone
 pub mod SetKeys
+pub mod SetMerging
 pub mod Shared
 pub mod Sized
 pub mod Suffixes

@@ -3,3 +3,4 @@ pub mod SetBytes
 pub mod Lists
 pub mod Version
 pub mod KeyViews
+pub mod SetForms

@@ -8,14 +8,14 @@
 //!
 //! The members of a compiled list are the byte 5, and of each specifier 16 and the operator's number, and then the version, without
 //! the byte 4. With `===` they are the list. Without, the byte 6 and its set stand before them: the sort keys between which the versions
-//! of each interval lie, each after how many bytes it has, so that matching literally is a comparison of bytes with these. The first byte
-//! is the format: bytes of another format are rejected, not misread.
+//! of each interval lie, each after how many bytes it has, so that matching literally is a comparison of bytes with these. A set by itself is
+//! the byte 7 and such keys. The first byte is the format: bytes of another format are rejected, not misread.
 //!
 //! `read_version` and `read_list` reject all bytes that denote nothing. The calls that read bytes as they lie do not test the whole of
 //! them: of bytes that denote nothing they return an error or any result, and never read outside them. Read bytes
 //! from outside once before they are asked.
 //!
-//! In reading order: `version` and `list`, the calls; `list_members` and `set_bytes`, what lists are made of; `views` and `key_parts`, where the parts lie in the bytes; `byte_order` and
+//! In reading order: `version`, `list` and `set_forms`, the calls; `list_members`, `set_bytes` and `set_operations`, what lists and sets are made of; `views` and `key_parts`, where the parts lie in the bytes; `byte_order` and
 //! `matching`, which read no more than those; `decode`, `checked_version`, `parsed` and `operand`, which test each byte; `error`; and `laws`.
 #![tactic(auto)]
 
@@ -31,6 +31,8 @@ mod matching;
 mod operand;
 mod parsed;
 mod set_bytes;
+mod set_forms;
+mod set_operations;
 mod stack_form;
 mod version;
 mod views;
@@ -39,6 +41,9 @@ pub use error::{CompileError, CompiledError, ContainsError, NotCompiled};
 pub use list::{
     compile_list, contains, has_list_format, has_set_format, matches_literally, normalize_list,
     read_list, requests_prereleases,
+};
+pub use set_forms::{
+    complement, has_lone_set_format, intersection, is_subset, set_contains, union,
 };
 pub use stack_form::compile_normal;
 pub use version::{

@@ -76,7 +76,7 @@ pub fn compile_list(alloc: Global, list: &VersionSpecifiers) -> Result<Vec<u8>, 
 
 // The set, and the members with their format byte.
 #[inline(always)]
-fn split_set(bytes: &[u8]) -> Option<(&[u8], &[u8])>
+pub(crate) fn split_set(bytes: &[u8]) -> Option<(&[u8], &[u8])>
     ensures found { (l : List Spec) → DenotesWithSet bytes.now l
         → MatchOption result ⊥ (λ p. (p.0.now ≡ set_bytes (list_set l)) × DenotesMembers p.1.now l) }
     ensures exact { IfSome result (λ p. bytes.now ≡ 6 ∷ sized_bytes p.0.now ++ p.1.now) }

@@ -4,6 +4,7 @@
 
 mod bytes;
 mod compiled_lists;
+mod compiled_sets;
 mod compiled_versions;
 mod given;
 mod intervals;
@@ -18,6 +19,7 @@ mod written_strings;
 use compiled_lists::{
     compile_list_of, compile_unchecked, contains_bytes, denotes_list, list_contains, requests,
 };
+use compiled_sets::{set_complement, set_has, set_intersection, set_subset, set_union};
 use compiled_versions::{compile, compile_local, compile_text, denotes};
 use given::given_arguments;
 use intervals::{is_outside, range_intervals, segment_interval};
@@ -46,6 +48,7 @@ fn of_one(alloc: Global, call: &str, text: &str) -> Result<String, CaseError> {
         "denotes" => denotes(alloc, text),
         "denotes-list" => denotes_list(alloc, text),
         "requests" => requests(alloc, text),
+        "set-complement" => set_complement(alloc, text),
         _ => Err(CaseError::Unreadable),
     }
 }
@@ -63,6 +66,10 @@ fn of_two(alloc: Global, call: &str, one: &str, other: &str) -> Result<String, C
         "compile-unchecked" => compile_unchecked(alloc, one, other),
         "compiled-contains" => list_contains(alloc, one, other),
         "contains-bytes" => contains_bytes(alloc, one, other),
+        "set-intersection" => set_intersection(alloc, one, other),
+        "set-union" => set_union(alloc, one, other),
+        "set-subset" => set_subset(alloc, one, other),
+        "set-has" => set_has(alloc, one, other),
         _ => Err(CaseError::Unreadable),
     }
 }
@@ -87,6 +94,7 @@ fn of_library(alloc: Global, call: &str, arguments: &[String]) -> Result<String,
         | "write_allowed_none"
         | "write_allowed_all"
         | "write_prerelease_flag"
+        | "write_subset"
         | "write_word"
         | "write_newest"
         | "write_marks"

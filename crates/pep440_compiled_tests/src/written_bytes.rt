@@ -2,8 +2,9 @@
 use crate::given::{number_argument, print_failure, push_given};
 use pep440_calls::{
     write_build_error, write_compiled, write_compiled_list, write_compiled_specifier,
-    write_edit_error, write_edited, write_error, write_normal_form, write_normal_list,
-    write_pattern, write_range, write_sort_key, write_specifier, write_version_in,
+    write_complement, write_edit_error, write_edited, write_error, write_intersection,
+    write_normal_form, write_normal_list, write_pattern, write_range, write_sort_key,
+    write_specifier, write_union, write_version_in,
 };
 use std::alloc::Global;
 use testing::CaseError;
@@ -45,6 +46,7 @@ fn write_of_one(
         "write_sort_key" => write_sort_key(alloc, given, out, written),
         "write_range" => write_range(alloc, given, out, written),
         "write_version_in" => write_version_in(alloc, given, out, written),
+        "write_complement" => write_complement(alloc, given, out, written),
         "write_pattern" => write_pattern(alloc, given, out, written, &mut buffer.star),
         _ => return Err(CaseError::Unreadable),
     })
@@ -75,6 +77,8 @@ fn write(
             write_error(alloc, number_argument(first)?, bytes, out, written)
         }
         ("write_specifier", [version]) => write_specifier(alloc, first, version, out, written),
+        ("write_intersection", [right]) => write_intersection(alloc, first, right, out, written),
+        ("write_union", [right]) => write_union(alloc, first, right, out, written),
         ("write_build_error", [version, star]) => {
             let (operator, star) = (number_argument(first)?, number_argument(star)?);
             write_build_error(alloc, operator, version, star, out, written)

@@ -2,7 +2,8 @@
 use crate::given::print_failure;
 use pep440_calls::{
     Parts, write_allowed, write_compiled, write_compiled_list, write_marks, write_match,
-    write_newest, write_order, write_parts, write_positions, write_prerelease_flag, write_word,
+    write_newest, write_order, write_parts, write_positions, write_prerelease_flag, write_subset,
+    write_word,
 };
 use std::alloc::{AllocError, Global};
 use std::fmt::Display;
@@ -105,6 +106,12 @@ fn print_forms(alloc: Global, call: &str, left: &[u8], right: &[u8]) -> Result<S
         return Err(CaseError::Disagreement);
     }
     Ok(text)
+}
+
+fn print_subset(alloc: Global, left: &[u8], right: &[u8]) -> Result<String, CaseError> {
+    let mut inside = 7;
+    let status = write_subset(alloc, left, right, &mut inside);
+    print_number(alloc, status, 7, inside)
 }
 
 fn print_prerelease_flag(alloc: Global, list: &[u8]) -> Result<String, CaseError> {
@@ -233,6 +240,7 @@ pub fn print_call(alloc: Global, call: &str, given: &[&[u8]]) -> Result<String, 
             [left, right],
         ) => print_forms(alloc, call, left, right),
         ("write_prerelease_flag", [list]) => print_prerelease_flag(alloc, list),
+        ("write_subset", [left, right]) => print_subset(alloc, left, right),
         ("write_word", [version]) => print_word(alloc, version),
         ("write_newest", [list, texts @ ..]) => print_newest(alloc, list, texts),
         ("write_marks", [list, texts @ ..]) => print_marks(alloc, list, texts),

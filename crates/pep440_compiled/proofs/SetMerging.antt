@@ -1,0 +1,413 @@
+-- Complement and intersection of sets, as bytes: their keys are in the order of the boundaries that they are of.
+use Rattle.std.proofs.Common.{◌≡◌, ◌∙◌, ◌==◌, ◌||◌, ℕ, ◌<◌, Bool, true, false, cond, if◌then◌else◌, List, [], ◌∷◌, ◌++◌, ◌⊎◌, inl, inr, append_assoc, arith, length, refl, sym, ap, subst}
+use Rattle.std.proofs.Math.Dec.{eqb-suc-zero}
+use Rattle.std.proofs.lemmas.List.{append-nil}
+use Rattle.std.proofs.lemmas.List.Concat.{flat_map-append}
+use Rattle.std.proofs.lemmas.List.Elements.{All-from_recursion, recursion_from_All}
+use Rattle.std.specs.Cmp.Lexicographic.{slice_cmp}
+use Rattle.std.specs.List.{All, AllByRecursion}
+use Rattle.std.specs.Ordering.{is_le, is_lt, nat_cmp, ordering_then}
+use Rattle.std.specs.Prelude.{Err, Ok, OnOk, Result, unwrap_or}
+use Rattle.std.specs.declared.cmp.Ordering.{Ordering}
+use Rattle.std.specs.declared.cmp.Ordering.TheVariants.{Less, Equal, Greater}
+use Rattle.std.specs.declared.ops.Bound.{Bound}
+use Rattle.std.specs.declared.ops.Bound.TheVariants.{Included, Excluded, Unbounded}
+use Rattle.pep440_compiled.proofs.SetKeys.{set_has_keys}
+use Rattle.pep440_compiled.specs.SetBytes.{IsSized, interval_bytes, set_bytes, sized_bytes}
+use Rattle.pep440_compiled.specs.SetForms.{IsBytesOf}
+use Rattle.pep440_keys.proofs.Order.{followed_in_order, keys_in_order}
+use Rattle.pep440_keys.specs.RangeKeys.{IsKeyedBound, IsKeyedSegment, high_key, is_below_key, low_key, segment_interval}
+use Rattle.pep440_keys.specs.SortKeys.{IsKeyed, key_bytes}
+use Rattle.pep440_ranges.proofs.Merging.{merge_done, merge_left, merge_right, tail_range}
+use Rattle.pep440_ranges.specs.BoundOrder.{ends_before, flipped_bound, is_valid, starts_before}
+use Rattle.pep440_ranges.specs.Complement.{gap_after, gap_before, gaps, gaps_after}
+use Rattle.pep440_ranges.specs.Intersection.{is_valid_segment, overlap, overlaps, overlaps_with}
+use Rattle.pep440_ranges.specs.RangeSegments.{IsRange, Segment, one_segment}
+use Rattle.pep440_rs.specs.Bounds.{Segments}
+use Rattle.pep440_version.specs.Key.{record_cmp}
+use Rattle.pep440_version.specs.Key.KeyLaws.{record_total}
+use Rattle.pep440_version.specs.Record.{Fits, Record}
+
+-- the bytes of a start and of an end
+abbrev pub start_bytes : Bound Record → List ℕ
+start_bytes start = unwrap_or (low_key start) []
+
+abbrev pub end_bytes : Bound Record → List ℕ
+end_bytes end = unwrap_or (high_key end) []
+
+-- ---- keys are in the order of their boundaries
+
+then_less : (o : Ordering) → is_lt (ordering_then o Less) ≡ is_le o
+then_less Less = refl
+then_less Equal = refl
+then_less Greater = refl
+
+then_equal : (o : Ordering) → is_lt (ordering_then o Equal) ≡ is_lt o
+then_equal Less = refl
+then_equal Equal = refl
+then_equal Greater = refl
+
+then_greater : (o : Ordering) → is_lt (ordering_then o Greater) ≡ is_lt o
+then_greater Less = refl
+then_greater Equal = refl
+then_greater Greater = refl
+
+module _ (x y : Record) (kx : IsKeyed x) (ky : IsKeyed y) where
+  alike : is_below_key (key_bytes x) (key_bytes y) ≡ is_lt (record_cmp x y)
+  alike = ap is_lt (keys_in_order x y kx ky)
+
+  both_above : is_below_key (key_bytes x ++ 0 ∷ []) (key_bytes y ++ 0 ∷ []) ≡ is_lt (record_cmp x y)
+  both_above = ap is_lt (followed_in_order x y kx ky (0 ∷ []) (0 ∷ [])) ∙ then_equal (record_cmp x y)
+
+  second_above : is_below_key (key_bytes x) (key_bytes y ++ 0 ∷ []) ≡ is_le (record_cmp x y)
+  second_above = ap (λ k. is_below_key k (key_bytes y ++ 0 ∷ [])) (sym (append-nil (key_bytes x))) ∙ ap is_lt (followed_in_order x y kx ky [] (0 ∷ [])) ∙ then_less (record_cmp x y)
+
+  first_above : is_below_key (key_bytes x ++ 0 ∷ []) (key_bytes y) ≡ is_lt (record_cmp x y)
+  first_above = ap (is_below_key (key_bytes x ++ 0 ∷ [])) (sym (append-nil (key_bytes y))) ∙ ap is_lt (followed_in_order x y kx ky (0 ∷ []) []) ∙ then_greater (record_cmp x y)
+
+pub starts_in_order : (a b : Bound Record) → IsKeyedBound a → IsKeyedBound b → is_below_key (start_bytes a) (start_bytes b) ≡ starts_before record_cmp a b
+starts_in_order Unbounded Unbounded h k = refl
+starts_in_order Unbounded (Included y) h k = refl
+starts_in_order Unbounded (Excluded y) h k = refl
+starts_in_order (Included x) Unbounded h k = refl
+starts_in_order (Excluded x) Unbounded h k = refl
+starts_in_order (Included x) (Included y) h k = alike x y h k
+starts_in_order (Included x) (Excluded y) h k = second_above x y h k
+starts_in_order (Excluded x) (Included y) h k = first_above x y h k
+starts_in_order (Excluded x) (Excluded y) h k = both_above x y h k
+
+-- the end comes first, by its bytes
+abbrev pub ends_first : List ℕ → List ℕ → Bool
+ends_first high other = if length high == 0 then false else (length other == 0) || is_below_key high other
+
+key_some : (v : Record) → length (key_bytes v) == 0 ≡ false
+key_some v = eqb-suc-zero _
+
+above_some : (v : Record) → length (key_bytes v ++ 0 ∷ []) == 0 ≡ false
+above_some v = eqb-suc-zero _
+
+-- both ends have bytes
+both_end : (a b : List ℕ) (o : Bool) → length a == 0 ≡ false → length b == 0 ≡ false → is_below_key a b ≡ o → ends_first a b ≡ o
+both_end a b o p q r = (λ i. if p i then false else q i || r i)
+
+pub ends_in_order : (a b : Bound Record) → IsKeyedBound a → IsKeyedBound b → ends_first (end_bytes a) (end_bytes b) ≡ ends_before record_cmp a b
+ends_in_order Unbounded b h k = refl
+ends_in_order (Included x) Unbounded h k = ap (λ (p : Bool). if p then false else true) (above_some x)
+ends_in_order (Excluded x) Unbounded h k = ap (λ (p : Bool). if p then false else true) (key_some x)
+ends_in_order (Included x) (Included y) h k = both_end (key_bytes x ++ 0 ∷ []) (key_bytes y ++ 0 ∷ []) (is_lt (record_cmp x y)) (above_some x) (above_some y) (both_above x y h k)
+ends_in_order (Included x) (Excluded y) h k = both_end (key_bytes x ++ 0 ∷ []) (key_bytes y) (is_lt (record_cmp x y)) (above_some x) (key_some y) (first_above x y h k)
+ends_in_order (Excluded x) (Included y) h k = both_end (key_bytes x) (key_bytes y ++ 0 ∷ []) (is_le (record_cmp x y)) (key_some x) (above_some y) (second_above x y h k)
+ends_in_order (Excluded x) (Excluded y) h k = both_end (key_bytes x) (key_bytes y) (is_lt (record_cmp x y)) (key_some x) (key_some y) (alike x y h k)
+
+-- some key lies between the two
+abbrev pub has_between : List ℕ → List ℕ → Bool
+has_between low high = (length high == 0) || is_below_key low high
+
+between : (low high : List ℕ) (o : Bool) → length high == 0 ≡ false → is_below_key low high ≡ o → has_between low high ≡ o
+between low high o p q = (λ i. p i || q i)
+
+pub valid_in_order : (start end : Bound Record) → IsKeyedBound start → IsKeyedBound end → has_between (start_bytes start) (end_bytes end) ≡ is_valid record_cmp start end
+valid_in_order Unbounded Unbounded h k = refl
+valid_in_order Unbounded (Included y) h k = between [] (key_bytes y ++ 0 ∷ []) true (above_some y) refl
+valid_in_order Unbounded (Excluded y) h k = between [] (key_bytes y) true (key_some y) refl
+valid_in_order (Included x) Unbounded h k = refl
+valid_in_order (Excluded x) Unbounded h k = refl
+valid_in_order (Included x) (Included y) h k = between (key_bytes x) (key_bytes y ++ 0 ∷ []) (is_le (record_cmp x y)) (above_some y) (second_above x y h k)
+valid_in_order (Included x) (Excluded y) h k = between (key_bytes x) (key_bytes y) (is_lt (record_cmp x y)) (key_some y) (alike x y h k)
+valid_in_order (Excluded x) (Included y) h k = between (key_bytes x ++ 0 ∷ []) (key_bytes y ++ 0 ∷ []) (is_lt (record_cmp x y)) (above_some y) (both_above x y h k)
+valid_in_order (Excluded x) (Excluded y) h k = between (key_bytes x ++ 0 ∷ []) (key_bytes y) (is_lt (record_cmp x y)) (key_some y) (first_above x y h k)
+
+-- ---- keys that fit in memory
+
+abbrev Each : Segments → Type 0
+Each set = AllByRecursion IsSized set
+
+each_append : (a b : Segments) → Each a → Each b → Each (a ++ b)
+each_append [] b h k = k
+each_append (x ∷ a) b h k = (h.0, each_append a b h.1 k)
+
+none_fits : Fits 0
+none_fits = grind arith
+
+turned_start : (start : Bound Record) → Fits (length (start_bytes start)) → Fits (length (end_bytes (flipped_bound start)))
+turned_start Unbounded h = h
+turned_start (Included v) h = h
+turned_start (Excluded v) h = h
+
+turned_end : (end : Bound Record) → Fits (length (end_bytes end)) → Fits (length (start_bytes (flipped_bound end)))
+turned_end Unbounded h = h
+turned_end (Included v) h = h
+turned_end (Excluded v) h = h
+
+before_fits : (start : Bound Record) → Fits (length (start_bytes start)) → Each (gap_before start)
+before_fits Unbounded h = tt
+before_fits (Included v) h = ((none_fits, h), tt)
+before_fits (Excluded v) h = ((none_fits, h), tt)
+
+after_fits : (end : Bound Record) → Fits (length (end_bytes end)) → Each (gap_after end)
+after_fits Unbounded h = tt
+after_fits (Included v) h = ((h, none_fits), tt)
+after_fits (Excluded v) h = ((h, none_fits), tt)
+
+rest_fits : (end : Bound Record) (set : Segments) → Fits (length (end_bytes end)) → Each set → Each (gaps_after end set)
+rest_fits end [] h k = after_fits end h
+rest_fits end (s ∷ set) h k = ((turned_end end h, turned_start s.0 k.0.0), rest_fits s.1 set k.0.1 k.1)
+
+each_gap : (set : Segments) → Each set → Each (gaps set)
+each_gap [] h = ((none_fits, none_fits), tt)
+each_gap (s ∷ set) h = each_append (gap_before s.0) (gaps_after s.1 set) (before_fits s.0 h.0.0) (rest_fits s.1 set h.0.1 h.1)
+
+pub gaps_fit : (set : Segments) → All IsSized set → All IsSized (gaps set)
+gaps_fit set all = All-from_recursion IsSized (gaps set) (each_gap set (recursion_from_All IsSized set all))
+
+one_of : (P : Bound Record → Type 0) (b : Bool) (x y : Bound Record) → P x → P y → P (cond b x y)
+one_of P true x y h k = h
+one_of P false x y h k = k
+
+overlap_fits : (s t : Segment Record) → IsSized s → IsSized t → IsSized (overlap record_cmp s t)
+overlap_fits s t h k = (
+  one_of (λ b. Fits (length (start_bytes b))) (starts_before record_cmp s.0 t.0) t.0 s.0 k.0 h.0,
+  one_of (λ b. Fits (length (end_bytes b))) (ends_before record_cmp t.1 s.1) t.1 s.1 k.1 h.1,
+)
+
+kept_fits : (b : Bool) (s : Segment Record) (rest : Segments) → IsSized s → Each rest → Each (cond b (s ∷ rest) rest)
+kept_fits true s rest h k = (h, k)
+kept_fits false s rest h k = k
+
+with_fits : (s : Segment Record) (ts : Segments) → IsSized s → Each ts → Each (overlaps_with record_cmp s ts)
+with_fits s [] h k = tt
+with_fits s (t ∷ ts) h k = kept_fits (is_valid_segment record_cmp (overlap record_cmp s t)) (overlap record_cmp s t) (overlaps_with record_cmp s ts) (overlap_fits s t h k.0) (with_fits s ts h k.1)
+
+each_overlap : (ss ts : Segments) → Each ss → Each ts → Each (overlaps record_cmp ss ts)
+each_overlap [] ts h k = tt
+each_overlap (s ∷ ss) ts h k = each_append (overlaps_with record_cmp s ts) (overlaps record_cmp ss ts) (with_fits s ts h.0 k) (each_overlap ss ts h.1 k)
+
+pub overlaps_fit : (a b : Segments) → All IsSized a → All IsSized b → All IsSized (overlaps record_cmp a b)
+overlaps_fit a b h k = All-from_recursion IsSized (overlaps record_cmp a b) (each_overlap a b (recursion_from_All IsSized a h) (recursion_from_All IsSized b k))
+
+-- ---- what is left of a set
+
+pub record IsRest (bytes : List ℕ) (set : Segments) : Type 0 where
+  pub range : IsRange record_cmp set
+  pub keyed : AllByRecursion IsKeyedSegment set
+  pub sized : AllByRecursion IsSized set
+  pub same : bytes ≡ set_bytes set
+
+pub whole_rest : (bytes : List ℕ) (set : Segments) → IsBytesOf bytes set → IsRest bytes set
+whole_rest bytes set h = record { range = h.valid.apart; keyed = recursion_from_All IsKeyedSegment set (set_has_keys set h.valid); sized = recursion_from_All IsSized set h.sizes; same = h.same }
+
+-- its first interval
+pub record Head (bytes : List ℕ) (set : Segments) : Type 0 where
+  pub first : Segment Record
+  pub more : Segments
+  pub split : set ≡ first ∷ more
+  pub keyed : IsKeyedSegment first
+  pub sized : IsSized first
+  pub bytes_are : bytes ≡ interval_bytes (segment_interval first) ++ set_bytes more
+  pub rest : (later : List ℕ) → later ≡ set_bytes more → IsRest later more
+
+pub head : (bytes : List ℕ) (set : Segments) → 0 < length bytes → IsRest bytes set → Head bytes set
+head bytes [] some h = absurd (omega (arith, some, ap length h.same))
+head bytes (s ∷ set) some h = record {
+  first = s;
+  more = set;
+  split = refl;
+  keyed = h.keyed.0;
+  sized = h.sized.0;
+  bytes_are = h.same;
+  rest = λ later e. record { range = tail_range record_cmp (s ∷ set) set s refl h.range; keyed = h.keyed.1; sized = h.sized.1; same = e };
+}
+
+-- no bytes, no interval
+pub none_left : (bytes : List ℕ) (set : Segments) → length bytes ≡ 0 → IsRest bytes set → length set ≡ 0
+none_left bytes [] none h = refl
+none_left bytes (s ∷ set) none h = absurd (omega (arith, none, ap length h.same))
+
+-- ---- intersection
+
+-- what is written so far, and what is left of both
+pub record Merging (s t : Segments) (old out left right : List ℕ) : Type 0 where
+  pub done : Segments
+  pub left_set : Segments
+  pub right_set : Segments
+  pub left_is : IsRest left left_set
+  pub right_is : IsRest right right_set
+  pub written : out ≡ old ++ set_bytes done
+  pub whole : done ++ overlaps record_cmp left_set right_set ≡ overlaps record_cmp s t
+
+pub merge_begun : (s t : Segments) (old left right : List ℕ) → IsBytesOf left s → IsBytesOf right t → Merging s t old old left right
+merge_begun s t old left right h k = record { done = []; left_set = s; right_set = t; left_is = whole_rest left s h; right_is = whole_rest right t k; written = sym (append-nil old); whole = refl }
+
+-- the interval between two keys, where there is some key between them
+abbrev pub between_bytes : List ℕ → List ℕ → List ℕ
+between_bytes low high = if has_between low high then sized_bytes low ++ sized_bytes high else []
+
+segment_written : (start end : Bound Record) (b : Bool) → set_bytes (cond b ((start, end) ∷ []) []) ≡ cond b (sized_bytes (start_bytes start) ++ sized_bytes (end_bytes end)) []
+segment_written start end true = append-nil (interval_bytes (segment_interval (start, end)))
+segment_written start end false = refl
+
+pub one_written : (start end : Bound Record) (low high : List ℕ) → IsKeyedBound start → IsKeyedBound end → low ≡ start_bytes start → high ≡ end_bytes end →
+    between_bytes low high ≡ set_bytes (one_segment record_cmp start end)
+one_written start end low high h k l e =
+    (λ i. between_bytes (l i) (e i))
+    ∙ ap (λ b. cond b (sized_bytes (start_bytes start) ++ sized_bytes (end_bytes end)) []) (valid_in_order start end h k)
+    ∙ sym (segment_written start end (is_valid record_cmp start end))
+
+pub one_more : (start end : Bound Record) (old out new low high : List ℕ) (done : Segments) → IsKeyedBound start → IsKeyedBound end → low ≡ start_bytes start → high ≡ end_bytes end →
+    out ≡ old ++ set_bytes done → new ≡ out ++ between_bytes low high → new ≡ old ++ set_bytes (done ++ one_segment record_cmp start end)
+one_more start end old out new low high done h k l e w n =
+    let row = set_bytes (one_segment record_cmp start end) in
+    n ∙ (λ i. w i ++ one_written start end low high h k l e i) ∙ append_assoc old (set_bytes done) row
+    ∙ ap (λ l. old ++ l) (sym (flat_map-append (λ s. interval_bytes (segment_interval s)) done (one_segment record_cmp start end)))
+
+start_of : (b : Bool) (s t : Bound Record) (low s_low t_low : List ℕ) → low ≡ cond b t_low s_low → s_low ≡ start_bytes s → t_low ≡ start_bytes t → low ≡ start_bytes (cond b t s)
+start_of true s t low s_low t_low l p q = l ∙ q
+start_of false s t low s_low t_low l p q = l ∙ p
+
+-- the later of the two starts is that of the overlap
+pub later_is : (s t : Segment Record) (low s_low t_low : List ℕ) → IsKeyedSegment s → IsKeyedSegment t → s_low ≡ start_bytes s.0 → t_low ≡ start_bytes t.0 →
+    low ≡ cond (is_below_key s_low t_low) t_low s_low → low ≡ start_bytes (overlap record_cmp s t).0
+later_is s t low s_low t_low h k p q l =
+    start_of (starts_before record_cmp s.0 t.0) s.0 t.0 low s_low t_low (l ∙ ap (λ b. cond b t_low s_low) ((λ i. is_below_key (p i) (q i)) ∙ starts_in_order s.0 t.0 h.0 k.0)) p q
+
+later_keyed : (s t : Segment Record) → IsKeyedSegment s → IsKeyedSegment t → IsKeyedBound (overlap record_cmp s t).0
+later_keyed s t h k = one_of IsKeyedBound (starts_before record_cmp s.0 t.0) t.0 s.0 k.0 h.0
+
+-- which interval ends first
+pub first_is : (s t : Segment Record) (b : Bool) (s_high t_high : List ℕ) → IsKeyedSegment s → IsKeyedSegment t → s_high ≡ end_bytes s.1 → t_high ≡ end_bytes t.1 →
+    b ≡ ends_first t_high s_high → ends_before record_cmp t.1 s.1 ≡ b
+first_is s t b s_high t_high h k p q e = sym (e ∙ (λ i. ends_first (q i) (p i)) ∙ ends_in_order t.1 s.1 k.1 h.1)
+
+module _ (s t : Segments) (old out new left right later low s_low s_high t_low t_high : List ℕ) (at : Merging s t old out left right) (h : Head left at.left_set) (k : Head right at.right_set)
+    (p : s_low ≡ start_bytes h.first.0) (p' : s_high ≡ end_bytes h.first.1) (q : t_low ≡ start_bytes k.first.0) (q' : t_high ≡ end_bytes k.first.1)
+    (l : low ≡ cond (is_below_key s_low t_low) t_low s_low) where
+  abbrev start : Bound Record
+  start = (overlap record_cmp h.first k.first).0
+
+  start_is : low ≡ start_bytes start
+  start_is = later_is h.first k.first low s_low t_low h.keyed k.keyed p q l
+
+  pub right_first : ends_first t_high s_high ≡ true → new ≡ out ++ between_bytes low t_high → later ≡ set_bytes k.more → Merging s t old new left later
+  right_first e n r = record {
+    done = at.done ++ one_segment record_cmp start k.first.1;
+    left_set = at.left_set;
+    right_set = k.more;
+    left_is = at.left_is;
+    right_is = k.rest later r;
+    written = one_more start k.first.1 old out new low t_high at.done (later_keyed h.first k.first h.keyed k.keyed) k.keyed.1 start_is q' at.written n;
+    whole = merge_right record_total h.first k.first start h.more k.more at.left_set at.right_set at.done (at.done ++ one_segment record_cmp start k.first.1) (overlaps record_cmp s t) h.split k.split
+        (first_is h.first k.first (ends_first t_high s_high) s_high t_high h.keyed k.keyed p' q' refl ∙ e) refl at.left_is.range refl at.whole;
+  }
+
+  pub left_first : ends_first t_high s_high ≡ false → new ≡ out ++ between_bytes low s_high → later ≡ set_bytes h.more → Merging s t old new later right
+  left_first e n r = record {
+    done = at.done ++ one_segment record_cmp start h.first.1;
+    left_set = h.more;
+    right_set = at.right_set;
+    left_is = h.rest later r;
+    right_is = at.right_is;
+    written = one_more start h.first.1 old out new low s_high at.done (later_keyed h.first k.first h.keyed k.keyed) h.keyed.1 start_is p' at.written n;
+    whole = merge_left record_total h.first k.first start h.more k.more at.left_set at.right_set at.done (at.done ++ one_segment record_cmp start h.first.1) (overlaps record_cmp s t) h.split k.split
+        (first_is h.first k.first (ends_first t_high s_high) s_high t_high h.keyed k.keyed p' q' refl ∙ e) refl at.right_is.range refl at.whole;
+  }
+
+-- one of the two has no interval left
+pub merge_ended : (s t : Segments) (old out left right : List ℕ) → Merging s t old out left right → (length left ≡ 0) ⊎ (length right ≡ 0) → out ≡ old ++ set_bytes (overlaps record_cmp s t)
+merge_ended s t old out left right at none =
+    at.written ∙ ap (λ l. old ++ set_bytes l) (merge_done record_total at.left_set at.right_set at.done (overlaps record_cmp s t) (ends none) at.whole)
+  where
+    ends : (length left ≡ 0) ⊎ (length right ≡ 0) → (length at.left_set ≡ 0) ⊎ (length at.right_set ≡ 0)
+    ends (inl e) = inl (none_left left at.left_set e at.left_is)
+    ends (inr e) = inr (none_left right at.right_set e at.right_is)
+
+-- ---- complement
+
+turned_start_bytes : (start : Bound Record) → end_bytes (flipped_bound start) ≡ start_bytes start
+turned_start_bytes Unbounded = refl
+turned_start_bytes (Included v) = refl
+turned_start_bytes (Excluded v) = refl
+
+turned_end_bytes : (end : Bound Record) → start_bytes (flipped_bound end) ≡ end_bytes end
+turned_end_bytes Unbounded = refl
+turned_end_bytes (Included v) = refl
+turned_end_bytes (Excluded v) = refl
+
+-- what is written so far of the gaps after an end, and what is left
+pub record Gapping (end : Bound Record) (s : Segments) (old out low left : List ℕ) : Type 0 where
+  pub last : Bound Record
+  pub more : Segments
+  pub sized : AllByRecursion IsSized more
+  pub low_is : low ≡ end_bytes last
+  pub left_is : left ≡ set_bytes more
+  pub written : out ++ set_bytes (gaps_after last more) ≡ old ++ set_bytes (gaps_after end s)
+
+-- the bytes are some intervals
+pub record IsLeft (left : List ℕ) : Type 0 where
+  pub set : Segments
+  pub sized : AllByRecursion IsSized set
+  pub same : left ≡ set_bytes set
+
+pub record FirstGap (left : List ℕ) (set : Segments) : Type 0 where
+  pub first : Segment Record
+  pub more : Segments
+  pub split : set ≡ first ∷ more
+  pub sized : IsSized first
+  pub all : AllByRecursion IsSized more
+  pub bytes_are : left ≡ interval_bytes (segment_interval first) ++ set_bytes more
+
+pub first_gap : (left : List ℕ) (set : Segments) → 0 < length left → AllByRecursion IsSized set → left ≡ set_bytes set → FirstGap left set
+first_gap left [] some all e = absurd (omega (arith, some, ap length e))
+first_gap left (s ∷ set) some all e = record { first = s; more = set; split = refl; sized = all.0; all = all.1; bytes_are = e }
+
+gap_written : (last start : Bound Record) (low next : List ℕ) → low ≡ end_bytes last → next ≡ start_bytes start →
+    interval_bytes (segment_interval (flipped_bound last, flipped_bound start)) ≡ sized_bytes low ++ sized_bytes next
+gap_written last start low next l n = sym (λ i. sized_bytes ((l ∙ sym (turned_end_bytes last)) i) ++ sized_bytes ((n ∙ sym (turned_start_bytes start)) i))
+
+pub one_gap : (end : Bound Record) (s : Segments) (old out new low left next high later : List ℕ) (at : Gapping end s old out low left) (f : FirstGap left at.more) →
+    next ≡ start_bytes f.first.0 → high ≡ end_bytes f.first.1 → later ≡ set_bytes f.more → new ≡ out ++ (sized_bytes low ++ sized_bytes next) → Gapping end s old new high later
+one_gap end s old out new low left next high later at f n h r w = record {
+  last = f.first.1;
+  more = f.more;
+  sized = f.all;
+  low_is = h;
+  left_is = r;
+  written =
+      let after = set_bytes (gaps_after f.first.1 f.more) in
+      ap (λ l. l ++ after) (w ∙ ap (λ l. out ++ l) (sym (gap_written at.last f.first.0 low next at.low_is n)))
+      ∙ append_assoc out (interval_bytes (segment_interval (flipped_bound at.last, flipped_bound f.first.0))) after
+      ∙ ap (λ l. out ++ set_bytes (gaps_after at.last l)) (sym f.split)
+      ∙ at.written;
+}
+
+end_written : (last : Bound Record) (low : List ℕ) → low ≡ end_bytes last → set_bytes (gap_after last) ≡ cond (length low == 0) [] (sized_bytes low ++ sized_bytes [])
+end_written Unbounded low l = sym (ap (λ l. cond (length l == 0) [] (sized_bytes l ++ sized_bytes [])) l)
+end_written (Included v) low l = append-nil _ ∙ sym (ap (λ l. cond (length l == 0) [] (sized_bytes l ++ sized_bytes [])) l ∙ ap (λ b. cond b [] (sized_bytes (end_bytes (Included v)) ++ sized_bytes [])) (eqb-suc-zero _))
+end_written (Excluded v) low l = append-nil _ ∙ sym (ap (λ l. cond (length l == 0) [] (sized_bytes l ++ sized_bytes [])) l ∙ ap (λ b. cond b [] (sized_bytes (end_bytes (Excluded v)) ++ sized_bytes [])) (eqb-suc-zero _))
+
+no_more : (left : List ℕ) (more : Segments) → length left ≡ 0 → left ≡ set_bytes more → more ≡ []
+no_more left [] none e = refl
+no_more left (s ∷ more) none e = absurd (omega (arith, none, ap length e))
+
+-- the last gap is written, where there is one
+pub gaps_done : (end : Bound Record) (s : Segments) (old out new low left : List ℕ) (at : Gapping end s old out low left) → length left ≡ 0 →
+    new ≡ out ++ cond (length low == 0) [] (sized_bytes low ++ sized_bytes []) → new ≡ old ++ set_bytes (gaps_after end s)
+gaps_done end s old out new low left at none w =
+    w ∙ ap (λ l. out ++ l) (sym (end_written at.last low at.low_is)) ∙ ap (λ l. out ++ set_bytes (gaps_after at.last l)) (sym (no_more left at.more none at.left_is)) ∙ at.written
+
+-- the gap before the first interval, and those after it
+before_written : (start : Bound Record) (low : List ℕ) → low ≡ start_bytes start → set_bytes (gap_before start) ≡ cond (length low == 0) [] (sized_bytes [] ++ sized_bytes low)
+before_written Unbounded low l = sym (ap (λ l. cond (length l == 0) [] (sized_bytes [] ++ sized_bytes l)) l)
+before_written (Included v) low l = append-nil _ ∙ sym (ap (λ l. cond (length l == 0) [] (sized_bytes [] ++ sized_bytes l)) l ∙ ap (λ b. cond b [] (sized_bytes [] ++ sized_bytes (start_bytes (Included v)))) (eqb-suc-zero _))
+before_written (Excluded v) low l = append-nil _ ∙ sym (ap (λ l. cond (length l == 0) [] (sized_bytes [] ++ sized_bytes l)) l ∙ ap (λ b. cond b [] (sized_bytes [] ++ sized_bytes (start_bytes (Excluded v)))) (eqb-suc-zero _))
+
+pub all_gaps : (set : Segments) (first : Segment Record) (more : Segments) (old out new low : List ℕ) → set ≡ first ∷ more → low ≡ start_bytes first.0 →
+    out ≡ old ++ cond (length low == 0) [] (sized_bytes [] ++ sized_bytes low) → new ≡ out ++ set_bytes (gaps_after first.1 more) → new ≡ old ++ set_bytes (gaps set)
+all_gaps set first more old out new low split l w n =
+    let before = set_bytes (gap_before first.0) in
+    let after = set_bytes (gaps_after first.1 more) in
+    n ∙ ap (λ k. k ++ after) (w ∙ ap (λ k. old ++ k) (sym (before_written first.0 low l))) ∙ append_assoc old before after
+    ∙ ap (λ k. old ++ k) (sym (flat_map-append (λ s. interval_bytes (segment_interval s)) (gap_before first.0) (gaps_after first.1 more))) ∙ ap (λ k. old ++ set_bytes (gaps k)) (sym split)
+
+pub on_ok : {T E : Type 0} (result : Result T E) (P Q : Type 0) → (P → Q) → OnOk result P → OnOk result Q
+on_ok (Ok x) P Q f p = f p
+on_ok (Err e) P Q f p = tt

@@ -1,0 +1,31 @@
+-- Sets of versions as compiled forms: by themselves, as set operations give them, or before the members of a list.
+use Rattle.std.specs.Prelude.{◌≡◌, ◌⊎◌, ℕ, List, ◌∷◌, Some, slice_get}
+use Rattle.std.specs.List.{All}
+use Rattle.pep440_compiled.specs.Lists.{DenotesWithSet, HasSetFormat}
+use Rattle.pep440_compiled.specs.SetBytes.{IsSized, set_bytes}
+use Rattle.pep440_rs.specs.Bounds.{Segments}
+use Rattle.pep440_rs.specs.Specifiers.{Spec}
+use Rattle.pep440_sets.specs.Boundaries.{IsVersionSet}
+use Rattle.pep440_sets.specs.Sets.{list_set}
+
+-- the bytes are the keys of this set of versions
+pub record IsBytesOf (bytes : List ℕ) (set : Segments) : Type 0 where
+  pub valid : IsVersionSet set
+  pub sizes : All IsSized set
+  pub same : bytes ≡ set_bytes set
+
+-- the bytes begin with the format byte 7
+abbrev pub HasLoneSetFormat : List ℕ → Type 0
+HasLoneSetFormat bytes = slice_get bytes 0 ≡ Some 7
+
+-- the format byte 7, and the keys of this set
+abbrev pub DenotesSet : List ℕ → Segments → Type 0
+DenotesSet bytes set = (keys : List ℕ) × IsBytesOf keys set × (bytes ≡ 7 ∷ keys)
+
+-- the bytes are a set by itself, or a list that has this set
+abbrev pub HasSet : List ℕ → Segments → Type 0
+HasSet bytes set = DenotesSet bytes set ⊎ ((list : List Spec) × DenotesWithSet bytes list × (set ≡ list_set list))
+
+-- the bytes begin with the format byte 6 or 7
+abbrev pub HasFormatOfSets : List ℕ → Type 0
+HasFormatOfSets bytes = HasSetFormat bytes ⊎ HasLoneSetFormat bytes

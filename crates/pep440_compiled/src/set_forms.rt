@@ -1,0 +1,141 @@
+//! Sets of versions as compiled forms: what is made of one and of two, and what they hold.
+ghost use Rattle.std.specs.Prelude.{◌≡◌, ◌↔◌, ◌∷◌, [], Ok, IfErr, IfOk, IfSome, IsTrue, MatchOption, true};
+ghost use Rattle.pep440_compiled.specs.SetForms.{DenotesSet, HasFormatOfSets, HasLoneSetFormat, HasSet, IsBytesOf};
+ghost use Rattle.pep440_compiled.specs.Version.{DenotesVersion, HasVersionFormat};
+ghost use Rattle.pep440_compiled.specs.declared.error.CompiledError.TheVariants as unread;
+ghost use Rattle.pep440_compiled.specs.declared.error.ContainsError.TheVariants.{NoList, NoVersion};
+ghost use Rattle.pep440_ranges.specs.Complement.{gaps};
+ghost use Rattle.pep440_ranges.specs.Intersection.{overlaps};
+ghost use Rattle.pep440_ranges.specs.RangeSegments.{contains};
+ghost use Rattle.pep440_rs.specs.Bounds.{Segments};
+ghost use Rattle.pep440_sets.specs.Emptiness.{IsSubset};
+ghost use Rattle.pep440_version.specs.Key.{record_cmp};
+ghost use Rattle.pep440_version.specs.Record.{Record};
+
+use crate::error::{CompiledError, ContainsError};
+use crate::list::split_set;
+use crate::set_bytes::holds_key;
+use crate::set_operations::{push_gaps, push_overlaps};
+use crate::views::view_version;
+use std::alloc::{AllocError, Global};
+
+// The format of sets by themselves.
+const SET: u8 = 7;
+
+/// Whether the bytes begin with the format byte of sets by themselves, which no string of a list begins with.
+pub fn has_lone_set_format(bytes: &[u8]) -> bool
+    ensures { (result ≡ true) ↔ HasLoneSetFormat bytes.now }
+{
+    bytes.first() == Some(&SET)
+}
+
+// The keys of the set that the bytes have.
+#[inline(always)]
+fn view_set(bytes: &[u8]) -> Option<&[u8]>
+    ensures found { (s : Segments) → HasSet bytes.now s → MatchOption result ⊥ (λ keys. IsBytesOf keys.now s) }
+    ensures format { IfSome result (λ _. HasFormatOfSets bytes.now) }
+{
+    if let Some((&SET, keys)) = bytes.split_first() {
+        return Some(keys);
+    }
+    let (keys, _) = split_set(bytes)?;
+    Some(keys)
+}
+
+/// Whether the version is in the set of a list, or in a set by itself. If one is of another format, the error names it; if one denotes
+/// nothing, an error or any result.
+///
+/// Does not allocate.
+#[inline(always)]
+pub fn set_contains(set: &[u8], version: &[u8]) -> Result<bool, ContainsError>
+    ensures found { (s : Segments) (r : Record) → HasSet set.now s → DenotesVersion version.now r → result ≡ Ok (contains record_cmp s r) }
+    ensures format { IfOk result (λ _. HasFormatOfSets set.now × HasVersionFormat version.now) }
+    ensures version { IfErr result (λ e. e ≡ NoVersion → (r : Record) → DenotesVersion version.now r → ⊥) }
+    ensures list { IfErr result (λ e. e ≡ NoList → (s : Segments) → HasSet set.now s → ⊥) }
+{
+    let Some(version) = view_version(version) else {
+        return Err(ContainsError::NoVersion);
+    };
+    let Some(keys) = view_set(set) else {
+        return Err(ContainsError::NoList);
+    };
+    match holds_key(keys, version.key) {
+        Some(held) => Ok(held),
+        None => Err(ContainsError::NoList),
+    }
+}
+
+// The format byte, with room for so many bytes.
+fn begin_set(alloc: Global, capacity: usize) -> Result<Vec<u8>, AllocError>
+    ensures { IfOk result (λ bytes. bytes.items ≡ 7 ∷ []) }
+{
+    let mut bytes = Vec::with_capacity(alloc, capacity)?;
+    bytes.push(SET)?;
+    Ok(bytes)
+}
+
+/// The versions that are not in the set, of a list or by itself, as a set by itself. Bytes of another format are `NotCompiled`; of others
+/// that have no set, `NotCompiled` or any set.
+///
+/// Allocates, and may return `OutOfMemory`.
+pub fn complement(alloc: Global, set: &[u8]) -> Result<Vec<u8>, CompiledError>
+    ensures ok { (s : Segments) → HasSet set.now s → IfOk result (λ bytes. DenotesSet bytes.items (gaps s)) }
+    ensures format { IfOk result (λ _. HasFormatOfSets set.now) }
+    ensures err { (s : Segments) → HasSet set.now s → IfErr result (λ e. e ≡ unread.NotCompiled → ⊥) }
+{
+    let Some(keys) = view_set(set) else {
+        return Err(CompiledError::NotCompiled);
+    };
+    let mut bytes = begin_set(alloc, set.len().saturating_add(2))?;
+    push_gaps(&mut bytes, keys)?;
+    Ok(bytes)
+}
+
+/// The versions that are in both sets, of lists or by themselves, as a set by itself. If one is of another format, `NotCompiled`; if one
+/// has no set, `NotCompiled` or any set.
+///
+/// Allocates, and may return `OutOfMemory`.
+pub fn intersection(alloc: Global, left: &[u8], right: &[u8]) -> Result<Vec<u8>, CompiledError>
+    ensures ok { (s t : Segments) → HasSet left.now s → HasSet right.now t
+        → IfOk result (λ bytes. DenotesSet bytes.items (overlaps record_cmp s t)) }
+    ensures format { IfOk result (λ _. HasFormatOfSets left.now × HasFormatOfSets right.now) }
+    ensures err { (s t : Segments) → HasSet left.now s → HasSet right.now t → IfErr result (λ e. e ≡ unread.NotCompiled → ⊥) }
+{
+    let Some(left_keys) = view_set(left) else {
+        return Err(CompiledError::NotCompiled);
+    };
+    let Some(right_keys) = view_set(right) else {
+        return Err(CompiledError::NotCompiled);
+    };
+    let mut bytes = begin_set(alloc, left.len().saturating_add(right.len()))?;
+    push_overlaps(&mut bytes, left_keys, right_keys)?;
+    Ok(bytes)
+}
+
+/// The versions that are in one of the sets, as `intersection`: the complement of what is in neither.
+///
+/// Allocates, and may return `OutOfMemory`.
+pub fn union(alloc: Global, left: &[u8], right: &[u8]) -> Result<Vec<u8>, CompiledError>
+    ensures ok { (s t : Segments) → HasSet left.now s → HasSet right.now t
+        → IfOk result (λ bytes. DenotesSet bytes.items (gaps (overlaps record_cmp (gaps s) (gaps t)))) }
+    ensures format { IfOk result (λ _. HasFormatOfSets left.now × HasFormatOfSets right.now) }
+    ensures err { (s t : Segments) → HasSet left.now s → HasSet right.now t → IfErr result (λ e. e ≡ unread.NotCompiled → ⊥) }
+{
+    let outside_left = complement(alloc, left)?;
+    let outside_right = complement(alloc, right)?;
+    let neither = intersection(alloc, outside_left.as_slice(), outside_right.as_slice())?;
+    complement(alloc, neither.as_slice())
+}
+
+/// Whether each version of the left set is in the right one, as `intersection`: whether nothing is in the left one and outside of the right one.
+///
+/// Allocates, and may return `OutOfMemory`.
+pub fn is_subset(alloc: Global, left: &[u8], right: &[u8]) -> Result<bool, CompiledError>
+    ensures ok { (s t : Segments) → HasSet left.now s → HasSet right.now t → IfOk result (λ b. IsTrue b ↔ IsSubset s t) }
+    ensures format { IfOk result (λ _. HasFormatOfSets left.now × HasFormatOfSets right.now) }
+    ensures err { (s t : Segments) → HasSet left.now s → HasSet right.now t → IfErr result (λ e. e ≡ unread.NotCompiled → ⊥) }
+{
+    let outside = complement(alloc, right)?;
+    let rest = intersection(alloc, left, outside.as_slice())?;
+    Ok(rest.len() == 1)
+}

@@ -1,0 +1,158 @@
+//! The intervals of sets as bytes: complement and intersection, in one pass over them.
+ghost use Rattle.std.specs.Prelude.{◌≡◌, ◌<◌, ◌++◌, ◌||◌, ◌==◌, [], List, ℕ, IfErr, IfOk, IfSome, MatchOption, OnOk, false, if◌then◌else◌, length, unwrap_or};
+ghost use Rattle.std.specs.List.{All};
+ghost use Rattle.std.specs.declared.ops.Bound.{Bound};
+ghost use Rattle.pep440_compiled.specs.SetBytes.{IsSized, high_bytes, interval_bytes, low_bytes, set_bytes, sized_bytes};
+ghost use Rattle.pep440_compiled.specs.SetForms.{IsBytesOf};
+ghost use Rattle.pep440_compiled.specs.declared.error.CompiledError.TheVariants as unread;
+ghost use Rattle.pep440_keys.specs.RangeKeys.{high_key, is_below_key, segment_interval};
+ghost use Rattle.pep440_ranges.specs.Complement.{gaps, gaps_after};
+ghost use Rattle.pep440_ranges.specs.Intersection.{overlaps};
+ghost use Rattle.pep440_ranges.specs.RangeSegments.{Segment};
+ghost use Rattle.pep440_rs.specs.Bounds.{Segments};
+ghost use Rattle.pep440_version.specs.Key.{record_cmp};
+ghost use Rattle.pep440_version.specs.Record.{Record};
+
+use crate::byte_order::cmp_bytes;
+use crate::error::CompiledError;
+use crate::set_bytes::{push_sized, split_sized};
+use std::alloc::AllocError;
+
+// The low key and the high key of the leading interval, and what follows it.
+#[inline(always)]
+fn split_interval(set: &[u8]) -> Option<(&[u8], &[u8], &[u8])>
+    ensures found { (s : Segment Record) (rest : List ℕ) → IsSized s → set.now ≡ interval_bytes (segment_interval s) ++ rest
+        → MatchOption result ⊥ (λ p. (p.0.now ≡ low_bytes (segment_interval s)) × (p.1.now ≡ high_bytes (segment_interval s)) × (p.2.now ≡ rest)) }
+    ensures shorter { IfSome result (λ p. length p.2.now < length set.now) }
+{
+    let (low, rest) = split_sized(set)?;
+    let (high, rest) = split_sized(rest)?;
+    Some((low, high, rest))
+}
+
+// Appends an interval.
+fn push_keys(out: &mut Vec<u8>, low: &[u8], high: &[u8]) -> Result<(), AllocError>
+    ensures { OnOk result (out.new.items ≡ out.old.items ++ (sized_bytes low.now ++ sized_bytes high.now)) }
+{
+    push_sized(out, low)?;
+    push_sized(out, high)
+}
+
+// Appends the gap before a start, if this has a key.
+fn push_gap_before(out: &mut Vec<u8>, low: &[u8]) -> Result<(), AllocError>
+    ensures { OnOk result (out.new.items ≡ out.old.items ++ (if length low.now == 0 then [] else sized_bytes [] ++ sized_bytes low.now)) }
+{
+    if !low.is_empty() {
+        push_keys(out, b"", low)?;
+    }
+    Ok(())
+}
+
+// Appends the gap after an end, if this has a key.
+fn push_gap_after(out: &mut Vec<u8>, high: &[u8]) -> Result<(), AllocError>
+    ensures { OnOk result (out.new.items ≡ out.old.items ++ (if length high.now == 0 then [] else sized_bytes high.now ++ sized_bytes [])) }
+{
+    if !high.is_empty() {
+        push_keys(out, high, b"")?;
+    }
+    Ok(())
+}
+
+// Appends the gaps after an end, whose key is `high`, between the intervals and after them; `NotCompiled` if these are none.
+fn push_gaps_after(out: &mut Vec<u8>, high: &[u8], set: &[u8]) -> Result<(), CompiledError>
+    ensures ok { (end : Bound Record) (s : Segments) → All IsSized s → high.now ≡ unwrap_or (high_key end) [] → set.now ≡ set_bytes s
+        → OnOk result (out.new.items ≡ out.old.items ++ set_bytes (gaps_after end s)) }
+    ensures err { (s : Segments) → All IsSized s → set.now ≡ set_bytes s → IfErr result (λ e. e ≡ unread.NotCompiled → ⊥) }
+{
+    let mut low = high;
+    let mut left = set;
+    while !left.is_empty() {
+        let Some((next, end, rest)) = split_interval(left) else {
+            return Err(CompiledError::NotCompiled);
+        };
+        push_keys(out, low, next)?;
+        low = end;
+        left = rest;
+    }
+    push_gap_after(out, low)?;
+    Ok(())
+}
+
+// Appends the gaps before, between and after the intervals; `NotCompiled` if these are none.
+pub(crate) fn push_gaps(out: &mut Vec<u8>, set: &[u8]) -> Result<(), CompiledError>
+    ensures ok { (s : Segments) → IsBytesOf set.now s → OnOk result (out.new.items ≡ out.old.items ++ set_bytes (gaps s)) }
+    ensures err { (s : Segments) → IsBytesOf set.now s → IfErr result (λ e. e ≡ unread.NotCompiled → ⊥) }
+{
+    if set.is_empty() {
+        push_keys(out, b"", b"")?;
+        return Ok(());
+    }
+    let Some((low, high, rest)) = split_interval(set) else {
+        return Err(CompiledError::NotCompiled);
+    };
+    push_gap_before(out, low)?;
+    push_gaps_after(out, high, rest)
+}
+
+// The later of two starts; no key is the first of all.
+#[inline(always)]
+fn later_start<'a>(low: &'a [u8], other: &'a [u8]) -> &'a [u8]
+    ensures { result.now ≡ (if is_below_key low.now other.now then other.now else low.now) }
+{
+    if cmp_bytes(low, other).is_lt() {
+        other
+    } else {
+        low
+    }
+}
+
+// Whether the one end is before the other; no key is the last of all.
+#[inline(always)]
+fn ends_before(high: &[u8], other: &[u8]) -> bool
+    ensures { result ≡ (if length high.now == 0 then false else (length other.now == 0) || is_below_key high.now other.now) }
+{
+    !high.is_empty() && (other.is_empty() || cmp_bytes(high, other).is_lt())
+}
+
+// Appends the interval if keys lie in it.
+fn push_valid(out: &mut Vec<u8>, low: &[u8], high: &[u8]) -> Result<(), AllocError>
+    ensures { OnOk result (out.new.items ≡ out.old.items
+        ++ (if (length high.now == 0) || is_below_key low.now high.now then sized_bytes low.now ++ sized_bytes high.now else [])) }
+{
+    if high.is_empty() || cmp_bytes(low, high).is_lt() {
+        push_keys(out, low, high)?;
+    }
+    Ok(())
+}
+
+// Appends the intervals that two sets share, in one pass over both; `NotCompiled` if one is none.
+pub(crate) fn push_overlaps(
+    out: &mut Vec<u8>,
+    left: &[u8],
+    right: &[u8],
+) -> Result<(), CompiledError>
+    ensures ok { (s t : Segments) → IsBytesOf left.now s → IsBytesOf right.now t
+        → OnOk result (out.new.items ≡ out.old.items ++ set_bytes (overlaps record_cmp s t)) }
+    ensures err { (s t : Segments) → IsBytesOf left.now s → IsBytesOf right.now t → IfErr result (λ e. e ≡ unread.NotCompiled → ⊥) }
+{
+    let mut left_rest = left;
+    let mut right_rest = right;
+    while !left_rest.is_empty() && !right_rest.is_empty() {
+        let Some((s_low, s_high, left_others)) = split_interval(left_rest) else {
+            return Err(CompiledError::NotCompiled);
+        };
+        let Some((t_low, t_high, right_others)) = split_interval(right_rest) else {
+            return Err(CompiledError::NotCompiled);
+        };
+        let low = later_start(s_low, t_low);
+        // The interval that ends first overlaps nothing later.
+        if ends_before(t_high, s_high) {
+            push_valid(out, low, t_high)?;
+            right_rest = right_others;
+        } else {
+            push_valid(out, low, s_high)?;
+            left_rest = left_others;
+        }
+    }
+    Ok(())
+}
