@@ -137,11 +137,11 @@ marker_self : (m : Option (List ℕ)) → same_marker m m ≡ true
 marker_self None = refl
 marker_self (Some a) = (bytes_eq-Decides a a).1 refl
 
-marker_alike : (m n : Option (List ℕ)) → m ≡ n → same_marker m n ≡ true
+pub marker_alike : (m n : Option (List ℕ)) → m ≡ n → same_marker m n ≡ true
 marker_alike m n e = subst (λ k. same_marker m k ≡ true) e (marker_self m)
 
 -- a line without a marker counts under each
-none_counts : (n m : Option (List ℕ)) → (is_none n || same_marker n None) ≡ true → (is_none n || same_marker n m) ≡ true
+pub none_counts : (n m : Option (List ℕ)) → (is_none n || same_marker n None) ≡ true → (is_none n || same_marker n m) ≡ true
 none_counts None m e = refl
 none_counts (Some k) m e = absurd (true≢false (sym e))
 

@@ -25,7 +25,7 @@ swap_by m n true false e f = absurd (true≢false (sym ((bytes_eq-Decides n m).1
 swap_by m n false true e f = absurd (true≢false (sym ((bytes_eq-Decides m n).1 (sym ((bytes_eq-Decides n m).0 f))) ∙ e))
 swap_by m n false false e f = refl
 
-swap : (m n : List ℕ) → bytes_eq m n ≡ bytes_eq n m
+pub swap : (m n : List ℕ) → bytes_eq m n ≡ bytes_eq n m
 swap m n = swap_by m n (bytes_eq m n) (bytes_eq n m) refl refl
 
 -- something is added to the group of its name, which is taken out and put back
@@ -43,15 +43,19 @@ module _ {X D : Type 0} (f : Option X → List D) (name q : List ℕ) (x : D) (o
       → f (new q) ≡ f (old q) ++ (if bytes_eq q name then x ∷ [] else [])
   added is more out back = added_by (bytes_eq name q) refl is more out back
 
--- one more in a group
+-- one more in a group, of those that pass the test
+pub chosen_more : {L D : Type 0} (view : L → D) (has : D → Bool) (xs : List L) (i : ℕ) (x : L) (old new : List D) → i < length xs → x ≡ get_or xs i x → new ≡ old ++ (if has (view x) then view x ∷ [] else [])
+    → old ≡ filter has (map view (take i xs)) → new ≡ filter has (map view (take (i + 1) xs))
+chosen_more view has xs i x old new inside is changed was =
+    let before = map view (take i xs) in
+    let taken : map view (take (i + 1) xs) ≡ before ++ view x ∷ [] = ap (map view) (take_more xs i x inside ∙ ap (λ y. take i xs ++ y ∷ []) (sym is)) ∙ map-append view (take i xs) (x ∷ []) in
+    changed ∙ ap (λ o. o ++ (if has (view x) then view x ∷ [] else [])) was ∙ sym (filter-append has before (view x ∷ [])) ∙ ap (filter has) (sym taken)
+
+-- one more in a group, by its name
 pub grouped_more : {L D : Type 0} (view : L → D) (name_of : D → List ℕ) (q : List ℕ) (xs : List L) (i : ℕ) (x : L) (old new : List D) → i < length xs → x ≡ get_or xs i x
     → new ≡ old ++ (if bytes_eq q (name_of (view x)) then view x ∷ [] else []) → old ≡ filter (λ a. bytes_eq q (name_of a)) (map view (take i xs))
     → new ≡ filter (λ a. bytes_eq q (name_of a)) (map view (take (i + 1) xs))
-grouped_more {D = D} view name_of q xs i x old new inside is changed was =
-    let has = λ (a : D). bytes_eq q (name_of a) in
-    let before = map view (take i xs) in
-    let taken : map view (take (i + 1) xs) ≡ before ++ view x ∷ [] = ap (map view) (take_more xs i x inside ∙ ap (λ y. take i xs ++ y ∷ []) (sym is)) ∙ map-append view (take i xs) (x ∷ []) in
-    changed ∙ ap (λ o. o ++ (if bytes_eq q (name_of (view x)) then view x ∷ [] else [])) was ∙ sym (filter-append has before (view x ∷ [])) ∙ ap (filter has) (sym taken)
+grouped_more view name_of q xs i x old new inside is changed was = chosen_more view (λ a. bytes_eq q (name_of a)) xs i x old new inside is changed was
 
 module _ {X : Type 0} (f : Option X → List Demand) (none : f None ≡ []) where
   taken_by : (b any : Bool) (all : List Demand) (old new : Option X) → new ≡ cond b None old → f old ≡ (if any then [] else all) → f new ≡ (if any || (b || false) then [] else all)
@@ -60,13 +64,11 @@ module _ {X : Type 0} (f : Option X → List Demand) (none : f None ≡ []) wher
   taken_by false true all old new is was = ap f is ∙ was
   taken_by false false all old new is was = ap f is ∙ was
 
-  -- one group less
-  pub taken_more : {L : Type 0} (view : L → Demand) (q : List ℕ) (xs : List L) (i : ℕ) (x : L) (all : List Demand) (old new : Option X) → i < length xs → x ≡ get_or xs i x
-      → new ≡ cond (bytes_eq (view x).name q) None old → f old ≡ (if list_any (λ (a : Demand). bytes_eq q a.name) (map view (take i xs)) then [] else all)
-      → f new ≡ (if list_any (λ (a : Demand). bytes_eq q a.name) (map view (take (i + 1) xs)) then [] else all)
-  taken_more view q xs i x all old new inside is changed was =
-      let has = λ (a : Demand). bytes_eq q a.name in
+  -- one group less, of those that pass the test
+  pub taken_more : {L : Type 0} (view : L → Demand) (has : Demand → Bool) (xs : List L) (i : ℕ) (x : L) (all : List Demand) (old new : Option X) → i < length xs → x ≡ get_or xs i x → new ≡ cond (has (view x)) None old
+      → f old ≡ (if list_any has (map view (take i xs)) then [] else all) → f new ≡ (if list_any has (map view (take (i + 1) xs)) then [] else all)
+  taken_more view has xs i x all old new inside is changed was =
       let before = map view (take i xs) in
       let taken : map view (take (i + 1) xs) ≡ before ++ view x ∷ [] = ap (map view) (take_more xs i x inside ∙ ap (λ y. take i xs ++ y ∷ []) (sym is)) ∙ map-append view (take i xs) (x ∷ []) in
-      let any : list_any has (map view (take (i + 1) xs)) ≡ list_any has before || (bytes_eq q (view x).name || false) = ap (list_any has) taken ∙ list_any-append has before (view x ∷ []) in
-      taken_by (bytes_eq q (view x).name) (list_any has before) all old new (changed ∙ ap (λ b. cond b None old) (swap (view x).name q)) was ∙ ap (λ b. if b then [] else all) (sym any)
+      let any : list_any has (map view (take (i + 1) xs)) ≡ list_any has before || (has (view x) || false) = ap (list_any has) taken ∙ list_any-append has before (view x ∷ []) in
+      taken_by (has (view x)) (list_any has before) all old new changed was ∙ ap (λ b. if b then [] else all) (sym any)

@@ -147,7 +147,7 @@ mapped : (P : FileLine → Type 0) (Q : Demand → Type 0) → ((a : Demand) →
 mapped P Q so [] k = All-nil P
 mapped P Q so (a ∷ lines) k = All-cons P a.line (map (λ (b : Demand). b.line) lines) (so a (All-head Q a lines k)) (mapped P Q so lines (All-tail Q a lines k))
 
-counted_marker : (n m : Option (List ℕ)) → (is_none n || same_marker n m) ≡ true → (n ≡ None) ⊎ (n ≡ m)
+pub counted_marker : (n m : Option (List ℕ)) → (is_none n || same_marker n m) ≡ true → (n ≡ None) ⊎ (n ≡ m)
 counted_marker None m e = inl refl
 counted_marker (Some n) m e = inr (marker_yes (Some n) m e)
 

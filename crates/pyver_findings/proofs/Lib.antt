@@ -5,8 +5,10 @@ pub mod Readings
 pub mod Rejecting
 pub mod SmallestLists
 pub mod Scanning
+pub mod Halving
 pub mod Holding
 pub mod Found
+pub mod Markers
 pub mod Complete
 pub mod InvalidFound
 pub mod Once

@@ -34,20 +34,20 @@ right_of : (a b : Bool) → (a && b) ≡ true → b ≡ true
 right_of true b e = e
 right_of false b e = absurd (true≢false (sym e))
 
-parts : (v : Record) (xs ys : List Spec) → list_matches_literally (xs ++ ys) v ≡ list_matches_literally xs v && list_matches_literally ys v
+pub parts : (v : Record) (xs ys : List Spec) → list_matches_literally (xs ++ ys) v ≡ list_matches_literally xs v && list_matches_literally ys v
 parts v xs ys = list_all-append (λ (m : Spec). matches_literally m.operator m.version v) xs ys
 
-allowed : (v : Record) (lines : List Demand) → All (Allows v) lines → IsTrue (list_matches_literally (specifiers_of lines) v)
+pub allowed : (v : Record) (lines : List Demand) → All (Allows v) lines → IsTrue (list_matches_literally (specifiers_of lines) v)
 allowed v [] k = refl
 allowed v (a ∷ lines) k = parts v a.specifiers (specifiers_of lines) ∙ (λ j. All-head (Allows v) a lines k j && allowed v lines (All-tail (Allows v) a lines k) j)
 
-allow : (v : Record) (lines : List Demand) → IsTrue (list_matches_literally (specifiers_of lines) v) → All (Allows v) lines
+pub allow : (v : Record) (lines : List Demand) → IsTrue (list_matches_literally (specifiers_of lines) v) → All (Allows v) lines
 allow v [] h = All-nil (Allows v)
 allow v (a ∷ lines) h =
     let both = sym (parts v a.specifiers (specifiers_of lines)) ∙ h in
     All-cons (Allows v) a lines (left_of (list_matches_literally a.specifiers v) (list_matches_literally (specifiers_of lines) v) both) (allow v lines (right_of (list_matches_literally a.specifiers v) (list_matches_literally (specifiers_of lines) v) both))
 
-sound_members : (lines : List Demand) → All IsSound lines → All IsDenotable (specifiers_of lines)
+pub sound_members : (lines : List Demand) → All IsSound lines → All IsDenotable (specifiers_of lines)
 sound_members [] k = All-nil IsDenotable
 sound_members (a ∷ lines) k = All-append IsDenotable a.specifiers (specifiers_of lines) (All-head IsSound a lines k) (sound_members lines (All-tail IsSound a lines k))
 

@@ -1,10 +1,12 @@
 -- Lines that no version can satisfy together. Two lines count together where they have one name, and the same marker or not both
 -- a marker.
-use Rattle.std.specs.Prelude.{ℕ, ◌&&◌, ◌||◌, List, [], ◌∷◌, ◌++◌, Bool, true, false, Option, Some, None, bytes_eq, is_none, map, reverse, if◌then◌else◌}
-use Rattle.std.specs.List.{filter, flat_map, list_any}
+use Rattle.std.specs.Prelude.{◌≡◌, ℕ, ◌&&◌, ◌||◌, List, [], ◌∷◌, ◌++◌, Bool, true, false, Option, Some, None, bytes_eq, is_none, map, reverse, if◌then◌else◌}
+use Rattle.std.specs.List.{All, filter, flat_map, list_any}
+use Rattle.pep440_rs.specs.Bounds.{Segments}
 use Rattle.pep440_rs.specs.Specifiers.{Spec}
 use Rattle.pep440_sets.specs.Common.{common_version}
-use Rattle.pyver_findings.specs.Demands.{Demand}
+use Rattle.pep440_sets.specs.Sets.{HoldsListMatches}
+use Rattle.pyver_findings.specs.Demands.{Demand, IsSound}
 use Rattle.pyver_findings.specs.Findings.{Conflicting, Finding}
 use Rattle.pyver_findings.specs.declared.finding.Conflict.{Conflict}
 use Rattle.pyver_findings.specs.declared.finding.Conflict.TheVariants.{NoVersion, PinOutside, TwoPins}
@@ -25,6 +27,10 @@ same_marker (Some a) (Some b) = bytes_eq a b
 -- the two lines have the same marker
 abbrev pub has_same_marker : Demand → Demand → Bool
 has_same_marker a b = same_marker a.marker b.marker
+
+-- the line has the marker
+abbrev pub has_marker : List ℕ → Demand → Bool
+has_marker marker a = same_marker (Some marker) a.marker
 
 -- the line counts under the marker: it has none, or this one
 abbrev pub counts_under : Option (List ℕ) → Demand → Bool
@@ -54,6 +60,11 @@ keep kept (a ∷ before) = if have_none (reverse before ++ kept) then keep kept 
 -- of lines that have no version in common a smallest list that has none
 abbrev pub smallest : List Demand → List Demand
 smallest lines = keep [] (reverse lines)
+
+-- of the lines these are to be kept, whatever others stand before and after them that allow the versions of the set
+abbrev pub IsNeeded : Segments → List Demand → List Demand → Type 0
+IsNeeded set lines kept = (front later : List Demand) → All IsSound front → All IsSound later → HoldsListMatches (specifiers_of (front ++ later)) set
+    → keep later (reverse (front ++ lines)) ≡ keep (kept ++ later) (reverse front)
 
 -- both lines name a version, or one does, or none
 abbrev pub pin_conflict : Demand → Demand → Conflict

@@ -10,33 +10,9 @@ ghost use Rattle.pyver_findings.specs.Views.{demand_of, finding_of};
 use crate::demand::Demand;
 use crate::finding::Finding;
 use crate::group::push_of_name;
+use crate::key_groups::push_to_group;
 use std::alloc::{AllocError, Global};
 use std::collections::HashMap;
-
-// The lines, or none.
-fn lines_or_none<'a>(alloc: Global, group: Option<Vec<&'a Demand>>) -> Vec<&'a Demand>
-    ensures { result.items ≡ option_map_or (λ g. g.items) group.entry [] }
-{
-    match group {
-        Some(lines) => lines,
-        None => Vec::new(alloc),
-    }
-}
-
-// Adds the line to those of its name.
-fn push_to_group<'a>(
-    alloc: Global,
-    groups: &mut HashMap<&'a [u8], Vec<&'a Demand>>,
-    line: &'a Demand,
-) -> Result<(), AllocError>
-    ensures { IfOk result (λ _. (q : List ℕ) → map (λ x. demand_of x.now) (option_map_or (λ g. g.items) (get_by (λ k. bytes_eq q k.now) groups.new) []) ≡ map (λ x. demand_of x.now) (option_map_or (λ g. g.items) (get_by (λ k. bytes_eq q k.now) groups.old) []) ++ (if bytes_eq q line.now.name.items then demand_of line.now ∷ [] else [])) }
-{
-    let name = line.name.as_slice();
-    let mut group = lines_or_none(alloc, groups.remove(name));
-    group.push(line)?;
-    groups.insert(name, group)?;
-    Ok(())
-}
 
 // The lines of each name, in their order.
 fn group_by_name<'a>(
@@ -47,7 +23,7 @@ fn group_by_name<'a>(
 {
     let mut groups: HashMap<&'a [u8], Vec<&'a Demand>> = HashMap::new(alloc);
     for line in lines {
-        push_to_group(alloc, &mut groups, line)?;
+        push_to_group(alloc, &mut groups, line.name.as_slice(), line)?;
     }
     Ok(groups)
 }

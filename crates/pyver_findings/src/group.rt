@@ -1,7 +1,9 @@
 //! What is wrong with the lines of one name.
-ghost use Rattle.std.specs.Prelude.{◌≡◌, ◌∷◌, ◌++◌, [], IfOk, map, if◌then◌else◌};
-ghost use Rattle.std.specs.List.{All, flat_map, list_any};
-ghost use Rattle.pyver_findings.specs.Conflicts.{conflict_kind, first_mentions, has_same_marker, of_all, of_name, pin_conflict, under};
+ghost use Rattle.std.specs.Prelude.{◌≡◌, ◌∷◌, ◌++◌, [], IfOk, List, None, bytes_eq, cond, false, map, ℕ};
+ghost use Rattle.std.specs.HashMap.{get_by};
+ghost use Rattle.std.specs.List.{All, flat_map};
+ghost use Rattle.std.specs.Option.{option_map_or};
+ghost use Rattle.pyver_findings.specs.Conflicts.{conflict_kind, first_mentions, has_marker, has_same_marker, have_none, of_all, of_name, pin_conflict, under};
 ghost use Rattle.pyver_findings.specs.Demands.{IsSound};
 ghost use Rattle.pyver_findings.specs.Findings.{Conflicting};
 ghost use Rattle.pyver_findings.specs.Views.{demand_of, file_line_of, finding_of};
@@ -9,9 +11,10 @@ ghost use Rattle.pyver_findings.specs.Views.{demand_of, file_line_of, finding_of
 use crate::demand::Demand;
 use crate::file_line::FileLine;
 use crate::finding::{Conflict, Finding};
-use crate::marker::{has_marker, under};
+use crate::marker::{group_by_marker, under};
 use crate::smallest::{find_smallest, have_none};
 use std::alloc::{AllocError, Global};
+use std::collections::HashMap;
 
 fn pin_conflict(one: &Demand, other: &Demand) -> Conflict
     ensures { result ≡ pin_conflict (demand_of one.now) (demand_of other.now) }
@@ -80,34 +83,57 @@ fn push_of_all(
 }
 
 #[tactic(auto, using(crate::proofs::SmallestLists::sound_under))]
-// Of the lines that count under the marker of this one, if none before has the same.
+// What is wrong with the lines that count under the marker of this one.
 fn push_of_marker(
     alloc: Global,
     findings: &mut Vec<Finding>,
     lines: &[&Demand],
-    before: &[&Demand],
     line: &Demand,
 ) -> Result<(), AllocError>
     requires { All IsSound (map (λ x. demand_of x.now) lines.now) }
-    ensures { IfOk result (λ _. map finding_of findings.new.items ≡ map finding_of findings.old.items ++ (if list_any (has_same_marker (demand_of line.now)) (map (λ x. demand_of x.now) before.now) then [] else of_all (under (demand_of line.now).marker (map (λ x. demand_of x.now) lines.now)))) }
+    ensures { IfOk result (λ _. map finding_of findings.new.items ≡ map finding_of findings.old.items ++ of_all (under (demand_of line.now).marker (map (λ x. demand_of x.now) lines.now))) }
 {
-    if has_marker(before, line) {
-        return Ok(());
-    }
     let together = under(alloc, &line.marker, lines)?;
     push_of_all(alloc, findings, together.as_slice())
 }
 
+// Takes the group of the line's marker, and says whether its lines have no version in common with those without a marker.
+fn excludes_all(
+    alloc: Global,
+    groups: &mut HashMap<&[u8], Vec<&Demand>>,
+    always: &[&Demand],
+    line: &Demand,
+) -> Result<bool, AllocError>
+    requires { have_none (map (λ x. demand_of x.now) always.now) ≡ false }
+    ensures none { IfOk result (λ none. none ≡ have_none (map (λ x. demand_of x.now) always.now ++ option_map_or (λ m. map (λ x. demand_of x.now) (option_map_or (λ g. g.items) (get_by (λ k. bytes_eq m k.now) groups.old) [])) (demand_of line.now).marker [])) }
+    ensures taken { (q : List ℕ) → get_by (λ k. bytes_eq q k.now) groups.new ≡ cond (has_marker q (demand_of line.now)) None (get_by (λ k. bytes_eq q k.now) groups.old) }
+{
+    match &line.marker {
+        Some(marker) => match groups.remove(marker.as_slice()) {
+            Some(group) => have_none(alloc, always, group.as_slice()),
+            None => Ok(false),
+        },
+        None => Ok(false),
+    }
+}
+
+// For each marker, at the first line that has it.
 fn push_of_each_marker(
     alloc: Global,
     findings: &mut Vec<Finding>,
     lines: &[&Demand],
+    always: &[&Demand],
 ) -> Result<(), AllocError>
-    requires { All IsSound (map (λ x. demand_of x.now) lines.now) }
+    requires sound { All IsSound (map (λ x. demand_of x.now) lines.now) }
+    requires always { map (λ x. demand_of x.now) always.now ≡ under None (map (λ x. demand_of x.now) lines.now) }
+    requires some { have_none (map (λ x. demand_of x.now) always.now) ≡ false }
     ensures { IfOk result (λ _. map finding_of findings.new.items ≡ map finding_of findings.old.items ++ flat_map (λ a. of_all (under a.marker (map (λ x. demand_of x.now) lines.now))) (first_mentions has_same_marker [] (map (λ x. demand_of x.now) lines.now))) }
 {
-    for (at, line) in lines.iter().enumerate() {
-        push_of_marker(alloc, findings, lines, &lines[..at], line)?;
+    let mut groups = group_by_marker(alloc, lines)?;
+    for line in lines {
+        if excludes_all(alloc, &mut groups, always, *line)? {
+            push_of_marker(alloc, findings, lines, *line)?;
+        }
     }
     Ok(())
 }
@@ -126,5 +152,5 @@ pub(crate) fn push_of_name(
     if have_none(alloc, always.as_slice(), &[])? {
         return push_of_all(alloc, findings, always.as_slice());
     }
-    push_of_each_marker(alloc, findings, lines)
+    push_of_each_marker(alloc, findings, lines, always.as_slice())
 }

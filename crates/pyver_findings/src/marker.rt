@@ -1,11 +1,15 @@
 //! Which lines of one name count together.
-ghost use Rattle.std.specs.Prelude.{◌≡◌, IfOk, map, option_map};
-ghost use Rattle.std.specs.List.{list_any};
-ghost use Rattle.pyver_findings.specs.Conflicts.{counts_under, has_same_marker, same_marker, under};
+ghost use Rattle.std.specs.Prelude.{◌≡◌, ◌∷◌, ◌++◌, [], IfOk, List, bytes_eq, map, option_map, ℕ, if◌then◌else◌};
+ghost use Rattle.std.specs.HashMap.{get_by};
+ghost use Rattle.std.specs.List.{filter};
+ghost use Rattle.std.specs.Option.{option_map_or};
+ghost use Rattle.pyver_findings.specs.Conflicts.{counts_under, has_marker, same_marker, under};
 ghost use Rattle.pyver_findings.specs.Views.{demand_of};
 
 use crate::demand::Demand;
+use crate::key_groups::push_to_group;
 use std::alloc::{AllocError, Global};
+use std::collections::HashMap;
 
 // Both markers have the same normal form, or there is neither.
 fn same_marker(one: &Option<Vec<u8>>, other: &Option<Vec<u8>>) -> bool
@@ -44,14 +48,30 @@ pub(crate) fn under<'a>(
     Ok(kept)
 }
 
-// One of the lines has the same marker.
-pub(crate) fn has_marker(lines: &[&Demand], line: &Demand) -> bool
-    ensures { result ≡ list_any (has_same_marker (demand_of line.now)) (map (λ x. demand_of x.now) lines.now) }
+// Adds the line to those of its marker, if it has one.
+fn push_to_marker<'a>(
+    alloc: Global,
+    groups: &mut HashMap<&'a [u8], Vec<&'a Demand>>,
+    line: &'a Demand,
+) -> Result<(), AllocError>
+    ensures { IfOk result (λ _. (q : List ℕ) → map (λ x. demand_of x.now) (option_map_or (λ g. g.items) (get_by (λ k. bytes_eq q k.now) groups.new) []) ≡ map (λ x. demand_of x.now) (option_map_or (λ g. g.items) (get_by (λ k. bytes_eq q k.now) groups.old) []) ++ (if has_marker q (demand_of line.now) then demand_of line.now ∷ [] else [])) }
 {
-    for other in lines {
-        if same_marker(&line.marker, &other.marker) {
-            return true;
-        }
+    match &line.marker {
+        Some(marker) => push_to_group(alloc, groups, marker.as_slice(), line),
+        None => Ok(()),
     }
-    false
+}
+
+// The lines of each marker, in their order.
+pub(crate) fn group_by_marker<'a>(
+    alloc: Global,
+    lines: &[&'a Demand],
+) -> Result<HashMap<&'a [u8], Vec<&'a Demand>>, AllocError>
+    ensures { IfOk result (λ groups. (q : List ℕ) → map (λ x. demand_of x.now) (option_map_or (λ g. g.items) (get_by (λ k. bytes_eq q k.now) groups) []) ≡ filter (has_marker q) (map (λ x. demand_of x.now) lines.now)) }
+{
+    let mut groups: HashMap<&'a [u8], Vec<&'a Demand>> = HashMap::new(alloc);
+    for line in lines {
+        push_to_marker(alloc, &mut groups, *line)?;
+    }
+    Ok(groups)
 }

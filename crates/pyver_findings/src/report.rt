@@ -70,7 +70,9 @@ fn parse_lines(alloc: Global, lines: &[FileLine]) -> Result<Readings, AllocError
 /// with the lines of each; if the lines without a marker have no version in common, some of them are reported, and no line with a marker.
 ///
 /// A line names a version if a member of its list is `==` without a star, or `===`; a finding of two lines says whether one or both do.
-/// Takes time for each line and marker of a name, and for each line of a finding.
+/// Takes n log n steps for n lines, and for a finding as many each time that its lines can be halved. But each marker of a name takes time
+/// for the lines without one, a finding under a marker for all lines of the name, and one of lines with `===` n log n steps for each line
+/// that it has.
 ///
 /// Allocates.
 pub fn find_problems(alloc: Global, files: &[SourceFile]) -> Result<Report, AllocError>

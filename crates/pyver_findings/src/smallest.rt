@@ -6,8 +6,9 @@ ghost use Rattle.pyver_findings.specs.Demands.{IsSound};
 ghost use Rattle.pyver_findings.specs.Views.{demand_of};
 
 use crate::demand::Demand;
+use crate::halves::find_by_sets;
 use pep440_rs::VersionSpecifier;
-use pep440_sets::find_version;
+use pep440_sets::{SetError, find_version};
 use std::alloc::{AllocError, Global};
 
 fn push_copies(
@@ -22,7 +23,11 @@ fn push_copies(
     Ok(())
 }
 
-fn push_members(members: &mut Vec<VersionSpecifier>, lines: &[&Demand]) -> Result<(), AllocError>
+// Adds the members of the lists of the lines.
+pub(crate) fn push_members(
+    members: &mut Vec<VersionSpecifier>,
+    lines: &[&Demand],
+) -> Result<(), AllocError>
     ensures { IfOk result (λ _. members.new.items ≡ members.old.items ++ specifiers_of (map (λ x. demand_of x.now) lines.now)) }
 {
     for line in lines {
@@ -75,12 +80,9 @@ fn count_apart(alloc: Global, lines: &[&Demand], kept: &[&Demand]) -> Result<usi
     Ok(high)
 }
 
-// A smallest list of the lines, which have no version in common. Asks for each line of it about twice as often as the number of lines
-// has binary digits whether some of them have one.
-pub(crate) fn find_smallest<'a>(
-    alloc: Global,
-    lines: &[&'a Demand],
-) -> Result<Vec<&'a Demand>, AllocError>
+// The smallest list of the lines. Asks for each line of it about twice as often as the number of lines has binary digits whether some of
+// them have a version in common.
+fn find_by_lists<'a>(alloc: Global, lines: &[&'a Demand]) -> Result<Vec<&'a Demand>, AllocError>
     requires none { have_none (map (λ x. demand_of x.now) lines.now) ≡ true }
     requires sound { All IsSound (map (λ x. demand_of x.now) lines.now) }
     ensures { IfOk result (λ kept. map (λ x. demand_of x.now) kept.items ≡ smallest (map (λ x. demand_of x.now) lines.now)) }
@@ -94,5 +96,21 @@ pub(crate) fn find_smallest<'a>(
         }
         kept.insert(0, rest[count - 1])?;
         rest = &rest[..count - 1];
+    }
+}
+
+// A smallest list of the lines, which have no version in common.
+pub(crate) fn find_smallest<'a>(
+    alloc: Global,
+    lines: &[&'a Demand],
+) -> Result<Vec<&'a Demand>, AllocError>
+    requires none { have_none (map (λ x. demand_of x.now) lines.now) ≡ true }
+    requires sound { All IsSound (map (λ x. demand_of x.now) lines.now) }
+    ensures { IfOk result (λ kept. map (λ x. demand_of x.now) kept.items ≡ smallest (map (λ x. demand_of x.now) lines.now)) }
+{
+    match find_by_sets(alloc, lines) {
+        Ok(kept) => Ok(kept),
+        Err(SetError::ArbitraryEquality) => find_by_lists(alloc, lines),
+        Err(SetError::OutOfMemory) => Err(AllocError),
     }
 }

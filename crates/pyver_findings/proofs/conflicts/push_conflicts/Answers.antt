@@ -7,7 +7,7 @@ use Rattle.pyver_findings.specs.Demands.{Demand}
 use Rattle.pyver_findings.specs.Conflicts.{of_name, has_same_name}
 use Rattle.pyver_findings.specs.Views.{demand_of, finding_of}
 use Rattle.pyver_findings.specs.declared.demand.Demand.{Demand as DemandValue}
-use Rattle.pyver_findings.proofs.Grouping.{of_taken, sound_taken, taken_more}
+use Rattle.pyver_findings.proofs.Grouping.{of_taken, sound_taken, swap, taken_more}
 use Rattle.pyver_findings.proofs.Steps.{first_more}
 use Rattle.pyver_findings.proofs.conflicts.push_conflicts.Goals as goal
 
@@ -33,6 +33,7 @@ loop-line-preserved c =
           (ap (λ g. map (λ (x : Bor DemandValue). demand_of x.now) (option_map_or (λ v. v.items) g []))
           (c.remove-group.ensures.value ∙ ap (λ n. get_by (λ k. bytes_eq n k.now) c.loop-line.groups) same) ∙ c.loop-line.invariant.1 name)))
           c.loop-line.invariant.0,
-      λ q. taken_more (λ g. map (λ (x : Bor DemandValue). demand_of x.now) (option_map_or (λ v. v.items) g [])) refl demand_of q lines at line _ _ _ c.loop-line-test.true c.line-item.is
-          (hash_map_updates_str key c.loop-line.groups c.remove-group.new.self _ c.remove-group.ensures.updates q ∙ ap (λ n. cond (bytes_eq n q) None (get_by (λ k. bytes_eq q k.now) c.loop-line.groups)) same) (c.loop-line.invariant.1 q),
+      λ q. taken_more (λ g. map (λ (x : Bor DemandValue). demand_of x.now) (option_map_or (λ v. v.items) g [])) refl demand_of (λ (a : Demand). bytes_eq q a.name) lines at line _ _ _ c.loop-line-test.true c.line-item.is
+          (hash_map_updates_str key c.loop-line.groups c.remove-group.new.self _ c.remove-group.ensures.updates q ∙ ap (λ n. cond (bytes_eq n q) None (get_by (λ k. bytes_eq q k.now) c.loop-line.groups)) same
+          ∙ ap (λ b. cond b None (get_by (λ k. bytes_eq q k.now) c.loop-line.groups)) (swap name q)) (c.loop-line.invariant.1 q),
     )

@@ -4,7 +4,7 @@ use Rattle.pyver_findings.proofs.Scanning.{IsRound, last_round, round}
 use Rattle.pyver_findings.specs.Conflicts.{have_none, smallest}
 use Rattle.pyver_findings.specs.Views.{demand_of}
 use Rattle.pyver_findings.specs.declared.demand.Demand.{Demand as DemandValue}
-use Rattle.pyver_findings.proofs.smallest.find_smallest.Goals as goal
+use Rattle.pyver_findings.proofs.smallest.find_by_lists.Goals as goal
 
 pub returns-then-count-eq0 : goal.returns-then-count-eq0
 returns-then-count-eq0 c =
