@@ -3,3 +3,5 @@ pub mod Joining
 pub mod MarkerLoop
 pub mod MarkerReadings
 pub mod MarkerDerivations
+pub mod MarkerStepReadings
+pub mod MarkerStepLoop

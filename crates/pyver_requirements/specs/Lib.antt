@@ -8,6 +8,8 @@ pub mod LineParts
 pub mod LinePartViews
 pub mod ConflictMarks
 pub mod MarkerTokens
+pub mod MarkerStepViews
+pub mod MarkerSteps
 pub mod MarkerTerms
 pub mod MarkerReading
 pub mod MarkerViews

@@ -4,7 +4,7 @@ ghost use Rattle.pyver_requirements.specs.MarkerTerms.{mirrored, marker_operator
 
 /// An operator of an environment marker.
 #[derive(Clone, Copy, Debug, PartialEq, Eq)]
-pub(crate) enum MarkerOperator {
+pub enum MarkerOperator {
     Less,
     LessOrEqual,
     NotEqual,
@@ -18,7 +18,8 @@ pub(crate) enum MarkerOperator {
 }
 
 impl MarkerOperator {
-    pub(crate) fn text(self) -> &'static str
+    /// How the operator is written. Never allocates.
+    pub fn text(self) -> &'static str
         ensures { result.now ≡ marker_operator_text self }
     {
         match self {

@@ -29,16 +29,16 @@ const VARIABLES: [&str; 14] = [
     "dependency_groups",
 ];
 
-// One side of a comparison.
+/// One side of a comparison.
 #[derive(Clone, Copy)]
-pub(crate) enum Side<'a> {
-    // A variable, by its modern name.
+pub enum Side<'a> {
+    /// A variable, by its modern name.
     Variable(&'a [u8]),
-    // A string, without its quotes.
+    /// A string, without its quotes.
     Constant(&'a [u8]),
-    // A string that does not end.
+    /// A string that does not end; of no step.
     Unclosed,
-    // Neither.
+    /// Neither; of no step.
     Missing,
 }
 

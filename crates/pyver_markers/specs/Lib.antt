@@ -1,0 +1,4 @@
+pub mod Environments
+pub mod EnvironmentViews
+pub mod MarkerComparisons
+pub mod MarkerValues
