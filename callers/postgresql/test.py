@@ -13,6 +13,7 @@ import subprocess
 import sys
 
 import test_hostile
+import test_plans
 import test_values
 from libpq import Refused
 from server import (FOLDER, HERE, INVALID_REGULAR_EXPRESSION, LISTS, NARROW, NO_INDEX, NO_TABLE, OUT_OF_MEMORY, PREFIX, PROGRAM, RECHECKED, ROWS, SMALL, STRINGS, USER, Server, copied, fill,
@@ -211,8 +212,20 @@ def test_encodings(server):
         else:
             raise AssertionError(text)
     other.close()
+    db.rows("CREATE DATABASE no_encoding ENCODING 'SQL_ASCII' LC_COLLATE 'C' LC_CTYPE 'C' TEMPLATE template0")
+    other = server.connect("no_encoding")
+    other.rows("CREATE EXTENSION pep440; SET client_encoding = 'SQL_ASCII'")
+    assert other.rows("SELECT pep440_valid(E'caf\\xe9'), pep440_specs_valid(E'>=1\\xe9'), pep440_valid('1.0')") == [("f", "f", "t")]
+    for kind, text in (("pep440", "caf\\xe9"), ("pep440_specs", ">=1\\xe9")):
+        try:
+            other.rows(f"SELECT E'{text}'::{kind}")
+        except Refused as error:
+            assert error.code == "22P02", error
+        else:
+            raise AssertionError(text)
+    other.close()
     db.close()
-    return "LATIN1"
+    return "LATIN1, SQL_ASCII"
 
 
 def library():
@@ -420,7 +433,7 @@ def main():
         server.start()
         fill(server)
         only = [f"test_{word[7:]}" for word in sys.argv if word.startswith("--only=")]
-        tests = {**globals(), **vars(test_values), **vars(test_hostile)}
+        tests = {**globals(), **vars(test_values), **vars(test_plans), **vars(test_hostile)}
         for name, test in [(name, test) for name, test in tests.items() if name.startswith("test_") and callable(test) and (not only or name in only)]:
             try:
                 print(f"postgresql: {name.removeprefix('test_')}: {test(server)}", flush=True)

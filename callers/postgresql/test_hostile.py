@@ -11,7 +11,7 @@ CORRUPTED = "XX001"
 SCRIPTS = "".join(re.sub(r"^(--|\\).*$", "", file.read_text(encoding="utf-8"), flags=re.M) for file in sorted(HERE.glob("pep440--*.sql")))
 # Statements that have no expression, and find what they name by its types.
 FUNCTION = r"CREATE FUNCTION \w+\((?:(?!DEFAULT)[\w, ])*\) RETURNS [\w\[\] ]+ AS 'MODULE_PATHNAME', '\w+' LANGUAGE C [\w ]+"
-STATEMENT = rf"{FUNCTION}|(CREATE (TYPE|CAST|OPERATOR|OPERATOR CLASS|AGGREGATE) |ALTER OPERATOR FAMILY |COMMENT ON TYPE )[^$]*"
+STATEMENT = rf"{FUNCTION}|(CREATE (TYPE|CAST|OPERATOR|OPERATOR CLASS|AGGREGATE) |ALTER OPERATOR |COMMENT ON TYPE )[^$]*|ALTER FUNCTION \w+\([\w, ]+\) LEAKPROOF"
 CATALOG_TYPES, OWN_TYPES = ["text", "name", "regtype", "regclass"], ["pep440", "pep440_specs"]
 TYPES = CATALOG_TYPES + ["oid", "bytea", "integer"]
 TRAP = "LANGUAGE plpgsql AS $$BEGIN RAISE INFO 'sprung: {}, as %', current_user; RETURN NULL; END$$"

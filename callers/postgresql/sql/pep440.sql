@@ -3,7 +3,7 @@ CREATE EXTENSION pep440;
 \pset tuples_only on
 -- all families are whole
 SELECT opcname, amname FROM pg_opclass c JOIN pg_am a ON c.opcmethod = a.oid WHERE opcname ~ '^pep440' AND amvalidate(c.oid) ORDER BY 1, 2;
--- each function is immutable, strict and parallel safe, but for the four that the planner calls, which are strict
+-- each function is immutable, strict and parallel safe, but for those that the planner calls, which are strict
 SELECT proname, provolatile, proisstrict, proparallel FROM pg_proc p JOIN pg_depend d ON d.objid = p.oid JOIN pg_extension e ON d.refobjid = e.oid
     WHERE extname = 'pep440' AND prokind = 'f' AND (provolatile <> 'i' OR NOT proisstrict OR proparallel <> 's') ORDER BY 1;
 -- normal forms
