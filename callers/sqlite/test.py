@@ -200,6 +200,14 @@ def test_page():
     return "7 queries"
 
 
+def test_python():
+    """The page's lines of Python print what stands beside the last one."""
+    (block,) = re.findall(r"```python\n(.*?)```", (HERE / "README.md").read_text(encoding="utf-8"), re.S)
+    ran = subprocess.run([sys.executable, "-c", block.replace("./pep440", sys.argv[1])], capture_output=True, text=True, check=True)
+    assert ran.stdout.split() == re.findall(r"# (\S+)$", block, re.M) == ["1.0a2"], ran.stdout
+    return "6 lines"
+
+
 def plan_of(db, query, *values):
     return " / ".join(row[3] for row in rows(db, "EXPLAIN QUERY PLAN " + query, *values))
 
@@ -290,6 +298,24 @@ def test_speed():
     ratio = seconds["none"][0] / seconds["index"][0]
     assert ratio >= 1000, ratio
     return f"ORDER BY with LIMIT is {ratio:.0f} times faster by the index"
+
+
+def test_wide_lists():
+    """A list that matches nearly all is found by one search of the page's index for each interval, in no more time than a scan takes."""
+    db, ratios = filled(ROWS // 5), []
+    db.execute("CREATE INDEX by_version ON releases (key, version)")
+    join = "SELECT count(version) FROM pep440_intervals(?1) JOIN releases ON key >= low AND key < ifnull(high, x'ff')"
+    for specs in ("!=1.0", "", ">=0.1,!=1.5.*,!=2.0"):
+        assert "SEARCH releases USING COVERING INDEX by_version (key>? AND key<?)" in plan_of(db, join, specs)
+        seconds = []
+        for query in (join, "SELECT count(version) FROM releases NOT INDEXED WHERE pep440_match(?1, version)") * 3:
+            begun = time.process_time()
+            found = value(db, query, specs)
+            seconds.append((time.process_time() - begun, found))
+        assert len({found for _, found in seconds}) == 1, (specs, seconds)
+        ratios.append(min(seconds[::2])[0] / min(seconds[1::2])[0])
+    assert SMALL or max(ratios) < 1, ratios
+    return "" if SMALL else f"at most {max(ratios):.2f} of the time of a scan"
 
 
 def turns_with_less_memory(file):
