@@ -76,6 +76,9 @@ Version version_of(const struct varlena *stored, VersionBuffer *buffer);
 int compare_versions(const struct varlena *left, const struct varlena *right);
 /* A number that is not above that of a greater version: nearly all versions have epoch 0, and their keys a first byte 0; the eight bytes behind it. */
 uint64 first_of_key(const struct varlena *stored);
+/* What the first bytes of a stored version show of what follows its release: nothing, or a pre-release or dev release; or that the library has to parse it. */
+typedef enum { UNKNOWN_SUFFIX, NO_SUFFIX, PRERELEASE_SUFFIX } Suffix;
+Suffix suffix_of(const struct varlena *stored);
 /* The normal form of a version that is a release alone, and stored as such; else NULL. */
 char *release_text(const struct varlena *stored);
 /* The normal form of a version that is the first argument. */

@@ -69,3 +69,7 @@ CREATE OPERATOR CLASS pep440_specs_ops DEFAULT FOR TYPE pep440_specs USING gist 
     FUNCTION 1 pep440_specs_gist_consistent(internal, pep440_specs, smallint, oid, internal), FUNCTION 2 pep440_specs_gist_union(internal, internal),
     FUNCTION 3 pep440_specs_gist_compress(internal), FUNCTION 5 pep440_specs_gist_penalty(internal, internal, internal),
     FUNCTION 6 pep440_specs_gist_picksplit(internal, internal), FUNCTION 7 pep440_specs_gist_same(bytea, bytea, internal), STORAGE bytea;
+
+-- ---- to load lists of an index, of which some have empty items
+
+CREATE FUNCTION pep440_specs_without_empty_items(text) RETURNS text AS 'MODULE_PATHNAME', 'specs_without_empty_items' LANGUAGE C IMMUTABLE STRICT PARALLEL SAFE;

@@ -103,7 +103,7 @@ static List *index_conditions(SupportRequestIndexCondition *request, bool versio
 
 static bool is_in_partitioned_table(PlannerInfo *root, const Node *version)
 {
-    if (root == NULL || !IsA(version, Var) || ((const Var *)version)->varlevelsup > 0)
+    if (root == NULL || !IsA(version, Var) || ((const Var *)version)->varlevelsup > 0 || IS_SPECIAL_VARNO(((const Var *)version)->varno))
         return false;
     const RangeTblEntry *table = rt_fetch(((const Var *)version)->varno, root->parse->rtable);
     return table->rtekind == RTE_RELATION && table->relkind == RELKIND_PARTITIONED_TABLE;

@@ -56,6 +56,27 @@ Datum specs_valid(PG_FUNCTION_ARGS)
     PG_RETURN_BOOL(status == PEP440_OK);
 }
 
+/* The text without its empty items, which `packaging` takes and the type does not. */
+PG_FUNCTION_INFO_V1(specs_without_empty_items);
+Datum specs_without_empty_items(PG_FUNCTION_ARGS)
+{
+    Bytes given = bytes_of(PG_GETARG_TEXT_PP(0));
+    const char *at = (const char *)given.bytes, *end = at + given.length;
+    StringInfoData kept;
+    initStringInfo(&kept);
+    while (at < end) {
+        const char *comma = memchr(at, ',', (size_t)(end - at)), *item_end = comma == NULL ? end : comma, *first = at;
+        while (first < item_end && scanner_isspace(*first))
+            first++;
+        if (first < item_end && kept.len > 0)
+            appendStringInfoChar(&kept, ',');
+        if (first < item_end)
+            appendBinaryStringInfo(&kept, at, (int)(item_end - at));
+        at = comma == NULL ? end : comma + 1;
+    }
+    PG_RETURN_TEXT_P(cstring_to_text_with_len(kept.data, kept.len));
+}
+
 static Bytes bytes_of_text(const char *text)
 {
     return (Bytes){(const uint8_t *)text, strlen(text)};

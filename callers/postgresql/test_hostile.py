@@ -149,7 +149,7 @@ def test_damaged(server):
     db.rows("CREATE CAST (bytea AS pep440) WITHOUT FUNCTION")
     for stored in [b"\x81\xff\xff", b"\x80", b"\x82\x01\x00", b"\x80\x08"] + [damaged(rng) for _ in range(STRINGS)]:
         given = f"'\\x{stored.hex()}'::bytea::pep440"
-        for value in (given, f"pep440_hash({given}), {given} < '1.0', {given} <@ '>=1', pep440_local({given})"):
+        for value in (given, f"pep440_hash({given}), {given} < '1.0', {given} <@ '>=1', pep440_local({given})", f"pep440_is_prerelease({given})"):
             try:
                 db.rows(f"SELECT {value}")
             except Refused as error:

@@ -298,8 +298,8 @@ def test_soft_errors(server):
 
 GAPS, MANY_GAPS = (">=1" + "".join(f",!={number % 300}.{number}" for number in range(count)) for count in (5_200, 80_000))
 LONG = [  # what takes the longest of the texts that a server takes, and of the plans that it makes for them
-    "('1' || repeat('.1', 50000000))::pep440", "repeat('0', 100000000)::pep440", "(repeat(' ', 100000000) || '1')::pep440", "('>=1' || repeat(',!=1.5.*', 10000000))::pep440_specs",
-    "(repeat('>=1,', 20000000) || 'x')::pep440_specs", "pep440_valid(repeat('1', 100000000))", "pep440_specs_valid(repeat('>=1,', 20000000) || '>1')", f"'{MANY_GAPS}'::pep440_specs",
+    "('1' || repeat('.1', 5000000))::pep440", "repeat('0', 10000000)::pep440", "(repeat(' ', 10000000) || '1')::pep440", "('>=1' || repeat(',!=1.5.*', 1000000))::pep440_specs",
+    "(repeat('>=1,', 2000000) || 'x')::pep440_specs", "pep440_valid(repeat('1', 10000000))", "pep440_specs_valid(repeat('>=1,', 2000000) || '>1')", f"'{MANY_GAPS}'::pep440_specs",
     f"pep440_specs_valid('{MANY_GAPS}')", "(SELECT count(pep440_specs(repeat('>=1.0,', 10000) || '>=' || n)) FROM generate_series(1, 1000) AS n)",
     f"(SELECT count(*) FROM releases WHERE version <@ '{GAPS}')", f"(SELECT count(*) FROM releases, pep440_specs('{GAPS}') AS specs WHERE version <@ specs)",
     f"(SELECT count(*) FROM generate_series(1, 100), pep440_cover('{GAPS}'))", f"(SELECT count(isempty(specs)) FROM pep440_specs('{GAPS}') AS specs, generate_series(1, 100))",

@@ -47,6 +47,8 @@ SELECT specs, count(*) FROM unnest('{">=1,<2","","<2,>=1",==1.*,NULL}'::pep440_s
 SELECT '<2,!=1.5'::pep440_specs * '>=1', '>=1,!=1.5'::pep440_specs * '==1.*', ''::pep440_specs * '>1', ''::pep440_specs * '';
 SELECT isempty('>=1,<=1,!=1'::pep440_specs), isempty('<=1.0,==1.0+cu1'::pep440_specs), isempty(''::pep440_specs), pep440_version_in('>=1.16,<2'), pep440_version_in('===2,===2.0') IS NULL, '>=1'::pep440_specs && '<1', '>=1'::pep440_specs && '<=1';
 SELECT pep440_specs_valid('>=1, <2'), pep440_specs_valid(''), pep440_specs_valid('>=1, =<2'), pep440_specs_valid(NULL) IS NULL;
+-- empty items
+SELECT pep440_specs_valid('>=1,'), pep440_specs_without_empty_items(text), pep440_specs_valid(pep440_specs_without_empty_items(text)) FROM (VALUES ('>=1,'), (' ,, >=1 , ,<2'), (''), (','), ('>=1'), (',>=1,x,')) AS t(text);
 -- what begins as compiled bytes is a text like others
 SELECT pep440_specs_valid(E'\005'), pep440_specs_valid(E'\006'), pep440_valid(E'\004');
 -- errors
