@@ -43,8 +43,8 @@ typedef struct {
     uint8_t bytes[MOST_COMPILED];
 } VersionBuffer;
 
-/* The first byte of compiled versions, of the members of a list, which an earlier release stored alone, and of lists. */
-enum { VERSION_FORMAT = 4, MEMBERS_FORMAT = 5, LIST_FORMAT = 6 };
+/* The first byte of compiled versions, of the members of a list, which an earlier release stored alone, of lists, and of sets, which are not stored. */
+enum { VERSION_FORMAT = 4, MEMBERS_FORMAT = 5, LIST_FORMAT = 6, SET_FORMAT = 7 };
 
 /* The argument of a function that takes a text. */
 Bytes utf8_argument(FunctionCallInfo fcinfo);

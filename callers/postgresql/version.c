@@ -19,7 +19,7 @@ static Bytes utf8_of(const char *text, int length)
 {
     bool is_passed = GetDatabaseEncoding() == PG_SQL_ASCII || length > MOST_TEXT;
     const char *utf8 = is_passed ? text : pg_server_to_any(text, length, PG_UTF8);
-    if (length > 0 && utf8[0] >= VERSION_FORMAT && utf8[0] <= LIST_FORMAT)
+    if (length > 0 && utf8[0] >= VERSION_FORMAT && utf8[0] <= SET_FORMAT)
         return (Bytes){(const uint8_t *)"\1", 1};
     return (Bytes){(const uint8_t *)utf8, utf8 == text ? (size_t)length : strlen(utf8)};
 }

@@ -50,7 +50,7 @@ SELECT pep440_specs_valid('>=1, <2'), pep440_specs_valid(''), pep440_specs_valid
 -- empty items
 SELECT pep440_specs_valid('>=1,'), pep440_specs_without_empty_items(text), pep440_specs_valid(pep440_specs_without_empty_items(text)) FROM (VALUES ('>=1,'), (' ,, >=1 , ,<2'), (''), (','), ('>=1'), (',>=1,x,')) AS t(text);
 -- what begins as compiled bytes is a text like others
-SELECT pep440_specs_valid(E'\005'), pep440_specs_valid(E'\006'), pep440_valid(E'\004');
+SELECT pep440_specs_valid(E'\005'), pep440_specs_valid(E'\006'), pep440_specs_valid(E'\007'), pep440_valid(E'\004');
 -- errors
 SELECT '1.0.x'::pep440;
 SELECT ''::pep440;
