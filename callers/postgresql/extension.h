@@ -35,16 +35,16 @@ typedef struct varlena *(*Reader)(Bytes text, Node *context);
 /* The most bytes of a value of type pep440, with its header: an index entry has room for 2,704 with its own header, and more columns beside. */
 enum { MOST_BYTES = 2680, MOST_COMPILED = MOST_BYTES - VARHDRSZ };
 
-/* The most bytes of a text that is read: nothing can stop a call of the library, and this much it reads in a fraction of a second. */
-enum { MOST_TEXT = 1 << 20 };
+/* The most bytes of the text of a version, and of a list: nothing can stop a call of the library, and so much takes it less than a tenth of a second. */
+enum { MOST_TEXT = 1 << 20, MOST_LIST = 1 << 16 };
 
 /* Room for a compiled version. */
 typedef struct {
     uint8_t bytes[MOST_COMPILED];
 } VersionBuffer;
 
-/* The first byte of compiled versions, of the members of a list, which an earlier release stored alone, and of lists. */
-enum { VERSION_FORMAT = 4, MEMBERS_FORMAT = 5, LIST_FORMAT = 6 };
+/* The first byte of compiled versions, of the members of a list, which an earlier release stored alone, of lists, and of sets, which are not stored. */
+enum { VERSION_FORMAT = 4, MEMBERS_FORMAT = 5, LIST_FORMAT = 6, SET_FORMAT = 7 };
 
 /* The argument of a function that takes a text. */
 Bytes utf8_argument(FunctionCallInfo fcinfo);
@@ -76,11 +76,15 @@ Version version_of(const struct varlena *stored, VersionBuffer *buffer);
 int compare_versions(const struct varlena *left, const struct varlena *right);
 /* A number that is not above that of a greater version: nearly all versions have epoch 0, and their keys a first byte 0; the eight bytes behind it. */
 uint64 first_of_key(const struct varlena *stored);
+/* What the first bytes of a stored version show of what follows its release: nothing, or a pre-release or dev release; or that the library has to parse it. */
+typedef enum { UNKNOWN_SUFFIX, NO_SUFFIX, PRERELEASE_SUFFIX } Suffix;
+Suffix suffix_of(const struct varlena *stored);
 /* The normal form of a version that is a release alone, and stored as such; else NULL. */
 char *release_text(const struct varlena *stored);
 /* The normal form of a version that is the first argument. */
 char *normal_argument(FunctionCallInfo fcinfo);
-/* The output function of the type pep440_specs, which no other type has but domains over it. */
+/* The output functions of both types, which no other type has but domains over these. */
+extern PGDLLEXPORT Datum version_out(PG_FUNCTION_ARGS);
 extern PGDLLEXPORT Datum specs_out(PG_FUNCTION_ARGS);
 /* What the library takes as the list: compiled bytes, or the normal form where an older release stored the value. */
 Bytes list_of(const struct varlena *stored);
@@ -94,9 +98,16 @@ struct varlena *read_version(Bytes text, Node *context);
 Cover cover_of(Bytes list);
 /* The key number `place` of a cover. */
 Bytes cover_key(const Cover *cover, size_t place);
+/* Whether the key lies in one of the intervals. */
+bool is_in_cover(const Cover *cover, Bytes key);
+/* The cover of a list that is that of the function's last call too, in memory that the function keeps; else NULL. */
+const Cover *known_cover(FmgrInfo *function, Bytes list);
 /* The lowest key of a cover, and the one above all of it; no bytes where there is no such bound. Nothing lies in an empty cover. */
 void ends_of_cover(const Cover *cover, Bytes *low, Bytes *high);
 struct varlena *make_bytea(Bytes bytes);
+/* Writes to the request how many rows the function that it asks about has, whose first argument is the version, or the list; of all, or of those between the
+   ends of the list's cover. */
+void estimate_call(SupportRequestSelectivity *request, bool version_is_first, bool is_between_ends);
 /* The hash of the bytes; with a seed, which is the second argument, the extended one. */
 Datum hash_of(Bytes bytes, FunctionCallInfo fcinfo);
 /* As keys are compared: byte by byte, then the shorter one first. -1, 0 or 1. */

@@ -1,4 +1,5 @@
-/* What the planner asks: which condition an index on the versions can serve for `specs @> version`, and how many rows that is.
+/* What the planner asks of a call: which condition an index on the versions can serve for `specs @> version`; and of the function how many rows that is, as of
+   the operator.
 
    The condition is `version >= low AND version < high`, with the ends of the list's cover. It holds for each version that the list contains. Where the
    list may have gaps or `===` it may hold for others, and the server rechecks each row by matching. */
@@ -43,22 +44,34 @@ static List *constant_conditions(SupportRequestIndexCondition *request, Node *ve
     return interval_conditions(request->opfamily, version, type, low, high);
 }
 
-/* A call of a function of the extension that takes the list and returns a key. */
-static Expr *make_call(Oid beside, const char *name, Node *list)
+/* A call of the function with this name, and one or two arguments, that is in the schema of another one; NULL where another session moved the extension just
+   now. */
+static Expr *make_call(Oid beside, const char *name, List *arguments)
 {
-    Oid type = exprType(list), function = InvalidOid;
-    char *schema = get_namespace_name(get_func_namespace(beside)); /* NULL where another session moved the extension just now */
-    if (schema != NULL)
-        function = LookupFuncName(list_make2(makeString(schema), makeString(pstrdup(name))), 1, &type, true);
+    Oid types[] = {exprType(linitial(arguments)), exprType(llast(arguments))}, schema = get_func_namespace(beside);
+    Datum signature = PointerGetDatum(buildoidvector(types, list_length(arguments)));
+    Oid function = GetSysCacheOid3(PROCNAMEARGSNSP, Anum_pg_proc_oid, CStringGetDatum(name), signature, ObjectIdGetDatum(schema));
     if (!OidIsValid(function))
         return NULL;
-    return (Expr *)makeFuncExpr(function, BYTEAOID, list_make1(list), InvalidOid, InvalidOid, COERCE_EXPLICIT_CALL);
+    return (Expr *)makeFuncExpr(function, get_func_rettype(function), arguments, InvalidOid, exprCollation(linitial(arguments)), COERCE_EXPLICIT_CALL);
+}
+
+/* `version <@ list`, or NULL in the same case. */
+static Expr *make_match(Oid beside, Node *version, Node *list)
+{
+    Oid operator = GetSysCacheOid4(OPERNAMENSP, Anum_pg_operator_oid, CStringGetDatum("<@"), ObjectIdGetDatum(exprType(version)), ObjectIdGetDatum(exprType(list)),
+                                   ObjectIdGetDatum(get_func_namespace(beside)));
+    if (!OidIsValid(operator))
+        return NULL;
+    Expr *made = make_opclause(operator, BOOLOID, false, (Expr *)version, (Expr *)list, InvalidOid, InvalidOid);
+    set_opfuncid((OpExpr *)made);
+    return made;
 }
 
 /* A list that is not known yet, as in a join: the keys are found when it is. */
 static List *later_conditions(Oid family, Node *version, Oid type, Node *list, Oid beside)
 {
-    Expr *low = make_call(beside, "pep440_cover_start", list), *high = make_call(beside, "pep440_cover_end", list);
+    Expr *low = make_call(beside, "pep440_cover_start", list_make1(list)), *high = make_call(beside, "pep440_cover_end", list_make1(list));
     if (low == NULL || high == NULL)
         return NIL;
     Expr *above = make_bound(family, version, type, BTGreaterEqualStrategyNumber, low);
@@ -88,9 +101,42 @@ static List *index_conditions(SupportRequestIndexCondition *request, bool versio
     return later_conditions(request->opfamily, version, type, list, request->funcid);
 }
 
+static bool is_in_partitioned_table(PlannerInfo *root, const Node *version)
+{
+    if (root == NULL || !IsA(version, Var) || ((const Var *)version)->varlevelsup > 0 || IS_SPECIAL_VARNO(((const Var *)version)->varno))
+        return false;
+    const RangeTblEntry *table = rt_fetch(((const Var *)version)->varno, root->parse->rtable);
+    return table->rtekind == RTE_RELATION && table->relkind == RELKIND_PARTITIONED_TABLE;
+}
+
+/* A known list beside versions of a partitioned table: with the ends of its cover, by which the planner leaves out partitions, as it does by comparisons alone. */
+static Node *add_ends(SupportRequestSimplify *request, bool version_is_first)
+{
+    Node *version = list_nth(request->fcall->args, version_is_first ? 0 : 1), *list = list_nth(request->fcall->args, version_is_first ? 1 : 0);
+    Bytes low, high;
+    if (!IsA(list, Const) || ((Const *)list)->constisnull || !is_in_partitioned_table(request->root, version))
+        return NULL;
+    Oid type = exprType(version), family = lookup_type_cache(type, TYPECACHE_BTREE_OPFAMILY)->btree_opf;
+    Cover cover = cover_of(list_of(PG_DETOAST_DATUM_PACKED(((Const *)list)->constvalue)));
+    ends_of_cover(&cover, &low, &high);
+    List *conditions = interval_conditions(family, version, type, low, high);
+    Expr *rest = make_call(request->fcall->funcid, "pep440_version_contained_between_ends", list_make2(version, list));
+    if (conditions == NIL || rest == NULL)
+        return NULL;
+    if (!cover.is_exact || cover.count > 2)
+        conditions = lappend(conditions, rest);
+    return (Node *)make_ands_explicit(copyObject(conditions));
+}
+
 static Node *support(FunctionCallInfo fcinfo, bool version_is_first)
 {
     Node *asked = (Node *)PG_GETARG_POINTER(0);
+    if (IsA(asked, SupportRequestSelectivity)) {
+        estimate_call((SupportRequestSelectivity *)asked, version_is_first, false);
+        return asked;
+    }
+    if (IsA(asked, SupportRequestSimplify))
+        return add_ends((SupportRequestSimplify *)asked, version_is_first);
     if (!IsA(asked, SupportRequestIndexCondition))
         return NULL;
     SupportRequestIndexCondition *request = (SupportRequestIndexCondition *)asked;
@@ -101,70 +147,28 @@ static Node *support(FunctionCallInfo fcinfo, bool version_is_first)
 SQL_FUNCTION(specs_contains_support, PointerGetDatum(support(fcinfo, false)));
 SQL_FUNCTION(version_contained_by_support, PointerGetDatum(support(fcinfo, true)));
 
-/* ---- how many rows: the sum over the intervals of the cover, by what is known of the column */
-
-enum { NOT_KNOWN = -1 };
-
-/* Each interval has at least as many rows as one version has: the statistics see no narrow one. */
-static double intervals_selectivity(PlannerInfo *root, int relation, VariableStatData *variable, const Cover *cover)
+/* What add_ends leaves to be asked, in words of its own, for its estimate. */
+PG_FUNCTION_INFO_V1(version_between_ends_support);
+Datum version_between_ends_support(PG_FUNCTION_ARGS)
 {
-    bool is_guess;
-    Oid type = getBaseType(exprType(variable->var));
-    Oid family = lookup_type_cache(type, TYPECACHE_BTREE_OPFAMILY)->btree_opf;
-    double sum = 0, least = 1 / get_variable_numdistinct(variable, &is_guess);
-    for (size_t each = 0; each < cover->count && sum < 1; each += 2) {
-        CHECK_FOR_INTERRUPTS();
-        List *conditions = interval_conditions(family, variable->var, type, cover_key(cover, each), cover_key(cover, each + 1));
-        sum += conditions == NIL ? 1 : Max(least, clauselist_selectivity(root, conditions, relation, JOIN_INNER, NULL));
-    }
-    return sum;
+    Node *asked = (Node *)PG_GETARG_POINTER(0);
+    if (!IsA(asked, SupportRequestSelectivity))
+        PG_RETURN_POINTER(NULL);
+    estimate_call((SupportRequestSelectivity *)asked, true, true);
+    PG_RETURN_POINTER(asked);
 }
 
-/* Whether its values are lists, as those of domains over the type: whoever creates an operator names its estimator, for operands of any types. */
-static bool is_list_type(Oid type)
+/* `text <@ list` is `pep440(text) <@ list`. */
+static Node *cast_text(const SupportRequestSimplify *request)
 {
-    Oid function;
-    bool is_varlena;
-    FmgrInfo output;
-    getTypeOutputInfo(type, &function, &is_varlena);
-    fmgr_info(function, &output);
-    return output.fn_addr == specs_out;
+    Node *text = linitial(request->fcall->args), *list = lsecond(request->fcall->args);
+    Expr *version = make_call(request->fcall->funcid, "pep440", list_make1(copyObject(text)));
+    return version == NULL ? NULL : (Node *)make_match(request->fcall->funcid, eval_const_expressions(request->root, (Node *)version), copyObject(list));
 }
 
-/* Of a column of lists and a version that is known: the lists of the statistics are asked. Of a column of versions and a list that is known: the
-   intervals of its cover. */
-static double known_selectivity(PlannerInfo *root, Oid operator, Oid collation, List *arguments, int relation, bool version_is_first)
+PG_FUNCTION_INFO_V1(text_contained_by_support);
+Datum text_contained_by_support(PG_FUNCTION_ARGS)
 {
-    VariableStatData variable;
-    Node *list;
-    bool is_left;
-    Cover cover;
-    double found = NOT_KNOWN;
-    if (!get_restriction_variable(root, arguments, relation, &variable, &list, &is_left))
-        return NOT_KNOWN;
-    bool is_known = IsA(list, Const) && is_left == version_is_first && is_list_type(exprType(list));
-    if (is_left != version_is_first)
-        found = generic_restriction_selectivity(root, operator, collation, arguments, relation, DEFAULT_RANGE_INEQ_SEL);
-    else if (is_known && ((Const *)list)->constisnull)
-        found = 0;
-    else if (is_known) {
-        cover = cover_of(list_of(PG_DETOAST_DATUM_PACKED(((Const *)list)->constvalue)));
-        found = intervals_selectivity(root, relation, &variable, &cover);
-    }
-    ReleaseVariableStats(variable);
-    return found;
+    Node *asked = (Node *)PG_GETARG_POINTER(0);
+    PG_RETURN_POINTER(IsA(asked, SupportRequestSimplify) ? cast_text((SupportRequestSimplify *)asked) : NULL);
 }
-
-static Datum selectivity(FunctionCallInfo fcinfo, bool version_is_first)
-{
-    PlannerInfo *root = (PlannerInfo *)PG_GETARG_POINTER(0);
-    List *arguments = (List *)PG_GETARG_POINTER(2);
-    double found = known_selectivity(root, PG_GETARG_OID(1), PG_GET_COLLATION(), arguments, PG_GETARG_INT32(3), version_is_first);
-    if (found == NOT_KNOWN)
-        found = DEFAULT_RANGE_INEQ_SEL;
-    CLAMP_PROBABILITY(found);
-    PG_RETURN_FLOAT8(found);
-}
-
-SQL_FUNCTION(specs_contains_selectivity, selectivity(fcinfo, false));
-SQL_FUNCTION(version_contained_by_selectivity, selectivity(fcinfo, true));

@@ -4,14 +4,22 @@
 /* Above each key: the first byte of a key is at most 8. */
 static const uint8_t ABOVE_ALL[] = {0xff};
 
-/* The most bytes of the normal form of a list in which a version is sought. */
-enum { MOST_DECIDED = 4096 };
-
 /* ---- values */
+
+#define TOO_LONG \
+    (errcode(ERRCODE_PROGRAM_LIMIT_EXCEEDED), errmsg("list is too long for type %s", "pep440_specs"), \
+     errdetail("Its text or its normal form has more than %d bytes.", MOST_LIST))
+
+/* Whether the normal form, which dumps have, would be too long: it has less than four times the bytes of the text. */
+static bool is_too_long(Bytes text)
+{
+    size_t length = 0;
+    return text.length > MOST_LIST || (text.length > MOST_LIST / 4 && pep440_normalize_list(text.bytes, text.length, NULL, 0, &length) == PEP440_NO_ROOM && length > MOST_LIST);
+}
 
 static uint8_t compile_list(Bytes text, Bytes *compiled)
 {
-    return text.length > MOST_TEXT ? PEP440_NO_ROOM : write_all(pep440_compile_list, text, compiled);
+    return is_too_long(text) ? PEP440_NO_ROOM : write_all(pep440_compile_list, text, compiled);
 }
 
 static struct varlena *read_list(Bytes text, Node *context)
@@ -21,8 +29,7 @@ static struct varlena *read_list(Bytes text, Node *context)
     if (status == PEP440_INVALID_LIST)
         return fail_text(text, "pep440_specs", pep440_list_error, context);
     if (status == PEP440_NO_ROOM)
-        ereturn(context, NULL, (errcode(ERRCODE_PROGRAM_LIMIT_EXCEEDED), errmsg("list is too long for type %s", "pep440_specs"),
-                                errdetail("Its text has more than %d bytes.", MOST_TEXT)));
+        ereturn(context, NULL, TOO_LONG);
     expect_ok(status);
     return make_bytea(compiled);
 }
@@ -49,6 +56,27 @@ Datum specs_valid(PG_FUNCTION_ARGS)
     PG_RETURN_BOOL(status == PEP440_OK);
 }
 
+/* The text without its empty items, which `packaging` takes and the type does not. */
+PG_FUNCTION_INFO_V1(specs_without_empty_items);
+Datum specs_without_empty_items(PG_FUNCTION_ARGS)
+{
+    Bytes given = bytes_of(PG_GETARG_TEXT_PP(0));
+    const char *at = (const char *)given.bytes, *end = at + given.length;
+    StringInfoData kept;
+    initStringInfo(&kept);
+    while (at < end) {
+        const char *comma = memchr(at, ',', (size_t)(end - at)), *item_end = comma == NULL ? end : comma, *first = at;
+        while (first < item_end && scanner_isspace(*first))
+            first++;
+        if (first < item_end && kept.len > 0)
+            appendStringInfoChar(&kept, ',');
+        if (first < item_end)
+            appendBinaryStringInfo(&kept, at, (int)(item_end - at));
+        at = comma == NULL ? end : comma + 1;
+    }
+    PG_RETURN_TEXT_P(cstring_to_text_with_len(kept.data, kept.len));
+}
+
 static Bytes bytes_of_text(const char *text)
 {
     return (Bytes){(const uint8_t *)text, strlen(text)};
@@ -58,31 +86,31 @@ static Bytes bytes_of_text(const char *text)
 static Bytes join_lists(FunctionCallInfo fcinfo)
 {
     const char *left = normal_list(fcinfo, 0), *right = normal_list(fcinfo, 1);
-    return bytes_of_text(psprintf("%s%s%s", left, *left != 0 && *right != 0 ? "," : "", right));
+    Bytes joined = bytes_of_text(psprintf("%s%s%s", left, *left != 0 && *right != 0 ? "," : "", right));
+    if (joined.length > MOST_LIST)
+        ereport(ERROR, TOO_LONG);
+    return joined;
 }
 
 /* The list of the members of both: a version is in it if it is in both. */
 SQL_FUNCTION(specs_both, PointerGetDatum(read_list(join_lists(fcinfo), NULL)));
 
-/* A version that the list contains, no bytes if there is none. The time grows with the square of the length, and nothing can stop the call. */
+/* A version that the list contains, no bytes if there is none. */
 static Bytes find_version(Bytes list)
 {
     Bytes version;
-    if (list.length > MOST_DECIDED)
-        ereport(ERROR, (errcode(ERRCODE_PROGRAM_LIMIT_EXCEEDED), errmsg("list is too long to find a version in it"),
-                        errdetail("Its normal form has more than %d bytes.", MOST_DECIDED)));
     expect_ok(write_all(pep440_version_in, list, &version));
     return version;
 }
 
-SQL_FUNCTION(specs_isempty, BoolGetDatum(find_version(bytes_of_text(normal_list(fcinfo, 0))).length == 0));
+SQL_FUNCTION(specs_isempty, BoolGetDatum(find_version(GET_LIST(0)).length == 0));
 SQL_FUNCTION(specs_overlap, BoolGetDatum(find_version(join_lists(fcinfo)).length != 0));
 
 /* A version that the list contains, or null. */
 PG_FUNCTION_INFO_V1(specs_version);
 Datum specs_version(PG_FUNCTION_ARGS)
 {
-    Bytes version = find_version(bytes_of_text(normal_list(fcinfo, 0)));
+    Bytes version = find_version(GET_LIST(0));
     if (version.length == 0)
         PG_RETURN_NULL();
     PG_RETURN_POINTER(read_version(version, NULL));
@@ -240,7 +268,7 @@ static void know_list(FmgrInfo *function, Kept *kept, Bytes list)
     MemoryContextSwitchTo(before);
 }
 
-static bool is_in_cover(const Cover *cover, Bytes key)
+bool is_in_cover(const Cover *cover, Bytes key)
 {
     size_t first = 0, end = cover->count / 2;
     while (first < end) {
@@ -271,6 +299,12 @@ static const Kept *known_list(FmgrInfo *function, Bytes list)
     return kept;
 }
 
+const Cover *known_cover(FmgrInfo *function, Bytes list)
+{
+    const Kept *known = known_list(function, list);
+    return known == NULL ? NULL : &known->cover;
+}
+
 /* Whether the list contains the version, pre-releases like others: by its key where this decides, else by the library. */
 static bool contains(FmgrInfo *function, Bytes list, const struct varlena *stored)
 {
@@ -289,6 +323,7 @@ static bool contains(FmgrInfo *function, Bytes list, const struct varlena *store
 
 SQL_FUNCTION(specs_contains, BoolGetDatum(contains(fcinfo->flinfo, GET_LIST(0), GET_STORED(1))));
 SQL_FUNCTION(version_contained_by, BoolGetDatum(contains(fcinfo->flinfo, GET_LIST(1), GET_STORED(0))));
+SQL_FUNCTION(text_contained_by, BoolGetDatum(contains(fcinfo->flinfo, GET_LIST(1), read_version(utf8_argument(fcinfo), NULL))));
 
 /* Whether the list names a pre-release or a developmental release. */
 PG_FUNCTION_INFO_V1(specs_any_prerelease);

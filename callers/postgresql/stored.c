@@ -15,7 +15,7 @@ static const struct {
     uint8_t bytes[5];
 } ENDS[] = {{5, {0, 0x50, 0, 0x10, 0}}, {3, {0, 0x10, 0}}, {2, {0x10, 0}}, {1, {0}}};
 
-enum { RELEASE_ALONE = 0, SHORT = 0x80, MOST_SHORT = 0x7f, MOST_FIRST = 7, MOST_ZEROS = 3, MOST_END = 3, ZEROS_SHIFT = 3, END_SHIFT = 5, ZERO = 1 };
+enum { RELEASE_ALONE = 0, SHORT = 0x80, MOST_SHORT = 0x7f, MOST_FIRST = 7, MOST_ZEROS = 3, MOST_END = 3, ZEROS_SHIFT = 3, END_SHIFT = 5, ZERO = 1, NO_PRERELEASE = 0x50 };
 
 Bytes bytes_of(const struct varlena *stored)
 {
@@ -92,6 +92,21 @@ static bool read_number(const uint8_t **at, const uint8_t *end, int bytes, uint6
     while (bytes-- > 0)
         *number = *number << 8 | *(*at)++;
     return true;
+}
+
+Suffix suffix_of(const struct varlena *stored)
+{
+    Bytes value = bytes_of(stored);
+    if (!is_short(value))
+        return UNKNOWN_SUFFIX;
+    const uint8_t *at = value.bytes + 1, *end = value.bytes + value.length;
+    uint64 number;
+    for (int length = value.bytes[0] & MOST_FIRST; length > 0; length = at < end ? *at++ : 0)
+        if (!read_number(&at, end, length - 1, &number))
+            return UNKNOWN_SUFFIX;
+    if (end_of(value) == RELEASE_ALONE)
+        return at == end ? NO_SUFFIX : UNKNOWN_SUFFIX;
+    return at < end && *at < NO_PRERELEASE ? PRERELEASE_SUFFIX : UNKNOWN_SUFFIX;
 }
 
 /* The numbers with dots between them, and the zeros at the end. The library would parse the key again, in ten times the instructions; it is left all bytes

@@ -13,6 +13,7 @@ import subprocess
 import sys
 
 import test_hostile
+import test_plans
 import test_values
 from libpq import Refused
 from server import (FOLDER, HERE, INVALID_REGULAR_EXPRESSION, LISTS, NARROW, NO_INDEX, NO_TABLE, OUT_OF_MEMORY, PREFIX, PROGRAM, RECHECKED, ROWS, SMALL, STRINGS, USER, Server, copied, fill,
@@ -211,8 +212,20 @@ def test_encodings(server):
         else:
             raise AssertionError(text)
     other.close()
+    db.rows("CREATE DATABASE no_encoding ENCODING 'SQL_ASCII' LC_COLLATE 'C' LC_CTYPE 'C' TEMPLATE template0")
+    other = server.connect("no_encoding")
+    other.rows("CREATE EXTENSION pep440; SET client_encoding = 'SQL_ASCII'")
+    assert other.rows("SELECT pep440_valid(E'caf\\xe9'), pep440_specs_valid(E'>=1\\xe9'), pep440_valid('1.0')") == [("f", "f", "t")]
+    for kind, text in (("pep440", "caf\\xe9"), ("pep440_specs", ">=1\\xe9")):
+        try:
+            other.rows(f"SELECT E'{text}'::{kind}")
+        except Refused as error:
+            assert error.code == "22P02", error
+        else:
+            raise AssertionError(text)
+    other.close()
     db.close()
-    return "LATIN1"
+    return "LATIN1, SQL_ASCII"
 
 
 def library():
@@ -253,7 +266,7 @@ def test_receive(server):
         number = int(db.value(f"SELECT '{kind}'::regtype::oid"))
         for _ in range(STRINGS):
             given = random_bytes(rng, make())
-            is_text = given[:1] == b"\1" and b"\0" not in given and given[1:2] not in (b"\4", b"\5", b"\6")
+            is_text = given[:1] == b"\1" and b"\0" not in given and given[1:2] not in (b"\4", b"\5", b"\6", b"\7")
             wanted = normal(call, given[1:]) if is_text else None
             try:
                 ((found,),) = db.with_binary("SELECT $1", number, given)
@@ -292,19 +305,24 @@ def test_speed(server):
     without = min(milliseconds(db, newest) for _ in range(5))
     ratios = [f"ORDER BY with LIMIT {without / by_index:.0f} times faster by the index"]
     matches = []
-    for specs in (">=1.0", ">=1.0,<2.0,!=1.5.*", "~=1.4.2"):
-        match, like = (f"SELECT count(*) FROM releases WHERE {condition}" for condition in (f"'{specs}' @> version", "written LIKE '%a%'"))
+    conditions = {f"`{specs}`": f"'{specs}' @> version" for specs in (">=1.0", ">=1.0,<2.0,!=1.5.*", "~=1.4.2")} | {"pep440_is_prerelease": "pep440_is_prerelease(version)"}
+    for name, condition in conditions.items():
+        match, like = (f"SELECT count(*) FROM releases WHERE {it}" for it in (condition, "written LIKE '%a%'"))
         # The median, since a processor is slow while its neighbour works.
         matches.append(statistics.median(time_of(db, match) / time_of(db, like) for _ in range(15)))
-        ratios.append(f"`{specs}` over all rows {matches[-1]:.2f} of a LIKE")
+        ratios.append(f"{name} over all rows {matches[-1]:.2f} of a LIKE")
     db.close()
-    assert without / by_index >= 1000 and max(matches) <= 2, ratios
+    assert without / by_index >= 1000 and max(matches[:-1]) <= 2, ratios
     return "; ".join(ratios)
 
 
 # ---- refused memory, in servers of their own
 
 SMALL_TABLE = "CREATE TABLE kept (id int, version pep440); CREATE INDEX ON kept (version);"
+LIST_TABLE = [
+    "CREATE TABLE lists (id int, specs pep440_specs)", "CREATE INDEX ON lists USING gist (specs)",
+    "INSERT INTO lists SELECT n, ('>=' || n % 7 || ',!=1.' || n || '.*' || CASE n % 3 WHEN 0 THEN ',<9' ELSE '' END)::pep440_specs FROM generate_series(1, 700) AS n",
+]
 QUERIES = [
     "SELECT ' 1!1.0.300-rc1.post2+Ubuntu-1 '::text::pep440",
     "SELECT count(*) FROM kept WHERE '>=1.0,!=1.5.*,!=1!2.0+a' @> version",
@@ -313,6 +331,10 @@ QUERIES = [
     "SELECT count(*), count(high), bool_and(high IS NULL OR low < high) FROM pep440_cover('!=1.5,!=1.7.*,!=2.0+a')",
     "SELECT string_agg(version::text, ' ' ORDER BY version) FROM kept",
     "SELECT s * t, s = t, pep440_specs_hash(s), s < t, pep440_specs_valid('>=1,' || s::text) FROM (SELECT '>=1,!=1.5+a'::text::pep440_specs AS s, '<2.0rc1'::text::pep440_specs AS t) AS one",
+    "SELECT count(*) FROM kept WHERE ' ' || version::text <@ '>=1,!=1.5.*' OR pep440_specs_without_empty_items('>=1,,' || version::text) IS NULL OR pep440_is_prerelease(version)",
+    "SET LOCAL enable_seqscan = off; SELECT string_agg(specs::text, ' ' ORDER BY id) FROM lists WHERE specs && '>=1,!=1.5' AND specs @> '1.7'",
+    "CREATE INDEX ON lists USING gist (specs)",
+    "SELECT count(*) FROM lists, kept WHERE kept.version <@ lists.specs",
     "UPDATE kept SET version = (version::text || '.dev1')::pep440 WHERE version <@ '>=1,!=1.5+a' AND version::text !~ 'dev|[+]' RETURNING version",
 ]
 
@@ -366,7 +388,7 @@ def test_refused(unused):
         db.rows(f"CREATE FUNCTION requests() RETURNS bigint AS '{FOLDER}/refuse.so' LANGUAGE C STRICT")
         rng = random.Random(5)
         db.rows("INSERT INTO kept VALUES " + ",".join(f"({row}, '{version(rng)}')" for row in range(40)))
-        db.rows("INSERT INTO kept VALUES (40, '1!2.300rc1.post1+ubuntu.7'); ANALYZE kept")
+        db.rows("INSERT INTO kept VALUES (40, '1!2.300rc1.post1+ubuntu.7');" + ";".join(LIST_TABLE) + "; ANALYZE")
         db.close()
         for own in ("true", "false"):
             refused[own] = sum(refuse_each(server, query, own) for query in QUERIES)
@@ -405,10 +427,10 @@ def test_valgrind(unused):
     server, log = Server("checked"), FOLDER / "valgrind"
     failing = ["SELECT '1.0.x'::text::pep440", "SELECT '=<1'::text::pep440_specs", f"SELECT ('1+' || repeat('a', 3000))::pep440 <> '{'1' + '.1' * 1000}'"]
     rows = [f"INSERT INTO kept SELECT n, ('{'1!' if epoch else ''}1.' || n || '{suffix}')::pep440 FROM generate_series(1, 50) AS n" for epoch, suffix in enumerate(("", ".0rc1+ubuntu.7", ".0.0"))]
-    queries = ["CREATE EXTENSION pep440", *SMALL_TABLE.split(";")[:2], *rows, *QUERIES, *failing, "ANALYZE kept", "SELECT * FROM kept WHERE version <@ '~=1.5' ORDER BY version"]
+    queries = ["CREATE EXTENSION pep440", *SMALL_TABLE.split(";")[:2], *rows, *LIST_TABLE, "ANALYZE", "SET enable_seqscan = off", *QUERIES, *failing, "ANALYZE kept", "SELECT * FROM kept WHERE version <@ '~=1.5' ORDER BY version"]
     command = USER + ["valgrind", f"--log-file={log}", "--num-callers=30", str(FOLDER / "bin" / "postgres"), "--single", "-D", str(server.data), "postgres"]
     subprocess.run(command, cwd=FOLDER, env={**os.environ, "LC_ALL": "C"}, input="\n".join(queries) + "\n", capture_output=True, text=True, check=True)
-    found = [block for block in log.read_text().split("== \n") if re.search(r"pep440|\((version|stored|specs|parts|plan)\.c", block) and "Command:" not in block]
+    found = [block for block in log.read_text().split("== \n") if re.search(r"pep440|\((version|stored|specs|parts|plan|estimate|gist)\.c", block) and "Command:" not in block]
     assert not found, found[0]
     return f"{len(queries)} queries"
 
@@ -420,7 +442,7 @@ def main():
         server.start()
         fill(server)
         only = [f"test_{word[7:]}" for word in sys.argv if word.startswith("--only=")]
-        tests = {**globals(), **vars(test_values), **vars(test_hostile)}
+        tests = {**globals(), **vars(test_values), **vars(test_plans), **vars(test_hostile)}
         for name, test in [(name, test) for name, test in tests.items() if name.startswith("test_") and callable(test) and (not only or name in only)]:
             try:
                 print(f"postgresql: {name.removeprefix('test_')}: {test(server)}", flush=True)

@@ -11,7 +11,7 @@ CORRUPTED = "XX001"
 SCRIPTS = "".join(re.sub(r"^(--|\\).*$", "", file.read_text(encoding="utf-8"), flags=re.M) for file in sorted(HERE.glob("pep440--*.sql")))
 # Statements that have no expression, and find what they name by its types.
 FUNCTION = r"CREATE FUNCTION \w+\((?:(?!DEFAULT)[\w, ])*\) RETURNS [\w\[\] ]+ AS 'MODULE_PATHNAME', '\w+' LANGUAGE C [\w ]+"
-STATEMENT = rf"{FUNCTION}|(CREATE (TYPE|CAST|OPERATOR|OPERATOR CLASS|AGGREGATE) |ALTER OPERATOR FAMILY |COMMENT ON TYPE )[^$]*"
+STATEMENT = rf"{FUNCTION}|(CREATE (TYPE|CAST|OPERATOR|OPERATOR CLASS|AGGREGATE) |ALTER OPERATOR |COMMENT ON TYPE )[^$]*|ALTER FUNCTION \w+\([\w, ]+\) LEAKPROOF"
 CATALOG_TYPES, OWN_TYPES = ["text", "name", "regtype", "regclass"], ["pep440", "pep440_specs"]
 TYPES = CATALOG_TYPES + ["oid", "bytea", "integer"]
 TRAP = "LANGUAGE plpgsql AS $$BEGIN RAISE INFO 'sprung: {}, as %', current_user; RETURN NULL; END$$"
@@ -149,7 +149,7 @@ def test_damaged(server):
     db.rows("CREATE CAST (bytea AS pep440) WITHOUT FUNCTION")
     for stored in [b"\x81\xff\xff", b"\x80", b"\x82\x01\x00", b"\x80\x08"] + [damaged(rng) for _ in range(STRINGS)]:
         given = f"'\\x{stored.hex()}'::bytea::pep440"
-        for value in (given, f"pep440_hash({given}), {given} < '1.0', {given} <@ '>=1', pep440_local({given})"):
+        for value in (given, f"pep440_hash({given}), {given} < '1.0', {given} <@ '>=1', pep440_local({given})", f"pep440_is_prerelease({given})"):
             try:
                 db.rows(f"SELECT {value}")
             except Refused as error:

@@ -1,4 +1,4 @@
-"""Tests of lists as values, of what values take, and of the update from release 0.2; test.py runs them."""
+"""Tests of lists as values, of what values take, and of updates from older releases; test.py runs them."""
 import importlib
 import random
 import re
@@ -98,7 +98,6 @@ def test_emptiness(server):
     assert wrong == "0", wrong
     empty = db.value("SELECT count(*) FROM pair WHERE isempty(joined)")
     assert 100 < int(empty) < 9900, empty
-    refused(db, "SELECT isempty(string_agg('!=1.' || n, ',')::pep440_specs) FROM generate_series(1, 1000) AS n", "54000")
     db.close()
     return f"{empty} of 10000 pairs have no version in common"
 
@@ -219,6 +218,24 @@ def stored_by_0_2(normal, key):
     return b"".join(len(part).to_bytes(2, "little") for part in (key, compiled)) + key + compiled + normal.encode()
 
 
+def test_update_0_3(server):
+    """Tables and indexes of 0.3 stay as they are, and the values have what is new."""
+    db, rng = database(server, "release_0_3", "CREATE EXTENSION pep440 VERSION '0.3'"), random.Random(656)
+    db.rows("CREATE TABLE held (version pep440 PRIMARY KEY, specs pep440_specs); CREATE INDEX ON held USING hash (specs); CREATE VIEW found AS SELECT version FROM held WHERE version <@ '>=1.0,!=1.5'")
+    db.rows("INSERT INTO held VALUES " + ",".join(f"('{version(rng)}', '{specifiers(rng)}')" for _ in range(300)) + " ON CONFLICT DO NOTHING")
+    query = "SELECT *, specs @> version FROM held ORDER BY version; SELECT * FROM found ORDER BY version"
+    before = db.rows(query)
+    db.rows("ALTER EXTENSION pep440 UPDATE; CREATE INDEX by_list ON held USING gist (specs);" + NO_TABLE)
+    assert db.rows(query) == before and "by_list" in plan_of(db, "SELECT * FROM held WHERE specs @> '1.0'")
+    installed = "SELECT pg_describe_object(classid, objid, 0) FROM pg_depend WHERE deptype = 'e' AND refobjid = (SELECT oid FROM pg_extension WHERE extname = 'pep440') ORDER BY 1"
+    updated = db.rows(installed)
+    db.close()
+    db = server.connect()
+    assert db.rows(installed) == updated
+    db.close()
+    return f"{len(before)} versions found, and {len(updated)} objects as of a new extension"
+
+
 def test_update(server):
     """ALTER EXTENSION UPDATE leaves the tables, whose values are read as they are; the page's statement writes one anew; and a dump of 0.2 restores."""
     db = database(server, "older_release", "CREATE EXTENSION pep440 VERSION '0.2'", "CREATE CAST (bytea AS pep440) WITHOUT FUNCTION")
@@ -231,7 +248,7 @@ def test_update(server):
     files, sizes = "SELECT relname, relfilenode FROM pg_class WHERE relkind IN ('r', 'i') AND relnamespace = 'public'::regnamespace ORDER BY relname", []
     before = db.rows(files)
     db.rows("ALTER EXTENSION pep440 UPDATE")
-    assert db.rows(files) == before and db.value("SELECT extversion FROM pg_extension WHERE extname = 'pep440'") == "0.3"
+    assert db.rows(files) == before and db.value("SELECT extversion FROM pg_extension WHERE extname = 'pep440'") == "0.4"
     (anew,) = re.findall(r"^ALTER TABLE .*;$", (HERE / "README.md").read_text(encoding="utf-8"), re.M)
     for command in ("SELECT 1", anew.replace("releases", "old")):
         db.rows(command)
@@ -279,28 +296,28 @@ def test_soft_errors(server):
     return "valid and invalid versions and lists"
 
 
-GAPS = ">=1" + "".join(f",!={number % 300}.{number}" for number in range(80_000))
+GAPS, MANY_GAPS = (">=1" + "".join(f",!={number % 300}.{number}" for number in range(count)) for count in (5_200, 80_000))
 LONG = [  # what takes the longest of the texts that a server takes, and of the plans that it makes for them
-    "('1' || repeat('.1', 50000000))::pep440", "repeat('0', 100000000)::pep440", "(repeat(' ', 100000000) || '1')::pep440", "('>=1' || repeat(',!=1.5.*', 10000000))::pep440_specs",
-    "(repeat('>=1,', 20000000) || 'x')::pep440_specs", "pep440_valid(repeat('1', 100000000))", "pep440_specs_valid(repeat('>=1,', 20000000) || '>1')",
+    "('1' || repeat('.1', 5000000))::pep440", "repeat('0', 10000000)::pep440", "(repeat(' ', 10000000) || '1')::pep440", "('>=1' || repeat(',!=1.5.*', 1000000))::pep440_specs",
+    "(repeat('>=1,', 2000000) || 'x')::pep440_specs", "pep440_valid(repeat('1', 10000000))", "pep440_specs_valid(repeat('>=1,', 2000000) || '>1')", f"'{MANY_GAPS}'::pep440_specs",
+    f"pep440_specs_valid('{MANY_GAPS}')", "(SELECT count(pep440_specs(repeat('>=1.0,', 10000) || '>=' || n)) FROM generate_series(1, 1000) AS n)",
     f"(SELECT count(*) FROM releases WHERE version <@ '{GAPS}')", f"(SELECT count(*) FROM releases, pep440_specs('{GAPS}') AS specs WHERE version <@ specs)",
-    f"(SELECT count(*) FROM generate_series(1, 100), pep440_cover('{GAPS}'))", f"isempty('{','.join(f'!=1.{number}' for number in range(440))}'::pep440_specs)",
+    f"(SELECT count(*) FROM generate_series(1, 100), pep440_cover('{GAPS}'))", f"(SELECT count(isempty(specs)) FROM pep440_specs('{GAPS}') AS specs, generate_series(1, 100))",
+    f"(SELECT count(specs && ('>=' || n)::pep440_specs) FROM pep440_specs('{GAPS}') AS specs, generate_series(1, 100) AS n)",
 ]
 
 
 def test_interrupts(server):
-    """A statement that reads a long text ends soon after its time is over: what counts is the processor's time, since on a loaded machine all waits."""
-    if SMALL:
-        return "left out"
-    db, longest = server.connect(), 0
-    db.rows("SET statement_timeout = '1s'")
+    """A statement that reads a long text ends in a tenth of a second after its time is over: of the processor's, since on a loaded machine all waits."""
+    db, longest = server.connect(), (0, "")
+    db.rows("SET statement_timeout = '100ms'")
     for text in LONG:
         begun = processor_time(db)
         try:
             db.rows(f"SELECT length({text}::text)")
         except Refused as error:
             assert error.code in (CANCELED, "54000", "22P02"), error
-        longest = max(longest, processor_time(db) - begun)
+        longest = max(longest, (processor_time(db) - begun, text[:60]))
     db.close()
-    assert longest < 3, longest
-    return f"{len(LONG)} long texts, the longest {longest:.1f} s of processor under a limit of 1 s"
+    assert longest[0] < 0.2, longest
+    return f"{len(LONG)} long texts, the longest {longest[0]:.2f} s of processor under a limit of 0.1 s"

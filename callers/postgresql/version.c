@@ -12,12 +12,14 @@ void fail(uint8_t status)
     ereport(ERROR, (errcode(ERRCODE_DATA_CORRUPTED), errmsg("stored bytes are no value of this type")));
 }
 
-/* The text in UTF-8, which the library reads: the server may have another encoding. The library would take bytes that begin with a format as compiled: a text
-   is none, so another one stands for it that is no version and no list either. */
+/* The text in UTF-8, which the library reads: the server may have another encoding. In SQL_ASCII bytes have none, and the library rejects those that are no
+   UTF-8, as it does texts that are too long. The library would take bytes that begin with a format as compiled: a text is none, so another one stands for
+   it that is no version and no list either. */
 static Bytes utf8_of(const char *text, int length)
 {
-    const char *utf8 = pg_server_to_any(text, length, PG_UTF8);
-    if (length > 0 && utf8[0] >= VERSION_FORMAT && utf8[0] <= LIST_FORMAT)
+    bool is_passed = GetDatabaseEncoding() == PG_SQL_ASCII || length > MOST_TEXT;
+    const char *utf8 = is_passed ? text : pg_server_to_any(text, length, PG_UTF8);
+    if (length > 0 && utf8[0] >= VERSION_FORMAT && utf8[0] <= SET_FORMAT)
         return (Bytes){(const uint8_t *)"\1", 1};
     return (Bytes){(const uint8_t *)utf8, utf8 == text ? (size_t)length : strlen(utf8)};
 }
@@ -26,7 +28,7 @@ static Bytes utf8_of(const char *text, int length)
 static char *server_text(Bytes utf8)
 {
     char *text = pnstrdup((const char *)utf8.bytes, utf8.length);
-    return pg_any_to_server(text, (int)utf8.length, PG_UTF8);
+    return GetDatabaseEncoding() == PG_SQL_ASCII ? text : pg_any_to_server(text, (int)utf8.length, PG_UTF8);
 }
 
 Bytes utf8_argument(FunctionCallInfo fcinfo)
@@ -69,7 +71,7 @@ Datum read_binary(FunctionCallInfo fcinfo, Reader read)
 
 uint8_t write_all(Writer call, Bytes read, Bytes *out)
 {
-    size_t room = 256 + PEP440_COMPILED_BOUND(read.length);
+    size_t room = 256 + 5 * read.length;
     uint8_t *bytes = palloc(room + 1);
     uint8_t status = call(read.bytes, read.length, bytes, room, &out->length);
     if (status == PEP440_NO_ROOM) {

@@ -135,11 +135,12 @@ def test_list_is_kept():
         assert value(db, "SELECT sum(pep440_match(?, version)) FROM given", specs) == answer
     # without the list's text being read in each row a long list costs little
     long = ",".join(f"!=7.{each}.*" for each in range(2000))
-    db.execute("CREATE TABLE many AS WITH RECURSIVE n(i) AS (SELECT 1 UNION ALL SELECT i + 1 FROM n WHERE i < 300) SELECT '6.' || i AS version, i FROM n")
+    count = 20 if SMALL else 300
+    db.execute(f"CREATE TABLE many AS WITH RECURSIVE n(i) AS (SELECT 1 UNION ALL SELECT i + 1 FROM n WHERE i < {count}) SELECT '6.' || i AS version, i FROM n")
     seconds = {}
     for specs in ("?1", "?1 || substr('', i)") * 3:
         begun = time.process_time()
-        assert value(db, f"SELECT sum(pep440_match({specs}, version)) FROM many", long) == 300
+        assert value(db, f"SELECT sum(pep440_match({specs}, version)) FROM many", long) == count
         spent = time.process_time() - begun
         seconds[specs] = min(seconds.get(specs, spent), spent)
     kept, read = seconds.values()
@@ -198,6 +199,14 @@ def test_page():
         count += 1
     assert count == 7, count
     return "7 queries"
+
+
+def test_python():
+    """The page's lines of Python print what stands beside the last one."""
+    (block,) = re.findall(r"```python\n(.*?)```", (HERE / "README.md").read_text(encoding="utf-8"), re.S)
+    ran = subprocess.run([sys.executable, "-c", block.replace("./pep440", sys.argv[1])], capture_output=True, text=True, check=True)
+    assert ran.stdout.split() == re.findall(r"# (\S+)$", block, re.M) == ["1.0a2"], ran.stdout
+    return "6 lines"
 
 
 def plan_of(db, query, *values):
@@ -290,6 +299,24 @@ def test_speed():
     ratio = seconds["none"][0] / seconds["index"][0]
     assert ratio >= 1000, ratio
     return f"ORDER BY with LIMIT is {ratio:.0f} times faster by the index"
+
+
+def test_wide_lists():
+    """A list that matches nearly all is found by one search of the page's index for each interval, in no more time than a scan takes."""
+    db, ratios = filled(ROWS // 5), []
+    db.execute("CREATE INDEX by_version ON releases (key, version)")
+    join = "SELECT count(version) FROM pep440_intervals(?1) JOIN releases ON key >= low AND key < ifnull(high, x'ff')"
+    for specs in ("!=1.0", "", ">=0.1,!=1.5.*,!=2.0"):
+        assert "SEARCH releases USING COVERING INDEX by_version (key>? AND key<?)" in plan_of(db, join, specs)
+        seconds = []
+        for query in (join, "SELECT count(version) FROM releases NOT INDEXED WHERE pep440_match(?1, version)") * 3:
+            begun = time.process_time()
+            found = value(db, query, specs)
+            seconds.append((time.process_time() - begun, found))
+        assert len({found for _, found in seconds}) == 1, (specs, seconds)
+        ratios.append(min(seconds[::2])[0] / min(seconds[1::2])[0])
+    assert SMALL or max(ratios) < 1, ratios
+    return "" if SMALL else f"at most {max(ratios):.2f} of the time of a scan"
 
 
 def turns_with_less_memory(file):

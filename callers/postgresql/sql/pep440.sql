@@ -3,7 +3,7 @@ CREATE EXTENSION pep440;
 \pset tuples_only on
 -- all families are whole
 SELECT opcname, amname FROM pg_opclass c JOIN pg_am a ON c.opcmethod = a.oid WHERE opcname ~ '^pep440' AND amvalidate(c.oid) ORDER BY 1, 2;
--- each function is immutable, strict and parallel safe, but for the four that the planner calls, which are strict
+-- each function is immutable, strict and parallel safe, but for those that the planner calls, which are strict
 SELECT proname, provolatile, proisstrict, proparallel FROM pg_proc p JOIN pg_depend d ON d.objid = p.oid JOIN pg_extension e ON d.refobjid = e.oid
     WHERE extname = 'pep440' AND prokind = 'f' AND (provolatile <> 'i' OR NOT proisstrict OR proparallel <> 's') ORDER BY 1;
 -- normal forms
@@ -47,8 +47,10 @@ SELECT specs, count(*) FROM unnest('{">=1,<2","","<2,>=1",==1.*,NULL}'::pep440_s
 SELECT '<2,!=1.5'::pep440_specs * '>=1', '>=1,!=1.5'::pep440_specs * '==1.*', ''::pep440_specs * '>1', ''::pep440_specs * '';
 SELECT isempty('>=1,<=1,!=1'::pep440_specs), isempty('<=1.0,==1.0+cu1'::pep440_specs), isempty(''::pep440_specs), pep440_version_in('>=1.16,<2'), pep440_version_in('===2,===2.0') IS NULL, '>=1'::pep440_specs && '<1', '>=1'::pep440_specs && '<=1';
 SELECT pep440_specs_valid('>=1, <2'), pep440_specs_valid(''), pep440_specs_valid('>=1, =<2'), pep440_specs_valid(NULL) IS NULL;
+-- empty items
+SELECT pep440_specs_valid('>=1,'), pep440_specs_without_empty_items(text), pep440_specs_valid(pep440_specs_without_empty_items(text)) FROM (VALUES ('>=1,'), (' ,, >=1 , ,<2'), (''), (','), ('>=1'), (',>=1,x,')) AS t(text);
 -- what begins as compiled bytes is a text like others
-SELECT pep440_specs_valid(E'\005'), pep440_specs_valid(E'\006'), pep440_valid(E'\004');
+SELECT pep440_specs_valid(E'\005'), pep440_specs_valid(E'\006'), pep440_specs_valid(E'\007'), pep440_valid(E'\004');
 -- errors
 SELECT '1.0.x'::pep440;
 SELECT ''::pep440;
