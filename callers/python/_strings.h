@@ -3,8 +3,11 @@
 static PyObject *InvalidVersion, *InvalidSpecifier;
 static PyTypeObject *HeldType, *HeldSpecifierType, *HeldSetType;
 
-/* A version: its string as it was given, its word where it has one, and what was asked for before: its sort key, its parts, its normalized form, what
-   is cut from this, and its compiled form. `text` is NULL until `__init__` has read a string. */
+/* Whether these types behave as those of `packaging` 26, and not as those of 25: the default, which `behave` changes for the whole process. */
+static int follows_26 = 1;
+
+/* A version: its string as it was given, its word or, where it has none, once it was asked for its hash, and what was asked for before: its sort key,
+   its parts, its normalized form, what is cut from this, and its compiled form. `text` is NULL until `__init__` has read a string. */
 typedef struct {
     PyObject_HEAD
     PyObject *text;
@@ -14,10 +17,11 @@ typedef struct {
     PyObject *prints; /* (public, base, local), or None where all of it is the base */
     uint8_t *compiled; /* `few`, or a block of its own */
     size_t length;
-    uint64_t word;
+    uint64_t word;    /* or its hash */
     char is_by_word;  /* it is compared and hashed by its word */
+    char has_hash;    /* `word` is its hash */
     char has_own_key; /* a key was set */
-    uint8_t few[30];  /* so that it takes 112 bytes */
+    uint8_t few[29];  /* so that it takes 112 bytes */
 } Held;
 
 /* The forms (docs/PROMISES.md, "Compiled versions"): a version is a byte, its sort key, and a byte 1 for each zero that ends its release; a list is a
