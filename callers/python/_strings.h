@@ -26,7 +26,7 @@ typedef struct {
 
 /* The forms (docs/PROMISES.md, "Compiled versions"): a version is a byte, its sort key, and a byte 1 for each zero that ends its release; a list is a
    byte, and for each member its operator, and key and zeros of its version. The library writes a set before the list, which is not kept here. */
-enum { VERSION = 4, LIST = 5, SET = 6, LIST_HEAD = 1, OPERATOR = 16, MEMBER_HEAD = 2 };
+enum { VERSION = 4, LIST = 5, SET = 6, SET_ALONE = 7, LIST_HEAD = 1, OPERATOR = 16, MEMBER_HEAD = 2 };
 
 /* ---- objects that are used again */
 
@@ -100,7 +100,7 @@ static int view_str(PyObject *given, pep440_string *text)
             return -1;
         PyErr_Clear();
     }
-    if (!bytes || (*bytes >= VERSION && *bytes <= SET)) {
+    if (!bytes || (*bytes >= VERSION && *bytes <= SET_ALONE)) {
         bytes = (const char *)NO_TEXT;
         length = sizeof NO_TEXT - 1;
     }
