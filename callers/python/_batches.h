@@ -95,12 +95,16 @@ static int copy_forms(Batch *batch)
     return end || !length ? 0 : -1;
 }
 
-/* The mark of a compiled version, as pep440_filter has it, by the rule of pep440_contains. */
+/* The mark of a compiled version, as pep440_filter has it, by the rule of the release that is followed. */
 static uint8_t mark_form(pep440_string list, pep440_string form, uint8_t *mark)
 {
-    uint8_t contained, early, status = pep440_contains(list.bytes, list.length, form.bytes, form.length, &contained, &early);
+    uint8_t contained, early, status;
+    if (follows_26)
+        status = pep440_allows(list.bytes, list.length, form.bytes, form.length, PEP440_ALL_PRERELEASES, &contained);
+    else
+        status = pep440_contains(list.bytes, list.length, form.bytes, form.length, &contained, &early);
     if (status == PEP440_OK)
-        *mark = !contained ? PEP440_NO_MATCH : early ? PEP440_PRERELEASE_MATCH : PEP440_MATCH;
+        *mark = !contained ? PEP440_NO_MATCH : view_key(form.bytes + 1).is_early ? PEP440_PRERELEASE_MATCH : PEP440_MATCH;
     return status;
 }
 
@@ -122,8 +126,21 @@ static uint8_t mark_text(pep440_string list, pep440_string text, uint8_t *mark)
     return status;
 }
 
-/* The marks of the batch; of what is contained, a pre-release is left out unless it is asked for. */
-static uint8_t mark(const Batch *batch, const pep440_string *list, int prereleases, uint8_t *marks)
+/* What a filter gives of the pre-releases that are contained: all, none, or all where nothing else is contained. */
+typedef enum { ALL_EARLY, NO_EARLY, EARLY_ALONE } Early;
+
+/* Has the marks of pre-releases say what is given of them. */
+static void drop_early(uint8_t *marks, size_t count, Early early)
+{
+    if (early == ALL_EARLY || (early == EARLY_ALONE && !memchr(marks, PEP440_MATCH, count)))
+        return;
+    for (size_t place = 0; place < count; place++)
+        if (marks[place] == PEP440_PRERELEASE_MATCH)
+            marks[place] = PEP440_NO_MATCH;
+}
+
+/* The marks of the batch. */
+static uint8_t mark(const Batch *batch, const pep440_string *list, uint8_t *marks)
 {
     PyThreadState *state = PyEval_SaveThread();
     uint8_t status = PEP440_OK;
@@ -135,20 +152,18 @@ static uint8_t mark(const Batch *batch, const pep440_string *list, int prereleas
             status = PEP440_OUT_OF_MEMORY;
     }
     PyEval_RestoreThread(state);
-    for (size_t place = 0; status == PEP440_OK && !prereleases && place < batch->count; place++)
-        if (marks[place] == PEP440_PRERELEASE_MATCH)
-            marks[place] = PEP440_NO_MATCH;
     return status;
 }
 
-static PyObject *marked(const Batch *batch, const uint8_t *marks, int skip)
+/* The items, or what stands in their places, that are marked as contained. */
+static PyObject *marked(const Batch *batch, PyObject *places, const uint8_t *marks, int skip)
 {
     PyObject *kept = PyList_New(0);
     for (size_t place = 0; kept && place < batch->count; place++) {
         if (marks[place] == PEP440_NOT_A_VERSION && !skip)
             raise_by(PEP440_INVALID_VERSION, batch->items[place], NULL);
-        else if (look_at(place) == 0 &&
-                 (marks[place] == PEP440_NO_MATCH || marks[place] == PEP440_NOT_A_VERSION || PyList_Append(kept, batch->items[place]) == 0))
+        else if (look_at(place) == 0 && (marks[place] == PEP440_NO_MATCH || marks[place] == PEP440_NOT_A_VERSION ||
+                                         PyList_Append(kept, PyTuple_GetItem(places, (Py_ssize_t)place)) == 0))
             continue;
         Py_CLEAR(kept);
     }
@@ -167,35 +182,68 @@ static uint8_t *copy_list(const Specifiers *self, pep440_string *list)
     return copy;
 }
 
-/* Those of the batch that are contained. */
-static PyObject *kept_of(Batch *batch, const Specifiers *self, int prereleases, int skip)
+/* Those of the batch that are contained, or what stands in their places. */
+static PyObject *kept_of(Batch *batch, PyObject *places, const Specifiers *self, Early early, int skip)
 {
     pep440_string list;
     uint8_t *marks = NULL, *copy = copy_list(self, &list), status = PEP440_OUT_OF_MEMORY;
     PyObject *kept;
     if (copy && copy_forms(batch) == 0 && (marks = PyMem_Calloc(batch->count + 1, 1)))
-        status = mark(batch, &list, prereleases, marks);
-    kept = status == PEP440_OK ? marked(batch, marks, skip) : raise_by(status, NULL, NULL);
+        status = mark(batch, &list, marks);
+    if (status == PEP440_OK)
+        drop_early(marks, batch->count, early);
+    kept = status == PEP440_OK ? marked(batch, places, marks, skip) : raise_by(status, NULL, NULL);
     PyMem_Free(marks);
     PyMem_Free(copy);
     return kept;
 }
 
-/* _kept(items, prereleases, skip_invalid), or None where Python is to compare; the caller's code first, since this may have the specifiers read again */
-static PyObject *keep_contained(PyObject *given, PyObject *const *args, Py_ssize_t count)
+/* What a filter gives of pre-releases where the call says this of them: all that the specifiers ask for, and of a set by 25 no others, but of the empty
+   one. -1 with an error. */
+static int early_of(Specifiers *self, PyObject *prereleases)
 {
-    Specifiers *self = (Specifiers *)given;
+    int allows;
+    if (prereleases == Py_None && follows_26 && self->said != Py_None)
+        prereleases = self->said;
+    if (prereleases != Py_None)
+        return prereleases == Py_False ? NO_EARLY : ALL_EARLY;
+    allows = allows_prereleases(self);
+    if (allows == 1)
+        return ALL_EARLY;
+    return allows < 0 ? -1 : follows_26 || is_specifier(self) || (is_empty_set(self) && self->said == Py_None) ? EARLY_ALONE : NO_EARLY;
+}
+
+/* Those of the items that are contained, or what stands in their places in another tuple. */
+static PyObject *keep_of(Specifiers *self, PyObject *items, PyObject *places, PyObject *prereleases, int skip)
+{
     Batch batch;
-    int prereleases, skip, by_python;
     PyObject *kept = NULL;
-    if (!has_count("_kept", count, 3) || (prereleases = PyObject_IsTrue(args[1])) < 0 || (skip = PyObject_IsTrue(args[2])) < 0 || gather(args[0], &batch) < 0)
+    int by_python, early;
+    if (gather(items, &batch) < 0)
         return NULL;
-    by_python = is_changed(self);
+    /* from here on no code of the caller runs: this may have had the specifiers read again */
+    by_python = is_read(self) ? is_changed(self) : -1;
     if (by_python > 0)
         kept = Py_NewRef(Py_None);
-    else if (by_python == 0 && compile_list_of(self) == 0)
-        kept = kept_of(&batch, self, prereleases, skip);
+    else if (by_python == 0 && (early = early_of(self, prereleases)) >= 0 && compile_set_of(self) == 0)
+        kept = kept_of(&batch, places ? places : batch.tuple, self, (Early)early, skip);
     drop(&batch);
+    return kept;
+}
+
+/* _kept(items, prereleases, skip_invalid, places=None), or None where Python is to compare; `prereleases` is True, False or None. */
+static PyObject *keep_contained(PyObject *given, PyObject *const *args, Py_ssize_t count)
+{
+    PyObject *places = NULL, *kept;
+    int skip;
+    if (!has_count("_kept", count == 4 ? 3 : count, 3) || (skip = PyObject_IsTrue(args[2])) < 0 || (count == 4 && !(places = PySequence_Tuple(args[3]))))
+        return NULL;
+    if (places && PyTuple_Size(places) != PyObject_Size(args[0])) {
+        PyErr_SetString(PyExc_ValueError, "_kept() takes a place for each item");
+        kept = NULL;
+    } else
+        kept = keep_of((Specifiers *)given, args[0], places, args[1], skip);
+    Py_XDECREF(places);
     return kept;
 }
 

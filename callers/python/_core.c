@@ -58,24 +58,41 @@ static PyObject *without_set(const char *compiled, Py_ssize_t length)
 
 static PyObject *compile_list(PyObject *module, PyObject *list) { return made_of_list(pep440_compile_list, list, without_set); }
 
-/* use(member_class, set_class, reader_of_others) */
+/* behave(follows_26) */
+static PyObject *behave(PyObject *module, PyObject *flag)
+{
+    int follows = PyObject_IsTrue(flag);
+    if (follows < 0)
+        return NULL;
+    follows_26 = follows;
+    Py_RETURN_NONE;
+}
+
+static PyObject *get_behaviour(PyObject *module, PyObject *unused) { return PyBool_FromLong(follows_26); }
+
+/* use(member_class, set_class, reader_of_others, sorter_of_members) */
 static PyObject *use(PyObject *module, PyObject *const *args, Py_ssize_t count)
 {
-    if (!has_count("use", count, 3))
+    if (!has_count("use", count, 4))
         return NULL;
     call_quickly((PyTypeObject *)kept_in(&member_class, Py_NewRef(args[0])), specifier_call, (destructor)specifiers_free);
     call_quickly((PyTypeObject *)kept_in(&set_class, Py_NewRef(args[1])), set_call, (destructor)specifiers_free);
     kept_in(&reader_of_others, Py_NewRef(args[2]));
+    kept_in(&sorter_of_members, Py_NewRef(args[3]));
     Py_RETURN_NONE;
 }
 
 #define CALL(function) (PyCFunction)(void (*)(void))function
 #define CONTAINS_HEAD(more) "contains($self, /, item, prereleases=None" more ")\n--\n\n"
 
+#define KEPT \
+    {"_kept", CALL(keep_contained), METH_FASTCALL, \
+     "_kept(items, prereleases, skip_invalid, places=None): those that are contained, or what stands in their places; None where Python is to compare"}
+
 static PyMethodDef specifier_calls[] = {
     {"contains", CALL(specifier_contains), METH_FASTCALL | METH_KEYWORDS,
      CONTAINS_HEAD("") "Whether the version is contained; a pre-release only where `prereleases`, or else the attribute of that name, allows it."},
-    {"_kept", CALL(keep_contained), METH_FASTCALL, "_kept(items, prereleases, skip_invalid): those that are contained, or None where Python is to compare"},
+    KEPT,
     {NULL, NULL, 0, NULL}};
 
 static PyMethodDef set_calls[] = {
@@ -83,13 +100,14 @@ static PyMethodDef set_calls[] = {
      CONTAINS_HEAD(", installed=None")
      "Whether each member contains the version; a pre-release only where `prereleases`, or else the attribute of that name, allows it.\n\n"
      "Where `installed` is true, an allowed pre-release is asked for by its base version."},
-    {"_kept", CALL(keep_contained), METH_FASTCALL, "_kept(items, prereleases, skip_invalid): those that are contained, or None where Python is to compare"},
+    KEPT,
     {NULL, NULL, 0, NULL}};
 
 #define PRERELEASES \
     {"prereleases", (getter)get_prereleases, (setter)set_prereleases, "Whether pre-releases are allowed. May be set.", NULL}, \
     {"_prereleases", (getter)get_said, (setter)set_prereleases, "What was said of pre-releases, or None.", NULL}, \
     {"_compiled", (getter)get_compiled, NULL, "The compiled list, of all but what Python is to compare.", NULL}, \
+    {"_is_by_python", (getter)get_changed, NULL, "Whether Python is to compare.", NULL}, \
     {"__dict__", PyObject_GenericGetDict, PyObject_GenericSetDict, NULL, NULL}
 
 static PyGetSetDef specifier_values[] = {
@@ -103,6 +121,7 @@ static PyGetSetDef specifier_values[] = {
 static PyGetSetDef set_values[] = {
     PRERELEASES,
     {"_specs", (getter)get_members, (setter)assign_members, "The members.", NULL},
+    {"_sorted_specs", (getter)get_sorted, NULL, "The members as they are compared.", NULL},
     {NULL, NULL, NULL, NULL, NULL}};
 
 /* Their attributes and weak references, for which a class in Python would take blocks of its own. */
@@ -150,9 +169,13 @@ static PyType_Spec set_spec = {"pep440_rattle._core.HeldSet", sizeof(Specifiers)
 static PyMethodDef calls[] = {
     {"ranges", ranges, METH_O, "The range of a list, a segment a line."},
     {"compile_list", compile_list, METH_O, "The compiled list, of the string at once."},
-    {"use", CALL(use), METH_FASTCALL, "use(member, set, reader): the classes of members and of sets, and what gives the strings of other libraries' versions."},
+    {"use", CALL(use), METH_FASTCALL,
+     "use(member, set, reader, sorter): the classes of members and of sets, what gives the strings of other libraries' versions, and the order of members."},
+    {"behave", behave, METH_O, "Has all of these types behave as those of packaging 26, or else of 25."},
+    {"follows_26", get_behaviour, METH_NOARGS, "Whether these types behave as those of packaging 26, or else of 25."},
     {"read_requirement", CALL(read_requirement), METH_FASTCALL, "The parts of a requirement, or None where its tokens are to be read."},
     {"read_marker", CALL(read_marker), METH_FASTCALL, "The comparisons of a marker, or None where its tokens are to be read."},
+    {"normal_name", normal_name, METH_O, "The normalized name of a project, or None where Python is to make it."},
     {"sort", sort, METH_O, "The items in the order of their versions."},
     {"sort_keys", sort_keys, METH_O, "The sort key of each item."},
     {NULL, NULL, 0, NULL}};

@@ -319,3 +319,40 @@ static PyObject *read_marker(PyObject *module, PyObject *const *args, Py_ssize_t
         Py_CLEAR(marker);
     return made_or_none(marker);
 }
+
+/* ---- names of projects */
+
+/* A byte of a normalized name: letters are small, and `_` and `.` are `-`. */
+static char normal_byte(char it)
+{
+    if (it >= 'A' && it <= 'Z')
+        return (char)(it - 'A' + 'a');
+    return it == '_' || it == '.' ? '-' : it;
+}
+
+/* Writes the name without a second `-` behind another one; its length. */
+static Py_ssize_t write_name(const char *name, Py_ssize_t length, char *out)
+{
+    Py_ssize_t written = 0;
+    for (Py_ssize_t at = 0; at < length; at++) {
+        char next = normal_byte(name[at]);
+        if (next != '-' || !written || out[written - 1] != '-')
+            out[written++] = next;
+    }
+    return written;
+}
+
+/* normal_name(name): the normalized name of a project (PEP 503), of a str of ASCII that is not long; else None */
+static PyObject *normal_name(PyObject *module, PyObject *given)
+{
+    char out[256];
+    Py_ssize_t length = 0, written;
+    const char *name = PyUnicode_CheckExact(given) ? PyUnicode_AsUTF8AndSize(given, &length) : NULL;
+    PyErr_Clear();
+    if (!name || length > (Py_ssize_t)sizeof out || length != PyUnicode_GetLength(given))
+        Py_RETURN_NONE;
+    written = write_name(name, length, out);
+    if (written == length && !memcmp(name, out, (size_t)length))
+        return Py_NewRef(given);
+    return PyUnicode_FromStringAndSize(out, written);
+}

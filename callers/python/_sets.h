@@ -1,8 +1,8 @@
 /* The type of sets of specifiers: how one is made of its members, and what of these is asked. */
 
-/* A member of a set, and which one it is. */
+/* The list of a member of a set, and which one it is. */
 typedef struct {
-    const Specifiers *member;
+    pep440_string list;
     size_t place;
 } Placed;
 
@@ -10,8 +10,8 @@ typedef struct {
 static int compare_placed(const void *left, const void *right)
 {
     const Placed *one = left, *other = right;
-    int order = compare_forms(one->member->compiled + MEMBER_HEAD, one->member->length - MEMBER_HEAD, other->member->compiled + MEMBER_HEAD,
-                              other->member->length - MEMBER_HEAD);
+    int order = compare_forms(one->list.bytes + MEMBER_HEAD, one->list.length - MEMBER_HEAD, other->list.bytes + MEMBER_HEAD,
+                              other->list.length - MEMBER_HEAD);
     return order ? order : (one->place > other->place) - (one->place < other->place);
 }
 
@@ -28,8 +28,8 @@ static Py_ssize_t place_members(PyObject *members, Placed *placed, size_t *lengt
             return -1;
         if (is_arbitrary(member))
             continue;
-        placed[count++] = (Placed){member, place};
-        *length += member->length - LIST_HEAD;
+        placed[count++] = (Placed){list_of(member), place};
+        *length += placed[count - 1].list.length - LIST_HEAD;
     }
     while (in_order < count && compare_placed(placed + in_order - 1, placed + in_order) < 0)
         in_order++;
@@ -51,8 +51,8 @@ static int join_lists(Specifiers *self, const Placed *placed, size_t count, size
     *end = LIST;
     end += LIST_HEAD;
     for (size_t turn = 0; turn < count; turn++) {
-        size_t size = placed[turn].member->length - LIST_HEAD;
-        memcpy(end, placed[turn].member->compiled + LIST_HEAD, size);
+        size_t size = placed[turn].list.length - LIST_HEAD;
+        memcpy(end, placed[turn].list.bytes + LIST_HEAD, size);
         end += size;
     }
     return 0;
@@ -225,23 +225,56 @@ static PyObject *members_of(Specifiers *self)
     return self->said ? self->members : NULL;
 }
 
-static PyObject *get_members(Specifiers *self, void *unused) { return Py_XNewRef(members_of(self)); }
+/* What gives members in the order of their strings, of equal ones the first: set by the module of specifiers. */
+static PyObject *sorter_of_members;
+
+/* The members as both releases compare them, borrowed: a frozenset, or by 26 a tuple in the order of their strings. */
+static PyObject *compared_members(Specifiers *self)
+{
+    if (!follows_26)
+        return members_of(self);
+    while (is_read(self) && !self->is_sorted) {
+        PyObject *members = Py_NewRef(self->members);
+        PyObject *made = PyObject_Size(members) > 1 ? PyObject_CallFunctionObjArgs(sorter_of_members, members, NULL) : PySequence_Tuple(members);
+        if (made && self->members == members) {
+            kept_in(&self->members, Py_NewRef(made));
+            self->is_sorted = 1;
+        }
+        Py_DECREF(members);
+        if (!made)
+            return NULL;
+        Py_DECREF(made);
+    }
+    return self->said ? self->members : NULL;
+}
+
+/* The members as they are listed: by 26 as they were given, until they were compared. */
+static PyObject *listed_members(Specifiers *self)
+{
+    if (!follows_26)
+        return members_of(self);
+    return is_read(self) ? self->members : NULL;
+}
+
+static PyObject *get_members(Specifiers *self, void *unused) { return Py_XNewRef(listed_members(self)); }
+
+static PyObject *get_sorted(Specifiers *self, void *unused) { return Py_XNewRef(compared_members(self)); }
 
 static Py_ssize_t set_length(Specifiers *self)
 {
-    PyObject *members = members_of(self);
+    PyObject *members = listed_members(self);
     return members ? PyObject_Size(members) : -1;
 }
 
 static PyObject *set_iterator(Specifiers *self)
 {
-    PyObject *members = members_of(self);
+    PyObject *members = listed_members(self);
     return members ? PyObject_GetIter(members) : NULL;
 }
 
 static Py_hash_t set_hash(Specifiers *self)
 {
-    PyObject *members = members_of(self);
+    PyObject *members = compared_members(self);
     return members ? PyObject_Hash(members) : -1;
 }
 
@@ -254,8 +287,8 @@ static PyObject *set_compare(PyObject *left, PyObject *right, int operation)
         Py_RETURN_NOTIMPLEMENTED;
     text = is_set ? Py_NewRef(right) : PyObject_Str(right);
     other = is_set || !text ? Py_XNewRef(text) : PyObject_CallFunctionObjArgs((PyObject *)HeldSetType, text, NULL);
-    one = other ? Py_XNewRef(members_of((Specifiers *)left)) : NULL;
-    two = one ? Py_XNewRef(members_of((Specifiers *)other)) : NULL;
+    one = other ? Py_XNewRef(compared_members((Specifiers *)left)) : NULL;
+    two = one ? Py_XNewRef(compared_members((Specifiers *)other)) : NULL;
     if (two)
         answer = PyObject_RichCompare(one, two, operation);
     Py_XDECREF(text);

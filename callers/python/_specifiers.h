@@ -9,14 +9,15 @@ typedef struct {
     PyObject *attributes; /* `__dict__`, once asked for */
     PyObject *references; /* the weak ones */
     PyObject *text;       /* of a specifier as it prints, else NULL */
-    PyObject *members;    /* of a set: a tuple until they are asked for, then a frozenset; of a specifier: (operator, version) once asked for */
+    PyObject *members;    /* of a set: a tuple, and by 25 once they are asked for a frozenset; of a specifier: (operator, version) once asked for */
     PyObject *canonical;  /* of a specifier, once asked for: what equal ones share */
     PyObject *said;       /* of pre-releases; NULL until `__init__` has read a string */
-    uint8_t *compiled;    /* `few`, or a block of its own */
+    uint8_t *compiled;    /* `few`, or a block of its own; with its set once 26 was to match by it */
     size_t length;
     long asked_at;       /* `times_set` when `allows` was found */
-    signed char allows;  /* whether it allows pre-releases where nobody says so; -1: not asked yet */
+    signed char allows;  /* whether it allows pre-releases where nobody says so, or UNKNOWN; -1: not asked yet */
     signed char changed; /* whether Python is to compare (`is_changed`); -1: not asked yet */
+    char is_sorted;      /* of a set: its members are as 26 compares them, in the order of their strings, each one once */
     uint8_t few[48];
 } Specifiers;
 
@@ -25,6 +26,9 @@ static long times_set;
 
 /* How many characters `===` has, alone of all operators. */
 enum { ARBITRARY = 3 };
+
+/* Whether a specifier allows pre-releases, of one with `===` and no version. */
+enum { UNKNOWN = 2 };
 
 static int is_specifier(const Specifiers *self) { return self->text != NULL; }
 
@@ -37,6 +41,13 @@ static int is_read(const Specifiers *self)
     if (!self->said)
         PyErr_Format(PyExc_AttributeError, "%R was made without its __init__", Py_TYPE((PyObject *)self));
     return self->said != NULL;
+}
+
+/* The list in what was compiled, behind its set. */
+static inline pep440_string list_of(const Specifiers *self)
+{
+    size_t start = list_start(self->compiled);
+    return (pep440_string){self->compiled + start, self->length - start};
 }
 
 /* Drops what was compiled. */
@@ -77,7 +88,7 @@ static inline void take(Specifiers *self, PyObject *text, PyObject *members, PyO
     while (self->said)
         drop_read(self);
     self->text = text, self->members = members, self->said = Py_NewRef(said);
-    self->asked_at = -1, self->allows = -1, self->changed = -1;
+    self->asked_at = -1, self->allows = -1, self->changed = -1, self->is_sorted = 0;
 }
 
 static int specifiers_traverse(Specifiers *self, visitproc visit, void *arg)
@@ -337,6 +348,24 @@ static int compile_list_of(Specifiers *self)
     return -1;
 }
 
+/* The same for matching: 26 matches by the set, which one with `===` does not have. */
+static int compile_set_of(Specifiers *self)
+{
+    Compiled compiled;
+    uint8_t status;
+    if (compile_list_of(self) < 0)
+        return -1;
+    if (!follows_26 || self->compiled[0] == SET || is_arbitrary(self))
+        return 0;
+    status = compile(pep440_compile_list, (pep440_string){self->compiled, self->length}, &compiled);
+    if (status == PEP440_OK) {
+        drop_list(self);
+        return hold(self, &compiled);
+    }
+    raise_by(status, NULL, NULL);
+    return -1;
+}
+
 /* ---- what is asked of a specifier */
 
 static PyObject *specifier_str(Specifiers *self) { return is_read(self) ? Py_NewRef(self->text) : NULL; }
@@ -407,6 +436,7 @@ static int assign_spec(Specifiers *self, PyObject *value, void *unused)
 static PyObject *canonical_of(Specifiers *self)
 {
     PyObject *spec, *version;
+    pep440_string list;
     size_t length;
     if (self->canonical)
         return self->canonical;
@@ -414,15 +444,16 @@ static PyObject *canonical_of(Specifiers *self)
     if (!spec || compile_list_of(self) < 0)
         return NULL;
     version = PyTuple_GetItem(spec, 1);
-    length = self->length - MEMBER_HEAD;
+    list = list_of(self);
+    length = list.length - MEMBER_HEAD;
     if (is_arbitrary(self))
-        version = key_or_text(self, version);
+        version = follows_26 ? Py_NewRef(version) : key_or_text(self, version);
     else if (PyUnicode_ReadChar(version, PyUnicode_GetLength(version) - 1) == '*')
         version = Py_NewRef(version);
     else {
         if (PyUnicode_ReadChar(self->text, 0) != '~')
-            length = key_length(self->compiled + MEMBER_HEAD, length);
-        version = PyBytes_FromStringAndSize((const char *)self->compiled + MEMBER_HEAD, (Py_ssize_t)length);
+            length = key_length(list.bytes + MEMBER_HEAD, length);
+        version = PyBytes_FromStringAndSize((const char *)list.bytes + MEMBER_HEAD, (Py_ssize_t)length);
     }
     return version ? kept_in(&self->canonical, Py_BuildValue("ON", PyTuple_GetItem(spec, 0), version)) : NULL;
 }
@@ -460,8 +491,8 @@ static PyObject *specifier_compare(PyObject *left, PyObject *right, int operatio
     return answer;
 }
 
-/* Whether the version behind any operator but `!=` is a pre-release: who excludes one does not ask for any. 1, 0, or -1 with an error, as where the text
-   behind `===` is no version. */
+/* Whether the version behind any operator but `!=` is a pre-release: who excludes one does not ask for any. 1, 0, or where the text behind `===` is no
+   version by 26 UNKNOWN and by 25 -1 with an error. */
 static int names_prerelease(Specifiers *self)
 {
     uint8_t status = PEP440_OK;
@@ -475,9 +506,10 @@ static int names_prerelease(Specifiers *self)
         if ((status = compile_behind(self, &compiled)) == PEP440_OK) {
             early = view_key(compiled.bytes + 1).is_early;
             drop_compiled(&compiled);
-        }
+        } else if (status == PEP440_INVALID_VERSION && follows_26)
+            early = UNKNOWN, status = PEP440_OK;
     } else if (PyUnicode_ReadChar(self->text, 0) != '!')
-        early = view_key(self->compiled + MEMBER_HEAD).is_early;
+        early = view_key(list_of(self).bytes + MEMBER_HEAD).is_early;
     if (status != PEP440_OK) {
         raise_by(status, self->members ? PyTuple_GetItem(self->members, 1) : NULL, NULL);
         return -1;
@@ -533,12 +565,18 @@ static PyObject *get_prereleases(Specifiers *self, void *unused)
     if (!is_specifier(self) && PyObject_Size(self->members) == 0)
         return Py_NewRef(Py_None);
     allows = allows_prereleases(self);
+    if (allows == UNKNOWN || (allows == 0 && follows_26 && !is_specifier(self)))
+        Py_RETURN_NONE;
     return allows < 0 ? NULL : PyBool_FromLong(allows);
 }
 
 static PyObject *get_compiled(Specifiers *self, void *unused)
 {
-    return compile_list_of(self) < 0 ? NULL : PyBytes_FromStringAndSize((const char *)self->compiled, (Py_ssize_t)self->length);
+    pep440_string list;
+    if (compile_list_of(self) < 0)
+        return NULL;
+    list = list_of(self);
+    return PyBytes_FromStringAndSize((const char *)list.bytes, (Py_ssize_t)list.length);
 }
 
 static PyObject *get_said(Specifiers *self, void *unused) { return is_read(self) ? Py_NewRef(self->said) : NULL; }
@@ -583,8 +621,25 @@ static int is_changed(Specifiers *self)
     return self->changed = (signed char)changed;
 }
 
+static PyObject *get_changed(Specifiers *self, void *unused)
+{
+    int changed = is_read(self) ? is_changed(self) : -1;
+    return changed < 0 ? NULL : PyBool_FromLong(changed);
+}
+
+/* Whether a compiled version is contained. */
+static uint8_t match_form(const Specifiers *self, pep440_string form, uint8_t which, uint8_t *contained)
+{
+    uint8_t early, status;
+    if (follows_26)
+        return pep440_allows(self->compiled, self->length, form.bytes, form.length, which, contained);
+    status = pep440_contains(self->compiled, self->length, form.bytes, form.length, contained, &early);
+    *contained &= which == PEP440_ALL_PRERELEASES || !early;
+    return status;
+}
+
 /* Whether the version of a string is contained: it is compiled first, since of two compiled forms the library answers in place. */
-static uint8_t contains_text(const Specifiers *self, PyObject *item, uint8_t *contained, uint8_t *early)
+static uint8_t contains_text(const Specifiers *self, PyObject *item, uint8_t which, uint8_t *contained)
 {
     pep440_string string;
     PyObject *text = stripped(item, &string);
@@ -593,29 +648,41 @@ static uint8_t contains_text(const Specifiers *self, PyObject *item, uint8_t *co
     if (text)
         status = compile(pep440_compile, string, &compiled);
     if (status == PEP440_OK) {
-        status = pep440_contains(self->compiled, self->length, compiled.bytes, compiled.length, contained, early);
+        status = match_form(self, (pep440_string){compiled.bytes, compiled.length}, which, contained);
         drop_compiled(&compiled);
     }
     Py_XDECREF(text);
     return status;
 }
 
-/* Whether the version of a str, or this version, is contained: 1, 0, or -1 with an error. */
-static int contains(Specifiers *self, PyObject *item, PyObject *prereleases)
+/* Whether pre-releases are left out: by 26 where this is said, by 25 unless they are asked for. 1, 0, or -1 with an error. */
+static int excludes_prereleases(Specifiers *self, PyObject *prereleases)
+{
+    int allows;
+    if (follows_26)
+        return prereleases == Py_False || (prereleases == Py_None && self->said == Py_False);
+    allows = prereleases == Py_None ? allows_prereleases(self) : prereleases == Py_True;
+    return allows < 0 ? -1 : !allows;
+}
+
+static int is_empty_set(const Specifiers *self) { return !is_specifier(self) && PyObject_Size(self->members) == 0; }
+
+/* Whether the version of a str, or this version, is contained: 1, 0, or -1 with an error. By 26 what is no version is in the empty set alone. */
+static int contains(Specifiers *self, PyObject *item, int excludes)
 {
     Held *version = (Held *)item;
-    uint8_t contained, early, status = PEP440_OUT_OF_MEMORY;
+    uint8_t which = excludes ? PEP440_NO_PRERELEASES : PEP440_ALL_PRERELEASES, contained = 0, status = PEP440_OUT_OF_MEMORY;
     if (!PyObject_TypeCheck(item, HeldType))
-        status = contains_text(self, item, &contained, &early);
+        status = contains_text(self, item, which, &contained);
     else if (version->compiled || compile_held(version) == 0)
-        status = pep440_contains(self->compiled, self->length, version->compiled, version->length, &contained, &early);
+        status = match_form(self, (pep440_string){version->compiled, version->length}, which, &contained);
+    if (status == PEP440_INVALID_VERSION && follows_26)
+        return is_empty_set(self);
     if (status != PEP440_OK) {
         raise_by(status, item, NULL);
         return -1;
     }
-    if (!contained || !early)
-        return contained;
-    return prereleases == Py_None ? allows_prereleases(self) : PyObject_IsTrue(prereleases);
+    return contained;
 }
 
 /* Sets each of the named arguments of a call; 0, or -1 with an error. */
@@ -639,23 +706,54 @@ static int arguments_of(const char *call, PyObject *const *args, Py_ssize_t coun
     return count > most || !given[0] ? -1 : 0;
 }
 
+/* Whether it stands for what `asked_item` was given. */
+static int is_no_version(PyObject *item) { return PyUnicode_Check(item) && PyUnicode_GetLength(item) == 0; }
+
+/* What is asked for, as `item_of` has it; by 26 what is of another type is the empty string, which is no version. */
+static PyObject *asked_item(PyObject *given)
+{
+    PyObject *item = item_of(given);
+    if (item || !follows_26 || !PyErr_ExceptionMatches(PyExc_TypeError))
+        return item;
+    PyErr_Clear();
+    return PyUnicode_FromString("");
+}
+
+/* Reads (item, prereleases, installed): an installed version is by 26 asked for with pre-releases. Returns whether Python is to compare for this. */
+static int read_flags(PyObject **given)
+{
+    int installed = given[2] == Py_None ? 0 : PyObject_IsTrue(given[2]), allows;
+    if (installed < 0 || follows_26) {
+        if (installed > 0)
+            given[1] = Py_True;
+        return installed < 0 ? -1 : 0;
+    }
+    if (given[1] != Py_None && (allows = PyObject_IsTrue(given[1])) >= 0)
+        given[1] = allows ? Py_True : Py_False;
+    return PyErr_Occurred() ? -1 : installed;
+}
+
 static PyObject *contains_of(Specifiers *self, PyObject *const *args, Py_ssize_t count, PyObject *named, Py_ssize_t most)
 {
     static const char *const NAMES[] = {"item", "prereleases", "installed"};
     PyObject *given[] = {NULL, Py_None, Py_None}, *item, *answer = NULL;
-    int by_python, contained;
+    int by_python, excludes = 0, contained;
     if (count == 1 && !named)
         given[0] = args[0];
     else if (arguments_of("contains", args, count, named, NAMES, given, most) < 0)
         return NULL;
     /* the caller's code first, since this may have the specifiers read again */
-    item = item_of(given[0]);
-    by_python = !item ? -1 : given[2] == Py_None ? 0 : PyObject_IsTrue(given[2]);
+    item = asked_item(given[0]);
+    by_python = item ? read_flags(given) : -1;
+    if (by_python == 0 && !is_read(self))
+        by_python = -1;
     if (by_python == 0 && self->changed)
         by_python = is_changed(self);
+    if (by_python == 0 && (excludes = excludes_prereleases(self, given[1])) >= 0 && self->changed)
+        by_python = is_changed(self);
     if (by_python > 0)
-        answer = PyObject_CallMethod((PyObject *)self, "_contains", "OOO", item, given[1], given[2]);
-    else if (by_python == 0 && (self->compiled || compile_list_of(self) == 0) && (contained = contains(self, item, given[1])) >= 0)
+        answer = PyObject_CallMethod((PyObject *)self, "_contains", "OOO", is_no_version(item) ? given[0] : item, given[1], given[2]);
+    else if (by_python == 0 && excludes >= 0 && compile_set_of(self) == 0 && (contained = contains(self, item, excludes)) >= 0)
         answer = PyBool_FromLong(contained);
     Py_XDECREF(item);
     return answer;

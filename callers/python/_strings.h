@@ -3,8 +3,11 @@
 static PyObject *InvalidVersion, *InvalidSpecifier;
 static PyTypeObject *HeldType, *HeldSpecifierType, *HeldSetType;
 
-/* A version: its string as it was given, its word where it has one, and what was asked for before: its sort key, its parts, its normalized form, what
-   is cut from this, and its compiled form. `text` is NULL until `__init__` has read a string. */
+/* Whether these types behave as those of `packaging` 26, and not as those of 25: the default, which `behave` changes for the whole process. */
+static int follows_26 = 1;
+
+/* A version: its string as it was given, its word or, where it has none, once it was asked for its hash, and what was asked for before: its sort key,
+   its parts, its normalized form, what is cut from this, and its compiled form. `text` is NULL until `__init__` has read a string. */
 typedef struct {
     PyObject_HEAD
     PyObject *text;
@@ -14,15 +17,16 @@ typedef struct {
     PyObject *prints; /* (public, base, local), or None where all of it is the base */
     uint8_t *compiled; /* `few`, or a block of its own */
     size_t length;
-    uint64_t word;
+    uint64_t word;    /* or its hash */
     char is_by_word;  /* it is compared and hashed by its word */
+    char has_hash;    /* `word` is its hash */
     char has_own_key; /* a key was set */
-    uint8_t few[30];  /* so that it takes 112 bytes */
+    uint8_t few[29];  /* so that it takes 112 bytes */
 } Held;
 
 /* The forms (docs/PROMISES.md, "Compiled versions"): a version is a byte, its sort key, and a byte 1 for each zero that ends its release; a list is a
    byte, and for each member its operator, and key and zeros of its version. The library writes a set before the list, which is not kept here. */
-enum { VERSION = 4, LIST = 5, SET = 6, LIST_HEAD = 1, OPERATOR = 16, MEMBER_HEAD = 2 };
+enum { VERSION = 4, LIST = 5, SET = 6, SET_ALONE = 7, LIST_HEAD = 1, OPERATOR = 16, MEMBER_HEAD = 2 };
 
 /* ---- objects that are used again */
 
@@ -96,7 +100,7 @@ static int view_str(PyObject *given, pep440_string *text)
             return -1;
         PyErr_Clear();
     }
-    if (!bytes || (*bytes >= VERSION && *bytes <= SET)) {
+    if (!bytes || (*bytes >= VERSION && *bytes <= SET_ALONE)) {
         bytes = (const char *)NO_TEXT;
         length = sizeof NO_TEXT - 1;
     }

@@ -24,6 +24,15 @@ static int raise_no_str(PyObject *given)
     return -1;
 }
 
+/* The same of what is given for a version, in place of which `packaging` 26 has an error of its own. */
+static int raise_no_version(PyObject *given)
+{
+    if (!follows_26)
+        return raise_no_str(given);
+    PyErr_Format(InvalidVersion, "Invalid version: %R", given);
+    return -1;
+}
+
 /* Reads the string. What is not new may have read one before, which stays where this one is no version. */
 static inline int read_version(Held *self, PyObject *given, int is_new)
 {
@@ -31,7 +40,7 @@ static inline int read_version(Held *self, PyObject *given, int is_new)
     pep440_string string;
     uint8_t status;
     if (!PyUnicode_CheckExact(given) && !PyUnicode_Check(given))
-        return raise_no_str(given);
+        return raise_no_version(given);
     text = stripped(given, &string);
     if (!text)
         return -1;
@@ -44,6 +53,7 @@ static inline int read_version(Held *self, PyObject *given, int is_new)
     old = is_new ? NULL : self->text;
     self->text = text;
     self->is_by_word = status == PEP440_OK;
+    self->has_hash = 0;
     self->has_own_key = 0;
     if (old) {
         drop_made(self);
@@ -220,14 +230,11 @@ static PyObject *held_compare(PyObject *left, PyObject *right, int operation)
     Py_RETURN_RICHCOMPARE(one->word, other->word, operation);
 }
 
-/* The word of the version, or of an equal one with fewer zeros at the end of its release. 1, 0 where none has one, or -1 with an error. */
+/* The word of an equal version with fewer zeros at the end of its release. 1, 0 where none has one, or -1 with an error. */
 static int equal_word(Held *self, uint64_t *word)
 {
     const uint8_t *key;
     uint8_t status;
-    *word = self->word;
-    if (self->is_by_word)
-        return 1;
     if (compile_held(self) < 0)
         return -1;
     key = self->compiled + 1;
@@ -238,20 +245,41 @@ static int equal_word(Held *self, uint64_t *word)
     return PyErr_Occurred() ? -1 : status == PEP440_OK;
 }
 
-/* Of a version that is equal to one with a word it is the hash of this, so that most need no key. */
-static Py_hash_t held_hash(Held *self)
+static Py_hash_t hash_of_word(uint64_t word)
 {
-    uint64_t word;
-    int is_by_word = self->has_own_key ? 0 : equal_word(self, &word);
-    if (is_by_word == 0) {
-        PyObject *key = Py_XNewRef(key_of(self));
-        Py_hash_t hash = key ? PyObject_Hash(key) : -1;
-        Py_XDECREF(key);
-        return hash;
-    }
     word = (word ^ word >> 32) * 0x9E3779B97F4A7C15u;
     word ^= word >> 32;
-    return is_by_word < 0 ? -1 : word == (uint64_t)-1 ? -2 : (Py_hash_t)word;
+    return word == (uint64_t)-1 ? -2 : (Py_hash_t)word;
+}
+
+static Py_hash_t hash_of_key(Held *self)
+{
+    PyObject *key = Py_XNewRef(key_of(self));
+    Py_hash_t hash = key ? PyObject_Hash(key) : -1;
+    Py_XDECREF(key);
+    return hash;
+}
+
+/* The hash of a version without a word, which is kept in its place: of one that is equal to one with a word it is the hash of this. */
+static Py_hash_t find_hash(Held *self)
+{
+    uint64_t word;
+    int is_by_word = equal_word(self, &word);
+    Py_hash_t hash = is_by_word < 0 ? -1 : is_by_word ? hash_of_word(word) : hash_of_key(self);
+    if (hash != -1) {
+        self->word = (uint64_t)hash;
+        self->has_hash = 1;
+    }
+    return hash;
+}
+
+static Py_hash_t held_hash(Held *self)
+{
+    if (self->has_own_key)
+        return hash_of_key(self);
+    if (self->is_by_word)
+        return hash_of_word(self->word);
+    return self->has_hash ? (Py_hash_t)self->word : find_hash(self);
 }
 
 /* The normalized form, borrowed: the string that was given, where it is the same. */
@@ -308,7 +336,19 @@ static PyObject *get_print(Held *self, void *place)
 
 static PyObject *held_str(Held *self) { return Py_XNewRef(normal_of(self)); }
 
-static PyObject *held_repr(PyObject *self) { return PyUnicode_FromFormat("<Version('%S')>", self); }
+static PyObject *held_repr(PyObject *self)
+{
+    PyObject *name, *print, *made = NULL;
+    if (!follows_26)
+        return PyUnicode_FromFormat("<Version('%S')>", self);
+    name = PyObject_GetAttrString((PyObject *)Py_TYPE(self), "__name__");
+    print = name ? PyObject_Str(self) : NULL;
+    if (print)
+        made = PyUnicode_FromFormat("<%U(%R)>", name, print);
+    Py_XDECREF(name);
+    Py_XDECREF(print);
+    return made;
+}
 
 static PyObject *number_or_none(uint8_t is_there, uint64_t number)
 {
@@ -404,6 +444,7 @@ static int set_own_key(Held *self, PyObject *value, void *unused)
         return -1;
     self->has_own_key = 1;
     self->is_by_word = 0;
+    self->has_hash = 0;
     kept_in(&self->key, Py_NewRef(value));
     return 0;
 }

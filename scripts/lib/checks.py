@@ -139,7 +139,7 @@ def check_links():
 
 # ---- figures
 
-PYTHON = "callers/python/README.md"
+PYTHON = "docs/SPEED.md"
 # A table's head, with the name of its bench, and its rows.
 TABLE = re.compile(r"(\|[^|\n]*`bench/(\w+)`\) \| Instructions \|\n\|---\|---\|\n)((?:\|.*\n)*)")
 # What README.md says that a call takes or is.

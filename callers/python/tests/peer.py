@@ -13,6 +13,8 @@ import subprocess
 import sys
 import unittest
 
+import pep440_rattle
+
 MOST = 2**64 - 1
 TOKENS = (
     "1 0 01 10 . - _ a b c rc alpha beta pre preview post rev r dev + ! v V A RC Dev x ubuntu 1.0 2.3.4 .*".split()
@@ -23,7 +25,7 @@ SUFFIX = re.compile(r"(a|b|rc|\.post|\.dev|\+).*")
 
 
 # Those that the swap replaces.
-RELEASES = ("24.1", "24.2", "25.0")
+RELEASES = ("24.1", "24.2", "25.0", "26.2", "26.3")
 TOLD_BY_PIP = "import pip._vendor as v, pip._vendor.packaging as p; print(p.__version__, v.__path__[0])"
 
 
@@ -33,6 +35,11 @@ def number_of(version):
 
 def is_fit(version):
     return version in RELEASES
+
+
+def behaviour_of(version):
+    """The release whose behaviour these modules have in place of this one."""
+    return "26.3" if number_of(version) >= (26,) else "25.0"
 
 
 def folder_of_a_pip():
@@ -63,11 +70,12 @@ def imported(folder=None):
 
 
 def load():
-    """The modules `version` and `specifiers` of `packaging`, and which one it is."""
+    """The modules `version` and `specifiers` of `packaging`, and which one it is; from now on ours behave like it."""
     folder = os.environ.get("PEP440_PACKAGING")
     found = imported(folder) if folder else imported() or imported(folder_of_a_pip())
     if not found:
         raise unittest.SkipTest(f"no packaging of {', '.join(RELEASES)} to compare with: name its folder in PEP440_PACKAGING")
+    pep440_rattle.behave_like(behaviour_of(found[2]))
     return found
 
 
@@ -135,25 +143,43 @@ def some_piece():
 # ---- departures: the rules of the README's table, by the names that it gives them
 
 
+class By25:
+    """Tests by the behaviour of 25.0."""
+
+    @classmethod
+    def setUpClass(cls):
+        pep440_rattle.behave_like("25.0")
+
+    @classmethod
+    def tearDownClass(cls):
+        pep440_rattle.behave_like("26.3")
+
+
+def follows_26():
+    return pep440_rattle.behaves_like == "26.3"
+
+
 def is_beyond(text):
     """`big numbers`, `other scripts`: texts that only `packaging` takes."""
     return not re.sub(r"\s", "", text).isascii() or any(int(it) > MOST for it in re.findall(r"[0-9]+", text))
 
 
 def is_compatible_by_text(operator, version, print_of):
-    """`loose compatible release`: `~=` beside a version that is not written as it prints, which `packaging` cuts as text."""
-    return operator == "~=" and print_of(version) != version
+    """`loose compatible release`: `~=` beside a version that is not written as it prints, which `packaging` 25 cuts as text."""
+    return operator == "~=" and print_of(version) != version and not follows_26()
 
 
 def is_local_above(operator, bound, candidate):
     """`local above`: `>V` and a version of V's release with a local part, which is no local version of V itself."""
-    if operator != ">" or candidate.local is None:
+    if operator != ">" or candidate.local is None or follows_26():
         return False
     return type(candidate)(bound.base_version) == type(candidate)(candidate.base_version) and type(candidate)(candidate.public) != bound
 
 
 def is_by_chance(specifiers):
-    """The order of a set's members decides whether one that allows pre-releases is asked before one whose text is no version."""
+    """By 25 the order of a set's members decides whether one that allows pre-releases is asked before one whose text is no version."""
+    if follows_26():
+        return None
     says = set()
     for each in specifiers:
         try:

@@ -11,6 +11,7 @@ import re
 import unittest
 
 import peer
+import pep440_rattle
 from pep440_rattle import VERSION_PATTERN, filter_texts, sort_keys, sort_texts
 from pep440_rattle import specifiers as our_specifiers
 from pep440_rattle import version as our_version
@@ -44,6 +45,7 @@ class AgainstPackaging(unittest.TestCase):
 
     @classmethod
     def tearDownClass(cls):
+        pep440_rattle.behave_like("26.3")
         told = ", ".join(f"{count} {kind}" for kind, count in sorted(cls.cases.items()))
         print(f"\nbeside {cls.name}: {cls.cases.total()} cases: {told}")
         print("left out as departures: " + ", ".join(f"{count} {kind}" for kind, count in sorted(cls.left_out.items())))
@@ -168,6 +170,30 @@ class AgainstPackaging(unittest.TestCase):
                 self.assertEqual(len(ours), len(theirs))
                 self.ask(ours, theirs)
                 self.combine(ours, theirs)
+
+    def test_relations(self):
+        """How two sets relate, that are near to one another."""
+        if self.name != "packaging 26.3":
+            self.skipTest(f"{self.name} has no such calls")
+        while self.cases["relations"] < CASES // 20:
+            stem = peer.some_version(0)
+            texts = [",".join(self.some_near_specifier(stem) for _ in range(random.choice([0, 1, 1, 2, 2, 3]))) for _ in range(2)]
+            prereleases = [random.choice(CHOICES)] * 2 if random.random() < 0.9 else random.choices(CHOICES, k=2)
+            ours = [our_specifiers.SpecifierSet(it, each) for it, each in zip(texts, prereleases)]
+            theirs = [self.their_specifiers.SpecifierSet(it, each) for it, each in zip(texts, prereleases)]
+            with self.subTest(texts=texts, prereleases=prereleases):
+                for name in ("is_subset", "is_superset", "is_disjoint"):
+                    self.assertEqual(answer(getattr(ours[0], name), ours[1]), answer(getattr(theirs[0], name), theirs[1]), name)
+                self.assertEqual(ours[0].is_unsatisfiable(), theirs[0].is_unsatisfiable())
+            self.cases["relations"] += 4
+
+    @staticmethod
+    def some_near_specifier(stem):
+        version, operator = peer.near(stem) if random.random() < 0.8 else peer.some_version(0.1), random.choice(peer.OPERATORS[:-1] * 9 + ["==="])
+        if operator in ("==", "!=", "===") and random.random() < 0.8:
+            return operator + (re.sub(peer.SUFFIX, "", version) + ".*" if random.random() < 0.5 and operator != "===" else version)
+        version = version.partition("+")[0]
+        return (">=" if operator == "~=" and "." not in re.sub(peer.SUFFIX, "", version) else operator) + version
 
     def combine(self, ours, theirs):
         text, prereleases = self.some_set()

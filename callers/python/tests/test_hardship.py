@@ -16,6 +16,7 @@ import time
 import unittest
 import weakref
 
+from peer import By25, follows_26
 from pep440_rattle import InvalidSpecifier, InvalidVersion, Specifier, SpecifierSet, Version, _core, filter_texts, sort_keys, sort_texts
 
 HERE = os.path.dirname(os.path.abspath(__file__))
@@ -32,9 +33,13 @@ class Text(str):
 class Garbage(unittest.TestCase):
     def test_other_types(self):
         for given in (None, 1, 1.5, b"1.0", bytearray(b"1.0"), memoryview(b"1.0"), ["1.0"], {"1.0"}, object(), Version, Specifier(">=1")):
-            for call in (Version, Specifier, lambda it: SpecifierSet(">=1").contains(it), lambda it: list(SpecifierSet(">=1").filter([it]))):
-                with self.assertRaises(TypeError, msg=repr(given)):
-                    call(given)
+            asked = (lambda it: SpecifierSet(">=1").contains(it), lambda it: list(SpecifierSet(">=1").filter([it])), Version)
+            for call in (Specifier, *asked):
+                if call in asked[:2] and follows_26():
+                    self.assertFalse(call(given))
+                else:
+                    with self.assertRaises(InvalidVersion if call is Version and follows_26() else TypeError, msg=repr(given)):
+                        call(given)
         for call in (Version, lambda: Version("1", "2"), lambda: Version(text="1"), lambda: SpecifierSet(5), lambda: sort_texts(None), lambda: sort_texts([1])):
             with self.assertRaises(TypeError):
                 call()
@@ -50,8 +55,11 @@ class Garbage(unittest.TestCase):
                 Version(text)
             with self.assertRaises(InvalidSpecifier, msg=repr(text)):
                 Specifier(">=" + text)
-            with self.assertRaises(InvalidVersion, msg=repr(text)):
-                SpecifierSet(">=1.0").contains(text)
+            if follows_26():
+                self.assertEqual((SpecifierSet(">=1.0").contains(text), SpecifierSet("").contains(text)), (False, True))
+            else:
+                with self.assertRaises(InvalidVersion, msg=repr(text)):
+                    SpecifierSet(">=1.0").contains(text)
             with self.assertRaises(InvalidVersion, msg=repr(text)):
                 sort_texts(["1.0", text])
             with self.assertRaises(InvalidVersion, msg=repr(text)):
@@ -105,6 +113,10 @@ class Garbage(unittest.TestCase):
         self.assertEqual(sort_texts(Shrinking()), sort_texts(reversed(TEXTS)))
 
 
+class GarbageBy25(By25, Garbage):
+    pass
+
+
 @unittest.skipIf(sys.version_info >= (3, 12), "references of constants count no more")
 class References(unittest.TestCase):
     def test_constants(self):
@@ -124,6 +136,10 @@ class References(unittest.TestCase):
                 for _ in range(400):
                     call()
                 self.assertLess(abs(sys.getrefcount(it) - before), 200, (it, calls.index(call)))
+
+
+class ReferencesBy25(By25, References):
+    pass
 
 
 class Copies(unittest.TestCase):
@@ -171,7 +187,7 @@ class Copies(unittest.TestCase):
             self.assertEqual((str(version), version.release, version.local, version.pre, version.epoch), ("3.1", (3, 1), None, None, 0))
             self.assertTrue(Version("3.0") < version < Version("3.1+a") and hash(version) == hash(Version("3.1.0")) and version.sort_key == sort_keys(["3.1"])[0])
             self.assertEqual((str(member), vars(member), member.prereleases, member.contains("1.0rc1"), member.version), (">=1.0", {}, False, False, "1.0"))
-            self.assertEqual((str(several), vars(several), several.prereleases, "0.9" in several, len(several)), (">=1.0", {}, False, False, 1))
+            self.assertEqual((str(several), vars(several), several.prereleases, "0.9" in several, len(several)), (">=1.0", {}, None, False, 1))
 
     def test_objects_of_subclasses_are_freed(self):
         class Longer(Version):

@@ -1,4 +1,4 @@
-"""Requirements, markers and names of files beside `packaging` from 25.0 on: parts, strings, errors with their texts, and what markers evaluate to."""
+"""Requirements, markers and names of files beside `packaging` 25.0 or 26.3: parts, strings, errors with their texts, and what markers evaluate to."""
 import importlib
 import os
 import random
@@ -83,8 +83,9 @@ def shown(call, *given):
     try:
         return call(*given)
     except Exception as error:
-        name = type(error).__name__
-        return name, name not in ("InvalidVersion", "InvalidSpecifier") and str(error), type(error.__cause__).__name__
+        name, text = type(error).__name__, str(error)
+        is_with_reason = name in ("InvalidVersion", "InvalidSpecifier") or text.startswith("Invalid specifier: ")
+        return name, not is_with_reason and text, type(error.__cause__).__name__
 
 
 class Library:
@@ -122,11 +123,15 @@ class AgainstPackaging(unittest.TestCase):
     def setUp(self):
         package = peer.load()[0].__name__.rpartition(".")[0]
         number = importlib.import_module(package).__version__
-        if peer.number_of(number) < (25, 0):
-            self.skipTest(f"packaging {number} has other messages and fewer variables than 25.0")
+        if number != pep440_rattle.behaves_like:
+            self.skipTest(f"packaging {number} has other messages than {pep440_rattle.behaves_like}")
         names = ("requirements", "markers", "utils")
         self.theirs = Library(*(importlib.import_module(f"{package}.{name}") for name in names))
         self.ours = Library(*(importlib.import_module(f"pep440_rattle.{name}") for name in names))
+
+    @classmethod
+    def tearDownClass(cls):
+        pep440_rattle.behave_like("26.3")
 
     def compare(self, ask, *given):
         left, right = (shown(getattr(each, ask), *given) for each in (self.theirs, self.ours))

@@ -101,13 +101,14 @@ class Versions(unittest.TestCase):
         version = (b"\4" + Version("1.0").sort_key + b"\1").decode()
         several = _core.compile_list(">=1.0").decode()
         bounded = f"\6\1\x0b\1\x08{Version('1.0').sort_key.decode()}\0{several}"
-        calls = [lambda: Version(version), lambda: "1.0" in SpecifierSet(several), lambda: version in SpecifierSet(">=1.0"), lambda: Specifier(several)]
+        calls = [lambda: Version(version), lambda: "1.0" in SpecifierSet(several), lambda: Specifier(several)]
         calls += [lambda: "1.0" in SpecifierSet(bounded), lambda: Specifier(bounded)]
         calls += [lambda: Specifier(">=" + version), lambda: Specifier(">= " + version), lambda: SpecifierSet("<3,!=" + version)]
         calls += [lambda: sort_texts([version]), lambda: sort_keys([version]), lambda: filter_texts(">=1.0", [version])]
         for call in calls:
             with self.assertRaises((InvalidVersion, InvalidSpecifier)):
                 call()
+        self.assertNotIn(version, SpecifierSet(">=1.0"))
         self.assertEqual(filter_texts(">=1.0", [version, "1.0"], skip_invalid=True), ["1.0"])
 
     def test_subclass(self):
@@ -131,26 +132,28 @@ class Specifiers(unittest.TestCase):
             self.assertEqual(filter_texts(text, [version]), [version] if wanted else [])
 
     def test_prereleases(self):
-        # PEP 440, "Handling of pre-releases"
-        self.assertFalse(SpecifierSet(">=1.0").contains("1.1a1"))
+        # PEP 440, "Handling of pre-releases": one alone is by 26 what there is nothing else beside
+        self.assertIs(SpecifierSet(">=1.0").contains("1.1a1"), peer.follows_26())
+        self.assertEqual(list(SpecifierSet(">=1.0").filter(["1.1a1", "1.0"])), ["1.0"])
         self.assertTrue(SpecifierSet(">=1.0a1").contains("1.1a1"))
         self.assertTrue(SpecifierSet(">=1.0", prereleases=True).contains("1.1a1"))
         self.assertFalse(SpecifierSet(">=1.0a1", prereleases=False).contains("1.1a1"))
         self.assertEqual(list(Specifier(">=1.0").filter(["0.9", "1.1a1"])), ["1.1a1"])
         several = SpecifierSet(">=1.0,<3")
-        self.assertIs(several.prereleases, False)
+        self.assertIs(several.prereleases, None if peer.follows_26() else False)
         next(iter(several)).prereleases = True
         self.assertIs(several.prereleases, True)
         several.prereleases = False
         self.assertFalse(several.contains("1.1a1"))
 
     def test_arbitrary_equality(self):
-        # PEP 440, "Arbitrary equality": a simple comparison of strings
-        for text, version, wanted in (("===foobar", "1.0", False), ("===1.0-alpha", "1.0a0", False), ("===1.0A0", "1.0-alpha", True), ("===1.0", "1.0.0", False)):
+        # PEP 440, "Arbitrary equality": a simple comparison of strings, by 25 with the normal form of a string that is a version
+        rows = [("===foobar", "1.0", False, False), ("===1.0-alpha", "1.0a0", False, False), ("===1.0-alpha", "1.0-Alpha", peer.follows_26(), False)]
+        for text, version, wanted, wanted_of_version in [*rows, ("===1.0A0", "1.0-alpha", not peer.follows_26(), True), ("===1.0", "1.0.0", False, False)]:
             one, several = Specifier(text), SpecifierSet(f"{text},!=7")
             for it in (one, several):
                 self.assertIs(it.contains(version, True), wanted, text)
-                self.assertIs(it.contains(Version(version), prereleases=True), wanted, text)
+                self.assertIs(it.contains(Version(version), prereleases=True), wanted_of_version, text)
                 self.assertEqual(list(it.filter([version], True)), [version] * wanted)
                 self.assertEqual(filter_texts(it, ["x", version], skip_invalid=True), [version] * wanted)
                 self.assertEqual((pickle.loads(pickle.dumps(it)), hash(copy.deepcopy(it))), (it, hash(it)))
@@ -161,10 +164,13 @@ class Specifiers(unittest.TestCase):
         # whether it asks for pre-releases is a question to a version
         self.assertTrue(Specifier("===1.0A1").prereleases and "1.0a1" in Specifier("===1.0A1"))
         for call in (lambda: Specifier("===foobar").prereleases, lambda: "1.0" in SpecifierSet("===foobar")):
-            with self.assertRaises(InvalidVersion):
-                call()
+            if peer.follows_26():
+                self.assertFalse(call())
+            else:
+                with self.assertRaises(InvalidVersion):
+                    call()
         self.assertEqual(list(Specifier("===foobar").filter(["1.0"])), [])
-        self.assertEqual(len({Specifier("===1.0"), Specifier("===1.0.0"), Specifier("===x"), Specifier("===X")}), 3)
+        self.assertEqual(len({Specifier("===1.0"), Specifier("===1.0.0"), Specifier("===x"), Specifier("===X")}), 4 if peer.follows_26() else 3)
         self.assertEqual((SpecifierSet("===x, ===y") & "===x", str(SpecifierSet("=== x,>1"))), (SpecifierSet("===x,===y"), "===x,>1"))
         self.assertEqual((Specifier("===1.0-a").ranges(), len(SpecifierSet("===1.0A1,>0").ranges())), ([], 1))
 
@@ -192,7 +198,7 @@ class Specifiers(unittest.TestCase):
             self.assertEqual((list(read), next(kept)), ([], "1.0"))
             kept = it.filter(["1.0", "x"])
             self.assertEqual(next(kept), "1.0")
-            with self.assertRaises(InvalidVersion):
+            with self.assertRaises(StopIteration if peer.follows_26() else InvalidVersion):
                 next(kept)
 
     def test_refusals(self):
@@ -255,9 +261,14 @@ class Specifiers(unittest.TestCase):
     def test_sets(self):
         several = SpecifierSet([Specifier(">=1.0"), Specifier("!=1.5")])
         self.assertEqual(several, SpecifierSet("!=1.5, >=1.0"))
-        self.assertEqual(len(several & ">=1.0.0"), 2)
+        both = several & ">=1.0.0"
+        self.assertEqual((len(both), hash(both) == hash(several), len(both)), (3 if peer.follows_26() else 2, True, 2))
         with self.assertRaises(ValueError):
             SpecifierSet(">=1", prereleases=True) & SpecifierSet("<2", prereleases=False)
+
+
+class SpecifiersBy25(peer.By25, Specifiers):
+    pass
 
 
 class Page(unittest.TestCase):

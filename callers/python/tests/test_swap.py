@@ -122,6 +122,63 @@ else:
     print(*(pickle.dumps([it for it in objects() if protocol > 1 or "__slots__" not in vars(type(it))], protocol).hex() for protocol in range(5)), sep="\n")
 """
 
+# What is pickled by one release, with the swap or without, and read by another one: words are whether it is swapped, the folder of `packaging` and, to
+# read, a file with what others wrote.
+SHAPES = r"""
+import json, pickle, sys
+if sys.argv[1] == "swapped":
+    import pep440_rattle.swap
+    pep440_rattle.swap.swap()
+sys.path.insert(0, sys.argv[2])
+from packaging.markers import Marker
+from packaging.requirements import Requirement
+from packaging.specifiers import InvalidSpecifier, Specifier, SpecifierSet
+from packaging.version import InvalidVersion, Version
+
+def used(it):
+    hash(it), str(it)
+    if isinstance(it, Version):
+        it < Version("2"), it.release
+    else:
+        it.contains("1.5"), list(it.filter(["1", "2a1"]))
+    return it
+
+SHAPES = {
+    **{text: Version(text) for text in ("1.0", "0.0", "1.dev0", "1.0.post7", "1.0+10.a", "1!2.0rc1.post2.dev3+u.1", "2024.1.2.3.4.5.0")},
+    "used": used(Version("1.5a1+u")),
+    **{text: Specifier(text) for text in (">=1.0", "==1.*", "~= 1.0", "=== X-y", "!=1.0+u", "<2.0a1")},
+    "allows": Specifier(">=1.0", prereleases=True),
+    "forbids": used(Specifier(">=1.0a1", prereleases=False)),
+    **{f"set {text}": SpecifierSet(text) for text in ("", ">=1.0", ">=1.0, !=1.5, <2", ">1,===1.5-A1", ">=1.0,>=1.0.0")},
+    "set that allows": SpecifierSet("<2", prereleases=True),
+    "set that forbids": used(SpecifierSet(">=1.0,<2.0a1", prereleases=False)),
+    **{text: Requirement(text) for text in ("Name", "name[b,a]>=1.0,<2; python_version > '3.1'", "name @ https://x.y/z ; extra == 'x'")},
+    **{text: Marker(text) for text in ("os_name == 'nt'", "os_name == 'a' and (extra == 'b' or python_version in '3.1 3.2')")},
+    "version in pieces": {Version("1.0"): [SpecifierSet(">=1"), Version("1.0")]},
+    "error": InvalidVersion("x"),
+    "other error": InvalidSpecifier("y"),
+}
+
+def shown(it):
+    if isinstance(it, dict):
+        return [shown(each) for pair in it.items() for each in (pair[0], *pair[1])] + [Version("1.0") in it]
+    return [type(it).__name__, str(it), str(getattr(it, "_prereleases", None)), it.release if isinstance(it, Version) else None]
+
+def read(name, pickled):
+    try:
+        it = pickle.loads(bytes.fromhex(pickled))
+    except Exception as error:
+        return "not read: " + type(error).__name__
+    same = isinstance(it, (Exception, dict)) or (it == SHAPES[name] and hash(it) == hash(SHAPES[name]))
+    return json.dumps([shown(it), same])
+
+if len(sys.argv) > 3:
+    with open(sys.argv[3], encoding="utf-8") as file:
+        print(json.dumps({writer: {name: [read(name, it) for it in each] for name, each in written.items()} for writer, written in json.load(file).items()}))
+else:
+    print(json.dumps({name: [pickle.dumps(it, protocol).hex() for protocol in range(2, 6)] for name, it in SHAPES.items()}))
+"""
+
 # How the error ends over a release that was not tested.
 WITHOUT = "or run this without pep440_rattle.swap"
 
@@ -242,7 +299,10 @@ class OtherModules(unittest.TestCase):
         print(f"\n{len(plain) - 1} questions to the other modules of {peer.load()[2]}, {len(refused)} left out as departures: {', '.join(REFUSED.values())}")
 
     def test_pickles(self):
+        """Those of subclasses, which `packaging` 26 writes without what they hold besides."""
         theirs = peer.load()[0]
+        if peer.follows_26():
+            self.skipTest("packaging 26 has no such subclasses")
         folder = folder_of(sys.modules[theirs.__name__.rpartition(".")[0]])
 
         def said(*words):
@@ -256,6 +316,39 @@ class OtherModules(unittest.TestCase):
             for words in (("swapped", plain), ("plain", made["swapped"][protocol]), ("swapped", made["swapped"][protocol])):
                 with self.subTest(loaded=words[0], is_made_plain=words[1] is plain, protocol=protocol):
                     self.assertEqual(said(*words), wanted)
+
+    @unittest.skipUnless(os.environ.get("PEP440_RELEASES"), "PEP440_RELEASES names no folder of releases")
+    def test_pickles_between_releases(self):
+        """What one release writes another one reads, with the swap on either side as without; and with the swap each one reads all."""
+        folders = {each: os.path.join(os.environ["PEP440_RELEASES"], each) for each in peer.RELEASES}
+        kinds = [(each, kind) for each in folders for kind in ("plain", "swapped")]
+
+        def said(release, kind, *words):
+            status, lines, errors = run(["-c", SHAPES, kind, folders[release], *words])
+            self.assertEqual((status, errors), (0, ""), (release, kind))
+            return json.loads(lines)
+
+        written = {f"{release} {kind}": said(release, kind) for release, kind in kinds}
+        with tempfile.TemporaryDirectory() as work:
+            path = os.path.join(work, "written")
+            write(path, json.dumps(written))
+            found = {(release, kind): said(release, kind, path) for release, kind in kinds}
+        failed = [reader for reader in kinds for read in found[reader].values() for each in read.values() for it in each if "not read" in it]
+        for release, kind in kinds:
+            for writer in folders:
+                for name in written[f"{writer} plain"]:
+                    plain, own = found[release, "plain"][f"{writer} plain"][name], found[release, "plain"][f"{release} plain"][name]
+                    with self.subTest(read=release, swapped=kind, written=writer, shape=name):
+                        self.assertIn("true]", own[0])
+                        if kind == "swapped":
+                            both = [found[release, kind][f"{writer} {each}"][name] for each in ("plain", "swapped")]
+                            self.assertEqual(both, [own, own])
+                        else:
+                            # where it reads nothing of the other release, it may read what was written with the swap
+                            wanted = (own, plain) if "not read" in plain[0] else (plain,)
+                            self.assertIn(found[release, kind][f"{writer} swapped"][name], wanted)
+        self.assertEqual({kind for _, kind in failed}, {"plain"})
+        print(f"\n{len(written['26.3 plain'])} shapes of pickles between {', '.join(folders)}, with the swap on each side or none")
 
     @staticmethod
     def plainly(said):
@@ -318,23 +411,39 @@ class Swaps(unittest.TestCase):
             wanted = "pep440_rattle.version pep440_rattle.specifiers True ['a', '-b'] __main__\n"
             self.assertEqual(run(["-m", "pep440_rattle.swap", script, "a", "-b"]), (0, wanted, ""))
 
+    def test_copies_of_two_behaviours(self):
+        """The first one says how all behave, and one that behaves otherwise stays what it is."""
+        with tempfile.TemporaryDirectory() as folder:
+            for package, release in (("packaging", "26.3"), ("mine/_vendor/packaging", "25.0"), ("yours/_vendor/packaging", "26.2")):
+                os.makedirs(os.path.join(folder, package))
+                write(os.path.join(folder, package, "__init__.py"), f'__version__ = "{release}"\n')
+                write(os.path.join(folder, package, "version.py"), "")
+            program = "import pep440_rattle.swap as it; it.swap()\nfrom {0} import version as one\nfrom {1} import version as two\nimport pep440_rattle\n"
+            program += "from yours._vendor.packaging import version\nprint(one.__name__, two.__name__, version.__name__, pep440_rattle.behaves_like)"
+            packages = ["packaging", "mine._vendor.packaging"]
+            for names, behaves_like in ((packages, "26.3"), (packages[::-1], "25.0")):
+                third = "pep440_rattle.version" if behaves_like == "26.3" else "yours._vendor.packaging.version"
+                wanted = f"pep440_rattle.version {names[1]}.version {third} {behaves_like}\n"
+                self.assertEqual(run(["-c", program.format(*names)], folder), (0, wanted, ""))
+
     def test_releases_that_were_not_tested(self):
-        self.assertEqual(pep440_rattle.swap._TESTED, peer.RELEASES)
+        self.assertEqual(tuple(pep440_rattle.swap._TESTED), peer.RELEASES)
+        self.assertEqual(list(pep440_rattle.swap._TESTED.values()), [*map(peer.behaviour_of, peer.RELEASES)])
         imports = "import pep440_rattle.swap as it; it.swap(); import {0}packaging; print({0}packaging.__version__, flush=True); import {0}packaging.{1}"
         with tempfile.TemporaryDirectory() as folder:
-            for owner, way_out in (("", f"install packaging=={pep440_rattle.behaves_like}, {WITHOUT}"), ("mine._vendor.", f"a release of mine that has one of these, {WITHOUT}")):
+            for owner, way_out in (("", f"install packaging==26.3, {WITHOUT}"), ("mine._vendor.", f"a release of mine that has one of these, {WITHOUT}")):
                 package = os.path.join(folder, *owner.split("."), "packaging")
                 os.makedirs(package)
                 for name in ("version", "specifiers"):
                     write(os.path.join(package, f"{name}.py"), "")
-                for release, is_refused in (("26.2", True), ("23.0", True), ("25.1.dev0", True), ("unknown", True), ("21.3", False), ("25.0", False)):
+                for release, is_refused in (("26.4", True), ("23.0", True), ("25.1.dev0", True), ("unknown", True), ("21.3", False), ("25.0", False)):
                     write(os.path.join(package, "__init__.py"), f"__version__ = {release!r}\n")
                     for name in ("version", "specifiers"):
                         with self.subTest(release=release, owner=owner, name=name):
                             status, said, errors = run(["-c", imports.format(owner, name)], folder)
                             self.assertEqual((status, said), (is_refused, f"{release}\n"), errors)
                             last = errors.splitlines()[-1] if errors else ""
-                            told = [f"ImportError: {owner}packaging is release {release}, ", f"packaging {pep440_rattle.behaves_like}", way_out]
+                            told = [f"ImportError: {owner}packaging is release {release}, ", "24.1, 24.2, 25.0, 26.2, 26.3 alone", way_out]
                             self.assertEqual([it in last for it in told], [is_refused] * 3, last)
 
     def test_words(self):

@@ -19,4 +19,7 @@ keys: list[bytes] = sort_keys([*texts, Mine("1.0")])
 is_less: bool = Mine("1.0") < Version("2.0")
 lower = SpecifierSet(">=1.0").ranges()[0][0]
 text: str = lower.version.public if lower else ""
+made: Version = Mine.from_parts(release=(1, 2)).__replace__(dev=1)
+pairs: list[tuple[str, int]] = [*SpecifierSet(">=1").filter([("1", 2)], key=lambda pair: pair[0])]
+is_within: bool = SpecifierSet(">=1").is_subset(SpecifierSet(">=0"))
 swap()

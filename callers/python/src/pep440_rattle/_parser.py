@@ -12,7 +12,7 @@ import re
 from typing import Any, NamedTuple, NoReturn, Union
 
 # by its whole name, since copies of `packaging` have this module under theirs (swap.py)
-from pep440_rattle._core import read_marker
+from pep440_rattle._core import follows_26, read_marker
 
 from .specifiers import Specifier
 
@@ -32,7 +32,7 @@ _QUOTED = r""" '[^']*' | "[^"]*" """
 _OPERATOR = r"===|==|~=|!=|<=|>=|<|>"
 
 _BLANK = re.compile(r"[ \t]+")
-_END = re.compile("$")
+_END, _END_BY_25 = re.compile(r"\Z"), re.compile("$")
 _NAME = re.compile(_IDENTIFIER)
 _URL = re.compile(r"[^ \t]+")
 _STAR = re.compile(r"\.\*")
@@ -61,14 +61,27 @@ class ParserSyntaxError(Exception):
 class Node:
     """A token of a marker."""
 
+    __slots__ = ("value",)
+
     def __init__(self, value: str) -> None:
+        self.value = value
+
+    def __getstate__(self) -> Any:
+        return self.value if follows_26() else (None, {"value": self.value})
+
+    def __setstate__(self, state: Any) -> None:
+        if isinstance(state, tuple) and len(state) == 2:
+            state = state[1]
+        value = state.get("value") if isinstance(state, dict) else state
+        if not isinstance(value, str):
+            raise TypeError(f"Cannot restore {self.__class__.__name__} from {state!r}")
         self.value = value
 
     def __str__(self) -> str:
         return self.value
 
     def __repr__(self) -> str:
-        return f"<{self.__class__.__name__}('{self}')>"
+        return f"<{self.__class__.__name__}({self.value!r})>" if follows_26() else f"<{self.__class__.__name__}('{self}')>"
 
     def serialize(self) -> str:
         """As it stands in a marker."""
@@ -76,16 +89,26 @@ class Node:
 
 
 class Variable(Node):
+    __slots__ = ()
+
     def serialize(self) -> str:
         return str(self)
 
 
 class Value(Node):
+    __slots__ = ()
+
     def serialize(self) -> str:
-        return f'"{self}"'
+        if '"' not in self.value or not follows_26():
+            return f'"{self}"'
+        if "'" in self.value:
+            raise ValueError("Cannot serialize marker value containing both quote characters")
+        return f"'{self}'"
 
 
 class Op(Node):
+    __slots__ = ()
+
     def serialize(self) -> str:
         return str(self)
 
@@ -116,6 +139,10 @@ class _Cursor:
 
     def is_at(self, token: re.Pattern[str]) -> bool:
         return token.match(self.source, self.position) is not None
+
+    def is_at_end(self) -> bool:
+        """By 25 before a newline at the end, too."""
+        return self.is_at(_END if follows_26() else _END_BY_25)
 
     def take(self, token: re.Pattern[str]) -> str | None:
         """The token, if it stands here; it is read then."""
@@ -174,18 +201,26 @@ def _parse_url(cursor: _Cursor, extras: list[str]) -> tuple[str, list[str], str,
     cursor.take(_BLANK)
     start = cursor.position
     url = cursor.expect(_URL, "URL after @")
-    if cursor.is_at(_END):
+    if cursor.is_at_end():
         return url, extras, "", None
     cursor.expect(_BLANK, "whitespace after URL")
     return url, extras, "", _parse_requirement_marker(cursor, start, "URL and whitespace")
 
 
 def _parse_requirement_marker(cursor: _Cursor, start: int, after: str) -> MarkerList | None:
-    if cursor.is_at(_END):
+    if cursor.is_at_end():
         return None
     if not cursor.take_sign(";"):
-        cursor.fail(f"Expected end or semicolon (after {after})", start)
+        cursor.fail(_EXPECTED[after] if follows_26() else f"Expected end or semicolon (after {after})", start)
     return _parse_marker_to_end(cursor, "end of dependency specifier")
+
+
+# What `packaging` 26 expects behind what was read.
+_EXPECTED = {
+    "URL and whitespace": "Expected semicolon (after URL and whitespace) or end",
+    "version specifier": "Expected comma (within version specifier), semicolon (after version specifier) or end",
+    "name and no valid version specifier": "Expected semicolon (after name with no version specifier) or end",
+}
 
 
 def _parse_extras(cursor: _Cursor) -> list[str]:
@@ -225,6 +260,12 @@ def _parse_specifiers(cursor: _Cursor) -> str:
     return specifiers
 
 
+def _why_no_star(token: str) -> str:
+    if follows_26() and (token.startswith("!=") or (token.startswith("==") and not token.startswith("==="))):
+        return ".* suffix cannot be used with pre-release, post-release, dev or local versions"
+    return ".* suffix can only be used with `==` or `!=` operators"
+
+
 def _parse_specifier_list(cursor: _Cursor) -> str:
     specifiers = ""
     while True:
@@ -234,7 +275,7 @@ def _parse_specifier_list(cursor: _Cursor) -> str:
             return specifiers
         specifiers += token
         if cursor.is_at(_STAR):
-            cursor.fail(".* suffix can only be used with `==` or `!=` operators", start, cursor.position + 1)
+            cursor.fail(_why_no_star(token), start, cursor.position + 1)
         if cursor.is_at(_LOCAL):
             cursor.fail("Local version label can only be used with `==` or `!=` operators", start)
         cursor.take(_BLANK)
@@ -258,7 +299,8 @@ def parse_marker(source: str) -> MarkerList:
 
 def _parse_marker_to_end(cursor: _Cursor, what: str) -> MarkerList:
     marker = _parse_marker(cursor)
-    cursor.expect(_END, what)
+    if not cursor.is_at_end():
+        cursor.fail(f"Expected {what}")
     return marker
 
 
@@ -294,10 +336,16 @@ def _parse_operand(cursor: _Cursor) -> MarkerVar:
     variable = cursor.take(_MARKER_VARIABLE)
     if variable is not None:
         return Variable(_VARIABLES[variable])
+    start = cursor.position
     value = cursor.take(_MARKER_VALUE)
     if value is None:
         cursor.fail("Expected a marker variable or quoted string")
-    return _make_value(value)
+    try:
+        return _make_value(value)
+    except (SyntaxError, ValueError) as error:
+        if not follows_26():
+            raise
+        raise ParserSyntaxError("Invalid quoted string", source=cursor.source, span=(start, cursor.position)) from error
 
 
 def _parse_operator(cursor: _Cursor) -> Op:

@@ -6,23 +6,27 @@ True
 """
 from __future__ import annotations
 
+import functools
 import operator
 import os
 import platform
 import re
 import sys
-from collections.abc import Callable
+from collections.abc import Callable, Mapping
 from collections.abc import Set as AbstractSet
 from typing import Any, Literal, TypedDict, Union, cast
+
+from pep440_rattle._core import follows_26
 
 from ._parser import MarkerItem, MarkerList, Op, ParserSyntaxError, Value, Variable, parse_marker
 from .specifiers import InvalidSpecifier, Specifier
 from .utils import canonicalize_name
 
-__all__ = ["EvaluateContext", "InvalidMarker", "Marker", "UndefinedComparison", "UndefinedEnvironmentName", "default_environment"]
+__all__ = ["Environment", "EvaluateContext", "InvalidMarker", "Marker", "UndefinedComparison", "UndefinedEnvironmentName", "default_environment"]
 
 EvaluateContext = Literal["metadata", "lock_file", "requirement"]
 MARKERS_ALLOWING_SET = {"extras", "dependency_groups"}
+MARKERS_REQUIRING_VERSION = {"implementation_version", "platform_release", "python_full_version", "python_version"}
 _Operand = Union[str, AbstractSet[str]]
 
 
@@ -34,8 +38,8 @@ class UndefinedComparison(ValueError):
     """An operator compares versions alone, and an operand is none."""
 
 
-class UndefinedEnvironmentName(ValueError):
-    """A name is no variable of the environment; `packaging` has the class, and raises it nowhere."""
+class UndefinedEnvironmentName(KeyError, ValueError):
+    """A variable of a marker is not in the environment; by `packaging` 25 a plain `KeyError` is raised."""
 
 
 class Environment(TypedDict):
@@ -75,16 +79,28 @@ _READERS: dict[str, Callable[[], str]] = {
 }
 
 
+@functools.lru_cache(len(_READERS))
+def _read_once(name: str) -> str:
+    return _READERS[name]()
+
+
+def _read(name: str) -> str:
+    """A variable of this Python process, which by 26 is read once."""
+    return _read_once(name) if follows_26() else _READERS[name]()
+
+
 def default_environment() -> Environment:
     """The variables of this Python process."""
-    return cast(Environment, {name: read() for name, read in _READERS.items()})
+    return cast(Environment, {name: _read(name) for name in _READERS})
 
 
 class _Environment(dict[str, _Operand]):
     """The variables of a marker. Those of this process are read when they are asked for, since a marker names one or two of them."""
 
     def __missing__(self, name: str) -> _Operand:
-        self[name] = value = _READERS[name]()
+        if name not in _READERS:
+            raise UndefinedEnvironmentName(name) if follows_26() else KeyError(name)
+        self[name] = value = _read(name)
         return _repair(value) if name == "python_full_version" else value
 
 
@@ -93,8 +109,27 @@ def _repair(python_full_version: str) -> str:
     return f"{python_full_version}local" if python_full_version.endswith("+") else python_full_version
 
 
+_pep440_python_full_version, _format_full_version = _repair, format_full_version
+
+
+def _normalize_extras(marker: Any) -> Any:
+    """The marker with the normalized names of extras and groups, in each comparison."""
+    if isinstance(marker, list):
+        return [_normalize_extras(each) for each in marker]
+    if isinstance(marker, str):
+        return marker
+    left, op, right = marker
+    if isinstance(left, Variable) and left.value == "extra" and isinstance(right, Value):
+        right = Value(canonicalize_name(right.value))
+    elif isinstance(right, Variable) and right.value in {"extra", *MARKERS_ALLOWING_SET} and isinstance(left, Value):
+        left = Value(canonicalize_name(left.value))
+    return left, op, right
+
+
 def _normalize_extra_values(markers: MarkerList) -> MarkerList:
-    """The markers with the normalized name of an extra, where the first comparison is with one."""
+    """The markers with the normalized names of extras: by 25 where the first comparison is with one."""
+    if follows_26():
+        return [_normalize_extras(each) for each in markers]
     if isinstance(markers[0], tuple):
         left, op, right = markers[0]
         if isinstance(left, Variable) and left.value == "extra":
@@ -111,7 +146,7 @@ def _format_marker(marker: MarkerList | MarkerItem | str, first: bool = True) ->
     if isinstance(marker, tuple):
         return " ".join([node.serialize() for node in marker])
     if len(marker) == 1 and not isinstance(marker[0], str):
-        return _format_marker(marker[0])
+        return _format_marker(marker[0], first or not follows_26())
     inner = " ".join([_format_marker(each, first=False) for each in marker])
     return inner if first else f"({inner})"
 
@@ -127,20 +162,38 @@ _OPERATORS: dict[str, Callable[[Any, Any], bool]] = {
     ">": operator.gt,
 }
 
+# The same by 26, where no order of strings is known.
+_OPERATORS_BY_26: dict[str, Callable[[Any, Any], bool]] = {
+    **_OPERATORS,
+    "<": lambda _, __: False,
+    ">": lambda _, __: False,
+    "<=": operator.eq,
+    ">=": operator.eq,
+}
+
 # How what makes a specifier with an operator begins; a `=` may belong to the operator.
 _START_OF_VERSION = re.compile(r"\s*v?[0-9]|=", re.IGNORECASE)
 
 
-def _eval_op(lhs: str, op: Op, rhs: _Operand) -> bool:
+@functools.lru_cache(256)
+def _specifier_of(sign: str, version: str) -> Specifier | None:
+    if sign != "===" and not _START_OF_VERSION.match(version):
+        return None
+    try:
+        return Specifier(sign + version)
+    except InvalidSpecifier:
+        return None
+
+
+def _eval_op(lhs: str, op: Op, rhs: _Operand, key: str) -> bool:
     sign = op.serialize()
-    if isinstance(rhs, str) and sign[-1] != "n" and (sign == "===" or _START_OF_VERSION.match(rhs)):
-        try:
-            specifier = Specifier(sign + rhs)
-        except InvalidSpecifier:
-            pass
-        else:
+    is_of_versions = key in MARKERS_REQUIRING_VERSION or not follows_26()
+    if is_of_versions and isinstance(rhs, str) and sign[-1] != "n":
+        specifier = _specifier_of(sign, rhs)
+        if specifier is not None:
             return specifier.contains(lhs, prereleases=True)
-    compare = _OPERATORS.get(sign)
+    operators = _OPERATORS_BY_26 if follows_26() else _OPERATORS
+    compare = operators.get(sign)
     if compare is None:
         raise UndefinedComparison(f"Undefined {op!r} on {lhs!r} and {rhs!r}.")
     return compare(lhs, rhs)
@@ -150,6 +203,8 @@ def _normalize(lhs: str, rhs: _Operand, key: str) -> tuple[str, _Operand]:
     """Both operands, with normalized names of extras and groups (PEP 685)."""
     if key == "extra":
         assert isinstance(rhs, str), "extra value must be a string"
+        if follows_26():
+            return lhs, rhs
     elif key not in MARKERS_ALLOWING_SET:
         return lhs, rhs
     return canonicalize_name(lhs), canonicalize_name(rhs) if isinstance(rhs, str) else {canonicalize_name(each) for each in rhs}
@@ -165,9 +220,15 @@ def _evaluate_item(item: MarkerItem, environment: dict[str, _Operand]) -> bool:
     else:
         key = right.value
         lhs, rhs = left.value, environment[key]
-    assert isinstance(lhs, str), "lhs must be a string"
+    if not isinstance(lhs, str):
+        if not follows_26():
+            raise AssertionError("lhs must be a string")
+        raise UndefinedComparison(
+            f'Set-valued marker {key!r} can only be used with the membership form (e.g. "<name>" in {key}); '
+            f"it cannot appear on the left-hand side of {op.serialize()!r}."
+        )
     lhs, rhs = _normalize(lhs, rhs, key)
-    return _eval_op(lhs, op, rhs)
+    return _eval_op(lhs, op, rhs, key)
 
 
 def _evaluate_markers(markers: MarkerList, environment: dict[str, _Operand]) -> bool:
@@ -202,21 +263,58 @@ class Marker:
         except ParserSyntaxError as error:
             raise InvalidMarker(str(error)) from error
 
+    def __getstate__(self) -> Any:
+        return str(self) if follows_26() else self.__dict__
+
+    def __setstate__(self, state: Any) -> None:
+        if isinstance(state, str):
+            try:
+                self._markers = _normalize_extra_values(parse_marker(state))
+            except ParserSyntaxError as error:
+                raise TypeError(f"Cannot restore Marker from {state!r}") from error
+            return
+        attributes = state[1] if isinstance(state, tuple) and len(state) == 2 else state
+        if not isinstance(attributes, dict) or not isinstance(attributes.get("_markers"), list):
+            raise TypeError(f"Cannot restore Marker from {state!r}")
+        self.__dict__.update(attributes)
+
+    @classmethod
+    def _from_markers(cls, markers: MarkerList) -> Marker:
+        made = cls.__new__(cls)
+        made._markers = markers
+        return made
+
+    def __and__(self, other: Marker) -> Marker:
+        """A marker that holds where both do.
+
+        >>> Marker("os_name == 'nt'") & Marker("extra == 'x'")
+        <Marker('os_name == "nt" and extra == "x"')>
+        """
+        if not isinstance(other, Marker):
+            return NotImplemented
+        return self._from_markers([self._markers, "and", other._markers])
+
+    def __or__(self, other: Marker) -> Marker:
+        """A marker that holds where one of both does."""
+        if not isinstance(other, Marker):
+            return NotImplemented
+        return self._from_markers([self._markers, "or", other._markers])
+
     def __str__(self) -> str:
         return _format_marker(self._markers)
 
     def __repr__(self) -> str:
-        return f"<Marker('{self}')>"
+        return f"<{self.__class__.__name__}({str(self)!r})>" if follows_26() else f"<Marker('{self}')>"
 
     def __hash__(self) -> int:
-        return hash((self.__class__.__name__, str(self)))
+        return hash(str(self) if follows_26() else (self.__class__.__name__, str(self)))
 
     def __eq__(self, other: Any) -> bool:
         if not isinstance(other, Marker):
             return NotImplemented
         return str(self) == str(other)
 
-    def evaluate(self, environment: dict[str, Any] | None = None, context: EvaluateContext = "metadata") -> bool:
+    def evaluate(self, environment: Mapping[str, Any] | None = None, context: EvaluateContext = "metadata") -> bool:
         """Whether it holds, in the environment of this process but for the variables that are given.
 
         The context says which variables there are besides: `extra` in metadata, `extras` and `dependency_groups` in a lock file, else none.
@@ -233,4 +331,6 @@ class Marker:
             # callers that mean no extra may pass None
             if "extra" in variables and variables["extra"] is None:
                 variables["extra"] = ""
+            elif "extra" in variables and follows_26():
+                variables["extra"] = canonicalize_name(variables["extra"])  # type: ignore[arg-type]
         return _evaluate_markers(self._markers, variables)

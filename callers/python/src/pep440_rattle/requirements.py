@@ -10,7 +10,7 @@ from __future__ import annotations
 from collections.abc import Iterator
 from typing import Any
 
-from pep440_rattle._core import read_requirement
+from pep440_rattle._core import follows_26, read_requirement
 
 from ._parser import NODES, ParserSyntaxError, parse_requirement
 from .markers import Marker, _normalize_extra_values
@@ -44,6 +44,10 @@ class Requirement:
                 specifier = SpecifierSet(parsed.specifier)
         except ParserSyntaxError as error:
             raise InvalidRequirement(str(error)) from error
+        except InvalidSpecifier as error:
+            if not follows_26():
+                raise
+            raise InvalidRequirement(str(error)) from error
         name, url, extras, _, marker = parsed
         self.name: str = name
         self.url: str | None = url or None
@@ -61,7 +65,7 @@ class Requirement:
         if self.specifier:
             yield str(self.specifier)
         if self.url:
-            yield f"@ {self.url}"
+            yield f" @ {self.url}" if follows_26() else f"@ {self.url}"
             if self.marker:
                 yield " "
         if self.marker:
@@ -70,18 +74,42 @@ class Requirement:
     def __str__(self) -> str:
         return "".join(self._parts(self.name))
 
+    def __getstate__(self) -> Any:
+        if not follows_26():
+            return self.__dict__
+        # 26.2 reads the string alone
+        return str(self) if self.specifier._prereleases is None else (str(self), self.specifier._prereleases)
+
+    def __setstate__(self, state: Any) -> None:
+        if isinstance(state, dict) and state.keys() >= {"extras", "marker", "name", "specifier", "url"}:
+            self.__dict__.update(state)
+            return
+        text, prereleases = state if isinstance(state, tuple) and len(state) == 2 else (state, None)
+        if not isinstance(text, str) or not (prereleases is None or isinstance(prereleases, bool)):
+            raise TypeError(f"Cannot restore Requirement from {state!r}")
+        try:
+            Requirement.__init__(self, text)
+        except InvalidRequirement as error:
+            raise TypeError(f"Cannot restore Requirement from {state!r}") from error
+        self.specifier.prereleases = prereleases
+
     def __repr__(self) -> str:
-        return f"<Requirement('{self}')>"
+        return f"<{self.__class__.__name__}({str(self)!r})>" if follows_26() else f"<Requirement('{self}')>"
 
     def __hash__(self) -> int:
-        return hash((self.__class__.__name__, *self._parts(canonicalize_name(self.name))))
+        if not follows_26():
+            return hash((self.__class__.__name__, *self._parts(canonicalize_name(self.name))))
+        return hash((canonicalize_name(self.name), self._compared_extras(), self.specifier, self.url, self.marker))
+
+    def _compared_extras(self) -> frozenset[str]:
+        return frozenset(map(canonicalize_name, self.extras) if follows_26() else self.extras)
 
     def __eq__(self, other: Any) -> bool:
         if not isinstance(other, Requirement):
             return NotImplemented
         return (
             canonicalize_name(self.name) == canonicalize_name(other.name)
-            and self.extras == other.extras
+            and self._compared_extras() == other._compared_extras()
             and self.specifier == other.specifier
             and self.url == other.url
             and self.marker == other.marker

@@ -16,7 +16,7 @@ from collections import namedtuple
 
 from . import _core
 from ._core import InvalidSpecifier
-from .version import InvalidVersion, Version, _remove_held_slots, _set_attributes, _split_state, _state_of, _text_of_other
+from .version import InvalidVersion, Version, _remove_held_slots, _set_attributes, _split_state, _state_by_26, _state_of, _text_of_other
 
 __all__ = ["BaseSpecifier", "Bound", "InvalidSpecifier", "Specifier", "SpecifierSet"]
 
@@ -26,11 +26,10 @@ TYPE_CHECKING = False
 if TYPE_CHECKING:
     import re
     from collections.abc import Callable, Iterable, Iterator
-    from typing import TypeVar
-
-    from .version import _State
+    from typing import Any, TypeVar
 
     UnparsedVersionVar = TypeVar("UnparsedVersionVar", bound=UnparsedVersion)
+    _Item = TypeVar("_Item")
 else:
 
     def __getattr__(name):
@@ -94,6 +93,14 @@ def _version_of(item: UnparsedVersion) -> Version:
     return item if isinstance(item, Version) else Version(item if isinstance(item, str) else _text_of_other(item))
 
 
+def _version_or_none(item: object) -> Version | None:
+    """The version that is given, or None where it is none."""
+    try:
+        return _version_of(item)  # type: ignore[arg-type]
+    except (InvalidVersion, TypeError):
+        return None
+
+
 def _is_normal(text: str) -> bool:
     """Whether some version prints the text, in either case."""
     try:
@@ -122,6 +129,13 @@ def _shown(specifier: Specifier | SpecifierSet, name: str) -> str:
 class BaseSpecifier(metaclass=abc.ABCMeta):
     """What a specifier and a set of specifiers have in common."""
 
+    __match_args__ = ("_str",)
+
+    @property
+    def _str(self) -> str:
+        """The specifiers as they print, for `match`."""
+        return str(self)
+
     @abc.abstractmethod
     def __str__(self) -> str:
         """The specifiers, as text."""
@@ -148,8 +162,10 @@ class BaseSpecifier(metaclass=abc.ABCMeta):
         """Whether the version is contained."""
 
     @abc.abstractmethod
-    def filter(self, iterable: Iterable[UnparsedVersionVar], prereleases: bool | None = None) -> Iterator[UnparsedVersionVar]:
-        """The items that are contained."""
+    def filter(
+        self, iterable: Iterable[_Item], prereleases: bool | None = None, key: Callable[[_Item], UnparsedVersion] | None = None
+    ) -> Iterator[_Item]:
+        """The items that are contained; with `key`, those of which it returns a version that is."""
 
     def ranges(self) -> list[tuple[Bound | None, Bound | None]]:
         """The versions that are contained, pre-releases too, as segments between two bounds in rising order; None is no bound.
@@ -168,17 +184,72 @@ class BaseSpecifier(metaclass=abc.ABCMeta):
 
 
 def _kept_at_once(
-    several: Specifier | SpecifierSet, items: Iterable[UnparsedVersionVar], prereleases: bool | None
-) -> list[UnparsedVersionVar] | None:
+    several: Specifier | SpecifierSet,
+    items: Iterable[Any],
+    prereleases: bool | None,
+    key: Callable[[Any], UnparsedVersion] | None,
+    skip_invalid: bool,
+) -> list[Any] | None:
     """Those that are contained, or None where the items are to be read one by one: what makes them may wait, and one behind those that somebody asks
     for may be no version."""
     if not isinstance(items, (list, tuple)):
         return None
+    if key is None:
+        try:
+            return several._kept(items, prereleases, skip_invalid)
+        except (InvalidVersion, TypeError):
+            return None
     try:
-        kept = several._kept(items, several.prereleases if prereleases is None else prereleases, False)
-        return kept if kept or prereleases is not None else several._kept(items, True, False)
-    except (InvalidVersion, TypeError):
+        keys = [key(it) for it in items]
+    except Exception:
         return None
+    try:
+        return several._kept(keys, prereleases, skip_invalid, items)
+    except (TypeError, ValueError):
+        return None
+
+
+def _filter(
+    several: Specifier | SpecifierSet, items: Iterable[Any], prereleases: bool | None, key: Callable[[Any], UnparsedVersion] | None, is_open: bool
+) -> Iterator[Any]:
+    """The items that are contained, by `packaging` 26; of a set that is open strings that are no versions, too."""
+    if not (is_open or prereleases is None):
+        prereleases = prereleases is not False
+    kept = _kept_at_once(several, items, prereleases if prereleases is None else bool(prereleases), key, not is_open)
+    return _filter_one_by_one(several, items, prereleases, key) if kept is None else iter(kept)
+
+
+def _filter_one_by_one(
+    several: Specifier | SpecifierSet, items: Iterable[Any], prereleases: bool | None, key: Callable[[Any], UnparsedVersion] | None
+) -> Iterator[Any]:
+    """The same of items that are read when they are asked for. With no word on pre-releases these are given where nothing else is contained, and strings
+    that are no versions once something else is, or at the end."""
+    if prereleases is None:
+        prereleases = several._default_prereleases()
+    is_found = False
+    later: list[Any] = []
+    strings: list[Any] = []
+    for item in items:
+        given = item if key is None else key(item)
+        version = _version_or_none(given)
+        if not several._matches(given, version):
+            continue
+        is_early = version is not None and version.is_prerelease
+        if prereleases is not None:
+            if prereleases or not is_early:
+                yield item
+        elif version is not None and not is_early:
+            if not is_found:
+                yield from strings
+            is_found = True
+            yield item
+        elif not is_found:
+            later.append(item)
+            strings += [] if is_early else [item]
+        elif not is_early:
+            yield item
+    if not is_found:
+        yield from later
 
 
 def _contains_by_name(self: Specifier | SpecifierSet, item: UnparsedVersion) -> bool:
@@ -199,8 +270,8 @@ class Specifier(_core.HeldSpecifier, BaseSpecifier, metaclass=_Called):
     >>> specifier = Specifier("!= 2.1.*")
     >>> specifier.operator, specifier.version
     ('!=', '2.1.*')
-    >>> Specifier(">2.1").contains("3.0rc1"), Specifier(">2.1").contains("3.0rc1", prereleases=True)
-    (False, True)
+    >>> Specifier(">2.1").contains("3.0rc1"), Specifier(">2.1").contains("3.0rc1", prereleases=False)
+    (True, False)
 
     Equal ones say the same; `prereleases` is not looked at.
 
@@ -225,6 +296,7 @@ class Specifier(_core.HeldSpecifier, BaseSpecifier, metaclass=_Called):
     # Regular expressions for other modules of `packaging` and for tools; nothing here uses them.
     _operator_regex_str = r"(?P<operator>~=|===?|!=|<=?|>=?)"
     _version_regex_str = _VERSION_OF_OPERATOR
+    _specifier_regex_str = _operator_regex_str + _version_regex_str
     _regex = _WholeSpecifier()
 
     def __init_subclass__(cls, **named: object) -> None:
@@ -236,36 +308,71 @@ class Specifier(_core.HeldSpecifier, BaseSpecifier, metaclass=_Called):
         if is_by_name and cls.__contains__ is Specifier.__contains__:
             cls.__contains__ = _contains_by_name  # type: ignore[assignment]
 
-    def __getstate__(self) -> _State:
-        return _state_of(self, {"_spec": self._spec, "_prereleases": self._prereleases})
+    def __getstate__(self) -> Any:
+        own = {"spec": self._spec, "prereleases": self._prereleases}
+        return _state_by_26(self, own, {}) if _core.follows_26() else _state_of(self, {f"_{name}": value for name, value in own.items()})
 
-    def __setstate__(self, state: _State) -> None:
-        attributes, slots = _split_state(state)
-        Specifier.__init__(self, "".join(attributes.pop("_spec")), attributes.pop("_prereleases"))
+    def __setstate__(self, state: Any) -> None:
+        try:
+            attributes, slots = _split_state({"_spec": state[0], "_prereleases": state[1]} if _is_of_26(state, tuple) else state)
+            text, prereleases = "".join(attributes.pop("_spec")), attributes.pop("_prereleases")
+        except (AttributeError, KeyError, TypeError, ValueError) as error:
+            raise TypeError(f"Cannot restore Specifier from {state!r}") from error
+        Specifier.__init__(self, text, prereleases)
         _set_attributes(self, attributes, slots)
 
     def __repr__(self) -> str:
         return _shown(self, type(self).__name__)
 
     def _contains(self, item: UnparsedVersion, prereleases: bool | None, _: object) -> bool:
-        """Whether the version is contained, by what a subclass has of its own."""
-        allowed = self.prereleases if prereleases is None else prereleases
-        version = _version_of(item)
-        return (allowed or not version.is_prerelease) and self._get_operator(self.operator)(version, self.version)
+        """Whether the version is contained, by what a subclass has of its own, or by `===`."""
+        if not _core.follows_26():
+            allowed = self.prereleases if prereleases is None else prereleases
+            version = _version_of(item)
+            return (allowed or not version.is_prerelease) and self._get_operator(self.operator)(version, self.version)
+        if self.operator == "===":
+            return any(True for _ in self.filter([item], prereleases))
+        candidate = _version_or_none(item)
+        if candidate is None:
+            return False
+        if candidate.is_prerelease and (self._default_prereleases() if prereleases is None else prereleases) is False:
+            return False
+        return self._get_operator(self.operator)(candidate, self.version)
 
-    def filter(self, iterable: Iterable[UnparsedVersionVar], prereleases: bool | None = None) -> Iterator[UnparsedVersionVar]:
-        """The items that are contained, in their order. With no word on pre-releases these are given where nothing else is contained.
+    def _default_prereleases(self) -> bool | None:
+        if self._prereleases is not None:
+            return self._prereleases
+        return True if self.prereleases else None
+
+    def _matches(self, given: object, version: Version | None) -> bool:
+        """Whether it contains what was given, with pre-releases, by `packaging` 26."""
+        if self.operator == "===":
+            return str(given).lower() == self.version.lower()
+        return version is not None and _core.HeldSpecifier.contains(self, version, True)
+
+    def filter(
+        self, iterable: Iterable[_Item], prereleases: bool | None = None, key: Callable[[_Item], UnparsedVersion] | None = None
+    ) -> Iterator[_Item]:
+        """The items that are contained, in their order; with `key`, those of which it returns a version that is. With no word on pre-releases these
+        are given where nothing else is contained.
 
         >>> list(Specifier(">2.1").filter(["2.0", "2.2", "3.0rc1"])), list(Specifier(">2.1").filter(["2.0", "3.0rc1"]))
         (['2.2'], ['3.0rc1'])
+        >>> list(Specifier(">2.1").filter([("2.0", 1), ("2.2", 2)], key=lambda pair: pair[0]))
+        [('2.2', 2)]
         """
-        kept = _kept_at_once(self, iterable, prereleases)
+        if _core.follows_26():
+            return _filter(self, iterable, prereleases, key, self.operator == "===")
+        return self._filter_by_25(iterable, prereleases, key)
+
+    def _filter_by_25(self, iterable: Iterable[Any], prereleases: bool | None, key: Callable[[Any], UnparsedVersion] | None) -> Iterator[Any]:
+        kept = _kept_at_once(self, iterable, prereleases if prereleases is None else bool(prereleases), key, False)
         if kept is not None:
             yield from kept
             return
         is_found, later = False, []
         for item in iterable:
-            version = _version_of(item)
+            version = _version_of(item if key is None else key(item))
             if not self.contains(version, True if prereleases is None else prereleases):
                 continue
             if version.is_prerelease and not (prereleases or self.prereleases):
@@ -275,6 +382,12 @@ class Specifier(_core.HeldSpecifier, BaseSpecifier, metaclass=_Called):
                 yield item
         if not is_found:
             yield from later
+
+    def _to_ranges(self) -> Any:
+        """What `packaging.ranges` reads."""
+        if self.operator == "===":
+            return _module_of_packaging("_ranges").FULL_RANGE
+        return _module_of_packaging("_ranges").bounds_for_spec(self.operator, self.version, Version(self.version.removesuffix(".*")))
 
     # ---- a comparison for each operator, which a subclass may have its own of
 
@@ -314,8 +427,8 @@ class SpecifierSet(_core.HeldSet, BaseSpecifier, metaclass=_Called):
     pre-releases are allowed; None leaves it to the members: allowed where one of them allows it. Each piece is parsed once: the set holds what the
     library compiled of all.
 
-    >>> SpecifierSet(">2.1,<4").contains("3.0rc1"), SpecifierSet(">2.1,<4").contains("3.0rc1", prereleases=True)
-    (False, True)
+    >>> SpecifierSet(">2.1,<4").contains("3.0rc1"), SpecifierSet(">2.1,<4").contains("3.0rc1", prereleases=False)
+    (True, False)
 
     Equal ones have the same members; `prereleases` is not looked at.
 
@@ -339,16 +452,23 @@ class SpecifierSet(_core.HeldSet, BaseSpecifier, metaclass=_Called):
         if cls.contains is not SpecifierSet.contains and cls.__contains__ is SpecifierSet.__contains__:
             cls.__contains__ = _contains_by_name  # type: ignore[assignment]
 
-    def __getstate__(self) -> _State:
-        return _state_of(self, {"_specs": self._specs, "_prereleases": self._prereleases})
+    def __getstate__(self) -> Any:
+        own = {"specs": self._specs, "prereleases": self._prereleases}
+        return _state_by_26(self, own, {}) if _core.follows_26() else _state_of(self, {f"_{name}": value for name, value in own.items()})
 
-    def __setstate__(self, state: _State) -> None:
-        attributes, slots = _split_state(state)
-        SpecifierSet.__init__(self, attributes.pop("_specs"), attributes.pop("_prereleases"))
+    def __setstate__(self, state: Any) -> None:
+        try:
+            attributes, slots = _split_state({"_specs": state[0], "_prereleases": state[1]} if _is_of_26(state, tuple) else state)
+            members, prereleases = attributes.pop("_specs"), attributes.pop("_prereleases")
+        except (AttributeError, KeyError, TypeError, ValueError) as error:
+            raise TypeError(f"Cannot restore SpecifierSet from {state!r}") from error
+        if isinstance(members, frozenset) and _core.follows_26():
+            members = tuple(sorted(members, key=str))
+        SpecifierSet.__init__(self, members, prereleases)
         _set_attributes(self, attributes, slots)
 
     def __repr__(self) -> str:
-        return _shown(self, "SpecifierSet")
+        return _shown(self, type(self).__name__ if _core.follows_26() else "SpecifierSet")
 
     def __str__(self) -> str:
         """The members in the order of their texts, with commas alone between them.
@@ -356,10 +476,16 @@ class SpecifierSet(_core.HeldSet, BaseSpecifier, metaclass=_Called):
         >>> str(SpecifierSet(">2.1, !=2.2.*"))
         '!=2.2.*,>2.1'
         """
+        if _core.follows_26():
+            return ",".join(map(str, self._sorted_specs))
         return ",".join(sorted(map(str, self._specs)))
 
     def _contains(self, item: UnparsedVersion, prereleases: bool | None, installed: bool | None) -> bool:
-        """Whether the version is contained, by each member; and the base version of an installed one."""
+        """Whether the version is contained, by each member; by 25 the base version of an installed one."""
+        if _core.follows_26():
+            candidate = _version_or_none(item)
+            asked = item if candidate is None or (self._has_arbitrary and not isinstance(item, Version)) else candidate
+            return any(True for _ in self.filter([asked], prereleases))
         version = _version_of(item)
         allowed = self.prereleases if prereleases is None else prereleases
         if version.is_prerelease and not allowed:
@@ -368,23 +494,142 @@ class SpecifierSet(_core.HeldSet, BaseSpecifier, metaclass=_Called):
             version = Version(version.base_version)
         return all(each.contains(version, allowed) for each in self._specs)
 
-    def filter(self, iterable: Iterable[UnparsedVersionVar], prereleases: bool | None = None) -> Iterator[UnparsedVersionVar]:
-        """The items that each member contains, in their order. Of a set with no member, with no word on pre-releases, these are given
-        where there is nothing else.
+    @property
+    def _has_arbitrary(self) -> bool:
+        return any("===" in str(it) for it in self._specs)
 
-        >>> list(SpecifierSet(">2.1").filter(["2.0", "3.0rc1"])), list(SpecifierSet("").filter(["3.0rc1"]))
-        ([], ['3.0rc1'])
+    # ---- how sets relate, by `packaging` 26
+
+    def is_unsatisfiable(self) -> bool:
+        """Whether no version is contained, nor with `===` a string; where pre-releases are forbidden, whether none but these is.
+
+        >>> SpecifierSet(">=2,<1").is_unsatisfiable(), SpecifierSet("==1a1", prereleases=False).is_unsatisfiable()
+        (True, True)
         """
+        plain = [it for it in self._specs if it.operator != "==="]
+        texts = {it.version.lower() for it in self._specs if it.operator == "==="}
+        if not texts:
+            return bool(self._specs) and not self._has_more_than(())
+        if len(texts) > 1:
+            return True
+        candidate = _version_or_none(texts.pop())
+        if candidate is None:
+            return bool(plain)
+        is_forbidden = self.prereleases is False and candidate.is_prerelease
+        return is_forbidden or not all(it.contains(candidate) for it in plain)
+
+    def is_subset(self, other: SpecifierSet) -> bool:
+        """Whether the other one contains all that this one contains.
+
+        >>> SpecifierSet(">=3.12,<3.13").is_subset(SpecifierSet(">=3.12"))
+        True
+
+        Raises `TypeError` where the other one is no set, and `ValueError` where one has `===`, or other `prereleases` than the other one.
+        """
+        self._check_relation_operand(other)
+        # the empty set contains strings, too
+        return not (other._specs and (not self._specs or self._has_more_than(other._specs)))
+
+    def is_superset(self, other: SpecifierSet) -> bool:
+        """Whether this one contains all that the other one contains; raises as `is_subset`."""
+        self._check_relation_operand(other)
+        return other.is_subset(self)
+
+    def is_disjoint(self, other: SpecifierSet) -> bool:
+        """Whether nothing is contained in both; raises as `is_subset`.
+
+        >>> SpecifierSet("<3.12").is_disjoint(SpecifierSet(">=3.12"))
+        True
+        """
+        self._check_relation_operand(other)
+        return SpecifierSet([*self._specs, *other._specs], self._prereleases).is_unsatisfiable()
+
+    def _check_relation_operand(self, other: object) -> None:
+        if not isinstance(other, SpecifierSet):
+            raise TypeError("expected a SpecifierSet")
+        if self._has_arbitrary or other._has_arbitrary:
+            raise ValueError("set relations do not support === specifiers")
+        if self._prereleases != other._prereleases:
+            both = f"{self._prereleases!r} and {other._prereleases!r}"
+            raise ValueError(f"Cannot combine VersionRange operands with different pre-release policies: {both}")
+
+    def _has_more_than(self, others: Iterable[Specifier]) -> bool:
+        """Whether it contains a version, or a release where pre-releases are forbidden, that some of the others does not; any where there are none."""
+        from ._relations import least_versions
+
+        left_out = SpecifierSet(others)
+        for version in least_versions(it._spec for it in (*self._specs, *left_out._specs)):
+            is_asked = not (version.is_prerelease and self._prereleases is False)
+            if is_asked and _matches_all(self, version) and not (left_out._specs and _matches_all(left_out, version)):
+                return True
+        return False
+
+    def to_range(self) -> Any:
+        """The `VersionRange` of `packaging.ranges`, where these modules stand in for `packaging`; else raises `NotImplementedError`."""
+        return _module_of_packaging("ranges").VersionRange._from_specifier_set(self)
+
+    def _get_ranges(self) -> Any:
+        """What `packaging.ranges` reads."""
+        return _module_of_packaging("_ranges").intersect_specifier_bounds(it._to_ranges() for it in self._specs)
+
+    def _default_prereleases(self) -> bool | None:
+        return self.prereleases
+
+    def _matches(self, given: object, version: Version | None) -> bool:
+        """Whether each member contains what was given, with pre-releases, by `packaging` 26."""
+        if not self._is_by_python:
+            return not self._specs if version is None else _core.HeldSet.contains(self, version, True)
+        if self._has_arbitrary:
+            return all(it.contains(given, True) for it in self._specs)
+        return not self._specs if version is None else all(it.contains(version, True) for it in self._specs)
+
+    def filter(
+        self, iterable: Iterable[_Item], prereleases: bool | None = None, key: Callable[[_Item], UnparsedVersion] | None = None
+    ) -> Iterator[_Item]:
+        """The items that each member contains, in their order; with `key`, those of which it returns a version that each contains. With no word on
+        pre-releases these are given where there is nothing else.
+
+        >>> list(SpecifierSet(">2.1").filter(["2.0", "2.2", "3.0rc1"])), list(SpecifierSet(">2.1").filter(["2.0", "3.0rc1"]))
+        (['2.2'], ['3.0rc1'])
+        >>> list(SpecifierSet(">2.1").filter([("2.0", 1), ("2.2", 2)], key=lambda pair: pair[0]))
+        [('2.2', 2)]
+        """
+        if _core.follows_26():
+            return _filter(self, iterable, prereleases, key, not self._specs or self._has_arbitrary)
         allowed = self.prereleases if prereleases is None else prereleases
         if not self._specs:
             items = tuple(iterable)
-            return iter(SpecifierSet("")._kept(items, allowed, False) or (items if allowed is None else ()))
-        kept = _kept_at_once(self, iterable, bool(allowed))
+            keys = items if key is None else [key(it) for it in items]
+            return iter(SpecifierSet("")._kept(keys, allowed if allowed is None else bool(allowed), False, items) or ())
+        kept = _kept_at_once(self, iterable, bool(allowed), key, False)
         if kept is not None:
             return iter(kept)
         for each in self._specs:
-            iterable = each.filter(iterable, bool(allowed))
+            iterable = each.filter(iterable, bool(allowed), key)
         return iter(iterable)
 
 
-_core.use(Specifier, SpecifierSet, _text_of_other)
+def _matches_all(several: SpecifierSet, version: Version) -> bool:
+    return _core.HeldSet.contains(several, version, True)
+
+
+def _module_of_packaging(name: str) -> Any:
+    """A module of ranges of the `packaging` that these modules stand in for."""
+    package = SpecifierSet.__module__.rpartition(".")[0]
+    if package == __package__:
+        raise NotImplementedError("there are no ranges of pep440_rattle; where it stands in for packaging 26.3, that has them")
+    import importlib
+
+    return importlib.import_module(f"{package}.{name}")
+
+
+def _is_of_26(state: object, kind: type) -> bool:
+    """Whether it is what `packaging` 26.2 and newer ones pickle of specifiers: what they are made of, and what was said of pre-releases."""
+    return isinstance(state, tuple) and len(state) == 2 and isinstance(state[0], kind)
+
+
+def _sorted_members(members: Iterable[Specifier]) -> tuple[Specifier, ...]:
+    return tuple(dict.fromkeys(sorted(members, key=str)))
+
+
+_core.use(Specifier, SpecifierSet, _text_of_other, _sorted_members)

@@ -4,7 +4,8 @@
     python -m pep440_rattle.swap -m MODULE WORD..      a module
 
 Copies that a package carries along are replaced too: those of pip, of setuptools, and every other `packaging` below a folder `_vendor` or
-`extern`. The other modules of `packaging` stay what they are, and so do all of a release before 22, which has other classes besides; of any other
+`extern`. The first one that is imported says for the whole process whether these modules behave like 25.0 or like 26.3; one that behaves otherwise stays
+what it is. The other modules of `packaging` stay what they are, and so do all of a release before 22, which has other classes besides; of any other
 release that these modules were not tested in place of, an import raises ImportError. A file `sitecustomize.py` with the line
 `import pep440_rattle.swap; pep440_rattle.swap.swap()` does so for each program of an environment.
 """
@@ -22,7 +23,9 @@ import sysconfig
 import types
 from collections.abc import Sequence
 
-from . import behaves_like, specifiers, version
+import pep440_rattle
+
+from . import specifiers, version
 
 __all__ = ["swap"]
 
@@ -31,22 +34,31 @@ _OURS = {"version": version, "specifiers": specifiers}
 _CLASSES = ("Version", "InvalidVersion", "_Version", "BaseSpecifier", "Specifier", "SpecifierSet", "InvalidSpecifier")
 # Modules that each copy has of its own, executed under its name, since they use others of the copy, as its `tags`.
 _COPIED = ("requirements", "markers", "utils", "_parser")
-# The releases of `packaging` that the tests are run beside.
-_TESTED = ("24.1", "24.2", "25.0")
+# The releases of `packaging` that the tests are run beside, and the one whose behaviour each has.
+_TESTED = {"24.1": "25.0", "24.2": "25.0", "25.0": "25.0", "26.2": "26.3", "26.3": "26.3"}
 _REPLACED = re.compile(rf"(?:.*\.(?:_vendor|extern)\.)?packaging\.({'|'.join([*_OURS, *_COPIED])})")
 
 
+# The packages that are replaced.
+_replaced: set[str] = set()
+
+
 def _is_replaced(package: str) -> bool:
-    """Whether its release of `packaging` is replaced: one before 22 is not, which knows versions beyond PEP 440."""
+    """Whether its release of `packaging` is replaced: one before 22 is not, which knows versions beyond PEP 440, nor one that behaves otherwise than another
+    one that is."""
     release: str = getattr(sys.modules[package], "__version__", "unknown")
     number, owner = release.partition(".")[0], package.partition(".")[0]
     if release in _TESTED:
-        return True
+        if not _replaced:
+            pep440_rattle.behave_like(_TESTED[release])
+        if pep440_rattle.behaves_like == _TESTED[release]:
+            _replaced.add(package)
+        return package in _replaced
     if number.isdigit() and int(number) < 22:
         return False
-    other = f"packaging=={behaves_like}" if owner == "packaging" else f"a release of {owner} that has one of these"
+    other = "packaging==26.3" if owner == "packaging" else f"a release of {owner} that has one of these"
     raise ImportError(
-        f"{package} is release {release}, and pep440_rattle, which behaves like packaging {behaves_like}, was tested in place of {', '.join(_TESTED)} alone: "
+        f"{package} is release {release}, and pep440_rattle was tested in place of {', '.join(_TESTED)} alone: "
         f"install {other}, or run this without pep440_rattle.swap"
     )
 

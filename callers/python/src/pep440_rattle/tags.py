@@ -3,7 +3,17 @@ from __future__ import annotations
 
 from typing import NamedTuple
 
-__all__ = ["Tag", "parse_tag"]
+from ._core import follows_26
+
+__all__ = ["InvalidTag", "Tag", "UnsortedTagsError", "parse_tag"]
+
+
+class InvalidTag(ValueError):
+    """A string is no tag."""
+
+
+class UnsortedTagsError(ValueError):
+    """Parts of a tag are not sorted, as PEP 425 has them."""
 
 
 class _Parts(NamedTuple):
@@ -28,11 +38,30 @@ class Tag(_Parts):
         return "-".join(self)
 
 
-def parse_tag(tag: str) -> frozenset[Tag]:
+def _check(tag: str, parts: list[list[str]], validate_order: bool) -> None:
+    """As `packaging` 26 does."""
+    for part in parts:
+        if "" in part:
+            raise InvalidTag(f"Tag {tag!r} has an empty component: {'.'.join(part)!r}")
+        if validate_order and part != sorted(part):
+            raise UnsortedTagsError(f"Tag component {'.'.join(part)!r} is not in sorted order per PEP 425")
+    if len(parts) != 3:
+        raise InvalidTag(f"Tag {tag!r} must have exactly three components")
+    for interpreter in parts[0]:
+        if not interpreter.isidentifier():
+            raise InvalidTag(f"Tag {tag!r} has an invalid interpreter: {interpreter!r}")
+
+
+def parse_tag(tag: str, *, validate_order: bool = False) -> frozenset[Tag]:
     """The tags that a string with points in it stands for.
 
     >>> sorted(map(str, parse_tag("py2.py3-none-any")))
     ['py2-none-any', 'py3-none-any']
+
+    Raises `InvalidTag` where the string is none, and with `validate_order` `UnsortedTagsError` where a part is not sorted.
     """
-    interpreters, abis, platforms = (part.split(".") for part in tag.split("-"))
+    parts = [part.split(".") for part in tag.split("-")]
+    if follows_26():
+        _check(tag, parts, validate_order)
+    interpreters, abis, platforms = parts
     return frozenset(Tag(interpreter, abi, platform) for interpreter in interpreters for abi in abis for platform in platforms)

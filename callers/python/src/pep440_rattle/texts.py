@@ -5,7 +5,7 @@ Each takes an iterable of texts, or of versions, and gives back what it was give
 from __future__ import annotations
 
 from . import _core
-from .specifiers import Specifier, SpecifierSet
+from .specifiers import Specifier, SpecifierSet, _version_of
 from .version import InvalidVersion
 
 TYPE_CHECKING = False
@@ -37,11 +37,12 @@ def filter_texts(
 
 def _is_kept(several: Specifier | SpecifierSet, text: UnparsedVersion, skip_invalid: bool) -> bool:
     try:
-        return several.contains(text, True)
+        _version_of(text)
     except InvalidVersion:
         if skip_invalid:
             return False
         raise
+    return several.contains(text, True)
 
 
 def sort_texts(texts: Iterable[UnparsedVersionVar]) -> list[UnparsedVersionVar]:

@@ -4,8 +4,24 @@ from __future__ import annotations
 import re
 from typing import NewType, Union, cast
 
+from pep440_rattle._core import follows_26, normal_name
+
+from . import tags as _tags
 from .tags import Tag, parse_tag
 from .version import InvalidVersion, Version
+
+__all__ = [
+    "BuildTag",
+    "InvalidName",
+    "InvalidSdistFilename",
+    "InvalidWheelFilename",
+    "NormalizedName",
+    "canonicalize_name",
+    "canonicalize_version",
+    "is_normalized_name",
+    "parse_sdist_filename",
+    "parse_wheel_filename",
+]
 
 BuildTag = Union[tuple[()], tuple[int, str]]
 NormalizedName = NewType("NormalizedName", str)
@@ -23,10 +39,13 @@ class InvalidSdistFilename(ValueError):
     """A string is no name of a source archive."""
 
 
-_VALID_NAME = re.compile(r"^([A-Z0-9]|[A-Z0-9][A-Z0-9._-]*[A-Z0-9])$", re.IGNORECASE)
-_NORMALIZED_NAME = re.compile(r"^([a-z0-9]|[a-z0-9]([a-z0-9-](?!--))*[a-z0-9])$")
-_NAME_IN_WHEEL = re.compile(r"^[\w\d._]*$")
-_BUILD_TAG = re.compile(r"(\d+)(.*)")
+# By 26, and by 25, which takes a newline at the end, and other scripts.
+_VALID_NAME = re.compile(r"([A-Z0-9]|[A-Z0-9][A-Z0-9._-]*[A-Z0-9])\Z", re.IGNORECASE | re.ASCII)
+_VALID_NAME_BY_25 = re.compile(r"([A-Z0-9]|[A-Z0-9][A-Z0-9._-]*[A-Z0-9])$", re.IGNORECASE)
+_NORMALIZED_NAME = re.compile(r"[a-z0-9]+(-[a-z0-9]+)*\Z")
+_NORMALIZED_NAME_BY_25 = re.compile(r"([a-z0-9]|[a-z0-9]([a-z0-9-](?!--))*[a-z0-9])$")
+_NAME_IN_WHEEL, _NAME_IN_WHEEL_BY_25 = re.compile(r"[\w._]+\Z"), re.compile(r"[\w._]*$")
+_BUILD_TAG, _BUILD_TAG_BY_25 = re.compile(r"(\d+)(.*)", re.ASCII), re.compile(r"(\d+)(.*)")
 _ZEROS_AT_END = re.compile(r"(\.0)+$")
 
 
@@ -36,8 +55,14 @@ def canonicalize_name(name: str, *, validate: bool = False) -> NormalizedName:
     >>> canonicalize_name("Some.-_Name")
     'some-name'
     """
-    if validate and not _VALID_NAME.match(name):
+    if validate and not (_VALID_NAME if follows_26() else _VALID_NAME_BY_25).match(name):
         raise InvalidName(f"name is invalid: {name!r}")
+    normal = normal_name(name)
+    return _normalize_name(name) if normal is None else normal  # type: ignore[return-value]
+
+
+def _normalize_name(name: str) -> NormalizedName:
+    """The same of any string."""
     name = name.lower().replace("_", "-").replace(".", "-")
     while "--" in name:
         name = name.replace("--", "-")
@@ -46,7 +71,7 @@ def canonicalize_name(name: str, *, validate: bool = False) -> NormalizedName:
 
 def is_normalized_name(name: str) -> bool:
     """Whether it is a normalized name."""
-    return _NORMALIZED_NAME.match(name) is not None
+    return (_NORMALIZED_NAME if follows_26() else _NORMALIZED_NAME_BY_25).match(name) is not None
 
 
 def canonicalize_version(version: Version | str, *, strip_trailing_zero: bool = True) -> str:
@@ -74,10 +99,24 @@ def _parse_version(text: str, error: type[ValueError], kind: str, filename: str)
         raise error(f"Invalid {kind} filename (invalid version): {filename!r}") from reason
 
 
-def parse_wheel_filename(filename: str) -> tuple[NormalizedName, Version, BuildTag, frozenset[Tag]]:
+def _parse_tags(text: str, validate_order: bool, filename: str) -> frozenset[Tag]:
+    try:
+        return parse_tag(text, validate_order=validate_order) if validate_order else parse_tag(text)
+    except ValueError as error:
+        # 24 and 25 have no such classes
+        if isinstance(error, getattr(_tags, "UnsortedTagsError", ())):
+            reason = "compressed tag set components must be in sorted order per PEP 425"
+        elif isinstance(error, getattr(_tags, "InvalidTag", ())):
+            reason = "invalid tag component"
+        else:
+            raise
+    raise InvalidWheelFilename(f"Invalid wheel filename ({reason}): {filename!r}")
+
+
+def parse_wheel_filename(filename: str, *, validate_order: bool = False) -> tuple[NormalizedName, Version, BuildTag, frozenset[Tag]]:
     """The name, version, build number and tags of a wheel (PEP 427).
 
-    Raises `InvalidWheelFilename` where the string is no name of one.
+    Raises `InvalidWheelFilename` where the string is no name of one, or with `validate_order` has tags that are not sorted.
     """
     if not filename.endswith(".whl"):
         raise InvalidWheelFilename(f"Invalid wheel filename (extension must be '.whl'): {filename!r}")
@@ -86,16 +125,16 @@ def parse_wheel_filename(filename: str) -> tuple[NormalizedName, Version, BuildT
     if dashes not in (4, 5):
         raise InvalidWheelFilename(f"Invalid wheel filename (wrong number of parts): {filename!r}")
     parts = filename.split("-", dashes - 2)
-    if "__" in parts[0] or not _NAME_IN_WHEEL.match(parts[0]):
+    if "__" in parts[0] or not (_NAME_IN_WHEEL if follows_26() else _NAME_IN_WHEEL_BY_25).match(parts[0]):
         raise InvalidWheelFilename(f"Invalid project name: {filename!r}")
     version = _parse_version(parts[1], InvalidWheelFilename, "wheel", filename)
     build: BuildTag = ()
     if dashes == 5:
-        number = _BUILD_TAG.match(parts[2])
+        number = (_BUILD_TAG if follows_26() else _BUILD_TAG_BY_25).match(parts[2])
         if not number:
             raise InvalidWheelFilename(f"Invalid build number: {parts[2]} in {filename!r}")
         build = int(number[1]), number[2]
-    return canonicalize_name(parts[0]), version, build, parse_tag(parts[-1])
+    return canonicalize_name(parts[0]), version, build, _parse_tags(parts[-1], validate_order, filename)
 
 
 def parse_sdist_filename(filename: str) -> tuple[NormalizedName, Version]:
@@ -110,4 +149,6 @@ def parse_sdist_filename(filename: str) -> tuple[NormalizedName, Version]:
     name, dash, version = filename[: -len(ending)].rpartition("-")
     if not dash:
         raise InvalidSdistFilename(f"Invalid sdist filename: {filename!r}")
+    if follows_26() and not name:
+        raise InvalidSdistFilename(f"Invalid sdist filename (empty project name): {filename!r}")
     return canonicalize_name(name), _parse_version(version, InvalidSdistFilename, "sdist", filename)

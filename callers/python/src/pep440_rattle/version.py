@@ -11,6 +11,7 @@ from __future__ import annotations
 import copyreg
 from collections import namedtuple
 
+from . import _core
 from ._core import InvalidVersion, Version
 
 # As that of `typing`, whose import takes longer than all else here.
@@ -22,7 +23,7 @@ if TYPE_CHECKING:
     _LocalSegments = tuple[Union[int, str], ...]
     _State = Union[dict[str, Any], tuple[Union[dict[str, Any], None], dict[str, Any]]]
 
-__all__ = ["VERSION_PATTERN", "InvalidVersion", "Version", "parse"]
+__all__ = ["VERSION_PATTERN", "InvalidVersion", "Version", "normalize_pre", "parse"]
 
 # The name by which tools annotate what is compared.
 _BaseVersion = Version
@@ -132,8 +133,9 @@ def _compose(version: Version) -> str:
 
 # The type of slots, as that of `types`, whose import takes longer than all this.
 _SLOT = type(vars(type)["__basicsize__"])
-# What an object of `packaging` has as attributes, and one of these otherwise.
-_HELD = ("_version", "_key", "_spec", "_specs", "_prereleases")
+# What an object of `packaging` has as attributes or in slots, and one of these otherwise; and what it has in slots beside, which is found anew.
+_HELD = ("_version", "_key", "_spec", "_specs", "_prereleases", "_epoch", "_release", "_pre", "_post", "_dev", "_local")
+_FOUND = ("_key_cache", "_hash_cache", "_spec_version", "_ranges", "_canonicalized", "_has_arbitrary", "_is_unsatisfiable", "_resolved_ops")
 
 
 def _remove_held_slots(cls: type) -> None:
@@ -150,10 +152,21 @@ def _state_of(it: object, own: dict[str, Any]) -> _State:
     return (attributes, slots) if slots else attributes
 
 
+def _state_by_26(it: object, own: dict[str, Any], held: dict[str, Any]) -> Any:
+    """The same as `packaging` 26.2 has it: a tuple of the values alone. Where a subclass holds more, it has the form of 26.0, with the names of slots: 26.2
+    reads that too, without what is beside."""
+    names = [name for name in copyreg._slotnames(type(it)) if name not in _HELD]  # type: ignore[attr-defined]
+    slots = {name: getattr(it, name) for name in names if hasattr(it, name)}
+    attributes = {**held, **getattr(it, "__dict__", {})}
+    if not attributes and not slots:
+        return tuple(own.values())
+    return attributes or None, {**{f"_{name}": value for name, value in own.items()}, **slots}
+
+
 def _split_state(state: _State) -> tuple[dict[str, Any], dict[str, Any]]:
     attributes, slots = state if isinstance(state, tuple) else (state, {})
     held = {name: value for name, value in slots.items() if name in _HELD}
-    return {**(attributes or {}), **held}, {name: value for name, value in slots.items() if name not in held}
+    return {**(attributes or {}), **held}, {name: value for name, value in slots.items() if name not in held and name not in _FOUND}
 
 
 def _set_attributes(it: object, attributes: dict[str, Any], slots: dict[str, Any]) -> None:
@@ -180,20 +193,43 @@ def _init_subclass(cls: type[Version], **named: object) -> None:
                 setattr(cls, name, property(it, doc=it.__doc__))
 
 
-def _get_state(version: Version) -> _State:
-    return _state_of(version, {"_version": version._version, "_key": version._key})
+# The parts of a version in the order of a pickle of 26.2 or newer, and the slots that 26.0 has of them.
+_PARTS_OF_26 = ("epoch", "release", "pre", "post", "dev", "local")
 
 
-def _set_state(version: Version, state: _State) -> None:
-    attributes, slots = _split_state(state)
-    _set_parts(version, attributes.pop("_version"))
+def _get_state(version: Version) -> Any:
+    parts = _parts_of(version)
+    if not _core.follows_26():
+        return _state_of(version, {"_version": parts, "_key": version._key})
+    held = {} if version._own_key is None else {"_key": version._own_key}
+    return _state_by_26(version, {name: getattr(parts, name) for name in _PARTS_OF_26}, held)
+
+
+def _set_state(version: Version, state: Any) -> None:
+    try:
+        if isinstance(state, tuple) and len(state) == len(_PARTS_OF_26):
+            state = {f"_{name}": value for name, value in zip(_PARTS_OF_26, state)}
+        attributes, slots = _split_state(state)
+        if "_epoch" in attributes:
+            parts = _Version(**{name: attributes.pop(f"_{name}", None) for name in _PARTS_OF_26})
+        else:
+            parts = attributes.pop("_version")
+    except (AttributeError, KeyError, TypeError, ValueError) as error:
+        raise TypeError(f"Cannot restore Version from {state!r}") from error
+    _set_parts(version, parts)
     key = attributes.pop("_key", None)
-    if key is not None and key != version._key:
+    # that of another release is another tuple for the same version
+    if key is not None and _is_key_of_ours(key) and key != version._key:
         version._key = key
     _set_attributes(version, attributes, slots)
 
 
-def _get_parts(version: Version) -> _Version:
+def _is_key_of_ours(key: object) -> bool:
+    """Whether it may be compared with the keys of the release that is followed: as `packaging` 25 has it, it ends with the sixth part."""
+    return not (isinstance(key, tuple) and len(key) == 6 and _core.follows_26())
+
+
+def _parts_of(version: Version) -> _Version:
     epoch, release, pre, post, dev = version._parts
     local = _parse_local_version(Version.local.__get__(version))
     return _Version(epoch, release, None if dev is None else ("dev", dev), pre, None if post is None else ("post", post), local)
@@ -203,11 +239,29 @@ def _set_parts(version: Version, parts: _Version) -> None:
     Version.__init__(version, _text_of(*parts))
 
 
+def _warn_of_version() -> None:
+    """As `packaging` 26 does where its `_version` is read or set."""
+    if _core.follows_26():
+        import warnings
+
+        warnings.warn("Version._version is private and will be removed soon", DeprecationWarning, stacklevel=3)
+
+
+def _get_parts(version: Version) -> _Version:
+    _warn_of_version()
+    return _parts_of(version)
+
+
+def _assign_parts(version: Version, parts: _Version) -> None:
+    _warn_of_version()
+    _set_parts(version, parts)
+
+
 def _get_key(version: Version) -> Any:
     """What it is compared by, as a tuple, or what a subclass has set."""
     if version._own_key is not None:
         return version._own_key
-    parts = version._version
+    parts = _parts_of(version)
     return _cmpkey(parts.epoch, parts.release, parts.pre, parts.post, parts.dev, parts.local)
 
 
@@ -215,11 +269,118 @@ def _set_key(version: Version, key: object) -> None:
     version._own_key = key
 
 
+# ---- versions of parts
+
+
+def _is_number(value: object) -> bool:
+    return isinstance(value, int) and value >= 0
+
+
+def _valid_part(name: str, value: Any) -> Any:
+    """The part, as `_version` has it; raises `InvalidVersion` where it is none."""
+    if name == "epoch":
+        return _valid_epoch(value)
+    if value is None:
+        return (0,) if name == "release" else None
+    return _VALIDATORS[name](value)
+
+
+def _valid_epoch(value: Any) -> int:
+    if not _is_number(value or 0):
+        raise InvalidVersion(f"epoch must be non-negative integer, got {value}")
+    return int(value or 0)
+
+
+def _valid_release(value: Any) -> tuple[int, ...]:
+    if not isinstance(value, tuple) or not value or not all(map(_is_number, value)):
+        raise InvalidVersion(f"release must be a non-empty tuple of non-negative integers, got {value}")
+    return tuple(map(int, value))
+
+
+def _valid_pre(value: Any) -> tuple[str, int]:
+    if isinstance(value, tuple) and len(value) == 2 and isinstance(value[0], str):
+        letter = normalize_pre(value[0])
+        if letter in ("a", "b", "rc") and _is_number(value[1]):
+            return letter, int(value[1])
+    raise InvalidVersion(f"pre must be a tuple of ('a'|'b'|'rc', non-negative int), got {value}")
+
+
+def _valid_suffix(name: str, value: Any) -> tuple[str, int]:
+    if not _is_number(value):
+        raise InvalidVersion(f"{name} must be non-negative integer, got {value}")
+    return name, int(value)
+
+
+def _valid_local(value: Any) -> _LocalSegments | None:
+    segments = isinstance(value, str) and value.isascii() and value.replace("-", ".").replace("_", ".").split(".")
+    if not segments or not all(map(str.isalnum, segments)):
+        raise InvalidVersion(f"local must be a valid version string, got {value!r}")
+    return _parse_local_version(value)
+
+
+_VALIDATORS: dict[str, Callable[[Any], Any]] = {
+    "release": _valid_release,
+    "pre": _valid_pre,
+    "post": lambda value: _valid_suffix("post", value),
+    "dev": lambda value: _valid_suffix("dev", value),
+    "local": _valid_local,
+}
+
+
+def _from_parts(
+    cls: type[Version],
+    *,
+    epoch: int = 0,
+    release: tuple[int, ...],
+    pre: tuple[str, int] | None = None,
+    post: int | None = None,
+    dev: int | None = None,
+    local: str | None = None,
+) -> Version:
+    """The version of these parts.
+
+    >>> Version.from_parts(release=(1, 2), pre=("alpha", 1))
+    <Version('1.2a1')>
+
+    Raises `InvalidVersion` where one of them is none.
+    """
+    given = {"epoch": epoch, "release": release, "pre": pre, "post": post, "dev": dev, "local": local}
+    made = cls.__new__(cls)
+    _set_parts(made, _Version(**{name: _valid_part(name, value) for name, value in given.items()}))
+    return made
+
+
+def _replace(version: Version, **parts: Any) -> Version:
+    """The version with other parts in place of its own: `epoch`, `release`, `pre`, `post`, `dev` and `local`; None is no such part.
+
+    >>> Version("1.2.3").__replace__(pre=("a", 1))
+    <Version('1.2.3a1')>
+
+    Raises `InvalidVersion` where one of them is none.
+    """
+    old = _parts_of(version)
+    new = old._replace(**{name: _valid_part(name, parts[name]) for name in _PRINTED if name in parts})
+    if new == old:
+        return version
+    made = version.__class__.__new__(version.__class__)
+    _set_parts(made, new)
+    return made
+
+
+def _text(version: Version) -> str:
+    """The version as it prints, for `match`."""
+    return str(version)
+
+
 _OF_PYTHON = {
     "__init_subclass__": classmethod(_init_subclass),
     "__getstate__": _get_state,
     "__setstate__": _set_state,
-    "_version": property(_get_parts, _set_parts),
+    "__match_args__": ("_str",),
+    "__replace__": _replace,
+    "from_parts": classmethod(_from_parts),
+    "_str": property(_text),
+    "_version": property(_get_parts, _assign_parts),
     "_key": property(_get_key, _set_key),
 }
 for _name, _it in _OF_PYTHON.items():
@@ -248,6 +409,16 @@ def parse(version: str) -> Version:
     <Version('1.0.dev1')>
     """
     return Version(version)
+
+
+def normalize_pre(letter: str, /) -> str:
+    """The normalized spelling of the label of a pre-release, or the string in lower case where it is no such label.
+
+    >>> normalize_pre("ALPHA"), normalize_pre("rc")
+    ('a', 'rc')
+    """
+    lower = letter.lower()
+    return _SPELLINGS.get(lower, lower)
 
 
 # ---- names that only tools read which look behind the public ones
@@ -327,13 +498,34 @@ def _cmpkey(
     local: _LocalSegments | None,
 ) -> tuple[Any, ...]:
     """A tuple that stands as the version with these parts does."""
-    above, below = _extremes()
     length = len(release)
     while length and not release[length - 1]:
         length -= 1
+    if _core.follows_26():
+        return _key_by_26(epoch, release[:length], dev, pre, post, local)
+    above, below = _extremes()
     first = (below if dev and not post else above) if pre is None else pre
     segments = below if local is None else tuple((it, "") if isinstance(it, int) else (below, it) for it in local)
     return epoch, release[:length], first, below if post is None else post, above if dev is None else dev, segments
+
+
+# The ranks of what may stand behind a release: a developmental release alone, the pre-releases, and no pre-release.
+_RANKS = {"dev": -1, "a": 0, "b": 1, "rc": 2, "": 3}
+
+
+def _key_by_26(
+    epoch: int,
+    release: tuple[int, ...],
+    dev: tuple[str, int] | None,
+    pre: tuple[str, int] | None,
+    post: tuple[str, int] | None,
+    local: _LocalSegments | None,
+) -> tuple[Any, ...]:
+    """The same as `packaging` 26 has it, of a release without the zeros at its end."""
+    first = pre if pre is not None else ("dev" if dev and not post else "", 0)
+    suffix = (_RANKS[first[0]], first[1], int(post is not None), post[1] if post else 0, int(dev is None), dev[1] if dev else 0)
+    segments = [] if local is None else [tuple((it, "") if isinstance(it, int) else (-1, it) for it in local)]
+    return (epoch, release, suffix, *segments)
 
 
 def _text_of_other(item: object) -> str:
