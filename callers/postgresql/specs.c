@@ -8,13 +8,13 @@ static const uint8_t ABOVE_ALL[] = {0xff};
 
 #define TOO_LONG \
     (errcode(ERRCODE_PROGRAM_LIMIT_EXCEEDED), errmsg("list is too long for type %s", "pep440_specs"), \
-     errdetail("Its text or its normal form has more than %d bytes.", MOST_LIST))
+     errdetail("Its text or its normal form has more than %d bytes.", MOST_TEXT))
 
 /* Whether the normal form, which dumps have, would be too long: it has less than four times the bytes of the text. */
 static bool is_too_long(Bytes text)
 {
     size_t length = 0;
-    return text.length > MOST_LIST || (text.length > MOST_LIST / 4 && pep440_normalize_list(text.bytes, text.length, NULL, 0, &length) == PEP440_NO_ROOM && length > MOST_LIST);
+    return text.length > MOST_TEXT || (text.length > MOST_TEXT / 4 && pep440_normalize_list(text.bytes, text.length, NULL, 0, &length) == PEP440_NO_ROOM && length > MOST_TEXT);
 }
 
 static uint8_t compile_list(Bytes text, Bytes *compiled)
@@ -87,7 +87,7 @@ static Bytes join_lists(FunctionCallInfo fcinfo)
 {
     const char *left = normal_list(fcinfo, 0), *right = normal_list(fcinfo, 1);
     Bytes joined = bytes_of_text(psprintf("%s%s%s", left, *left != 0 && *right != 0 ? "," : "", right));
-    if (joined.length > MOST_LIST)
+    if (joined.length > MOST_TEXT)
         ereport(ERROR, TOO_LONG);
     return joined;
 }
