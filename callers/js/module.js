@@ -219,8 +219,8 @@ function putAll(ends, strings) {
 
 /** A mark for each string, or null if the list is none. */
 export function marksOf(strings, list) {
-  const count = strings.length, ends = begin(roomOfEnds(count) + roomOf(strings) + room(list) + count);
-  const from = putAll(ends, strings), at = from + roomOf(strings), marks = at + room(list);
+  const count = strings.length, size = roomOf(strings), ends = begin(roomOfEnds(count) + size + room(list) + count);
+  const from = putAll(ends, strings), at = from + size, marks = at + room(list);
   const status = end(calls.filter(at, put(at, list), from, ends, count, marks));
   return status === 0 ? bytes.slice(marks, marks + count) : null;
 }

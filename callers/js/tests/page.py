@@ -196,6 +196,13 @@ class Tests:
         self.browser.go(self.url + "".join("#" + urllib.parse.urlencode({name: it for name, it in given.items() if it is not None}) for _ in [0] if any(it is not None for it in given.values())))
         self.wait(lambda: self.run("return performance.getEntriesByName('ready').length"))
 
+    def expect(self, verdict, *words):
+        """That the page, opened with the words if there are any, has this verdict."""
+        if words:
+            self.open(*words)
+        found = self.text("verdict")
+        assert found == verdict, found
+
     def wait(self, holds):
         for _ in range(200):
             if found := holds():
@@ -224,7 +231,7 @@ class Tests:
 
     def test_start(self):
         self.open()
-        assert self.text("verdict") == "7 of 15 versions match; the newest is 2.10.0.", self.text("verdict")
+        self.expect("7 of 15 versions match; the newest is 2.10.0.")
         rows = self.rows()
         for row in ("3.0 | rejected by ~=2.2", "2.10.0 | matches", "2.5.1 | rejected by !=2.5.*", "2.3rc1 | pre-release, not asked for", "2.2 written v2.2 | matches", "2.0 | rejected by ~=2.2"):
             assert row in rows, (row, rows)
@@ -236,23 +243,23 @@ class Tests:
     def test_typing(self):
         self.open()
         self.clear("a")
-        assert self.text("verdict") == "12 of 15 versions match; the newest is 3.0."
+        self.expect("12 of 15 versions match; the newest is 3.0.")
         self.browser.type("a", ">=2.4, <3")
-        assert self.text("verdict") == "6 of 15 versions match; the newest is 2.10.0.", self.text("verdict")
+        self.expect("6 of 15 versions match; the newest is 2.10.0.")
         self.browser.type("a", ",")
         assert self.text("verdict") == "The list is not valid." and "Beside a comma" in self.text("a-errors")
         self.browser.type("a", BACKSPACE)
         assert self.text("a-errors") == ""
         self.browser.type("b", "!=2.6")
-        assert self.text("verdict") == "5 of 15 versions match; the newest is 2.10.0.", self.text("verdict")
+        self.expect("5 of 15 versions match; the newest is 2.10.0.")
         self.browser.type("v", "\n2.11\n2.x")
-        assert self.text("verdict") == "6 of 16 versions match; the newest is 2.11.", self.text("verdict")
+        self.expect("6 of 16 versions match; the newest is 2.11.")
         assert self.rows()[0].startswith("line 17 2.x | after parsing 2, found .x"), self.rows()[0]
         self.wait(lambda: "2.x" in urllib.parse.unquote_plus(self.run("return location.hash")))
 
     def test_errors(self):
         self.open(">=2.0,, =>3, ~=1", None, "2.0 2.0-final-1 2..1 latest")
-        assert self.text("verdict") == "The list is not valid."
+        self.expect("The list is not valid.")
         assert self.marked("#a-errors") == [] and self.marked(".grows:has(#a) .under") == ["", "=>", "~=1"], self.marked(".grows:has(#a) .under")
         assert self.marked("#marks") == ["-final-1", "..1", "latest"], self.marked("#marks")
         assert self.run("return [document.getElementById('a').ariaInvalid, document.getElementById('v').ariaInvalid]") == ["true", "true"]
@@ -262,52 +269,41 @@ class Tests:
         self.shot("errors")
 
     def test_two_lists(self):
-        self.open(">=2.0, !=2.5.1", "<2.6, !=2.1.*")
-        assert self.text("verdict") == "7 of 15 versions match; the newest is 2.5.0.", self.text("verdict")
+        self.expect("7 of 15 versions match; the newest is 2.5.0.", ">=2.0, !=2.5.1", "<2.6, !=2.1.*")
         assert self.text("normal") == ">=2.0, !=2.1.*, !=2.5.1, <2.6"
         assert self.run("return document.querySelectorAll('svg .name').length") == 3
         self.shot("two-lists")
+        self.open(">=2.0, !=2.5.1", "<2.6, !=2.1.*", look=(900, 704, False))
+        self.shot("picture")
 
     def test_conflict(self):
-        self.open(">=2.4, <3", "~=2.2.1, !=2.2.5")
-        assert self.text("verdict") == "Nothing satisfies both: >=2.4 and ~=2.2.1 exclude each other.", self.text("verdict")
+        self.expect("Nothing satisfies both: >=2.4 and ~=2.2.1 exclude each other.", ">=2.4, <3", "~=2.2.1, !=2.2.5")
         self.shot("conflict")
-        self.open(">=1, !=1.*, <3, !=2.1, !=2.*")
-        assert self.text("verdict") == "Nothing satisfies the list: >=1 and !=1.* and !=2.* and <3 exclude each other.", self.text("verdict")
+        self.expect("Nothing satisfies the list: >=1 and !=1.* and !=2.* and <3 exclude each other.", ">=1, !=1.*, <3, !=2.1, !=2.*")
         self.open("<1, >2, >=3, <2")
         assert self.text("verdict").count(" and ") == 1, self.text("verdict")
 
     def test_prereleases(self):
-        self.open(">=3.0rc1", None, "3.0rc1 3.0 3.1a1 2.0")
-        assert self.text("verdict") == "3 of 4 versions match; the newest is 3.1a1.", self.text("verdict")
-        self.open(">=3", None, "3.1a1 2.0 3.0rc1 3.2.dev1")
-        assert self.text("verdict") == "2 of 4 versions match; the newest is 3.2.dev1.", self.text("verdict")
-        self.open(">=3", None, "3.1a1 3.5 2.0")
-        assert self.text("verdict") == "1 of 3 versions matches; the newest is 3.5.", self.text("verdict")
-        self.open(">=3", None, "3.6a1 3.5 2.0", "1")
-        assert self.text("verdict") == "2 of 3 versions match; the newest is 3.6a1.", self.text("verdict")
+        self.expect("3 of 4 versions match; the newest is 3.1a1.", ">=3.0rc1", None, "3.0rc1 3.0 3.1a1 2.0")
+        self.expect("2 of 4 versions match; the newest is 3.2.dev1.", ">=3", None, "3.1a1 2.0 3.0rc1 3.2.dev1")
+        self.expect("1 of 3 versions matches; the newest is 3.5.", ">=3", None, "3.1a1 3.5 2.0")
+        self.expect("2 of 3 versions match; the newest is 3.6a1.", ">=3", None, "3.6a1 3.5 2.0", "1")
 
     def test_local_versions(self):
-        self.open(">1.0, <=2.0", None, "1.0 1.0.post1 1.0+cu118 1.5 2.0.dev3 2.0 2.0+cu121 2.0.post1")
         # "Inclusive ordered comparison" and "Version matching": the local part of a candidate is ignored
-        assert self.text("verdict") == "3 of 8 versions match; the newest is 2.0+cu121.", self.text("verdict")
+        self.expect("3 of 8 versions match; the newest is 2.0+cu121.", ">1.0, <=2.0", None, "1.0 1.0.post1 1.0+cu118 1.5 2.0.dev3 2.0 2.0+cu121 2.0.post1")
         assert "1.0+cu118 | rejected by >1.0" in self.rows() and "1.0.post1 | rejected by >1.0" in self.rows()
         self.shot("local")
 
     def test_odd_lists(self):
-        self.open("===1.0", None, "1.0 1.0.0 1.0+a")
-        assert self.text("verdict") == "1 of 3 versions matches; the newest is 1.0.", self.text("verdict")
-        self.open("==1.0", None, "1.0 1.0.0 1.0+a 1.1")
-        assert self.text("verdict") == "3 of 4 versions match; the newest is 1.0+a.", self.text("verdict")
-        self.open("", None, "1.0")
-        assert self.text("verdict") == "1 of 1 version matches; the newest is 1.0.", self.text("verdict")
-        self.open("==18446744073709551615.*", None, "18446744073709551615.1 2")
-        assert self.text("verdict") == "1 of 2 versions matches; the newest is 18446744073709551615.1.", self.text("verdict")
-        self.open(", ".join(f"!=1.{i}" for i in range(14)), "", " ".join(f"1.{i}" for i in range(20)))
-        assert self.text("verdict") == "6 of 20 versions match; the newest is 1.19.", self.text("verdict")
+        self.expect("1 of 3 versions matches; the newest is 1.0.", "===1.0", None, "1.0 1.0.0 1.0+a")
+        self.expect("3 of 4 versions match; the newest is 1.0+a.", "==1.0", None, "1.0 1.0.0 1.0+a 1.1")
+        self.expect("1 of 1 version matches; the newest is 1.0.", "", None, "1.0")
+        self.expect("1 of 2 versions matches; the newest is 18446744073709551615.1.", "==18446744073709551615.*", None, "18446744073709551615.1 2")
+        self.expect("6 of 20 versions match; the newest is 1.19.", ", ".join(f"!=1.{i}" for i in range(14)), "", " ".join(f"1.{i}" for i in range(20)))
         self.shot("holes")
         self.clear("v")
-        assert self.text("verdict") == "No versions to ask about yet."
+        self.expect("No versions to ask about yet.")
         self.shot("no-versions")
 
     def test_link(self):
