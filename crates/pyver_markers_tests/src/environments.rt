@@ -23,35 +23,64 @@ fn value_word(value: Option<bool>) -> &'static str {
     }
 }
 
-/// The value of the marker where the variables are as the words say: `NAME=TEXT`, or `NAME:NAMES`.
+/// What a word says of a variable: `NAME=TEXT`, or `NAME:NAMES`.
+#[derive(Drop)]
+struct Given<'a> {
+    name: &'a str,
+    text: Option<&'a str>,
+    names: Vec<&'a [u8]>,
+}
+
+fn read_given<'a>(alloc: Global, word: &'a str) -> Result<Given<'a>, CaseError> {
+    if let Some((name, text)) = word.split_once('=') {
+        return Ok(Given {
+            name,
+            text: Some(text),
+            names: Vec::new(alloc),
+        });
+    }
+    let (name, list) = word.split_once(':').ok_or(CaseError::Unreadable)?;
+    Ok(Given {
+        name,
+        text: None,
+        names: split_names(alloc, list)?,
+    })
+}
+
+fn variable_of<'a, 'b>(given: &'b Given<'a>) -> Variable<'b> {
+    let setting = match given.text {
+        Some(text) => Setting::Text(text.as_bytes()),
+        None => Setting::Names(given.names.as_slice()),
+    };
+    Variable {
+        name: given.name.as_bytes(),
+        setting,
+    }
+}
+
+fn variables_of<'a, 'b>(
+    alloc: Global,
+    given: &'b [Given<'a>],
+) -> Result<Vec<Variable<'b>>, CaseError> {
+    let mut variables = Vec::new(alloc);
+    for it in given {
+        variables.push(variable_of(it))?;
+    }
+    Ok(variables)
+}
+
+/// The value of the marker where the variables are as the words say.
 pub fn print_value(alloc: Global, marker: &str, words: &[String]) -> Result<String, CaseError> {
     let marker = match EnvironmentMarker::parse(alloc, marker.as_bytes()) {
         Ok(marker) => marker,
         Err(MarkerError::OutOfMemory) => return Err(CaseError::OutOfMemory),
         Err(MarkerError::Invalid(_, _)) => return Ok(String::from_str(alloc, "invalid")?),
     };
-    let mut names = Vec::new(alloc);
+    let mut given = Vec::new(alloc);
     for word in words {
-        if let Some((_, list)) = word.split_once(':') {
-            names.push(split_names(alloc, list)?)?;
-        }
+        given.push(read_given(alloc, word)?)?;
     }
-    let mut variables = Vec::new(alloc);
-    let mut lists = names.iter();
-    for word in words {
-        if let Some((name, text)) = word.split_once('=') {
-            variables.push(Variable {
-                name: name.as_bytes(),
-                setting: Setting::Text(text.as_bytes()),
-            })?;
-        } else if let Some((name, _)) = word.split_once(':') {
-            let list = lists.next().ok_or(CaseError::Unreadable)?;
-            variables.push(Variable {
-                name: name.as_bytes(),
-                setting: Setting::Names(list.as_slice()),
-            })?;
-        }
-    }
+    let variables = variables_of(alloc, given.as_slice())?;
     let value = marker.evaluate(alloc, variables.as_slice())?;
     Ok(String::from_str(alloc, value_word(value))?)
 }
