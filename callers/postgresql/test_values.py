@@ -149,7 +149,7 @@ def test_packaging(server):
     peer = importlib.import_module("peer")
     peer.RELEASES = ("26.0", "26.1", "26.2", "26.3")
     try:
-        versions, specifiers_of, name = peer.load()
+        versions, specifiers_of, name = peer.find()
     except unittest.SkipTest as reason:
         return f"left out: {reason}"
     db = server.connect()

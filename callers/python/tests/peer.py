@@ -13,7 +13,10 @@ import subprocess
 import sys
 import unittest
 
-import pep440_rattle
+try:
+    import pep440_rattle
+except ModuleNotFoundError:  # those of a database ask `packaging` alone
+    pep440_rattle = None
 
 MOST = 2**64 - 1
 TOKENS = (
@@ -69,12 +72,18 @@ def imported(folder=None):
     return None
 
 
-def load():
-    """The modules `version` and `specifiers` of `packaging`, and which one it is; from now on ours behave like it."""
+def find():
+    """The modules `version` and `specifiers` of `packaging`, and which one it is."""
     folder = os.environ.get("PEP440_PACKAGING")
     found = imported(folder) if folder else imported() or imported(folder_of_a_pip())
     if not found:
         raise unittest.SkipTest(f"no packaging of {', '.join(RELEASES)} to compare with: name its folder in PEP440_PACKAGING")
+    return found
+
+
+def load():
+    """As `find` returns it; from now on ours behave like it."""
+    found = find()
     pep440_rattle.behave_like(behaviour_of(found[2]))
     return found
 
