@@ -43,7 +43,7 @@ MORE = [
     ('str(Marker("((extra == \'a\' or os_name == \'b\')) and os_name == \'c\'"))', '\'extra == "a" or os_name == "b" and os_name == "c"\'', '\'(extra == "a" or os_name == "b") and os_name == "c"\''),
     ('str(Marker("os_name == \'\\"\'"))', '\'os_name == """\'', '\'os_name == \\\'"\\\'\''),
     ('is_normalized_name("a--b")', 'True', 'False'),
-    ('Marker("os_name == \'a\'").__getstate__()', "{'_markers': [(<Variable('os_name')>, <Op('==')>, <Value('a')>)]}", '\'os_name == "a"\''),
+    ('Marker("os_name == \'a\'").__reduce_ex__(2)[2]', "{'_markers': [(<Variable('os_name')>, <Op('==')>, <Value('a')>)]}", '\'os_name == "a"\''),
 ]
 
 
