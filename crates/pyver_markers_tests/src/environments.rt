@@ -25,45 +25,45 @@ fn value_word(value: Option<bool>) -> &'static str {
 
 /// What a word says of a variable: `NAME=TEXT`, or `NAME:NAMES`.
 #[derive(Drop)]
-struct Given<'a> {
+struct Assignment<'a> {
     name: &'a str,
     text: Option<&'a str>,
     names: Vec<&'a [u8]>,
 }
 
-fn read_given<'a>(alloc: Global, word: &'a str) -> Result<Given<'a>, CaseError> {
+fn read_assignment<'a>(alloc: Global, word: &'a str) -> Result<Assignment<'a>, CaseError> {
     if let Some((name, text)) = word.split_once('=') {
-        return Ok(Given {
+        return Ok(Assignment {
             name,
             text: Some(text),
             names: Vec::new(alloc),
         });
     }
     let (name, list) = word.split_once(':').ok_or(CaseError::Unreadable)?;
-    Ok(Given {
+    Ok(Assignment {
         name,
         text: None,
         names: split_names(alloc, list)?,
     })
 }
 
-fn variable_of<'a, 'b>(given: &'b Given<'a>) -> Variable<'b> {
-    let setting = match given.text {
+fn variable_of<'a, 'b>(assignment: &'b Assignment<'a>) -> Variable<'b> {
+    let setting = match assignment.text {
         Some(text) => Setting::Text(text.as_bytes()),
-        None => Setting::Names(given.names.as_slice()),
+        None => Setting::Names(assignment.names.as_slice()),
     };
     Variable {
-        name: given.name.as_bytes(),
+        name: assignment.name.as_bytes(),
         setting,
     }
 }
 
 fn variables_of<'a, 'b>(
     alloc: Global,
-    given: &'b [Given<'a>],
+    assignments: &'b [Assignment<'a>],
 ) -> Result<Vec<Variable<'b>>, CaseError> {
     let mut variables = Vec::new(alloc);
-    for it in given {
+    for it in assignments {
         variables.push(variable_of(it))?;
     }
     Ok(variables)
@@ -76,11 +76,11 @@ pub fn print_value(alloc: Global, marker: &str, words: &[String]) -> Result<Stri
         Err(MarkerError::OutOfMemory) => return Err(CaseError::OutOfMemory),
         Err(MarkerError::Invalid(_, _)) => return Ok(String::from_str(alloc, "invalid")?),
     };
-    let mut given = Vec::new(alloc);
+    let mut assignments = Vec::new(alloc);
     for word in words {
-        given.push(read_given(alloc, word)?)?;
+        assignments.push(read_assignment(alloc, word)?)?;
     }
-    let variables = variables_of(alloc, given.as_slice())?;
+    let variables = variables_of(alloc, assignments.as_slice())?;
     let value = marker.evaluate(alloc, variables.as_slice())?;
     Ok(String::from_str(alloc, value_word(value))?)
 }
