@@ -74,7 +74,7 @@ enum {
     PEP440_INVALID_CHANGE = 8, /* only of pep440_edit: a change is none, or cannot be made */
     PEP440_INVALID_KIND = 9,   /* only of pep440_error: `kind` is none of PEP440_A_VERSION.. */
     PEP440_NONE_FOUND = 10,    /* only of pep440_newest: the list matches no string of the batch */
-    PEP440_NO_SET = 12         /* only of calls on sets: a list has `===` */
+    PEP440_NO_SET = 12         /* only of calls on sets: a list has `===`, or no string denotes it */
 };
 
 /* A version of a batch, or a change of pep440_edit. */
@@ -387,8 +387,8 @@ uint8_t pep440_release_range_bounds(const uint8_t *list, size_t length, uint8_t 
    attacker. pep440_compare of two compiled versions, pep440_contains of a compiled list and a
    compiled version, and pep440_allows of these in format 6 read them as they lie, and allocate
    nothing: of bytes that begin as a compiled form and are none they write any result, or return the
-   status of an invalid one. So do the calls on sets of formats 6 and 7. All other calls reject such bytes. So give bytes of unknown origin to
-   pep440_normalize or pep440_normalize_list once. */
+   status of an invalid one. So do the calls on sets of formats 6 and 7. All other calls reject such
+   bytes. So give bytes of unknown origin to pep440_normalize or pep440_normalize_list once. */
 
 /* How many bytes suffice, by the length of a string: for the normal form of a version, for its sort
    key, and for its compiled form. */

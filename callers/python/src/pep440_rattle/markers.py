@@ -162,7 +162,7 @@ _OPERATORS: dict[str, Callable[[Any, Any], bool]] = {
     ">": operator.gt,
 }
 
-# The same by 26, where no order of strings is known.
+# By 26, where no order of strings is known.
 _OPERATORS_BY_26: dict[str, Callable[[Any, Any], bool]] = {
     **_OPERATORS,
     "<": lambda _, __: False,

@@ -40,6 +40,11 @@ else:
         return globals().setdefault(name, TypeVar(name, bound=UnparsedVersion))
 
 
+def _get_state(it: object, **own: Any) -> Any:
+    """What a pickle has, as the release whose behaviour this is."""
+    return _state_by_26(it, own, {}) if _core.follows_26() else _state_of(it, {f"_{name}": value for name, value in own.items()})
+
+
 class Bound(namedtuple("Bound", "version included sentinel")):
     """An end of a segment of versions."""
 
@@ -222,7 +227,7 @@ def _filter(
 def _filter_one_by_one(
     several: Specifier | SpecifierSet, items: Iterable[Any], prereleases: bool | None, key: Callable[[Any], UnparsedVersion] | None
 ) -> Iterator[Any]:
-    """The same of items that are read when they are asked for. With no word on pre-releases these are given where nothing else is contained, and strings
+    """Items of any kind, which are read when they are asked for. With no word on pre-releases these are given where nothing else is contained, and strings
     that are no versions once something else is, or at the end."""
     if prereleases is None:
         prereleases = several._default_prereleases()
@@ -309,8 +314,7 @@ class Specifier(_core.HeldSpecifier, BaseSpecifier, metaclass=_Called):
             cls.__contains__ = _contains_by_name  # type: ignore[assignment]
 
     def __getstate__(self) -> Any:
-        own = {"spec": self._spec, "prereleases": self._prereleases}
-        return _state_by_26(self, own, {}) if _core.follows_26() else _state_of(self, {f"_{name}": value for name, value in own.items()})
+        return _get_state(self, spec=self._spec, prereleases=self._prereleases)
 
     def __setstate__(self, state: Any) -> None:
         try:
@@ -453,8 +457,7 @@ class SpecifierSet(_core.HeldSet, BaseSpecifier, metaclass=_Called):
             cls.__contains__ = _contains_by_name  # type: ignore[assignment]
 
     def __getstate__(self) -> Any:
-        own = {"specs": self._specs, "prereleases": self._prereleases}
-        return _state_by_26(self, own, {}) if _core.follows_26() else _state_of(self, {f"_{name}": value for name, value in own.items()})
+        return _get_state(self, specs=self._specs, prereleases=self._prereleases)
 
     def __setstate__(self, state: Any) -> None:
         try:

@@ -62,7 +62,7 @@ def canonicalize_name(name: str, *, validate: bool = False) -> NormalizedName:
 
 
 def _normalize_name(name: str) -> NormalizedName:
-    """The same of any string."""
+    """Its normal form, of any string."""
     name = name.lower().replace("_", "-").replace(".", "-")
     while "--" in name:
         name = name.replace("--", "-")

@@ -153,7 +153,7 @@ def _state_of(it: object, own: dict[str, Any]) -> _State:
 
 
 def _state_by_26(it: object, own: dict[str, Any], held: dict[str, Any]) -> Any:
-    """The same as `packaging` 26.2 has it: a tuple of the values alone. Where a subclass holds more, it has the form of 26.0, with the names of slots: 26.2
+    """The state as `packaging` 26.2 has it: a tuple of the values alone. Where a subclass holds more, it has the form of 26.0, with the names of slots: 26.2
     reads that too, without what is beside."""
     names = [name for name in copyreg._slotnames(type(it)) if name not in _HELD]  # type: ignore[attr-defined]
     slots = {name: getattr(it, name) for name in names if hasattr(it, name)}
@@ -502,7 +502,8 @@ def _cmpkey(
     while length and not release[length - 1]:
         length -= 1
     if _core.follows_26():
-        return _key_by_26(epoch, release[:length], dev, pre, post, local)
+        ranked = [] if local is None else [tuple((it, "") if isinstance(it, int) else (-1, it) for it in local)]
+        return (epoch, release[:length], _suffix_by_26(pre, post, dev), *ranked)
     above, below = _extremes()
     first = (below if dev and not post else above) if pre is None else pre
     segments = below if local is None else tuple((it, "") if isinstance(it, int) else (below, it) for it in local)
@@ -513,19 +514,10 @@ def _cmpkey(
 _RANKS = {"dev": -1, "a": 0, "b": 1, "rc": 2, "": 3}
 
 
-def _key_by_26(
-    epoch: int,
-    release: tuple[int, ...],
-    dev: tuple[str, int] | None,
-    pre: tuple[str, int] | None,
-    post: tuple[str, int] | None,
-    local: _LocalSegments | None,
-) -> tuple[Any, ...]:
-    """The same as `packaging` 26 has it, of a release without the zeros at its end."""
-    first = pre if pre is not None else ("dev" if dev and not post else "", 0)
-    suffix = (_RANKS[first[0]], first[1], int(post is not None), post[1] if post else 0, int(dev is None), dev[1] if dev else 0)
-    segments = [] if local is None else [tuple((it, "") if isinstance(it, int) else (-1, it) for it in local)]
-    return (epoch, release, suffix, *segments)
+def _suffix_by_26(pre: tuple[str, int] | None, post: tuple[str, int] | None, dev: tuple[str, int] | None) -> tuple[int, ...]:
+    """What orders versions of one release in `packaging` 26."""
+    kind, number = pre if pre is not None else ("dev" if dev and not post else "", 0)
+    return _RANKS[kind], number, int(post is not None), post[1] if post else 0, int(dev is None), dev[1] if dev else 0
 
 
 def _text_of_other(item: object) -> str:
