@@ -133,16 +133,11 @@ def examples_of(place, shown):
 
 
 def check_answers(programs):
-    """The shell examples of README.md and of the archives' pages: in README.md a line `COMMAND   # ANSWER` must print ANSWER, its lines joined by
-    `   and   `. Only lines that run a program are run, but for `./pep440` of README.md, which builds."""
+    """The shell examples of README.md and of the archives' pages: blocks that begin with a command after a dollar sign, each line of which runs a program."""
     examples = []
     for page in ["README.md", *map(name_of, sorted(TOP.glob("docs/archives/*.md")))]:
-        for block in re.findall(r"^```sh\n(.*?)^```", text_of(page), re.M | re.S):
-            if page != "README.md" and block.startswith("$ "):
-                examples += [it for it in examples_of(page, block.splitlines()) if re.search(r"\./(pep440|pyver) ", it[1])]
-            for command, answer in re.findall(r"^(.*?)  # (.*)$", block, re.M) if page == "README.md" else []:
-                if re.search(r"(^|\| )(pep440|pyver) ", command):
-                    examples.append((page, command.strip(), answer.strip().replace("   and   ", "\n") + "\n", True))
+        for block in re.findall(r"^```sh\n(\$ .*?)^```", text_of(page), re.M | re.S):
+            examples += [it for it in examples_of(page, block.splitlines()) if re.search(r"(^|[/ ])(pep440|pyver) ", it[1])]
     yield from faults_of_examples(examples, programs)
     if not examples:
         yield "no page has an example"
