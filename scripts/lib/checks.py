@@ -147,12 +147,12 @@ CLAIM = re.compile(r"`([^`]+)`,? (?:takes |is )?(\d[\d,.]*\d)")
 
 
 def counts():
-    """The rows of each bench: the figure, its count, and what it is called in the page."""
+    """The rows of each bench: the figure, its count, and what it is called in the page, if it has it."""
     found = collections.defaultdict(list)
     for line in text_of("bench/figures").splitlines():
         if line and not line.startswith("#"):
             bench, figure, count, *row = line.split("\t")
-            found[bench].append((figure, f"{int(count):,}", *row, f"`{figure}`"))
+            found[bench].append((figure, f"{int(count):,}", *row))
     return found
 
 
@@ -166,12 +166,13 @@ def table(page, column):
 def check_figures(writes=False):
     """The tables of docs/SPEED.md that name a bench have the rows of bench/figures, and README.md what was measured; ratios are those of the counts beside them."""
     page = text_of("docs/SPEED.md")
-    wanted = TABLE.sub(lambda table: table[1] + "".join(f"| {it[2]} | {it[1]} |\n" for it in counts()[table[2]]), page)
+    wanted = TABLE.sub(lambda table: table[1] + "".join(f"| {it[2]} | {it[1]} |\n" for it in counts()[table[2]] if len(it) > 2), page)
     if writes:
         (TOP / "docs/SPEED.md").write_text(wanted, encoding="utf-8")
     elif page != wanted:
         yield "docs/SPEED.md: its tables are not those of bench/figures; `scripts/check --write figures` makes them"
-    yield from (f"docs/SPEED.md has no table of {it}" for it in counts().keys() - {name for _, name, _ in TABLE.findall(page)})
+    shown = {name for _, name, _ in TABLE.findall(page)}
+    yield from (f"docs/SPEED.md has no table of {it}" for it, rows in counts().items() if any(len(row) > 2 for row in rows) and it not in shown)
     measured = {row["Call"].strip("`"): row["Ratio"] for row in table(PYTHON, "Ratio")}
     measured["pep440 filter"] = next(count for figure, count, *_ in counts()["filter"] if figure.startswith("a line of dev,"))
     measured["pep440_rs"] = re.search(r"takes ([\d,]+) instructions a line of `dev`", page)[1]
