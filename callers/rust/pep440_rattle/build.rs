@@ -22,7 +22,9 @@ fn from_pkg_config() -> Option<PathBuf> {
 
 /// The static library for the machine.
 fn library(machine: &str) -> Option<PathBuf> {
-    let here = PathBuf::from(env::var_os("CARGO_MANIFEST_DIR")?);
+    let named = PathBuf::from(env::var_os("CARGO_MANIFEST_DIR")?);
+    // The manifest by the ported crate's name is one folder below the sources.
+    let here = if named.join("src").is_dir() { named } else { named.join("..") };
     let folders = match env::var_os("PEP440_LIB_DIR") {
         Some(folder) => vec![PathBuf::from(folder)],
         None => [Some(here.join("lib").join(machine)), from_pkg_config(), Some(here.join("../../c/out").join(machine))]
@@ -31,6 +33,18 @@ fn library(machine: &str) -> Option<PathBuf> {
             .collect(),
     };
     folders.into_iter().map(|folder| folder.join("libpep440.a")).find(|path| path.is_file())
+}
+
+/// What is wrong with the folder that is named for the library and has none.
+fn lacking(folder: &Path) -> String {
+    let archive = folder.join("libpep440_c.a");
+    let is_archive = archive.is_file().then(|| {
+        format!(
+            "; it has libpep440_c.a, of which `make -C callers/c PEP440_ARCHIVE={}` makes it in callers/c/out",
+            archive.display()
+        )
+    });
+    format!("PEP440_LIB_DIR is {}, where there is no libpep440.a{}", folder.display(), is_archive.unwrap_or_default())
 }
 
 /// Has rustc link it.
@@ -56,8 +70,12 @@ fn main() {
         );
         return;
     }
-    if library(&machine).and_then(|found| link(&found)).is_none() {
-        println!("cargo::rustc-cfg=without_library");
-        println!("cargo::rustc-env=PEP440_NEEDED={NEEDED}");
+    if library(&machine).and_then(|found| link(&found)).is_some() {
+        return;
     }
+    if let Some(folder) = env::var_os("PEP440_LIB_DIR") {
+        println!("cargo::error={}", lacking(Path::new(&folder)));
+    }
+    println!("cargo::rustc-cfg=without_library");
+    println!("cargo::rustc-env=PEP440_NEEDED={NEEDED}");
 }

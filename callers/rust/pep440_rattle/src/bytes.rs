@@ -6,43 +6,194 @@
 //!
 //! A version that no string parses to has a key, too, with a sentinel in place of its stage or its post-release, and with 255 after
 //! each zero byte of a local string. The library rejects such bytes wherever it reads the whole of them.
-use crate::key::ROOM;
-use crate::parts::Parts;
-use crate::{LocalSegment, Operator, Prerelease, PrereleaseKind, Version, VersionSpecifier};
+use crate::key::{Key, ROOM, Room, SHORT, Sections};
+use crate::parts::{Parts, Release, Suffix};
+use crate::{LocalSegment, Operator, Version, VersionSpecifier};
 use alloc::borrow::ToOwned;
 use alloc::vec;
 use alloc::vec::Vec;
+use core::borrow::Borrow;
 
 pub(crate) const VERSION: u8 = 4;
 const LIST: u8 = 5;
 const SET: u8 = 6;
 const OPERATOR: u8 = 16;
-/// The rank of a sentinel `min`, which stands for the stage.
-const MIN: u8 = 0;
-/// The rank of a sentinel `max`, which stands for the post-release.
-const MAX: u8 = 2;
+/// What follows the release of a version that is nothing else: stage, post-release, developmental and local part.
+pub(crate) const FINAL: [u8; 4] = [80, 0, 16, 0];
+
+/// The key of a version as it is written: in `room` while it fits, then all of it on the heap. Behind it the room has zero bytes, once all is
+/// written.
+pub(crate) struct Writer {
+    room: Room,
+    length: usize,
+    heap: Vec<u8>,
+    release_end: usize,
+    zeros: usize,
+}
+
+impl Writer {
+    /// A writer behind the epoch.
+    #[inline]
+    pub(crate) fn from_epoch(epoch: u64) -> Writer {
+        let mut writer = Writer::from_room([0; ROOM], 0);
+        writer.push_number(0, epoch);
+        writer
+    }
+
+    /// A writer behind the first bytes of the room.
+    #[inline]
+    fn from_room(room: Room, length: usize) -> Writer {
+        Writer { room, length, heap: Vec::new(), release_end: 0, zeros: 0 }
+    }
+
+    /// A writer behind the epoch of a key.
+    #[inline]
+    pub(crate) fn after_epoch(sections: &Sections) -> Writer {
+        Writer::from_room(sections.room, sections.epoch_end())
+    }
+
+    /// A writer behind the release of a key.
+    #[inline]
+    pub(crate) fn after_release(sections: &Sections) -> Writer {
+        let Sections { room, release_end, zeros, .. } = *sections;
+        Writer { release_end, zeros, ..Writer::from_room(room, release_end) }
+    }
+
+    #[inline]
+    fn push(&mut self, byte: u8) {
+        self.push_block(&[byte], 1);
+    }
+
+    /// Writes the first bytes of the block.
+    #[inline]
+    fn push_block<const SIZE: usize>(&mut self, block: &[u8; SIZE], count: usize) {
+        match self.room.get_mut(self.length..).and_then(|room| room.first_chunk_mut()) {
+            Some(place) => {
+                *place = *block;
+                self.length += count;
+            }
+            None => self.push_to_heap(&block[..count]),
+        }
+    }
+
+    #[cold]
+    fn push_to_heap(&mut self, bytes: &[u8]) {
+        if self.heap.is_empty() {
+            self.heap.extend_from_slice(&self.room[..self.length]);
+        }
+        self.heap.extend_from_slice(bytes);
+        self.length = ROOM;
+    }
+
+    #[inline]
+    fn push_number(&mut self, base: u8, number: u64) {
+        if number == 0 {
+            return self.push(base);
+        }
+        let empty = number.leading_zeros() / 8;
+        let count = 8 - empty.to_le_bytes()[0];
+        let mut block = [0; 9];
+        block[0] = base + count;
+        block[1..].copy_from_slice(&(number << (8 * empty)).to_be_bytes());
+        self.push_block(&block, 1 + usize::from(count));
+    }
+
+    /// Writes the numbers and a byte 0, and keeps in mind the zeros that end them. There must be a number.
+    #[inline]
+    pub(crate) fn push_release<R: Borrow<u64>>(&mut self, numbers: impl IntoIterator<Item = R>) {
+        let mut is_empty = true;
+        for number in numbers {
+            let number: u64 = *number.borrow();
+            is_empty = false;
+            if number == 0 {
+                self.zeros += 1;
+            } else {
+                (0..self.zeros).for_each(|_| self.push(1));
+                self.zeros = 0;
+                self.push_number(1, number);
+            }
+        }
+        assert!(!is_empty, "release must have non-zero size");
+        self.push(0);
+        self.release_end = self.length;
+    }
+
+    /// Writes the release of a key.
+    #[inline]
+    pub(crate) fn push_release_of(&mut self, sections: &Sections) {
+        let start = sections.epoch_end();
+        self.push_block(sections.block(start), sections.release_end - start);
+        (self.release_end, self.zeros) = (self.length, sections.zeros);
+    }
+
+    #[inline]
+    pub(crate) fn push_suffix(&mut self, suffix: &Suffix) {
+        for (rank, number) in suffix.ranks() {
+            self.push_number(16 * rank, number);
+        }
+    }
+
+    /// Writes what follows the release of a version that is nothing else.
+    #[inline]
+    pub(crate) fn push_final(&mut self) {
+        let mut block = [0; SHORT];
+        block[..FINAL.len()].copy_from_slice(&FINAL);
+        self.push_block(&block, FINAL.len());
+    }
+
+    /// Writes what begins in a key at the place, up to the end.
+    #[inline]
+    pub(crate) fn push_end_of(&mut self, sections: &Sections, place: usize) {
+        self.push_block(sections.block(place), sections.length - place);
+    }
+
+    pub(crate) fn push_local(&mut self, local: &[LocalSegment]) {
+        for segment in local {
+            self.push_segment(segment);
+        }
+        self.push_block(&[0; SHORT], 1);
+    }
+
+    fn push_segment(&mut self, segment: &LocalSegment) {
+        match segment {
+            LocalSegment::String(text) => {
+                self.push(1);
+                for byte in text.bytes() {
+                    self.push(byte);
+                    if byte == 0 {
+                        self.push(255);
+                    }
+                }
+                self.push(0);
+            }
+            LocalSegment::Number(number) => self.push_number(2, *number),
+        }
+    }
+
+    /// All bytes of the version: its key, and its zeros.
+    pub(crate) fn bytes(&self) -> Vec<u8> {
+        let key = if self.heap.is_empty() { &self.room[..self.length] } else { &self.heap };
+        [key, &vec![1; self.zeros]].concat()
+    }
+
+    /// The key, where it tells the version.
+    #[inline]
+    pub(crate) fn key(&self) -> Option<Key> {
+        Key::from_key(&self.room, self.length, self.zeros, self.release_end)
+    }
+}
 
 /// The key of a version of these parts, and the zeros that end its release.
-pub(crate) fn version(parts: &Parts) -> Vec<u8> {
-    let mut bytes = Vec::with_capacity(ROOM);
-    let kept = parts.release.iter().rposition(|number| *number != 0).map_or(0, |last| last + 1);
-    push_number(&mut bytes, 0, parts.epoch);
-    for number in &parts.release[..kept] {
-        push_number(&mut bytes, 1, *number);
-    }
-    bytes.push(0);
-    for (rank, number) in ranks(parts) {
-        push_number(&mut bytes, 16 * rank, number);
-    }
-    for segment in &parts.local {
-        push_segment(&mut bytes, segment);
-    }
-    bytes.push(0);
-    bytes.resize(bytes.len() + parts.release.len() - kept, 1);
-    bytes
+pub(crate) fn version(parts: &Parts) -> Writer {
+    let mut writer = Writer::from_epoch(parts.epoch);
+    writer.push_release(&*parts.release);
+    writer.push_suffix(&parts.suffix);
+    writer.push_local(&parts.local);
+    writer
 }
 
 /// What comes before the version in a list of it alone.
+#[inline]
 pub(crate) fn list_start(operator: Operator) -> [u8; 2] {
     [LIST, OPERATOR + operator as u8]
 }
@@ -57,23 +208,16 @@ pub(crate) fn list(members: &[VersionSpecifier]) -> Vec<u8> {
     bytes
 }
 
-/// The version that the compiled bytes denote, or that with a sentinel.
-pub(crate) fn read_version(compiled: &[u8]) -> Version {
-    let [VERSION, bytes @ ..] = compiled else { panic!("{WRITTEN}") };
-    Version::from_bytes(bytes, has_sentinel(bytes).then(|| read_parts(bytes)))
-}
-
-/// Whether the stage or the post-release is a sentinel's.
-fn has_sentinel(bytes: &[u8]) -> bool {
-    let mut rest = Rest(bytes);
-    rest.skip_release();
-    let [(stage, _), (post, _), _] = rest.ranks();
-    stage == MIN || post == MAX
-}
-
 /// The parts of the version of this key, with the zeros after it.
 pub(crate) fn read_parts(bytes: &[u8]) -> Parts {
     Rest(bytes).parts()
+}
+
+/// The numbers of a release, and so many zeros after them.
+pub(crate) fn read_release(bytes: &[u8], zeros: usize) -> Release {
+    let mut release = Rest(bytes).release();
+    (0..zeros).for_each(|_| release.push(0));
+    release
 }
 
 /// The list in what the library compiled, without the set before it.
@@ -93,7 +237,7 @@ pub(crate) fn read_list(bytes: &[u8]) -> Vec<VersionSpecifier> {
     let mut members = Vec::new();
     while !rest.0.is_empty() {
         let operator = rest.operator();
-        members.push(VersionSpecifier::unchecked(operator, Version::from_bytes(rest.version(), None)));
+        members.push(VersionSpecifier::unchecked(operator, Version::from_bytes(rest.version())));
     }
     members
 }
@@ -103,40 +247,7 @@ pub(crate) fn read_member(bytes: &[u8]) -> VersionSpecifier {
     let mut rest = Rest(bytes);
     assert_eq!(rest.byte(), LIST, "{WRITTEN}");
     let operator = rest.operator();
-    VersionSpecifier::unchecked(operator, Version::from_bytes(rest.0, None))
-}
-
-fn push_number(bytes: &mut Vec<u8>, base: u8, number: u64) {
-    let length = 8 - number.leading_zeros() / 8;
-    bytes.push(base + length.to_le_bytes()[0]);
-    bytes.extend_from_slice(&number.to_be_bytes()[8 - length as usize..]);
-}
-
-fn push_segment(bytes: &mut Vec<u8>, segment: &LocalSegment) {
-    match segment {
-        LocalSegment::String(text) => {
-            bytes.push(1);
-            for byte in text.bytes() {
-                bytes.push(byte);
-                bytes.extend((byte == 0).then_some(255));
-            }
-            bytes.push(0);
-        }
-        LocalSegment::Number(number) => push_number(bytes, 2, *number),
-    }
-}
-
-/// Rank and number of stage, post-release and developmental part. A sentinel hides what is beside it.
-fn ranks(parts: &Parts) -> [(u8, u64); 3] {
-    let Parts { pre, post, dev, min, max, .. } = *parts;
-    let stage = match (min, pre, dev, post.or(max)) {
-        (Some(_), ..) => (MIN, 0),
-        (None, Some(pre), ..) => (2 + pre.kind as u8, pre.number),
-        (None, None, Some(_), None) => (1, 0),
-        _ => (5, 0),
-    };
-    let post = max.map(|number| (MAX, number)).or(post.map(|number| (1, number))).unwrap_or((0, 0));
-    [stage, post, min.or(dev).map_or((1, 0), |number| (0, number))]
+    VersionSpecifier::unchecked(operator, Version::from_bytes(rest.0))
 }
 
 const WRITTEN: &str = "the library wrote these bytes";
@@ -145,12 +256,14 @@ const WRITTEN: &str = "the library wrote these bytes";
 struct Rest<'a>(&'a [u8]);
 
 impl<'a> Rest<'a> {
+    #[inline]
     fn take(&mut self, count: usize) -> &'a [u8] {
         let (front, rest) = self.0.split_at_checked(count).expect(WRITTEN);
         self.0 = rest;
         front
     }
 
+    #[inline]
     fn byte(&mut self) -> u8 {
         self.take(1)[0]
     }
@@ -159,10 +272,12 @@ impl<'a> Rest<'a> {
         self.byte().checked_sub(OPERATOR).and_then(Operator::from_number).expect(WRITTEN)
     }
 
+    #[inline]
     fn number(&mut self, count: u8) -> u64 {
         self.take(count.into()).iter().fold(0, |number, byte| number << 8 | u64::from(*byte))
     }
 
+    #[inline]
     fn ranked(&mut self) -> (u8, u64) {
         let first = self.byte();
         (first / 16, self.number(first % 16))
@@ -175,27 +290,14 @@ impl<'a> Rest<'a> {
         text
     }
 
-    /// What `read` makes of each byte and what follows it, up to a byte 0.
-    fn until_zero<T>(&mut self, read: impl Fn(&mut Self, u8) -> T) -> Vec<T> {
-        let mut found = Vec::new();
-        loop {
-            match self.byte() {
-                0 => return found,
-                first => found.push(read(self, first)),
-            }
-        }
+    /// The byte that begins a number or a segment; None at the byte 0 after the last one.
+    #[inline]
+    fn first(&mut self) -> Option<u8> {
+        Some(self.byte()).filter(|first| *first != 0)
     }
 
-    /// Rank and number of stage, post-release and developmental part.
-    fn ranks(&mut self) -> [(u8, u64); 3] {
-        [(); 3].map(|()| self.ranked())
-    }
-
-    fn skip_release(&mut self) {
-        self.ranked();
-        self.until_zero(|rest, first| {
-            rest.take((first - 1).into());
-        });
+    fn suffix(&mut self) -> Suffix {
+        Suffix::from_ranks([(); 3].map(|()| self.ranked()))
     }
 
     /// How many bytes 1 begin the rest, which are left out.
@@ -207,37 +309,42 @@ impl<'a> Rest<'a> {
     /// The bytes of the version that begins the rest.
     fn version(&mut self) -> &'a [u8] {
         let start = self.0;
-        self.skip_release();
-        self.ranks();
-        self.until_zero(|rest, first| {
+        self.ranked();
+        while let Some(first) = self.first() {
+            self.take((first - 1).into());
+        }
+        self.suffix();
+        while let Some(first) = self.first() {
             if first == 1 {
-                rest.text().len()
+                self.text();
             } else {
-                rest.take((first - 2).into()).len()
-            };
-        });
+                self.take((first - 2).into());
+            }
+        }
         self.zeros();
         &start[..start.len() - self.0.len()]
     }
 
+    /// The numbers up to a byte 0.
+    fn release(&mut self) -> Release {
+        let mut release = Release::EMPTY;
+        while let Some(first) = self.first() {
+            release.push(self.number(first - 1));
+        }
+        release
+    }
+
     fn parts(&mut self) -> Parts {
         let (_, epoch) = self.ranked();
-        let mut release = self.until_zero(|rest, first| rest.number(first - 1));
-        let [(stage, pre), (post_rank, post), (dev_rank, dev)] = self.ranks();
-        let local = self.until_zero(|rest, first| match first {
-            1 => LocalSegment::String(rest.text().to_owned()),
-            _ => LocalSegment::Number(rest.number(first - 2)),
-        });
-        release.resize(release.len() + self.zeros(), 0);
-        Parts {
-            epoch,
-            release,
-            pre: PrereleaseKind::from_rank(stage).map(|kind| Prerelease { kind, number: pre }),
-            post: (post_rank == 1).then_some(post),
-            dev: (dev_rank == 0 && stage != MIN).then_some(dev),
-            min: (stage == MIN).then_some(dev),
-            max: (post_rank == MAX).then_some(post),
-            local,
+        let (mut release, suffix, mut local) = (self.release(), self.suffix(), Vec::new());
+        while let Some(first) = self.first() {
+            local.push(if first == 1 {
+                LocalSegment::String(self.text().to_owned())
+            } else {
+                LocalSegment::Number(self.number(first - 2))
+            });
         }
+        (0..self.zeros()).for_each(|_| release.push(0));
+        Parts { epoch, release, suffix, local }
     }
 }

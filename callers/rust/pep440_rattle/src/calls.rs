@@ -9,27 +9,15 @@ use crate::bytes;
 use alloc::alloc::handle_alloc_error;
 use alloc::boxed::Box;
 use alloc::vec;
-use alloc::vec::Vec;
 use core::alloc::Layout;
 
 type Writer = unsafe extern "C" fn(*const u8, usize, *mut u8, usize, *mut usize) -> u8;
-
-type WriterWithEnds = unsafe extern "C" fn(*const u8, usize, *mut u8, usize, *mut usize, usize, *mut usize, *mut usize) -> u8;
 
 unsafe extern "C" {
     fn pep440_compile(version: *const u8, length: usize, out: *mut u8, size: usize, written: *mut usize) -> u8;
     fn pep440_compile_list(list: *const u8, length: usize, out: *mut u8, size: usize, written: *mut usize) -> u8;
     fn pep440_compile_specifier(specifier: *const u8, length: usize, out: *mut u8, size: usize, written: *mut usize) -> u8;
     fn pep440_pattern(pattern: *const u8, length: usize, out: *mut u8, size: usize, written: *mut usize, star: *mut u8) -> u8;
-    fn pep440_specifier(
-        operator: *const u8,
-        operator_length: usize,
-        version: *const u8,
-        length: usize,
-        out: *mut u8,
-        size: usize,
-        written: *mut usize,
-    ) -> u8;
     fn pep440_error(kind: u8, bytes: *const u8, length: usize, out: *mut u8, size: usize, written: *mut usize) -> u8;
     fn pep440_build_error(
         operator: u8,
@@ -41,26 +29,6 @@ unsafe extern "C" {
         written: *mut usize,
     ) -> u8;
     fn pep440_normalize(compiled: *const u8, length: usize, out: *mut u8, size: usize, written: *mut usize) -> u8;
-    fn pep440_range_bounds(
-        list: *const u8,
-        length: usize,
-        out: *mut u8,
-        size: usize,
-        ends: *mut usize,
-        ends_size: usize,
-        written: *mut usize,
-        count: *mut usize,
-    ) -> u8;
-    fn pep440_release_range_bounds(
-        list: *const u8,
-        length: usize,
-        out: *mut u8,
-        size: usize,
-        ends: *mut usize,
-        ends_size: usize,
-        written: *mut usize,
-        count: *mut usize,
-    ) -> u8;
     fn pep440_contains(
         list: *const u8,
         list_length: usize,
@@ -76,25 +44,18 @@ const INVALID_VERSION: u8 = 1;
 const INVALID_LIST: u8 = 2;
 const OUT_OF_MEMORY: u8 = 3;
 const NO_ROOM: u8 = 4;
-const NUMBER_AT_MAX: u8 = 5;
 
-/// Why a call has no result.
-#[derive(Clone, Copy, Debug, PartialEq, Eq)]
-pub(crate) enum Refusal {
-    /// The string or the compiled bytes are no version, or no list.
-    Invalid,
-    /// A bound would lie above `u64::MAX`.
-    NumberAtMax,
-}
+/// The string or the compiled bytes are no version, or no list.
+#[derive(Debug)]
+pub(crate) struct Invalid;
 
 /// What a status other than `OK` and `NO_ROOM` means. Out of memory ends the process, as in the standard library.
 #[cold]
-fn refusal(status: u8) -> Refusal {
+fn invalid(status: u8) -> Invalid {
     #[cfg(without_library)]
     needed::<()>();
     match status {
-        INVALID_VERSION | INVALID_LIST => Refusal::Invalid,
-        NUMBER_AT_MAX => Refusal::NumberAtMax,
+        INVALID_VERSION | INVALID_LIST => Invalid,
         OUT_OF_MEMORY => handle_alloc_error(Layout::new::<u8>()),
         _ => panic!("the library returns a status that its header does not name: {status}"),
     }
@@ -107,12 +68,12 @@ fn needed<T>() {
     const { panic!("{}", env!("PEP440_NEEDED")) }
 }
 
-/// The bytes of a string. Compiled versions and lists begin with 4, 5 and 6, and each call takes them in place of strings; no valid string
+/// The bytes of a string. Compiled versions, lists and sets begin with 4 to 7, and each call takes them in place of strings; no valid string
 /// begins so.
 #[inline]
-fn bytes_of(string: &str) -> Result<&[u8], Refusal> {
+fn bytes_of(string: &str) -> Result<&[u8], Invalid> {
     match string.as_bytes() {
-        [4..=6, ..] => Err(Refusal::Invalid),
+        [4..=7, ..] => Err(Invalid),
         bytes => Ok(bytes),
     }
 }
@@ -126,7 +87,7 @@ const STACK_OF_LIST: usize = 256;
 
 /// Calls `read` with what `call` writes of `input`.
 #[inline]
-fn written<T>(call: Writer, input: &[u8], read: impl FnOnce(&[u8]) -> T) -> Result<T, Refusal> {
+fn written<T>(call: Writer, input: &[u8], read: impl FnOnce(&[u8]) -> T) -> Result<T, Invalid> {
     written_to_room::<STACK, _>(writer(call, input), |room, length| read(&room[..length]))
 }
 
@@ -142,12 +103,12 @@ fn writer(call: Writer, input: &[u8]) -> impl FnMut(&mut [u8], &mut usize) -> u8
 fn written_to_room<const STACK: usize, T>(
     mut call: impl FnMut(&mut [u8], &mut usize) -> u8,
     read: impl FnOnce(&[u8], usize) -> T,
-) -> Result<T, Refusal> {
+) -> Result<T, Invalid> {
     let (mut room, mut length) = ([0; STACK], 0);
     match call(&mut room, &mut length) {
         OK => Ok(read(&room, length)),
         NO_ROOM => written_to_heap(call, length.max(STACK), read),
-        other => Err(refusal(other)),
+        other => Err(invalid(other)),
     }
 }
 
@@ -157,11 +118,11 @@ fn written_to_heap<T>(
     mut call: impl FnMut(&mut [u8], &mut usize) -> u8,
     size: usize,
     read: impl FnOnce(&[u8], usize) -> T,
-) -> Result<T, Refusal> {
+) -> Result<T, Invalid> {
     let (mut room, mut length) = (vec![0; size], 0);
     match call(&mut room, &mut length) {
         OK => Ok(read(&room, length)),
-        other => Err(refusal(other)),
+        other => Err(invalid(other)),
     }
 }
 
@@ -171,12 +132,12 @@ fn as_text(bytes: &[u8]) -> &str {
 
 /// Calls `read` with room that compiled bytes of a version begin, and how many they are; zero bytes follow.
 #[inline]
-pub(crate) fn compile<T>(version: &str, read: impl FnOnce(&[u8], usize) -> T) -> Result<T, Refusal> {
+pub(crate) fn compile<T>(version: &str, read: impl FnOnce(&[u8], usize) -> T) -> Result<T, Invalid> {
     written_to_room::<STACK_OF_VERSION, _>(writer(pep440_compile, bytes_of(version)?), read)
 }
 
 /// Calls `read` with the normalized form of the version of a pattern, and with whether `.*` follows it.
-pub(crate) fn pattern<T>(pattern: &str, read: impl FnOnce(&str, bool) -> T) -> Result<T, Refusal> {
+pub(crate) fn pattern<T>(pattern: &str, read: impl FnOnce(&str, bool) -> T) -> Result<T, Invalid> {
     let (bytes, mut star) = (bytes_of(pattern)?, 0);
     let call = |out: &mut [u8], length: &mut usize| {
         // SAFETY: as the module says.
@@ -186,28 +147,18 @@ pub(crate) fn pattern<T>(pattern: &str, read: impl FnOnce(&str, bool) -> T) -> R
     Ok(read(&text, star == 1))
 }
 
-/// Calls `read` with the specifier of an operator and a version, as `>=1.16`.
-pub(crate) fn specifier<T>(operator: &str, version: &str, read: impl FnOnce(&str) -> T) -> Result<T, Refusal> {
-    let call = |out: &mut [u8], length: &mut usize| {
-        let (size, out) = (out.len(), out.as_mut_ptr());
-        // SAFETY: as the module says.
-        unsafe { pep440_specifier(operator.as_ptr(), operator.len(), version.as_ptr(), version.len(), out, size, length) }
-    };
-    written_to_room::<STACK, _>(call, |room, length| read(as_text(&room[..length])))
-}
-
 /// Calls `read` with the compiled bytes of a list.
-pub(crate) fn compile_list<T>(list: &str, read: impl FnOnce(&[u8]) -> T) -> Result<T, Refusal> {
+pub(crate) fn compile_list<T>(list: &str, read: impl FnOnce(&[u8]) -> T) -> Result<T, Invalid> {
     compiled(pep440_compile_list, list, read)
 }
 
 /// Calls `read` with the compiled bytes of the list of one specifier.
-pub(crate) fn compile_specifier<T>(specifier: &str, read: impl FnOnce(&[u8]) -> T) -> Result<T, Refusal> {
+pub(crate) fn compile_specifier<T>(specifier: &str, read: impl FnOnce(&[u8]) -> T) -> Result<T, Invalid> {
     compiled(pep440_compile_specifier, specifier, read)
 }
 
 /// Calls `read` with the list that `call` compiles, without its set.
-fn compiled<T>(call: Writer, list: &str, read: impl FnOnce(&[u8]) -> T) -> Result<T, Refusal> {
+fn compiled<T>(call: Writer, list: &str, read: impl FnOnce(&[u8]) -> T) -> Result<T, Invalid> {
     written_to_room::<STACK_OF_LIST, _>(writer(call, bytes_of(list)?), |room, length| read(bytes::without_set(&room[..length])))
 }
 
@@ -269,36 +220,6 @@ pub(crate) fn normalize<T>(version: &[u8], read: impl FnOnce(&str) -> T) -> T {
     written(pep440_normalize, version, |bytes| read(as_text(bytes))).expect("compiled bytes have a normalized form")
 }
 
-/// Calls `read` with the bounds of the range of a compiled list, one after the other, and with where each of them ends.
-pub(crate) fn range_bounds<T>(list: &[u8], read: impl FnOnce(&[u8], &[usize]) -> T) -> Result<T, Refusal> {
-    written_with_ends(pep440_range_bounds, list, read)
-}
-
-/// Calls `read` with the bounds of its release-only range, as `range_bounds` does.
-pub(crate) fn release_range_bounds<T>(list: &[u8], read: impl FnOnce(&[u8], &[usize]) -> T) -> Result<T, Refusal> {
-    written_with_ends(pep440_release_range_bounds, list, read)
-}
-
-/// Calls `read` with the pieces that `call` writes of `input`, one after the other, and with where each of them ends.
-fn written_with_ends<T>(call: WriterWithEnds, input: &[u8], read: impl FnOnce(&[u8], &[usize]) -> T) -> Result<T, Refusal> {
-    let (mut stack, mut heap, mut length) = ([0; STACK], Vec::new(), 0);
-    let (mut stack_of_ends, mut heap_of_ends, mut count) = ([0; 8], Vec::new(), 0);
-    let call = |out: &mut [u8], ends: &mut [usize], length: &mut usize, count: &mut usize| {
-        let (size, ends_size) = (out.len(), ends.len());
-        // SAFETY: as the module says.
-        unsafe { call(input.as_ptr(), input.len(), out.as_mut_ptr(), size, ends.as_mut_ptr(), ends_size, length, count) }
-    };
-    let (mut room, mut ends) = (stack.as_mut_slice(), stack_of_ends.as_mut_slice());
-    let mut status = call(room, ends, &mut length, &mut count);
-    if status == NO_ROOM {
-        heap.resize(length, 0);
-        heap_of_ends.resize(count, 0);
-        (room, ends) = (&mut heap, &mut heap_of_ends);
-        status = call(room, ends, &mut length, &mut count);
-    }
-    if status == OK { Ok(read(&room[..length], &ends[..count])) } else { Err(refusal(status)) }
-}
-
 /// Whether a compiled list contains a compiled version. Not specified where no string parses to a version of either.
 #[inline]
 pub(crate) fn contains(list: &[u8], version: &[u8]) -> bool {
@@ -307,12 +228,10 @@ pub(crate) fn contains(list: &[u8], version: &[u8]) -> bool {
     let status = unsafe {
         pep440_contains(list.as_ptr(), list.len(), version.as_ptr(), version.len(), &raw mut contained, &raw mut prerelease)
     };
-    if status == OK { contained == 1 } else { is_refused(status) }
-}
-
-/// No version is contained where compiled bytes denote no version or no list.
-#[cold]
-fn is_refused(status: u8) -> bool {
-    assert_eq!(refusal(status), Refusal::Invalid, "a compiled list has an answer");
+    if status == OK {
+        return contained == 1;
+    }
+    // No version is contained where compiled bytes denote no version or no list.
+    let Invalid = invalid(status);
     false
 }

@@ -1,77 +1,161 @@
-//! Errors. What the library finds wrong with a string it says in words, which these hold.
+//! Errors. What the library finds wrong with a string it says in words, when it is asked to.
+use crate::version::write_local;
+use crate::{Operator, Version, calls};
 use alloc::borrow::ToOwned;
 use alloc::boxed::Box;
 use alloc::string::String;
 use core::error::Error;
 use core::fmt;
 
-macro_rules! text_errors {
-    ($($(#[$doc:meta])* $name:ident)*) => {$(
-        $(#[$doc])*
-        #[derive(Clone, Debug, PartialEq, Eq)]
-        pub struct $name {
-            text: Box<str>,
-        }
-
-        impl $name {
-            pub(crate) fn new(text: impl Into<Box<str>>) -> Self {
-                Self { text: text.into() }
-            }
-        }
-
+/// Errors are equal if their texts are.
+macro_rules! told_by_text {
+    ($($name:ident)*) => {$(
         impl Error for $name {}
 
         impl fmt::Display for $name {
             fn fmt(&self, f: &mut fmt::Formatter<'_>) -> fmt::Result {
-                f.write_str(&self.text)
+                f.write_str(&self.text())
             }
         }
+
+        impl fmt::Debug for $name {
+            fn fmt(&self, f: &mut fmt::Formatter<'_>) -> fmt::Result {
+                f.debug_struct(stringify!($name)).field("text", &self.text()).finish()
+            }
+        }
+
+        impl PartialEq for $name {
+            fn eq(&self, other: &$name) -> bool {
+                self.text() == other.text()
+            }
+        }
+
+        impl Eq for $name {}
     )*};
 }
 
-text_errors! {
-    /// Why a string is no version.
-    ///
-    /// ```
-    /// use pep440_rattle::Version;
-    ///
-    /// let error = "1.0x".parse::<Version>().unwrap_err();
-    /// assert_eq!(error.to_string(), "after parsing `1.0`, found `x`, which is not part of a valid version");
-    /// ```
+told_by_text! {
     VersionParseError
-    /// Why a string is neither a version nor a version with `.*` behind it.
-    ///
-    /// ```
-    /// use pep440_rattle::VersionPattern;
-    ///
-    /// let error = "1.*.2".parse::<VersionPattern>().unwrap_err();
-    /// assert_eq!(error.to_string(), "wildcards in versions must be at the end");
-    /// ```
     VersionPatternParseError
-    /// Why a string is no specifier.
-    ///
-    /// ```
-    /// use pep440_rattle::VersionSpecifier;
-    ///
-    /// let error = "1.0".parse::<VersionSpecifier>().unwrap_err();
-    /// assert_eq!(error.to_string(), "Unexpected end of version specifier, expected operator");
-    /// ```
     VersionSpecifierParseError
-    /// Why an operator and a version make no specifier.
-    ///
-    /// ```
-    /// use pep440_rattle::{Operator, Version, VersionSpecifier};
-    ///
-    /// let error = VersionSpecifier::from_version(Operator::TildeEqual, Version::new([1])).unwrap_err();
-    /// assert_eq!(error.to_string(), "The ~= operator requires at least two segments in the release version");
-    /// ```
     VersionSpecifierBuildError
+    VersionSpecifiersParseError
+}
+
+/// Why a string is no version.
+///
+/// ```
+/// use pep440_rattle::Version;
+///
+/// let error = "1.0x".parse::<Version>().unwrap_err();
+/// assert_eq!(error.to_string(), "after parsing `1.0`, found `x`, which is not part of a valid version");
+/// ```
+#[derive(Clone)]
+pub struct VersionParseError {
+    string: Box<str>,
+}
+
+impl VersionParseError {
+    #[cold]
+    pub(crate) fn new(string: &str) -> VersionParseError {
+        VersionParseError { string: string.into() }
+    }
+
+    fn text(&self) -> Box<str> {
+        calls::version_error(&self.string)
+    }
+}
+
+/// Why a string is neither a version nor a version with `.*` behind it.
+///
+/// ```
+/// use pep440_rattle::VersionPattern;
+///
+/// let error = "1.*.2".parse::<VersionPattern>().unwrap_err();
+/// assert_eq!(error.to_string(), "wildcards in versions must be at the end");
+/// ```
+#[derive(Clone)]
+pub struct VersionPatternParseError {
+    string: Box<str>,
+    /// Says why the string is none.
+    say: fn(&str) -> Box<str>,
+}
+
+impl VersionPatternParseError {
+    #[cold]
+    pub(crate) fn new(string: &str) -> VersionPatternParseError {
+        VersionPatternParseError { string: string.into(), say: calls::pattern_error }
+    }
+
+    fn text(&self) -> Box<str> {
+        (self.say)(&self.string)
+    }
 }
 
 impl From<VersionParseError> for VersionPatternParseError {
     fn from(error: VersionParseError) -> VersionPatternParseError {
-        VersionPatternParseError { text: error.text }
+        VersionPatternParseError { string: error.string, say: calls::version_error }
     }
+}
+
+/// Why a string is no specifier.
+///
+/// ```
+/// use pep440_rattle::VersionSpecifier;
+///
+/// let error = "1.0".parse::<VersionSpecifier>().unwrap_err();
+/// assert_eq!(error.to_string(), "Unexpected end of version specifier, expected operator");
+/// ```
+#[derive(Clone)]
+pub struct VersionSpecifierParseError {
+    string: Box<str>,
+}
+
+impl VersionSpecifierParseError {
+    #[cold]
+    pub(crate) fn new(string: &str) -> VersionSpecifierParseError {
+        VersionSpecifierParseError { string: string.into() }
+    }
+
+    fn text(&self) -> Box<str> {
+        calls::specifier_error(&self.string)
+    }
+}
+
+/// Why an operator and a version make no specifier.
+///
+/// ```
+/// use pep440_rattle::{Operator, Version, VersionSpecifier};
+///
+/// let error = VersionSpecifier::from_version(Operator::TildeEqual, Version::new([1])).unwrap_err();
+/// assert_eq!(error.to_string(), "The ~= operator requires at least two segments in the release version");
+/// ```
+#[derive(Clone)]
+pub struct VersionSpecifierBuildError {
+    operator: Operator,
+    version: Version,
+    wildcard: bool,
+}
+
+impl VersionSpecifierBuildError {
+    #[cold]
+    pub(crate) fn new(operator: Operator, version: Version, wildcard: bool) -> VersionSpecifierBuildError {
+        VersionSpecifierBuildError { operator, version, wildcard }
+    }
+
+    /// The library says it of a version that a string parses to; the local part is quoted as it is.
+    fn text(&self) -> Box<str> {
+        let parsed = if self.version.is_parsed() { &self.version } else { &self.version.to_parsed() };
+        let text = parsed.with_compiled(|version| calls::build_error(self.operator as u8, version, self.wildcard));
+        text.replace(&quoted_local(parsed), &quoted_local(&self.version)).into()
+    }
+}
+
+/// The local part as an error quotes it, `+a.5` and the quotation mark behind it.
+fn quoted_local(version: &Version) -> String {
+    let mut text = String::new();
+    write_local(&mut text, version.local()).expect("a string takes what is written");
+    text + "`"
 }
 
 /// Why a string is no list of specifiers.
@@ -82,15 +166,19 @@ impl From<VersionParseError> for VersionPatternParseError {
 /// let error = ">=1.0, ~=2".parse::<VersionSpecifiers>().unwrap_err();
 /// assert!(error.to_string().contains("The ~= operator requires at least two segments in the release version"));
 /// ```
-#[derive(Clone, Debug, PartialEq, Eq)]
+#[derive(Clone)]
 pub struct VersionSpecifiersParseError {
-    text: Box<str>,
     line: String,
 }
 
 impl VersionSpecifiersParseError {
-    pub(crate) fn new(text: Box<str>, line: &str) -> Self {
-        Self { text, line: line.to_owned() }
+    #[cold]
+    pub(crate) fn new(line: &str) -> VersionSpecifiersParseError {
+        VersionSpecifiersParseError { line: line.to_owned() }
+    }
+
+    fn text(&self) -> Box<str> {
+        calls::list_error(&self.line)
     }
 
     /// The string that is no list.
@@ -103,14 +191,6 @@ impl VersionSpecifiersParseError {
     #[must_use]
     pub fn line(&self) -> &String {
         &self.line
-    }
-}
-
-impl Error for VersionSpecifiersParseError {}
-
-impl fmt::Display for VersionSpecifiersParseError {
-    fn fmt(&self, f: &mut fmt::Formatter<'_>) -> fmt::Result {
-        f.write_str(&self.text)
     }
 }
 

@@ -72,6 +72,8 @@ impl<T> Clone for Lazy<T> {
 impl<T> Drop for Lazy<T> {
     #[inline]
     fn drop(&mut self) {
-        drop(self.take());
+        if !self.0.get_mut().is_null() {
+            drop(self.take());
+        }
     }
 }

@@ -1,9 +1,10 @@
 //! Versions and specifiers of Python packages ([PEP 440](https://peps.python.org/pep-0440)), by a proved library.
 //!
 //! The names and the behaviour are those of the crate `pep440_rs` 0.7.3, but for the departures that the README lists.
-//! Parsing, normalized forms, matching and ranges are calls of the library `pep440`, whose functions are proved to do what
-//! PEP 440 says, and its sort keys to have the order of versions. This crate is tested, not proved. It writes operators, what
-//! stands between the specifiers of a list, and single segments itself; its tests compare these with what the library writes.
+//! Parsing, normalized forms and matching are calls of the library `pep440`, whose functions are proved to do what
+//! PEP 440 says, and its sort keys to have the order of versions. This crate is tested, not proved. It changes versions and makes ranges
+//! by their keys, and reads and writes operators, what stands between the specifiers of a list, and single segments itself; its tests
+//! compare these with what the library does.
 //!
 //! ```
 //! use pep440_rattle::{Version, VersionSpecifiers};
@@ -42,6 +43,7 @@ mod logged;
 mod operator;
 mod parts;
 mod pattern;
+mod plain;
 mod range;
 mod segment;
 #[cfg(feature = "serde")]

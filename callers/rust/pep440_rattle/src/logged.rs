@@ -1,10 +1,10 @@
 //! What is logged with the feature `tracing`, in the words of the ported crate.
-use crate::{Operator, Version, VersionSpecifier};
+use crate::{Operator, Version};
 use core::ops::Bound;
 
 /// Warns of each `===`.
-pub(crate) fn exact_equality(members: &[VersionSpecifier]) {
-    for _ in members.iter().filter(|member| *member.operator() == Operator::ExactEqual) {
+pub(crate) fn exact_equality(operators: impl IntoIterator<Item = Operator>) {
+    for _ in operators.into_iter().filter(|operator| *operator == Operator::ExactEqual) {
         tracing::warn!("Using arbitrary equality (`===`) is discouraged");
     }
 }

@@ -1,6 +1,5 @@
 //! The operators of specifiers.
-use crate::calls;
-use crate::{OperatorParseError, VersionSpecifier};
+use crate::{OperatorParseError, Version};
 use core::fmt;
 use core::str::FromStr;
 
@@ -75,29 +74,47 @@ impl Operator {
     /// ```
     #[must_use]
     pub fn is_star(self) -> bool {
-        self.symbol_of().is_some()
+        matches!(self, EqualStar | NotEqualStar)
     }
 
-    /// The star form of `==` and of `!=`; any other operator is as it was.
-    pub(crate) fn to_star(self) -> Operator {
+    /// The star form; only `==` and `!=` have one.
+    #[inline]
+    pub(crate) fn to_star(self) -> Option<Operator> {
         match self {
-            Equal => EqualStar,
-            NotEqual => NotEqualStar,
-            other => other,
+            Equal => Some(EqualStar),
+            NotEqual => Some(NotEqualStar),
+            _ => None,
+        }
+    }
+
+    /// The operator as it is written.
+    #[inline]
+    pub(crate) fn from_symbol(symbol: &str) -> Option<Operator> {
+        Some(match symbol {
+            "==" => Equal,
+            "===" => ExactEqual,
+            "!=" => NotEqual,
+            "~=" => TildeEqual,
+            "<" => LessThan,
+            "<=" => LessThanEqual,
+            ">" => GreaterThan,
+            ">=" => GreaterThanEqual,
+            _ => return None,
+        })
+    }
+
+    /// Whether the operator goes with the version: a local part only with three of them, and `~=` with more than one release number.
+    #[inline]
+    pub(crate) fn takes(self, version: &Version) -> bool {
+        match self {
+            Equal | NotEqual | ExactEqual => true,
+            TildeEqual => !version.is_local() && version.has_two_numbers(),
+            _ => !version.is_local(),
         }
     }
 
     pub(crate) fn from_number(number: u8) -> Option<Operator> {
         ALL.get(usize::from(number)).copied()
-    }
-
-    /// Of a star form the operator that is written.
-    fn symbol_of(self) -> Option<Operator> {
-        match self {
-            EqualStar => Some(Equal),
-            NotEqualStar => Some(NotEqual),
-            _ => None,
-        }
     }
 
     fn symbol(self) -> &'static str {
@@ -119,10 +136,10 @@ impl FromStr for Operator {
 
     /// The operator as it is written; never a star form, since the star follows the version.
     fn from_str(symbol: &str) -> Result<Operator, OperatorParseError> {
-        // Each operator goes with `0.0`.
-        let found = calls::specifier(symbol, "0.0", str::parse::<VersionSpecifier>);
-        let found = found.map(|specifier| *specifier.expect("the library wrote this specifier").operator());
-        found.map_err(|_| OperatorParseError::new(symbol))
+        let found = Operator::from_symbol(symbol);
+        #[cfg(feature = "tracing")]
+        found.iter().for_each(|operator| crate::logged::exact_equality([*operator]));
+        found.ok_or_else(|| OperatorParseError::new(symbol))
     }
 }
 

@@ -84,6 +84,6 @@ impl FromStr for VersionPattern {
         let found =
             calls::pattern(pattern, |text, wildcard| Some(VersionPattern { version: Version::parse(text).ok()?, wildcard }));
         let found = found.map(|found| found.expect("the library wrote this version"));
-        found.map_err(|_| VersionPatternParseError::new(calls::pattern_error(pattern)))
+        found.map_err(|_| VersionPatternParseError::new(pattern))
     }
 }

@@ -7,21 +7,21 @@ use core::str::FromStr;
 use serde::de::{Deserialize, Deserializer, Error, Unexpected, Visitor};
 use serde::ser::{Serialize, Serializer};
 
-/// Parses a string, borrowed or not.
+/// Parses a string, borrowed or not. As in the ported crate, what is wrong with it is no error of the deserializer, which would add a place.
 struct Parser<T>(PhantomData<T>);
 
-impl<T: FromStr<Err: Display>> Visitor<'_> for Parser<T> {
-    type Value = T;
+impl<T: FromStr> Visitor<'_> for Parser<T> {
+    type Value = Result<T, T::Err>;
 
     fn expecting(&self, f: &mut fmt::Formatter<'_>) -> fmt::Result {
         f.write_str("a string")
     }
 
-    fn visit_str<E: Error>(self, text: &str) -> Result<T, E> {
-        text.parse().map_err(E::custom)
+    fn visit_str<E: Error>(self, text: &str) -> Result<Self::Value, E> {
+        Ok(text.parse())
     }
 
-    fn visit_bytes<E: Error>(self, text: &[u8]) -> Result<T, E> {
+    fn visit_bytes<E: Error>(self, text: &[u8]) -> Result<Self::Value, E> {
         match core::str::from_utf8(text) {
             Ok(text) => self.visit_str(text),
             Err(_) => Err(E::invalid_value(Unexpected::Bytes(text), &self)),
@@ -52,7 +52,7 @@ macro_rules! strings {
 
         impl<'de> Deserialize<'de> for $name {
             fn deserialize<D: Deserializer<'de>>(deserializer: D) -> Result<Self, D::Error> {
-                deserializer.deserialize_str(Parser(PhantomData))
+                deserializer.deserialize_str(Parser::<Self>(PhantomData))?.map_err(D::Error::custom)
             }
         }
     )*};

@@ -1,10 +1,9 @@
 //! Specifiers: an operator and a version.
 use crate::bytes;
 use crate::calls;
+use crate::plain;
 use crate::range;
-use crate::version::write_local;
 use crate::{Operator, RangeError, Segment, Version, VersionPattern, VersionSpecifierBuildError, VersionSpecifierParseError};
-use alloc::string::String;
 use alloc::vec::Vec;
 use core::fmt;
 use core::ops::Bound;
@@ -47,10 +46,12 @@ impl VersionSpecifier {
         operator: Operator,
         version_pattern: VersionPattern,
     ) -> Result<VersionSpecifier, VersionSpecifierBuildError> {
-        let wildcard = version_pattern.is_wildcard();
-        check(operator, version_pattern.version(), wildcard)?;
-        let operator = if wildcard { operator.to_star() } else { operator };
-        Ok(VersionSpecifier::unchecked(operator, version_pattern.into_version()))
+        let (wildcard, version) = (version_pattern.is_wildcard(), version_pattern.into_version());
+        let written = if wildcard { operator.to_star() } else { Some(operator) };
+        match written.filter(|operator| operator.takes(&version)) {
+            Some(operator) => Ok(VersionSpecifier::unchecked(operator, version)),
+            None => Err(VersionSpecifierBuildError::new(operator, version, wildcard)),
+        }
     }
 
     /// The specifier of an operator and a version.
@@ -66,8 +67,11 @@ impl VersionSpecifier {
     /// Where the version has a local part and the operator is none of `==`, `!=` and `===`, or the operator is `~=` and the
     /// version has one release number.
     pub fn from_version(operator: Operator, version: Version) -> Result<VersionSpecifier, VersionSpecifierBuildError> {
-        check(operator, &version, false)?;
-        Ok(VersionSpecifier::unchecked(operator, version))
+        if operator.takes(&version) {
+            Ok(VersionSpecifier::unchecked(operator, version))
+        } else {
+            Err(VersionSpecifierBuildError::new(operator, version, false))
+        }
     }
 
     /// `==` and the version; nothing is checked.
@@ -212,7 +216,7 @@ impl VersionSpecifier {
     /// ```
     pub fn contains(&self, version: &Version) -> bool {
         #[cfg(feature = "tracing")]
-        crate::logged::exact_equality(core::slice::from_ref(self));
+        crate::logged::exact_equality([self.operator]);
         self.with_list(|list| version.is_in(list))
     }
 
@@ -242,7 +246,7 @@ impl VersionSpecifier {
     ///
     /// As [`VersionSpecifiers::ranges`](crate::VersionSpecifiers::ranges).
     pub fn ranges(&self) -> Result<Vec<Segment>, RangeError> {
-        self.with_list(range::of_list)
+        range::of_list(core::slice::from_ref(self))
     }
 
     /// The range of the specifier by releases alone; see
@@ -260,7 +264,7 @@ impl VersionSpecifier {
     ///
     /// As [`VersionSpecifiers::ranges`](crate::VersionSpecifiers::ranges).
     pub fn release_ranges(&self) -> Result<Vec<Segment>, RangeError> {
-        self.with_list(range::of_releases)
+        range::of_releases(core::slice::from_ref(self))
     }
 
     /// Calls `read` with the compiled bytes of a list of this specifier alone.
@@ -343,32 +347,19 @@ pub(crate) fn is_next_minor(low: &Version, high: &Version) -> bool {
     }
 }
 
-/// What the library finds wrong with the operator beside the version, `.*` behind it or not.
-fn check(operator: Operator, version: &Version, wildcard: bool) -> Result<(), VersionSpecifierBuildError> {
-    let parsed = if version.is_parsed() { version } else { &version.to_parsed() };
-    let text = parsed.with_compiled(|version| calls::build_error(operator as u8, version, wildcard));
-    if text.is_empty() {
-        return Ok(());
-    }
-    Err(VersionSpecifierBuildError::new(text.replace(&local_text(parsed), &local_text(version))))
-}
-
-/// The local part as an error quotes it, `+a.5` and the quotation mark behind it.
-fn local_text(version: &Version) -> String {
-    let mut text = String::new();
-    write_local(&mut text, version.local()).expect("a string takes what is written");
-    text + "`"
-}
-
 impl FromStr for VersionSpecifier {
     type Err = VersionSpecifierParseError;
 
     /// Parses a specifier, as `>= 1.19`, `== 1.1.*` or `<=1!2012.2`.
     fn from_str(specifier: &str) -> Result<VersionSpecifier, VersionSpecifierParseError> {
-        let read = calls::compile_specifier(specifier, bytes::read_member);
-        let read = read.map_err(|_| VersionSpecifierParseError::new(calls::specifier_error(specifier)))?;
+        let read = match plain::specifier(specifier) {
+            Some(read) => read,
+            None => {
+                calls::compile_specifier(specifier, bytes::read_member).map_err(|_| VersionSpecifierParseError::new(specifier))?
+            }
+        };
         #[cfg(feature = "tracing")]
-        crate::logged::exact_equality(core::slice::from_ref(&read));
+        crate::logged::exact_equality([read.operator]);
         Ok(read)
     }
 }

@@ -2,11 +2,10 @@
 use crate::bytes;
 use crate::calls;
 use crate::lazy::Lazy;
+use crate::plain;
 use crate::range;
 use crate::specifier::is_next_minor;
 use crate::{RangeError, Segment, Version, VersionSpecifier, VersionSpecifiersParseError};
-use alloc::boxed::Box;
-use alloc::sync::Arc;
 use alloc::vec;
 use alloc::vec::Vec;
 use core::cmp::Ordering;
@@ -26,9 +25,9 @@ use core::str::FromStr;
 /// ```
 #[derive(Clone)]
 pub struct VersionSpecifiers {
-    compiled: Box<[u8]>,
-    /// Kept from the beginning but of a list that was parsed.
-    members: Lazy<Vec<VersionSpecifier>>,
+    members: Vec<VersionSpecifier>,
+    /// Made when the list is first asked whether it contains a version.
+    compiled: Lazy<Vec<u8>>,
 }
 
 impl VersionSpecifiers {
@@ -41,17 +40,12 @@ impl VersionSpecifiers {
     /// ```
     #[must_use]
     pub fn empty() -> VersionSpecifiers {
-        VersionSpecifiers::from_arranged(Vec::new())
-    }
-
-    /// The list of members, of which none has a version below that of the one before it.
-    fn from_arranged(members: Vec<VersionSpecifier>) -> VersionSpecifiers {
-        VersionSpecifiers { compiled: bytes::list(&members).into(), members: Lazy::from(members) }
+        VersionSpecifiers { members: Vec::new(), compiled: Lazy::new() }
     }
 
     fn from_unsorted(mut members: Vec<VersionSpecifier>) -> VersionSpecifiers {
         members.sort_by(|left, right| left.version().cmp(right.version()));
-        VersionSpecifiers::from_arranged(members)
+        VersionSpecifiers { members, compiled: Lazy::new() }
     }
 
     /// Whether each specifier contains the version.
@@ -65,8 +59,8 @@ impl VersionSpecifiers {
     #[inline]
     pub fn contains(&self, version: &Version) -> bool {
         #[cfg(feature = "tracing")]
-        crate::logged::exact_equality(self);
-        version.is_in(&self.compiled)
+        crate::logged::exact_equality(self.iter().map(|member| *member.operator()));
+        version.is_in(self.compiled.get_or_init(|| bytes::list(&self.members)))
     }
 
     /// Whether there is no specifier.
@@ -77,7 +71,7 @@ impl VersionSpecifiers {
     /// assert!("".parse::<VersionSpecifiers>().unwrap().is_empty());
     /// ```
     pub fn is_empty(&self) -> bool {
-        self.compiled.len() == 1
+        self.members.is_empty()
     }
 
     /// The range of the list: its segments in ascending order, none of which touches the next one. A bound may have a sentinel
@@ -100,7 +94,7 @@ impl VersionSpecifiers {
     /// [`RangeError::NumberAtMax`] where a bound would need a number above `u64::MAX`; [`RangeError::NotParsed`] where no string parses
     /// to the version of a specifier.
     pub fn ranges(&self) -> Result<Vec<Segment>, RangeError> {
-        range::of_list(&self.compiled)
+        range::of_list(self)
     }
 
     /// The range of the list by releases alone, meant for versions that are a release and nothing else, as those of Python itself:
@@ -118,7 +112,7 @@ impl VersionSpecifiers {
     ///
     /// As [`VersionSpecifiers::ranges`].
     pub fn release_ranges(&self) -> Result<Vec<Segment>, RangeError> {
-        range::of_releases(&self.compiled)
+        range::of_releases(self)
     }
 
     /// The list that a sorted sequence of ranges of releases is: the outer bounds, and a specifier `!=` for a gap of one
@@ -169,11 +163,13 @@ impl FromStr for VersionSpecifiers {
 
     /// Parses specifiers with commas between them; the empty string is the empty list.
     fn from_str(list: &str) -> Result<VersionSpecifiers, VersionSpecifiersParseError> {
-        let compiled = calls::compile_list(list, |compiled| Box::<[u8]>::from(compiled));
-        let compiled = compiled.map_err(|_| VersionSpecifiersParseError::new(calls::list_error(list), list))?;
-        let list = VersionSpecifiers { compiled, members: Lazy::new() };
+        let members = match plain::specifiers(list) {
+            Some(members) => members,
+            None => calls::compile_list(list, bytes::read_list).map_err(|_| VersionSpecifiersParseError::new(list))?,
+        };
+        let list = VersionSpecifiers::from_unsorted(members);
         #[cfg(feature = "tracing")]
-        crate::logged::exact_equality(&list);
+        crate::logged::exact_equality(list.iter().map(|member| *member.operator()));
         Ok(list)
     }
 }
@@ -198,7 +194,7 @@ impl Deref for VersionSpecifiers {
     type Target = [VersionSpecifier];
 
     fn deref(&self) -> &[VersionSpecifier] {
-        self.members.get_or_init(|| bytes::read_list(&self.compiled))
+        &self.members
     }
 }
 
@@ -212,14 +208,14 @@ impl IntoIterator for VersionSpecifiers {
     type Item = VersionSpecifier;
     type IntoIter = vec::IntoIter<VersionSpecifier>;
 
-    fn into_iter(mut self) -> Self::IntoIter {
-        self.members.take().map_or_else(|| bytes::read_list(&self.compiled), Arc::unwrap_or_clone).into_iter()
+    fn into_iter(self) -> Self::IntoIter {
+        self.members.into_iter()
     }
 }
 
 impl From<VersionSpecifier> for VersionSpecifiers {
     fn from(specifier: VersionSpecifier) -> VersionSpecifiers {
-        VersionSpecifiers::from_arranged(vec![specifier])
+        VersionSpecifiers::from_unsorted(vec![specifier])
     }
 }
 
@@ -228,8 +224,6 @@ impl Default for VersionSpecifiers {
         VersionSpecifiers::empty()
     }
 }
-
-// The compiled bytes are no part of the value: those of equal lists may differ, as `==1.0` and `==1.0.0`.
 
 impl PartialEq for VersionSpecifiers {
     fn eq(&self, other: &VersionSpecifiers) -> bool {

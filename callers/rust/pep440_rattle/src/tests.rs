@@ -55,7 +55,7 @@ fn version_bytes() {
     ];
     for (version, wanted) in cases {
         assert_eq!(compiled(&version), wanted);
-        let again = bytes::read_version(wanted);
+        let again = Version::from_bytes(&wanted[1..]);
         assert_eq!(parts(&again), parts(&version));
         assert_eq!((&again, compiled(&again)), (&version, wanted.to_vec()));
         assert_eq!(version.is_parsed(), Version::min(&version).is_none() && Version::max(&version).is_none());
@@ -77,8 +77,8 @@ fn long_versions() {
             [Version::new(&release), Version::new(&zeros), Version::new([1]).with_local(vec![string(&"a".repeat(zeros.len()))])]
         {
             let bytes = compiled(&version);
-            assert_eq!(bytes[1..], bytes::version(&version.clone().into_parts()));
-            assert_eq!(parts(&bytes::read_version(&bytes)), parts(&version));
+            assert_eq!(&bytes[1..], bytes::version(&version.clone().into_parts()).bytes());
+            assert_eq!(parts(&Version::from_bytes(&bytes[1..])), parts(&version));
         }
         assert!(Version::new(&zeros) == Version::new([1]) && Version::new(&release) < Version::new([2]));
     }
@@ -118,12 +118,12 @@ fn order_without_a_call() {
 #[test]
 fn threads_share_parts() {
     for _ in 0..100 {
-        let version = bytes::read_version(&[4, 0, 2, 1, 0, 80, 0, 16, 0, 1]);
+        let version = Version::from_bytes(&[0, 2, 1, 0, 80, 0, 16, 0, 1]);
         std::thread::scope(|scope| {
             for _ in 0..4 {
                 scope.spawn(|| assert_eq!((version.release(), version.clone().release()), (&[1, 0][..], &[1, 0][..])));
             }
         });
-        assert_eq!(version.clone().into_parts().release, [1, 0]);
+        assert_eq!(*version.clone().into_parts().release, [1, 0]);
     }
 }

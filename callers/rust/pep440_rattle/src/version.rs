@@ -1,9 +1,9 @@
 //! Versions.
-use crate::bytes;
-use crate::calls::{self, Refusal};
-use crate::key::{Key, ROOM, count_zeros};
+use crate::bytes::{self, Writer};
+use crate::calls::{self, Invalid};
+use crate::key::{Key, Sections, count_zeros};
 use crate::lazy::Lazy;
-use crate::parts::Parts;
+use crate::parts::{Parts, Release, Suffix};
 use crate::{LocalSegment, Prerelease, VersionParseError};
 use alloc::boxed::Box;
 use alloc::sync::Arc;
@@ -20,8 +20,8 @@ use core::str::FromStr;
 /// `==` and `<` are the order of versions (PEP 440, "Summary of permitted suffixes and relative ordering"); the operators of
 /// a [`VersionSpecifier`](crate::VersionSpecifier) match otherwise: `==1.0` contains `1.0+local`, which is above `1.0`.
 ///
-/// A version is its sort key, which takes no heap up to 22 bytes, as of `2024.10.20240101` or `1.0rc1.post2.dev3+cu118`. Its parts are
-/// read when they are first asked for.
+/// A version is its sort key, which takes no heap up to 22 bytes, as of `2024.10.20240101` or `1.0rc1.post2.dev3+cu118`. Release and local
+/// part take one when they are first asked for.
 ///
 /// ```
 /// use pep440_rattle::Version;
@@ -36,12 +36,12 @@ pub struct Version {
     rest: Lazy<Rest>,
 }
 
-/// What a version has beside its key: from the beginning on where that does not tell the version, else when its parts are asked for.
+/// What a version has beside its key: from the beginning on where that does not tell the version, as it is too long, has a local segment
+/// that no string has, or a sentinel that hides a part; else when it is asked for.
 #[derive(Clone)]
 struct Rest {
     /// The bytes of a version that its key does not tell; else none.
     bytes: Box<[u8]>,
-    /// Kept from the beginning where no string parses to the version: its key lacks what a sentinel hides.
     parts: Parts,
 }
 
@@ -72,16 +72,6 @@ impl Deref for MinVersion {
     }
 }
 
-fn collect<I, R>(numbers: I) -> Vec<u64>
-where
-    I: IntoIterator<Item = R>,
-    R: Borrow<u64>,
-{
-    let release: Vec<u64> = numbers.into_iter().map(|number| *number.borrow()).collect();
-    assert!(!release.is_empty(), "release must have non-zero size");
-    release
-}
-
 impl Version {
     /// A release of these numbers.
     ///
@@ -99,36 +89,49 @@ impl Version {
         I: IntoIterator<Item = R>,
         R: Borrow<u64>,
     {
-        Version::from_parts(Parts::from_release(collect(release_numbers)))
+        let mut writer = Writer::from_epoch(0);
+        writer.push_release(release_numbers);
+        writer.push_final();
+        Version::from_writer(&writer)
     }
 
     pub(crate) fn from_parts(parts: Parts) -> Version {
-        Version::from_bytes(&bytes::version(&parts), Some(parts))
+        let writer = bytes::version(&parts);
+        let is_told = !parts.suffix.is_hidden() && parts.is_local_normal();
+        match writer.key().filter(|_| is_told) {
+            Some(key) => Version::from_key(key),
+            None => Version::from_rest(&writer.bytes(), parts),
+        }
     }
 
-    /// The version of these bytes, and its parts where they are known; they must be where no string parses to it.
-    pub(crate) fn from_bytes(bytes: &[u8], parts: Option<Parts>) -> Version {
-        let mut room = [0; ROOM];
-        room.iter_mut().zip(bytes).for_each(|(place, byte)| *place = *byte);
-        match (Key::from_room(room, bytes.len()), parts) {
-            (Some(key), None) => Version { key, rest: Lazy::new() },
-            (Some(key), Some(parts)) => Version { key, rest: Lazy::from(Rest { bytes: Box::default(), parts }) },
-            (None, parts) => {
-                let parts = parts.unwrap_or_else(|| bytes::read_parts(bytes));
-                Version { key: Key::from_bytes(bytes), rest: Lazy::from(Rest { bytes: bytes.into(), parts }) }
-            }
-        }
+    #[inline]
+    fn from_key(key: Key) -> Version {
+        Version { key, rest: Lazy::new() }
+    }
+
+    #[cold]
+    fn from_rest(bytes: &[u8], parts: Parts) -> Version {
+        Version { key: Key::untold(bytes), rest: Lazy::from(Rest { bytes: bytes.into(), parts }) }
+    }
+
+    /// The version of these bytes, in which no sentinel hides a part.
+    #[inline]
+    pub(crate) fn from_bytes(bytes: &[u8]) -> Version {
+        Key::from_bytes(bytes).map_or_else(|| Version::from_rest(bytes, bytes::read_parts(bytes)), Version::from_key)
+    }
+
+    /// The version of the bytes that are written.
+    #[inline]
+    fn from_writer(writer: &Writer) -> Version {
+        writer.key().map_or_else(|| Version::from_bytes(&writer.bytes()), Version::from_key)
     }
 
     /// The version of the string; the error does not say why there is none.
     #[inline]
-    pub(crate) fn parse(version: &str) -> Result<Version, Refusal> {
+    pub(crate) fn parse(version: &str) -> Result<Version, Invalid> {
         calls::compile(version, |room, length| {
             let first = *room[1..].first_chunk().expect("room for the first bytes");
-            match Key::from_room(first, length - 1) {
-                Some(key) => Version { key, rest: Lazy::new() },
-                None => Version::from_bytes(&room[1..length], None),
-            }
+            Key::from_room(first, length - 1).map_or_else(|| Version::from_bytes(&room[1..length]), Version::from_key)
         })
     }
 
@@ -145,9 +148,47 @@ impl Version {
         rest.map_or_else(|| self.with_bytes(bytes::read_parts), |rest| Arc::unwrap_or_clone(rest).parts)
     }
 
+    /// The sections of the key, where it tells the version.
+    #[inline]
+    fn sections(&self) -> Option<Sections> {
+        self.key.is_told().then(|| self.key.sections())
+    }
+
+    #[inline]
+    fn suffix(&self) -> Suffix {
+        if self.key.is_final() { Suffix::NONE } else { self.read_suffix() }
+    }
+
+    #[inline(never)]
+    fn read_suffix(&self) -> Suffix {
+        self.sections().map_or_else(|| self.parts().suffix, |sections| sections.suffix())
+    }
+
+    /// The version whose release ends so many numbers earlier, with the last one raised; None where there is no such number.
+    pub(crate) fn raised(self, dropped: usize) -> Option<Version> {
+        let release = match self.sections() {
+            Some(sections) => sections.release(),
+            None => self.parts().release.clone(),
+        };
+        let (last, front) = release[..release.len() - dropped].split_last()?;
+        let next = last.checked_add(1)?;
+        Some(self.with_release(front.iter().chain([&next])))
+    }
+
+    /// Whether the version is known to be a release alone, with an epoch or without one.
+    #[inline]
+    pub(crate) fn is_final(&self) -> bool {
+        self.key.is_final()
+    }
+
+    /// Whether the release has more than one number.
+    pub(crate) fn has_two_numbers(&self) -> bool {
+        self.sections().map_or_else(|| self.release().len() > 1, |sections| sections.has_two_numbers())
+    }
+
     /// Whether a string parses to the version.
     pub(crate) fn is_parsed(&self) -> bool {
-        self.rest.get().is_none_or(|rest| rest.parts.is_parsed())
+        self.key.is_final() || if self.key.is_told() { !self.suffix().has_sentinel() } else { self.parts().is_parsed() }
     }
 
     /// The version without what no string has.
@@ -155,10 +196,22 @@ impl Version {
         Version::from_parts(self.parts().to_parsed())
     }
 
+    #[cold]
     fn changed(self, change: impl FnOnce(&mut Parts)) -> Version {
         let mut parts = self.into_parts();
         change(&mut parts);
         Version::from_parts(parts)
+    }
+
+    #[inline]
+    fn with_suffix(self, suffix: Suffix) -> Version {
+        let Some(sections) = self.sections().filter(|_| !suffix.is_hidden()) else {
+            return self.changed(|parts| parts.suffix = suffix);
+        };
+        let mut writer = Writer::after_release(&sections);
+        writer.push_suffix(&suffix);
+        writer.push_end_of(&sections, sections.suffix_end());
+        Version::from_writer(&writer)
     }
 
     /// Calls `read` with `start` and then the bytes of the version.
@@ -215,7 +268,7 @@ impl Version {
     /// ```
     #[inline]
     pub fn any_prerelease(&self) -> bool {
-        self.is_pre() || self.is_dev()
+        !self.key.is_final() && self.suffix().is_early()
     }
 
     /// Whether there is neither a pre-release nor a developmental part.
@@ -239,7 +292,7 @@ impl Version {
     /// ```
     #[inline]
     pub fn is_pre(&self) -> bool {
-        self.pre().is_some()
+        !self.key.is_final() && self.suffix().pre.is_some()
     }
 
     /// Whether there is a developmental part.
@@ -251,7 +304,7 @@ impl Version {
     /// ```
     #[inline]
     pub fn is_dev(&self) -> bool {
-        self.dev().is_some()
+        !self.key.is_final() && self.suffix().dev.is_some()
     }
 
     /// Whether there is a post-release part.
@@ -263,7 +316,7 @@ impl Version {
     /// ```
     #[inline]
     pub fn is_post(&self) -> bool {
-        self.post().is_some()
+        !self.key.is_final() && self.suffix().post.is_some()
     }
 
     /// Whether there is a local part.
@@ -275,7 +328,10 @@ impl Version {
     /// ```
     #[inline]
     pub fn is_local(&self) -> bool {
-        !self.local().is_empty()
+        if self.key.is_final() {
+            return false;
+        }
+        self.sections().map_or_else(|| !self.parts().local.is_empty(), |sections| sections.has_local())
     }
 
     /// The epoch, 0 where none is written.
@@ -287,7 +343,7 @@ impl Version {
     /// ```
     #[inline]
     pub fn epoch(&self) -> u64 {
-        self.parts().epoch
+        if self.key.has_epoch() { self.parts().epoch } else { 0 }
     }
 
     /// The release numbers; there is at least one.
@@ -311,7 +367,7 @@ impl Version {
     /// ```
     #[inline]
     pub fn pre(&self) -> Option<Prerelease> {
-        self.parts().pre
+        self.suffix().pre
     }
 
     /// The number of the post-release.
@@ -323,7 +379,7 @@ impl Version {
     /// ```
     #[inline]
     pub fn post(&self) -> Option<u64> {
-        self.parts().post
+        self.suffix().post
     }
 
     /// The number of the developmental release.
@@ -335,7 +391,7 @@ impl Version {
     /// ```
     #[inline]
     pub fn dev(&self) -> Option<u64> {
-        self.parts().dev
+        self.suffix().dev
     }
 
     /// The segments of the local part.
@@ -347,7 +403,7 @@ impl Version {
     /// ```
     #[inline]
     pub fn local(&self) -> &[LocalSegment] {
-        &self.parts().local
+        if self.key.is_final() { &[] } else { &self.parts().local }
     }
 
     /// The number of the sentinel `min`, which no string has: it is below each version of its release.
@@ -359,7 +415,7 @@ impl Version {
     /// ```
     #[inline]
     pub fn min(&self) -> Option<u64> {
-        self.parts().min
+        self.suffix().min
     }
 
     /// The number of the sentinel `max`, which no string has: it is above each post-release and local version of its version.
@@ -371,7 +427,7 @@ impl Version {
     /// ```
     #[inline]
     pub fn max(&self) -> Option<u64> {
-        self.parts().max
+        self.suffix().max
     }
 
     /// The version with these release numbers.
@@ -391,8 +447,15 @@ impl Version {
         I: IntoIterator<Item = R>,
         R: Borrow<u64>,
     {
-        let release = collect(release_numbers);
-        self.changed(|parts| parts.release = release)
+        let Some(sections) = self.sections() else {
+            let release: Release = release_numbers.into_iter().map(|number| *number.borrow()).collect();
+            assert!(!release.is_empty(), "release must have non-zero size");
+            return self.changed(|parts| parts.release = release);
+        };
+        let mut writer = Writer::after_epoch(&sections);
+        writer.push_release(release_numbers);
+        writer.push_end_of(&sections, sections.release_end);
+        Version::from_writer(&writer)
     }
 
     /// The version with this epoch.
@@ -404,7 +467,13 @@ impl Version {
     /// ```
     #[must_use]
     pub fn with_epoch(self, value: u64) -> Version {
-        self.changed(|parts| parts.epoch = value)
+        let Some(sections) = self.sections() else {
+            return self.changed(|parts| parts.epoch = value);
+        };
+        let mut writer = Writer::from_epoch(value);
+        writer.push_release_of(&sections);
+        writer.push_end_of(&sections, sections.release_end);
+        Version::from_writer(&writer)
     }
 
     /// The version with this pre-release part, or without one.
@@ -417,7 +486,8 @@ impl Version {
     /// ```
     #[must_use]
     pub fn with_pre(self, value: Option<Prerelease>) -> Version {
-        self.changed(|parts| parts.pre = value)
+        let suffix = Suffix { pre: value, ..self.suffix() };
+        self.with_suffix(suffix)
     }
 
     /// The version with this post-release, or without one.
@@ -429,7 +499,8 @@ impl Version {
     /// ```
     #[must_use]
     pub fn with_post(self, value: Option<u64>) -> Version {
-        self.changed(|parts| parts.post = value)
+        let suffix = Suffix { post: value, ..self.suffix() };
+        self.with_suffix(suffix)
     }
 
     /// The version with this developmental part, or without one.
@@ -441,7 +512,8 @@ impl Version {
     /// ```
     #[must_use]
     pub fn with_dev(self, value: Option<u64>) -> Version {
-        self.changed(|parts| parts.dev = value)
+        let suffix = Suffix { dev: value, ..self.suffix() };
+        self.with_suffix(suffix)
     }
 
     /// The version with these local segments. Their strings are kept as they are.
@@ -453,7 +525,13 @@ impl Version {
     /// ```
     #[must_use]
     pub fn with_local(self, value: Vec<LocalSegment>) -> Version {
-        self.changed(|parts| parts.local = value)
+        let Some(sections) = self.sections().filter(|_| value.iter().all(LocalSegment::is_normal)) else {
+            return self.changed(|parts| parts.local = value);
+        };
+        let mut writer = Writer::after_release(&sections);
+        writer.push_suffix(&sections.suffix());
+        writer.push_local(&value);
+        Version::from_writer(&writer)
     }
 
     /// The version without its local part.
@@ -477,7 +555,13 @@ impl Version {
     /// ```
     #[must_use]
     pub fn only_release(&self) -> Version {
-        Version::new(self.release())
+        let Some(sections) = self.sections() else {
+            return Version::new(self.release());
+        };
+        let mut writer = Writer::from_epoch(0);
+        writer.push_release_of(&sections);
+        writer.push_final();
+        Version::from_writer(&writer)
     }
 
     /// The version with the sentinel `min`, or without it.
@@ -493,9 +577,10 @@ impl Version {
     /// Where the version has a pre-release or a developmental part.
     #[must_use]
     pub fn with_min(self, value: Option<u64>) -> Version {
-        assert!(!self.is_pre(), "min is not allowed on pre-release versions");
-        assert!(!self.is_dev(), "min is not allowed on dev versions");
-        self.changed(|parts| parts.min = value)
+        let suffix = self.suffix();
+        assert!(suffix.pre.is_none(), "min is not allowed on pre-release versions");
+        assert!(suffix.dev.is_none(), "min is not allowed on dev versions");
+        self.with_suffix(Suffix { min: value, ..suffix })
     }
 
     /// The version with the sentinel `max`, or without it.
@@ -511,9 +596,10 @@ impl Version {
     /// Where the version has a post-release or a developmental part.
     #[must_use]
     pub fn with_max(self, value: Option<u64>) -> Version {
-        assert!(!self.is_post(), "max is not allowed on post-release versions");
-        assert!(!self.is_dev(), "max is not allowed on dev versions");
-        self.changed(|parts| parts.max = value)
+        let suffix = self.suffix();
+        assert!(suffix.post.is_none(), "max is not allowed on post-release versions");
+        assert!(suffix.dev.is_none(), "max is not allowed on dev versions");
+        self.with_suffix(Suffix { max: value, ..suffix })
     }
 }
 
@@ -523,7 +609,7 @@ impl FromStr for Version {
     /// Parses a version, as `1.19`, `1.0a1`, `1.0+abc.5` or `1!2012.2`; a wildcard is an error.
     #[inline]
     fn from_str(version: &str) -> Result<Version, VersionParseError> {
-        Version::parse(version).map_err(|_| VersionParseError::new(calls::version_error(version)))
+        Version::parse(version).map_err(|_| VersionParseError::new(version))
     }
 }
 

@@ -39,7 +39,7 @@ mod serde {
     fn errors_are_those_of_the_parser() {
         let said = |text: &str| serde_json::from_str::<Version>(text).unwrap_err().to_string();
         let wanted = "after parsing `1.0pre`, found `v`, which is not part of a valid version";
-        assert!(said("\"1.0prev\"").starts_with(wanted), "{}", said("\"1.0prev\""));
+        assert_eq!(said("\"1.0prev\""), wanted);
         assert_eq!(said("1.5"), "invalid type: floating point `1.5`, expected a string at line 1 column 3");
         assert!(serde_json::from_str::<VersionSpecifiers>("\"~=2\"").is_err());
     }

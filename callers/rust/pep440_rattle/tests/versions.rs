@@ -262,7 +262,7 @@ fn size_and_threads() {
         is_shared::<VersionSpecifiersParseError>,
         is_shared::<RangeError>,
     ];
-    assert_eq!(size_of::<Version>(), 32);
+    assert_eq!((size_of::<Version>(), size_of::<Option<Version>>()), (32, 32));
     let shared = version("1!2.0+local");
     let tasks: Vec<_> = (0..4)
         .map(|_| {

@@ -1,12 +1,13 @@
 //! Compares random pairs of versions by their compiled bytes, by their strings and by the ported crate; batches of them, by their sort keys
-//! and as sorted; and edited ones with what the ported crate makes. Then gives random and changed byte strings to `pep440_normalize`: it
-//! rejects them, or they are what the printed version is compiled to.
+//! and as sorted; edited ones with what the ported crate makes; and ranges of lists, which the crate makes itself, with those of the library. Then
+//! gives random and changed byte strings to `pep440_normalize`: it rejects them, or they are what the printed version is compiled to.
 //!
 //! Usage: bytes [COUNT [SEED]]    (1,000,000 of each, seed 440)
 use against_pep440_rs::chance::Chance;
 use against_pep440_rs::departures::is_misordered;
 use against_pep440_rs::views::{ours, theirs};
 use std::cmp::Ordering;
+use std::ops::Bound;
 
 /// A `pep440_string`.
 #[repr(C)]
@@ -33,6 +34,17 @@ unsafe extern "C" {
         written: *mut usize,
         index: *mut usize,
     ) -> u8;
+    fn pep440_ranges(list: *const u8, length: usize, out: *mut u8, size: usize, written: *mut usize) -> u8;
+    fn pep440_release_range_bounds(
+        list: *const u8,
+        length: usize,
+        out: *mut u8,
+        size: usize,
+        ends: *mut usize,
+        ends_size: usize,
+        written: *mut usize,
+        count: *mut usize,
+    ) -> u8;
     fn pep440_edit(
         version: *const u8,
         length: usize,
@@ -46,12 +58,13 @@ unsafe extern "C" {
 
 const OK: u8 = 0;
 const INVALID_VERSION: u8 = 1;
+const NUMBER_AT_MAX: u8 = 5;
 /// What a compiled version begins with.
 const VERSION: u8 = 4;
 
 /// What the call writes of the bytes, or its status.
 fn write(call: Writer, bytes: &[u8]) -> Result<Vec<u8>, u8> {
-    let (mut out, mut written) = (vec![0; 1024], 0);
+    let (mut out, mut written) = (vec![0; 8192], 0);
     // SAFETY: both vectors have as many bytes as is said, and a slice's pointer is never null.
     match unsafe { call(bytes.as_ptr(), bytes.len(), out.as_mut_ptr(), out.len(), &mut written) } {
         OK => {
@@ -151,6 +164,78 @@ fn edit_version(chance: &mut Chance) {
     assert_eq!((status, std::str::from_utf8(&out[..written])), (OK, Ok(wanted.to_string().as_str())), "{text:?} {change}");
 }
 
+/// The bounds of each segment, a segment a line, as `pep440_ranges` writes them, or `empty`.
+fn show_range(segments: &[ours::Segment]) -> String {
+    let sentinel = |name: &str, number: Option<u64>| number.map(|number| format!("~{name}{number}")).unwrap_or_default();
+    let shown = |version: &ours::Version| {
+        format!("{version}{}{}", sentinel("min", ours::Version::min(version)), sentinel("max", ours::Version::max(version)))
+    };
+    let line = |(low, high): &ours::Segment| {
+        let low = match low {
+            Bound::Unbounded => "(*".to_owned(),
+            Bound::Included(version) => format!("[{}", shown(version)),
+            Bound::Excluded(version) => format!("({}", shown(version)),
+        };
+        let high = match high {
+            Bound::Unbounded => "*)".to_owned(),
+            Bound::Included(version) => format!("{}]", shown(version)),
+            Bound::Excluded(version) => format!("{})", shown(version)),
+        };
+        format!("{low}, {high}\n")
+    };
+    if segments.is_empty() {
+        "empty\n".to_owned()
+    } else {
+        segments.iter().map(line).collect()
+    }
+}
+
+fn said(found: Result<Vec<ours::Segment>, ours::RangeError>) -> Result<String, u8> {
+    found.map(|segments| show_range(&segments)).map_err(|error| match error {
+        ours::RangeError::NumberAtMax => NUMBER_AT_MAX,
+        _ => panic!("a string parses to each version"),
+    })
+}
+
+/// The release-only range that the library writes, as `pep440_ranges` writes the other one.
+fn release_range(list: &str) -> Result<String, u8> {
+    let (mut out, mut ends, mut written, mut count) = (vec![0; 8192], vec![0; 64], 0, 0);
+    let (bytes, size) = (out.as_mut_ptr(), out.len());
+    // SAFETY: as in `write`.
+    let status = unsafe {
+        pep440_release_range_bounds(list.as_ptr(), list.len(), bytes, size, ends.as_mut_ptr(), 64, &mut written, &mut count)
+    };
+    let (mut start, mut range) = (0, Vec::new());
+    for end in &ends[..count] {
+        let version = |compiled: &[u8]| {
+            let text = write(pep440_normalize, compiled).expect("a compiled version");
+            ours::version(std::str::from_utf8(&text).expect("text")).expect("a version")
+        };
+        range.push(match &out[start..*end] {
+            [1, compiled @ ..] => Bound::Included(version(compiled)),
+            [2, compiled @ ..] => Bound::Excluded(version(compiled)),
+            _ => Bound::Unbounded,
+        });
+        start = *end;
+    }
+    let segments: Vec<ours::Segment> = range.chunks_exact(2).map(|pair| (pair[0].clone(), pair[1].clone())).collect();
+    if status == OK {
+        Ok(show_range(&segments))
+    } else {
+        Err(status)
+    }
+}
+
+/// A list whose ranges the library and the crate make alike; whether there is one.
+fn compare_ranges(chance: &mut Chance) -> bool {
+    let text = chance.list();
+    let Ok(list) = text.parse::<ours::VersionSpecifiers>() else { return false };
+    let wanted = write(pep440_ranges, text.as_bytes()).map(|range| String::from_utf8(range).expect("text"));
+    assert_eq!(said(list.ranges()), wanted, "{text:?}");
+    assert_eq!(said(list.release_ranges()), release_range(&text), "{text:?}");
+    true
+}
+
 /// Compiled bytes with some bytes replaced, put in, left out, or cut; now and then bytes by chance.
 fn some_bytes(chance: &mut Chance) -> Vec<u8> {
     if chance.one_in(4) {
@@ -199,10 +284,11 @@ fn main() {
     let (equal, misordered) = compare_pairs(&mut chance, count);
     (0..count / 100).for_each(|_| sort_batch(&mut chance, 100));
     (0..count).for_each(|_| edit_version(&mut chance));
+    let ranges = (0..count).filter(|_| compare_ranges(&mut chance)).count();
     let printed = read_bytes(&mut chance, count);
     println!(
         "{count} pairs have one order by bytes, by strings and by the ported crate ({equal} equal; {misordered} that it orders wrongly); \
-         as many are sorted by their keys, and edited as it edits them; of {count} byte strings {printed} are what they print as, the others are rejected"
+         as many are sorted by their keys, and edited as it edits them; {ranges} lists have the ranges of the library; of {count} byte strings {printed} are what they print as, the others are rejected"
     );
     assert!(printed > count / 100 && printed < count, "each result is met");
 }

@@ -1,7 +1,7 @@
 //! One call of either crate, many times over, for a count of its instructions: count CRATE CALL ARGUMENT [ARGUMENT] COUNT
 //!
-//! CRATE is `ours` or `theirs`. Calls: `parse`, `display`, `hash` and `clone` of a version, `cmp` and `eq` of two; `parse_list` and `ranges` of a
-//! list, `contains` of a list and a version. `parse_and_sort COUNT` sorts COUNT versions, and `made COUNT` makes their strings alone.
+//! CRATE is `ours` or `theirs`. A call named `with_..` changes a copy. `parse_..` of a part also parses the version, each time. `ranges` of a list
+//! is the range as either crate offers it without another crate. `parse_and_sort COUNT` sorts COUNT versions, and `made COUNT` makes their strings alone.
 use std::collections::hash_map::DefaultHasher;
 use std::hash::{Hash, Hasher};
 use std::hint::black_box;
@@ -34,32 +34,54 @@ fn hash(value: &impl Hash) -> u64 {
 }
 
 macro_rules! calls {
-    ($krate:ident, $ranges:expr) => {
+    ($krate:ident, $sets:path, $ranges:expr) => {
         pub mod $krate {
             use super::*;
-            use against_pep440_rs::views::$krate::{Version, VersionSpecifiers};
+            use against_pep440_rs::views::$krate::{
+                LocalSegment, Operator, Prerelease, PrereleaseKind, Version, VersionPattern, VersionSpecifier, VersionSpecifiers,
+            };
+            use std::str::FromStr;
+            use $sets as Ranges;
 
-            fn version(text: &str) -> Version {
-                text.parse().expect("a version")
+            fn parsed<T: FromStr>(text: &str) -> T {
+                text.parse().ok().expect("what parses")
             }
 
-            fn list(text: &str) -> VersionSpecifiers {
-                text.parse().expect("a list")
-            }
-
-            pub fn of_version(call: &str, text: &str, count: usize) {
-                let one = version(text);
+            fn of_version(call: &str, text: &str, count: usize) {
+                let one: Version = parsed(text);
+                let copy = || black_box(&one).clone();
                 match call {
-                    "parse" => repeat(count, || version(black_box(text))),
+                    "parse" => repeat(count, || parsed::<Version>(black_box(text))),
+                    "parse_release" => repeat(count, || parsed::<Version>(black_box(text)).release().len()),
+                    "parse_any_prerelease" => repeat(count, || parsed::<Version>(black_box(text)).any_prerelease()),
                     "display" => repeat(count, || black_box(&one).to_string()),
                     "hash" => repeat(count, || hash(black_box(&one))),
-                    "clone" => repeat(count, || black_box(&one).clone()),
+                    "clone" => repeat(count, copy),
+                    "epoch" => repeat(count, || black_box(&one).epoch()),
+                    "release" => repeat(count, || black_box(&one).release().len()),
+                    "pre" => repeat(count, || black_box(&one).pre()),
+                    "any_prerelease" => repeat(count, || black_box(&one).any_prerelease()),
+                    "is_local" => repeat(count, || black_box(&one).is_local()),
+                    "local" => repeat(count, || black_box(&one).local().len()),
+                    "new" => repeat(count, || Version::new(black_box([1, 2, 3]))),
+                    "with_release" => repeat(count, || copy().with_release(black_box([1, 2, 3]))),
+                    "with_epoch" => repeat(count, || copy().with_epoch(black_box(1))),
+                    "with_pre" => {
+                        let pre = Prerelease { kind: PrereleaseKind::Rc, number: 1 };
+                        repeat(count, || copy().with_pre(black_box(Some(pre))))
+                    }
+                    "with_post" => repeat(count, || copy().with_post(black_box(Some(4)))),
+                    "with_dev" => repeat(count, || copy().with_dev(black_box(Some(0)))),
+                    "with_local" => repeat(count, || copy().with_local(black_box(vec![LocalSegment::Number(5)]))),
+                    "with_min" => repeat(count, || copy().with_min(black_box(Some(0)))),
+                    "without_local" => repeat(count, || copy().without_local()),
+                    "only_release" => repeat(count, || black_box(&one).only_release()),
                     _ => panic!("no call {call}"),
                 }
             }
 
-            pub fn of_versions(call: &str, left: &str, right: &str, count: usize) {
-                let (left, right) = (version(left), version(right));
+            fn of_versions(call: &str, left: &str, right: &str, count: usize) {
+                let (left, right): (Version, Version) = (parsed(left), parsed(right));
                 match call {
                     "cmp" => repeat(count, || black_box(&left).cmp(black_box(&right))),
                     "eq" => repeat(count, || black_box(&left) == black_box(&right)),
@@ -67,22 +89,45 @@ macro_rules! calls {
                 }
             }
 
-            pub fn of_list(call: &str, text: &str, count: usize) {
-                let one = list(text);
+            fn of_specifier(call: &str, text: &str, count: usize) {
+                let (operator, version) = parsed::<VersionSpecifier>(text).into_parts();
                 match call {
-                    "parse_list" => repeat(count, || list(black_box(text))),
-                    "ranges" => repeat(count, || $ranges(black_box(&one))),
+                    "parse_specifier" => repeat(count, || parsed::<VersionSpecifier>(black_box(text))),
+                    "from_version" => repeat(count, || VersionSpecifier::from_version(operator, black_box(&version).clone())),
                     _ => panic!("no call {call}"),
                 }
             }
 
-            pub fn contains(text: &str, candidate: &str, count: usize) {
-                let (list, version) = (list(text), version(candidate));
+            fn of_list(call: &str, text: &str, count: usize) {
+                let one: VersionSpecifiers = parsed(text);
+                match call {
+                    "parse_list" => repeat(count, || parsed::<VersionSpecifiers>(black_box(text))),
+                    "clone_list" => repeat(count, || black_box(&one).clone()),
+                    "display_list" => repeat(count, || black_box(&one).to_string()),
+                    "ranges" => repeat(count, || $ranges(black_box(&one))),
+                    "Ranges" => repeat(count, || Ranges::<Version>::from(black_box(&one).clone())),
+                    _ => panic!("no call {call}"),
+                }
+            }
+
+            fn of_string(call: &str, text: &str, count: usize) {
+                match call {
+                    "operator" => repeat(count, || Operator::from_str(black_box(text))),
+                    "pattern" => repeat(count, || VersionPattern::from_str(black_box(text))),
+                    "rejected" => repeat(count, || Version::from_str(black_box(text)).is_err()),
+                    "rejected_list" => repeat(count, || VersionSpecifiers::from_str(black_box(text)).is_err()),
+                    "error" => repeat(count, || Version::from_str(black_box(text)).map_err(|error| error.to_string())),
+                    _ => panic!("no call {call}"),
+                }
+            }
+
+            fn contains(text: &str, candidate: &str, count: usize) {
+                let (list, version): (VersionSpecifiers, Version) = (parsed(text), parsed(candidate));
                 repeat(count, || black_box(&list).contains(black_box(&version)));
             }
 
             pub fn parse_and_sort(count: usize) {
-                let mut versions: Vec<Version> = strings(count).iter().map(|text| version(text)).collect();
+                let mut versions: Vec<Version> = strings(count).iter().map(|text| parsed(text)).collect();
                 versions.sort();
                 black_box(versions);
             }
@@ -90,7 +135,13 @@ macro_rules! calls {
             pub fn run(words: &[&str], count: usize) {
                 match words {
                     ["parse_and_sort"] => parse_and_sort(count),
-                    [call @ ("parse_list" | "ranges"), text] => of_list(call, text, count),
+                    [call @ ("parse_list" | "clone_list" | "display_list" | "ranges" | "Ranges"), text] => {
+                        of_list(call, text, count)
+                    }
+                    [call @ ("parse_specifier" | "from_version"), text] => of_specifier(call, text, count),
+                    [call @ ("operator" | "pattern" | "rejected" | "rejected_list" | "error"), text] => {
+                        of_string(call, text, count)
+                    }
                     ["contains", text, candidate] => contains(text, candidate, count),
                     [call, text] => of_version(call, text, count),
                     [call, left, right] => of_versions(call, left, right, count),
@@ -101,8 +152,8 @@ macro_rules! calls {
     };
 }
 
-calls!(ours, |list: &VersionSpecifiers| list.ranges());
-calls!(theirs, |list: &VersionSpecifiers| against_pep440_rs::version_ranges::Ranges::from(list.clone()));
+calls!(ours, stand_in::Ranges, |list: &VersionSpecifiers| list.ranges());
+calls!(theirs, against_pep440_rs::version_ranges::Ranges, |list: &VersionSpecifiers| Ranges::<Version>::from(list.clone()));
 
 fn main() {
     let words: Vec<String> = std::env::args().skip(1).collect();
