@@ -272,6 +272,27 @@ static PyObject *set_iterator(Specifiers *self)
     return members ? PyObject_GetIter(members) : NULL;
 }
 
+/* The members in the order of their strings, with commas alone between them. */
+static PyObject *set_str(Specifiers *self)
+{
+    PyObject *members = Py_XNewRef(compared_members(self)), *each, *all = members ? PyObject_GetIter(members) : NULL, *texts = all ? PyList_New(0) : NULL;
+    PyObject *comma = NULL, *made = NULL;
+    while (texts && (each = PyIter_Next(all))) {
+        PyObject *text = PyObject_Str(each);
+        if (!text || PyList_Append(texts, text) < 0)
+            Py_CLEAR(texts);
+        Py_XDECREF(text);
+        Py_DECREF(each);
+    }
+    if (texts && !PyErr_Occurred() && (follows_26 || PyList_Sort(texts) == 0) && (comma = PyUnicode_FromString(",")))
+        made = PyUnicode_Join(comma, texts);
+    Py_XDECREF(comma);
+    Py_XDECREF(texts);
+    Py_XDECREF(all);
+    Py_XDECREF(members);
+    return made;
+}
+
 static Py_hash_t set_hash(Specifiers *self)
 {
     PyObject *members = compared_members(self);
@@ -296,4 +317,76 @@ static PyObject *set_compare(PyObject *left, PyObject *right, int operation)
     Py_XDECREF(one);
     Py_XDECREF(two);
     return answer;
+}
+
+/* ---- sets as bytes */
+
+typedef uint8_t (*Joiner)(const uint8_t *, size_t, const uint8_t *, size_t, uint8_t *, size_t, size_t *);
+
+/* The bytes of a set by itself or of a compiled list. 0, or -1 with an error. */
+static int view_set(PyObject *given, pep440_string *set)
+{
+    char *bytes;
+    Py_ssize_t length;
+    if (PyBytes_AsStringAndSize(given, &bytes, &length) < 0)
+        return -1;
+    *set = (pep440_string){(const uint8_t *)bytes, (size_t)length};
+    return 0;
+}
+
+/* Raises the exception of what is no set. */
+static PyObject *raise_no_set(uint8_t status)
+{
+    if (status == PEP440_OUT_OF_MEMORY || PyErr_Occurred())
+        return raise_by(PEP440_OUT_OF_MEMORY, NULL, NULL);
+    PyErr_SetString(PyExc_ValueError, "these bytes have no set");
+    return NULL;
+}
+
+/* What the call writes of two sets. */
+static PyObject *joined_sets(const char *name, Joiner call, PyObject *const *args, Py_ssize_t count)
+{
+    pep440_string one, two;
+    uint8_t few[1024], *bytes = few, status;
+    size_t written = 0;
+    PyObject *made;
+    if (!has_count(name, count, 2) || view_set(args[0], &one) < 0 || view_set(args[1], &two) < 0)
+        return NULL;
+    status = call(one.bytes, one.length, two.bytes, two.length, few, sizeof few, &written);
+    if (status == PEP440_NO_ROOM) {
+        bytes = PyMem_Malloc(written);
+        status = bytes ? call(one.bytes, one.length, two.bytes, two.length, bytes, written, &written) : PEP440_OUT_OF_MEMORY;
+    }
+    made = status == PEP440_OK ? PyBytes_FromStringAndSize((const char *)bytes, (Py_ssize_t)written) : raise_no_set(status);
+    if (bytes != few)
+        PyMem_Free(bytes);
+    return made;
+}
+
+static PyObject *intersection(PyObject *module, PyObject *const *args, Py_ssize_t count)
+{
+    return joined_sets("intersection", pep440_intersection, args, count);
+}
+
+static PyObject *union_of(PyObject *module, PyObject *const *args, Py_ssize_t count) { return joined_sets("union", pep440_union, args, count); }
+
+static PyObject *complement(PyObject *module, PyObject *given)
+{
+    pep440_string set;
+    uint8_t status;
+    PyObject *made;
+    if (view_set(given, &set) < 0)
+        return NULL;
+    made = written_by(pep440_complement, set, PyBytes_FromStringAndSize, &status);
+    return made ? made : raise_no_set(status);
+}
+
+static PyObject *is_subset(PyObject *module, PyObject *const *args, Py_ssize_t count)
+{
+    pep440_string one, two;
+    uint8_t inside, status;
+    if (!has_count("is_subset", count, 2) || view_set(args[0], &one) < 0 || view_set(args[1], &two) < 0)
+        return NULL;
+    status = pep440_is_subset(one.bytes, one.length, two.bytes, two.length, &inside);
+    return status == PEP440_OK ? PyBool_FromLong(inside) : raise_no_set(status);
 }

@@ -16,7 +16,7 @@ from collections.abc import Callable, Mapping
 from collections.abc import Set as AbstractSet
 from typing import Any, Literal, TypedDict, Union, cast
 
-from pep440_rattle._core import follows_26
+from pep440_rattle._core import evaluate_marker, follows_26
 
 from ._parser import MarkerItem, MarkerList, Op, ParserSyntaxError, Value, Variable, parse_marker
 from .specifiers import InvalidSpecifier, Specifier
@@ -101,7 +101,14 @@ class _Environment(dict[str, _Operand]):
         if name not in _READERS:
             raise UndefinedEnvironmentName(name) if follows_26() else KeyError(name)
         self[name] = value = _read(name)
-        return _repair(value) if name == "python_full_version" else value
+        found = _repair(value) if name == "python_full_version" else value
+        if follows_26():
+            _known[name] = found
+        return found
+
+
+# The variables of this process that some marker named, which by 26 are read once.
+_known: dict[str, str] = {}
 
 
 def _repair(python_full_version: str) -> str:
@@ -185,6 +192,13 @@ def _specifier_of(sign: str, version: str) -> Specifier | None:
         return None
 
 
+@functools.lru_cache(1024)
+def _compare_versions(sign: str, version: str, candidate: str) -> bool | None:
+    """Whether a specifier contains the candidate, or None where there is none."""
+    specifier = _specifier_of(sign, version)
+    return None if specifier is None else specifier.contains(candidate, prereleases=True)
+
+
 def _eval_op(lhs: str, op: Op, rhs: _Operand, key: str) -> bool:
     sign = op.serialize()
     is_of_versions = key in MARKERS_REQUIRING_VERSION or not follows_26()
@@ -243,6 +257,14 @@ def _evaluate_markers(markers: MarkerList, environment: dict[str, _Operand]) -> 
         else:
             groups[-1].append(_evaluate_item(marker, environment))
     return any(all(group) for group in groups)
+
+
+# What the extension evaluates markers with.
+_TOOLS = (
+    *(Variable, Value, Op),
+    {**dict.fromkeys(MARKERS_REQUIRING_VERSION, True), **dict.fromkeys(MARKERS_ALLOWING_SET, False)},
+    *(_known, _compare_versions, _evaluate_item),
+)
 
 
 class Marker:
@@ -333,4 +355,4 @@ class Marker:
                 variables["extra"] = ""
             elif "extra" in variables and follows_26():
                 variables["extra"] = canonicalize_name(variables["extra"])  # type: ignore[arg-type]
-        return _evaluate_markers(self._markers, variables)
+        return evaluate_marker(self._markers, variables, _TOOLS) if follows_26() else _evaluate_markers(self._markers, variables)
