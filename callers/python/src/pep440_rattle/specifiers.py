@@ -227,7 +227,7 @@ def _filter(
     found = several._filtered(items, prereleases, key)
     if found is not None:
         return found
-    is_open = "===" in str(several) or not str(several)
+    is_open = several._is_open
     if not (is_open or prereleases is None):
         prereleases = prereleases is not False
     kept = _kept_at_once(several, items, prereleases if prereleases is None else bool(prereleases), key, not is_open)
@@ -352,6 +352,11 @@ class Specifier(_core.HeldSpecifier, BaseSpecifier, metaclass=_Called):
         if candidate.is_prerelease and (self._default_prereleases() if prereleases is None else prereleases) is False:
             return False
         return self._get_operator(self.operator)(candidate, self.version)
+
+    @property
+    def _is_open(self) -> bool:
+        """Whether strings that are no versions may be contained."""
+        return self.operator == "==="
 
     def _default_prereleases(self) -> bool | None:
         if self._prereleases is not None:
@@ -568,6 +573,11 @@ class SpecifierSet(_core.HeldSet, BaseSpecifier, metaclass=_Called):
         from .ranges import VersionRange
 
         return VersionRange._from_specifier_set(self)
+
+    @property
+    def _is_open(self) -> bool:
+        """Whether strings that are no versions may be contained."""
+        return not self._specs or self._has_arbitrary
 
     def _default_prereleases(self) -> bool | None:
         return self.prereleases
