@@ -173,7 +173,22 @@ static PyType_Spec specifier_spec = {"pep440_rattle._core.HeldSpecifier", sizeof
 
 static PyType_Spec set_spec = {"pep440_rattle._core.HeldSet", sizeof(Specifiers), 0, TYPE_FLAGS | Py_TPFLAGS_HAVE_GC, set_slots};
 
+static PyMethodDef name_call = {
+    "canonicalize_name", CALL(canonicalize_name), METH_FASTCALL | METH_KEYWORDS,
+    "canonicalize_name($module, name, *, validate=False)\n--\n\n"
+    "The normalized name of a project (PEP 503). With `validate`, raises `InvalidName` where it is none.\n\n"
+    ">>> canonicalize_name(\"Some.-_Name\")\n'some-name'"};
+
+/* The call as one of a module. */
+static PyObject *make_name_call(PyObject *module, PyObject *of)
+{
+    PyObject *name = PyObject_GetAttrString(of, "__name__"), *made = name ? PyCFunction_NewEx(&name_call, of, name) : NULL;
+    Py_XDECREF(name);
+    return made;
+}
+
 static PyMethodDef calls[] = {
+    {"make_name_call", make_name_call, METH_O, "make_name_call(module): `canonicalize_name`, as a call of this module."},
     {"ranges", ranges, METH_O, "The range of a list, a segment a line."},
     {"complement", complement, METH_O, "The versions that are not in the set."},
     {"intersection", CALL(intersection), METH_FASTCALL, "The versions that are in both sets, or of both compiled lists."},

@@ -496,13 +496,27 @@ static PyObject *normal_name(PyObject *module, PyObject *given)
     char out[256];
     Py_ssize_t length = 0, written;
     const char *name = PyUnicode_CheckExact(given) ? PyUnicode_AsUTF8AndSize(given, &length) : NULL;
-    PyErr_Clear();
+    if (!name)
+        PyErr_Clear();
     if (!name || length > (Py_ssize_t)sizeof out || length != PyUnicode_GetLength(given))
         Py_RETURN_NONE;
     written = write_name(name, length, out);
     if (written == length && !memcmp(name, out, (size_t)length))
         return Py_NewRef(given);
     return PyUnicode_FromStringAndSize(out, written);
+}
+
+/* canonicalize_name(name, *, validate=False) of a module that has `_canonicalize_by_python`, which takes all but a short str of ASCII alone. */
+static PyObject *canonicalize_name(PyObject *module, PyObject *const *args, Py_ssize_t count, PyObject *names)
+{
+    PyObject *normal = count == 1 && !names ? normal_name(NULL, args[0]) : NULL, *by_python, *made;
+    if (normal && normal != Py_None)
+        return normal;
+    Py_XDECREF(normal);
+    by_python = PyErr_Occurred() ? NULL : PyObject_GetAttrString(module, "_canonicalize_by_python");
+    made = by_python ? call_by(PyObject_Call, by_python, args, (size_t)count, names) : NULL;
+    Py_XDECREF(by_python);
+    return made;
 }
 
 /* ---- names of wheels */

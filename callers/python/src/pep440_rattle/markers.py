@@ -146,6 +146,11 @@ def _normalize_extra_values(markers: MarkerList) -> MarkerList:
     return markers
 
 
+def _normalize_marker(markers: MarkerList, source: str) -> MarkerList:
+    """The same of what was read of a string, which most often names none."""
+    return _normalize_extra_values(markers) if "extra" in source or "group" in source else markers
+
+
 def _format_marker(marker: MarkerList | MarkerItem | str, first: bool = True) -> str:
     """The string of a marker, with parentheses around what is not the first."""
     if isinstance(marker, str):
@@ -281,7 +286,7 @@ class Marker:
     def __init__(self, marker: str) -> None:
         # a requirement makes one without this call
         try:
-            self._markers = _normalize_extra_values(parse_marker(marker))
+            self._markers = _normalize_marker(parse_marker(marker), marker)
         except ParserSyntaxError as error:
             raise InvalidMarker(str(error)) from error
 
@@ -291,7 +296,7 @@ class Marker:
     def __setstate__(self, state: Any) -> None:
         if isinstance(state, str):
             try:
-                self._markers = _normalize_extra_values(parse_marker(state))
+                self._markers = _normalize_marker(parse_marker(state), state)
             except ParserSyntaxError as error:
                 raise TypeError(f"Cannot restore Marker from {state!r}") from error
             return

@@ -3,9 +3,10 @@ from __future__ import annotations
 
 import functools
 import re
-from typing import NewType, Union, cast
+import sys
+from typing import TYPE_CHECKING, NewType, Union, cast
 
-from pep440_rattle._core import follows_26, normal_name, split_wheel
+from pep440_rattle._core import follows_26, make_name_call, normal_name, split_wheel
 
 from . import tags as _tags
 from .tags import Tag, parse_tag
@@ -68,6 +69,11 @@ def _normalize_name(name: str) -> NormalizedName:
     while "--" in name:
         name = name.replace("--", "-")
     return cast(NormalizedName, name)
+
+
+_canonicalize_by_python = canonicalize_name
+if not TYPE_CHECKING:
+    canonicalize_name = make_name_call(sys.modules[__name__])
 
 
 def is_normalized_name(name: str) -> bool:
