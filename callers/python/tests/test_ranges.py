@@ -96,7 +96,7 @@ class AgainstPackaging(unittest.TestCase):
 
     def same_set(self, pair, how):
         found, wanted = (it.to_specifier_set() for it in pair)
-        self.assertEqual((str(found), found and found._prereleases), (str(wanted), wanted and wanted._prereleases), how)
+        self.assertEqual(*((str(it), getattr(it, "_prereleases", None)) for it in (found, wanted)), how)
 
     def test_operations(self):
         counts, pool = collections.Counter(), []

@@ -66,7 +66,7 @@ def format_full_version(info: sys._version_info) -> str:
 
 _READERS: dict[str, Callable[[], str]] = {
     "implementation_name": lambda: sys.implementation.name,
-    "implementation_version": lambda: format_full_version(cast("sys._version_info", sys.implementation.version)),
+    "implementation_version": lambda: format_full_version(sys.implementation.version),
     "os_name": lambda: os.name,
     "platform_machine": lambda: platform.machine(),
     "platform_release": lambda: platform.release(),

@@ -122,13 +122,16 @@ def _equal_text(lower: Point | None, upper: Point | None) -> str | None:
 def _epoch_of(lower: Point | None, upper: Point | None) -> tuple[Parts, int, bool] | None:
     """Of a segment that begins at or near the first version of an epoch, and ends below its release 1: release 0, how many developmental releases are left out
     in front, and whether it reaches to the end."""
-    if lower is None or upper is None or lower.place not in (BELOW, AFTER_LOCALS) or lower.parts.dev is None:
+    if lower is None or upper is None or lower.place not in (BELOW, AFTER_LOCALS):
+        return None
+    dev = lower.parts.dev
+    if dev is None:
         return None
     parts = lower.parts._replace(dev=0)
-    if (lower.place == BELOW and lower.parts.dev) or not parts.epoch or not parts.is_first_dev or any(parts.release):
+    if (lower.place == BELOW and dev) or not parts.epoch or not parts.is_first_dev or any(parts.release):
         return None
     end = Parts(parts.epoch, (1,), dev=0).find_key() or b""
-    excluded = 0 if lower.place == BELOW else lower.parts.dev + 1
+    excluded = 0 if lower.place == BELOW else dev + 1
     return None if upper.key > end else (Parts(parts.epoch, (0,)), excluded, upper.key == end)
 
 
@@ -194,7 +197,8 @@ def _gap_texts(upper: Point, lower: Point) -> list[str] | None:
     if upper.place != BELOW or not start.is_first_dev:
         return None
     if lower.place == AFTER_LOCALS and end.dev is not None:
-        end, run = end._replace(dev=0), end.dev + 1
+        run = end.dev + 1
+        end = end._replace(dev=0)
     elif lower.place != BELOW:
         return None
     if run > _MAX_EXCLUSION_RUN or not end.is_first_dev or start.epoch != end.epoch or start.trimmed >= end.trimmed:
