@@ -31,6 +31,7 @@
 #include "_sets.h"
 #include "_sorting.h"
 #include "_batches.h"
+#include "_filters.h"
 #include "_requirements.h"
 
 /* ---- the types of specifiers, and the module */
@@ -85,6 +86,9 @@ static PyObject *use(PyObject *module, PyObject *const *args, Py_ssize_t count)
 #define CALL(function) (PyCFunction)(void (*)(void))function
 #define CONTAINS_HEAD(more) "contains($self, /, item, prereleases=None" more ")\n--\n\n"
 
+#define FILTERED \
+    {"_filtered", CALL(filter_contained), METH_FASTCALL, "_filtered(items, prereleases, key): an iterator over those that are contained; None where Python is to compare"}
+
 #define KEPT \
     {"_kept", CALL(keep_contained), METH_FASTCALL, \
      "_kept(items, prereleases, skip_invalid, places=None): those that are contained, or what stands in their places; None where Python is to compare"}
@@ -93,6 +97,7 @@ static PyMethodDef specifier_calls[] = {
     {"contains", CALL(specifier_contains), METH_FASTCALL | METH_KEYWORDS,
      CONTAINS_HEAD("") "Whether the version is contained; a pre-release only where `prereleases`, or else the attribute of that name, allows it."},
     KEPT,
+    FILTERED,
     {NULL, NULL, 0, NULL}};
 
 static PyMethodDef set_calls[] = {
@@ -101,6 +106,7 @@ static PyMethodDef set_calls[] = {
      "Whether each member contains the version; a pre-release only where `prereleases`, or else the attribute of that name, allows it.\n\n"
      "Where `installed` is true, an allowed pre-release is asked for by its base version."},
     KEPT,
+    FILTERED,
     {NULL, NULL, 0, NULL}};
 
 #define PRERELEASES \
@@ -151,6 +157,7 @@ static PyType_Slot set_slots[] = {{Py_tp_init, set_init},
                                   {Py_tp_hash, set_hash},
                                   {Py_tp_richcompare, set_compare},
                                   {Py_tp_iter, set_iterator},
+                                  {Py_tp_str, set_str},
                                   {Py_nb_and, set_and},
                                   {Py_sq_length, set_length},
                                   {Py_sq_contains, has},
@@ -166,8 +173,27 @@ static PyType_Spec specifier_spec = {"pep440_rattle._core.HeldSpecifier", sizeof
 
 static PyType_Spec set_spec = {"pep440_rattle._core.HeldSet", sizeof(Specifiers), 0, TYPE_FLAGS | Py_TPFLAGS_HAVE_GC, set_slots};
 
+static PyMethodDef name_call = {
+    "canonicalize_name", CALL(canonicalize_name), METH_FASTCALL | METH_KEYWORDS,
+    "canonicalize_name($module, name, *, validate=False)\n--\n\n"
+    "The normalized name of a project (PEP 503). With `validate`, raises `InvalidName` where it is none.\n\n"
+    ">>> canonicalize_name(\"Some.-_Name\")\n'some-name'"};
+
+/* The call as one of a module. */
+static PyObject *make_name_call(PyObject *module, PyObject *of)
+{
+    PyObject *name = PyObject_GetAttrString(of, "__name__"), *made = name ? PyCFunction_NewEx(&name_call, of, name) : NULL;
+    Py_XDECREF(name);
+    return made;
+}
+
 static PyMethodDef calls[] = {
+    {"make_name_call", make_name_call, METH_O, "make_name_call(module): `canonicalize_name`, as a call of this module."},
     {"ranges", ranges, METH_O, "The range of a list, a segment a line."},
+    {"complement", complement, METH_O, "The versions that are not in the set."},
+    {"intersection", CALL(intersection), METH_FASTCALL, "The versions that are in both sets, or of both compiled lists."},
+    {"union", CALL(union_of), METH_FASTCALL, "The versions that are in one of both."},
+    {"is_subset", CALL(is_subset), METH_FASTCALL, "Whether each version of the first set is in the second."},
     {"compile_list", compile_list, METH_O, "The compiled list, of the string at once."},
     {"use", CALL(use), METH_FASTCALL,
      "use(member, set, reader, sorter): the classes of members and of sets, what gives the strings of other libraries' versions, and the order of members."},
@@ -175,6 +201,8 @@ static PyMethodDef calls[] = {
     {"follows_26", get_behaviour, METH_NOARGS, "Whether these types behave as those of packaging 26, or else of 25."},
     {"read_requirement", CALL(read_requirement), METH_FASTCALL, "The parts of a requirement, or None where its tokens are to be read."},
     {"read_marker", CALL(read_marker), METH_FASTCALL, "The comparisons of a marker, or None where its tokens are to be read."},
+    {"evaluate_marker", CALL(evaluate_marker), METH_FASTCALL, "evaluate_marker(markers, environment, tools): whether it holds, by the rule of 26."},
+    {"split_wheel", split_wheel, METH_O, "The normalized name, version, build and tags in the name of a wheel, or None where Python is to read it."},
     {"normal_name", normal_name, METH_O, "The normalized name of a project, or None where Python is to make it."},
     {"sort", sort, METH_O, "The items in the order of their versions."},
     {"sort_keys", sort_keys, METH_O, "The sort key of each item."},
@@ -202,7 +230,7 @@ static int execute(PyObject *module)
         return -1;
     }
     if (add_type(module, &HeldType, &held_spec) < 0 || add_type(module, &HeldSpecifierType, &specifier_spec) < 0 ||
-        add_type(module, &HeldSetType, &set_spec) < 0 ||
+        add_type(module, &HeldSetType, &set_spec) < 0 || add_type(module, &FilterType, &filter_spec) < 0 ||
         add_error(module, &InvalidVersion, "pep440_rattle.version.InvalidVersion", "A string is no version.") < 0)
         return -1;
     call_quickly(HeldType, held_call, (destructor)held_free);

@@ -320,6 +320,154 @@ static PyObject *read_marker(PyObject *module, PyObject *const *args, Py_ssize_t
     return made_or_none(marker);
 }
 
+/* ---- the value of a marker, by the rule of 26 */
+
+/* What evaluates: the classes of nodes; a dict that says of a variable True where it may be compared as versions are, and False where it is left to Python;
+   the variables of this process that were read before; what compares versions, (sign, version, candidate), None where there are none; and what evaluates
+   a comparison in Python. */
+enum { VARIABLE_CLASS, VALUE_CLASS, OPERATOR_CLASS, KINDS, KNOWN, COMPARE_VERSIONS, BY_PYTHON, TOOLS };
+
+typedef struct {
+    PyObject *tools[TOOLS];
+    PyObject *environment;
+} Evaluation;
+
+/* Whether a comparison holds, or that it is left to Python. */
+enum { LEFT_TO_PYTHON = 2 };
+
+static PyObject *value_in(PyObject *node)
+{
+    static PyObject *name;
+    return name || (name = PyUnicode_InternFromString("value")) ? PyObject_GetAttr(node, name) : NULL;
+}
+
+/* The value of a variable. */
+static PyObject *look_up(const Evaluation *by, PyObject *name)
+{
+    PyObject *value = PyDict_GetItemWithError(by->environment, name);
+    if (!value && !PyErr_Occurred())
+        value = PyDict_GetItemWithError(by->tools[KNOWN], name);
+    if (value || PyErr_Occurred())
+        return Py_XNewRef(value);
+    return PyObject_GetItem(by->environment, name);
+}
+
+static int compare_as_versions(const Evaluation *by, PyObject *sign, PyObject *left, PyObject *right)
+{
+    PyObject *answer = PyObject_CallFunctionObjArgs(by->tools[COMPARE_VERSIONS], sign, right, left, NULL);
+    int holds = !answer ? -1 : answer == Py_None ? LEFT_TO_PYTHON : PyObject_IsTrue(answer);
+    Py_XDECREF(answer);
+    return holds;
+}
+
+/* Compares strings; of `<` and `>` nothing is known, since no order of strings is. */
+static int compare_texts(const char *sign, PyObject *left, PyObject *right)
+{
+    int is_equal;
+    if (!strcmp(sign, "<") || !strcmp(sign, ">"))
+        return 0;
+    if (sign[1] != '=' || sign[2] || *sign == '~')
+        return LEFT_TO_PYTHON;
+    is_equal = PyUnicode_Compare(left, right) == 0;
+    return PyErr_Occurred() ? -1 : *sign == '!' ? !is_equal : is_equal;
+}
+
+static int compare_operands(const Evaluation *by, PyObject *name, PyObject *sign, PyObject *left, PyObject *right)
+{
+    Py_ssize_t length = 0;
+    const char *bytes = PyUnicode_CheckExact(sign) ? PyUnicode_AsUTF8AndSize(sign, &length) : NULL;
+    PyObject *kind = bytes && length ? PyDict_GetItemWithError(by->tools[KINDS], name) : NULL;
+    int holds = LEFT_TO_PYTHON;
+    if (PyErr_Occurred())
+        return -1;
+    if (!bytes || !length || kind == Py_False || !PyUnicode_CheckExact(left) || !PyUnicode_CheckExact(right))
+        return LEFT_TO_PYTHON;
+    if (bytes[length - 1] == 'n') { /* `in` or `not in` */
+        holds = PyUnicode_Contains(right, left);
+        return holds < 0 ? -1 : holds ^ (*bytes == 'n');
+    }
+    if (kind == Py_True)
+        holds = compare_as_versions(by, sign, left, right);
+    return holds == LEFT_TO_PYTHON ? compare_texts(bytes, left, right) : holds;
+}
+
+static int evaluate_quickly(const Evaluation *by, PyObject *left, PyObject *operator, PyObject *right)
+{
+    int is_left = (PyObject *)Py_TYPE(left) == by->tools[VARIABLE_CLASS], holds = LEFT_TO_PYTHON;
+    PyObject *variable = is_left ? left : right, *other = is_left ? right : left, *name, *value = NULL, *text = NULL, *sign = NULL;
+    if ((PyObject *)Py_TYPE(variable) != by->tools[VARIABLE_CLASS] || (PyObject *)Py_TYPE(other) != by->tools[VALUE_CLASS] ||
+        (PyObject *)Py_TYPE(operator) != by->tools[OPERATOR_CLASS])
+        return LEFT_TO_PYTHON;
+    name = value_in(variable);
+    if (name && PyUnicode_CheckExact(name))
+        value = look_up(by, name);
+    if (value && (text = value_in(other)))
+        sign = value_in(operator);
+    if (sign)
+        holds = compare_operands(by, name, sign, is_left ? value : text, is_left ? text : value);
+    Py_XDECREF(name);
+    Py_XDECREF(value);
+    Py_XDECREF(text);
+    Py_XDECREF(sign);
+    return PyErr_Occurred() ? -1 : holds;
+}
+
+/* Whether a comparison holds. 1, 0, or -1 with an error. */
+static int evaluate_item(const Evaluation *by, PyObject *item)
+{
+    PyObject *answer;
+    int holds = LEFT_TO_PYTHON;
+    if (PyTuple_CheckExact(item) && PyTuple_Size(item) == 3)
+        holds = evaluate_quickly(by, PyTuple_GetItem(item, 0), PyTuple_GetItem(item, 1), PyTuple_GetItem(item, 2));
+    if (holds != LEFT_TO_PYTHON)
+        return holds;
+    answer = PyObject_CallFunctionObjArgs(by->tools[BY_PYTHON], item, by->environment, NULL);
+    holds = answer ? PyObject_IsTrue(answer) : -1;
+    Py_XDECREF(answer);
+    return holds;
+}
+
+/* Whether of the groups that "or" parts one has comparisons that all hold. Each is made, since it may raise an error. */
+static int evaluate_list(const Evaluation *by, PyObject *markers)
+{
+    int group = 1, any = 0, holds;
+    if (Py_EnterRecursiveCall(" in a marker"))
+        return -1;
+    for (Py_ssize_t at = 0; any >= 0 && at < PyList_Size(markers); at++) {
+        PyObject *each = Py_NewRef(PyList_GetItem(markers, at));
+        if (PyUnicode_Check(each)) {
+            if (!PyUnicode_CompareWithASCIIString(each, "or"))
+                any |= group, group = 1;
+            holds = 1;
+        } else
+            holds = PyList_Check(each) ? evaluate_list(by, each) : evaluate_item(by, each);
+        Py_DECREF(each);
+        any = holds < 0 ? -1 : any;
+        group &= holds;
+    }
+    Py_LeaveRecursiveCall();
+    return any < 0 ? -1 : any | group;
+}
+
+/* evaluate_marker(markers, environment, tools) */
+static PyObject *evaluate_marker(PyObject *module, PyObject *const *args, Py_ssize_t count)
+{
+    Evaluation by;
+    int holds;
+    if (!has_count("evaluate_marker", count, 3))
+        return NULL;
+    if (!PyList_Check(args[0]) || !PyDict_Check(args[1]) || PyTuple_Size(args[2]) != TOOLS) {
+        if (!PyErr_Occurred())
+            PyErr_SetString(PyExc_TypeError, "a marker is a list, and its environment a dict");
+        return NULL;
+    }
+    for (Py_ssize_t place = 0; place < TOOLS; place++)
+        by.tools[place] = PyTuple_GetItem(args[2], place);
+    by.environment = args[1];
+    holds = evaluate_list(&by, args[0]);
+    return holds < 0 ? NULL : PyBool_FromLong(holds);
+}
+
 /* ---- names of projects */
 
 /* A byte of a normalized name: letters are small, and `_` and `.` are `-`. */
@@ -348,11 +496,63 @@ static PyObject *normal_name(PyObject *module, PyObject *given)
     char out[256];
     Py_ssize_t length = 0, written;
     const char *name = PyUnicode_CheckExact(given) ? PyUnicode_AsUTF8AndSize(given, &length) : NULL;
-    PyErr_Clear();
+    if (!name)
+        PyErr_Clear();
     if (!name || length > (Py_ssize_t)sizeof out || length != PyUnicode_GetLength(given))
         Py_RETURN_NONE;
     written = write_name(name, length, out);
     if (written == length && !memcmp(name, out, (size_t)length))
         return Py_NewRef(given);
     return PyUnicode_FromStringAndSize(out, written);
+}
+
+/* canonicalize_name(name, *, validate=False) of a module that has `_canonicalize_by_python`, which takes all but a short str of ASCII alone. */
+static PyObject *canonicalize_name(PyObject *module, PyObject *const *args, Py_ssize_t count, PyObject *names)
+{
+    PyObject *normal = count == 1 && !names ? normal_name(NULL, args[0]) : NULL, *by_python, *made;
+    if (normal && normal != Py_None)
+        return normal;
+    Py_XDECREF(normal);
+    by_python = PyErr_Occurred() ? NULL : PyObject_GetAttrString(module, "_canonicalize_by_python");
+    made = by_python ? call_by(PyObject_Call, by_python, args, (size_t)count, names) : NULL;
+    Py_XDECREF(by_python);
+    return made;
+}
+
+/* ---- names of wheels */
+
+/* Whether behind the name of a project, which is written without its dashes, a dash stands: its length, or 0. */
+static Py_ssize_t wheel_name_length(const char *name, Py_ssize_t length)
+{
+    Py_ssize_t at = 0;
+    while (at < length && (is_of_word(name[at]) || name[at] == '.') && (name[at] != '_' || !at || name[at - 1] != '_'))
+        at++;
+    return at < length && name[at] == '-' ? at : 0;
+}
+
+/* split_wheel(filename): of a str of ASCII with the parts of a wheel's name. The version, the build and the tags may yet be none. */
+static PyObject *split_wheel(PyObject *module, PyObject *given)
+{
+    char out[256];
+    Py_ssize_t length = 0, dashes = 0, name, places[5];
+    const char *bytes = PyUnicode_CheckExact(given) ? PyUnicode_AsUTF8AndSize(given, &length) : NULL, *version, *build, *tags;
+    PyErr_Clear();
+    if (!bytes || length < 4 || length != PyUnicode_GetLength(given) || memcmp(bytes + length - 4, ".whl", 4))
+        Py_RETURN_NONE;
+    length -= 4;
+    for (Py_ssize_t at = 0; at < length; at++)
+        if (bytes[at] == '-') {
+            if (dashes == 5)
+                Py_RETURN_NONE;
+            places[dashes++] = at;
+        }
+    name = wheel_name_length(bytes, length);
+    if (dashes < 4 || !name || name > (Py_ssize_t)sizeof out)
+        Py_RETURN_NONE;
+    version = bytes + places[0] + 1;
+    build = bytes + places[1] + 1;
+    tags = bytes + places[dashes - 3] + 1;
+    return Py_BuildValue("NNNN", PyUnicode_FromStringAndSize(out, write_name(bytes, name, out)), PyUnicode_FromStringAndSize(version, build - 1 - version),
+                         tags > build ? PyUnicode_FromStringAndSize(build, tags - 1 - build) : Py_NewRef(Py_None),
+                         PyUnicode_FromStringAndSize(tags, bytes + length - tags));
 }

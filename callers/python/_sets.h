@@ -58,12 +58,28 @@ static int join_lists(Specifiers *self, const Placed *placed, size_t count, size
     return 0;
 }
 
+/* Compiles the string of a set. */
+static int compile_source(Specifiers *self)
+{
+    pep440_string text;
+    Compiled compiled;
+    uint8_t status = PEP440_OUT_OF_MEMORY;
+    if (view_str(self->source, &text) == 0)
+        status = compile(pep440_compile_list, text, &compiled);
+    if (status == PEP440_OK)
+        return hold(self, &compiled);
+    raise_by(status, NULL, self->source);
+    return -1;
+}
+
 static int compile_members(Specifiers *self)
 {
-    PyObject *members = PySequence_Tuple(self->members);
+    PyObject *members = self->members ? PySequence_Tuple(self->members) : NULL;
     size_t all = members ? (size_t)PyTuple_Size(members) : 0, length;
     Placed few[FEW_MEMBERS], *placed = all <= FEW_MEMBERS ? few : PyMem_Calloc(all, sizeof *placed);
     Py_ssize_t count = -1;
+    if (!self->members)
+        return compile_source(self);
     if (!placed)
         PyErr_NoMemory();
     else if (members)
@@ -139,10 +155,37 @@ static int add_members(PyObject *list, PyObject *given)
     return PyErr_Occurred() ? -1 : 0;
 }
 
+/* Whether a str of ASCII has one piece or more between commas, and each is a specifier with a word, and maybe blanks before it. */
+static int has_words(PyObject *given)
+{
+    Py_ssize_t length = 0;
+    const char *at = PyUnicode_CheckExact(given) ? PyUnicode_AsUTF8AndSize(given, &length) : NULL, *end, *comma;
+    if (!at || length != PyUnicode_GetLength(given)) {
+        PyErr_Clear();
+        return 0;
+    }
+    end = at + length;
+    do {
+        while (*at == ' ')
+            at++;
+        comma = memchr(at, ',', (size_t)(end - at));
+        if (!has_word((pep440_string){(const uint8_t *)at, (size_t)((comma ? comma : end) - at)}))
+            return 0;
+        at = comma ? comma + 1 : end;
+    } while (comma);
+    return 1;
+}
+
 /* Reads a string with commas, or members. */
 static int read_set(Specifiers *self, PyObject *given, PyObject *said)
 {
-    PyObject *list = PyList_New(0), *members = NULL;
+    PyObject *list, *members = NULL;
+    if (has_words(given)) {
+        take(self, NULL, NULL, said);
+        self->source = Py_NewRef(given);
+        return 0;
+    }
+    list = PyList_New(0);
     if (list && (PyUnicode_Check(given) ? add_pieces(list, given) : add_members(list, given)) == 0)
         members = PyList_AsTuple(list);
     Py_XDECREF(list);
@@ -161,11 +204,47 @@ static PyObject *set_call(PyObject *type, PyObject *const *args, size_t flagged_
     return call_with(type, args, flagged_count, names, set_init, read_set);
 }
 
+/* The members, borrowed: those of a string are made when they are first asked for. NULL with an error. */
+static PyObject *made_members(Specifiers *self)
+{
+    while (is_read(self) && !self->members) {
+        PyObject *source = Py_NewRef(self->source), *list = PyList_New(0), *made = list && add_pieces(list, source) == 0 ? PyList_AsTuple(list) : NULL;
+        if (made && self->source == source && !self->members) {
+            self->members = Py_NewRef(made);
+            Py_CLEAR(self->source);
+        }
+        Py_XDECREF(list);
+        Py_DECREF(source);
+        if (!made)
+            return NULL;
+        Py_DECREF(made);
+    }
+    return self->said ? self->members : NULL;
+}
+
+/* The string of both, where their members are not made yet and it is short; else NULL, maybe with an error. */
+static PyObject *joined_source(const Specifiers *one, const Specifiers *two)
+{
+    char both[256];
+    Py_ssize_t length = 0, more = 0;
+    const char *left = one->members ? NULL : PyUnicode_AsUTF8AndSize(one->source, &length);
+    const char *right = !left || two->members ? NULL : PyUnicode_AsUTF8AndSize(two->source, &more);
+    if (!right || length + 1 + more > (Py_ssize_t)sizeof both)
+        return NULL;
+    memcpy(both, left, (size_t)length);
+    both[length] = ',';
+    memcpy(both + length + 1, right, (size_t)more);
+    return PyUnicode_FromStringAndSize(both, length + 1 + more);
+}
+
 /* The members of both, equal ones too. */
 static PyObject *joined_members(Specifiers *one, Specifiers *two)
 {
-    PyObject *left = PySequence_Tuple(one->members), *right = PySequence_Tuple(two->members), *both = NULL;
-    if (left && right)
+    PyObject *mine = Py_XNewRef(made_members(one)), *theirs = mine ? Py_XNewRef(made_members(two)) : NULL, *both = NULL;
+    PyObject *left = theirs ? PySequence_Tuple(mine) : NULL, *right = left ? PySequence_Tuple(theirs) : NULL;
+    Py_XDECREF(mine);
+    Py_XDECREF(theirs);
+    if (right)
         both = PySequence_Concat(left, right);
     Py_XDECREF(left);
     Py_XDECREF(right);
@@ -175,7 +254,7 @@ static PyObject *joined_members(Specifiers *one, Specifiers *two)
 /* The members of both sets, or of a set and a string, as a plain set: with what one of them says of pre-releases, which the other may not gainsay. */
 static PyObject *set_and(PyObject *left, PyObject *right)
 {
-    PyObject *other, *said, *theirs, *members = NULL;
+    PyObject *other, *said, *theirs, *source = NULL, *members = NULL;
     Specifiers *one = (Specifiers *)left, *two, *made = NULL;
     int differ;
     if (Py_TYPE(left) != Py_TYPE(right) && /* of two of one type both are sets, since it has this call */
@@ -192,10 +271,13 @@ static PyObject *set_and(PyObject *left, PyObject *right)
     differ = theirs == Py_None ? 0 : PyObject_RichCompareBool(said, theirs, Py_NE);
     if (differ > 0)
         PyErr_SetString(PyExc_ValueError, "Cannot combine SpecifierSets with True and False prerelease overrides.");
-    else if (differ == 0)
+    else if (differ == 0 && !(source = joined_source(one, two)) && !PyErr_Occurred())
         members = joined_members(one, two);
-    if (members && (made = new_specifiers(set_class)))
-        take(made, NULL, Py_NewRef(members), said);
+    if ((source || members) && (made = new_specifiers(set_class))) {
+        take(made, NULL, Py_XNewRef(members), said);
+        made->source = Py_XNewRef(source);
+    }
+    Py_XDECREF(source);
     Py_XDECREF(members);
     Py_DECREF(theirs);
     Py_DECREF(said);
@@ -213,7 +295,7 @@ static int assign_members(Specifiers *self, PyObject *value, void *unused)
 /* The members as a frozenset, borrowed: of equal ones the first. A member's own hash may have the set read again. */
 static PyObject *members_of(Specifiers *self)
 {
-    while (is_read(self) && PyTuple_Check(self->members)) {
+    while (made_members(self) && PyTuple_Check(self->members)) {
         PyObject *members = Py_NewRef(self->members), *made = PyFrozenSet_New(members);
         if (made && self->members == members)
             kept_in(&self->members, Py_NewRef(made));
@@ -233,7 +315,7 @@ static PyObject *compared_members(Specifiers *self)
 {
     if (!follows_26)
         return members_of(self);
-    while (is_read(self) && !self->is_sorted) {
+    while (made_members(self) && !self->is_sorted) {
         PyObject *members = Py_NewRef(self->members);
         PyObject *made = PyObject_Size(members) > 1 ? PyObject_CallFunctionObjArgs(sorter_of_members, members, NULL) : PySequence_Tuple(members);
         if (made && self->members == members) {
@@ -253,7 +335,7 @@ static PyObject *listed_members(Specifiers *self)
 {
     if (!follows_26)
         return members_of(self);
-    return is_read(self) ? self->members : NULL;
+    return made_members(self);
 }
 
 static PyObject *get_members(Specifiers *self, void *unused) { return Py_XNewRef(listed_members(self)); }
@@ -270,6 +352,27 @@ static PyObject *set_iterator(Specifiers *self)
 {
     PyObject *members = listed_members(self);
     return members ? PyObject_GetIter(members) : NULL;
+}
+
+/* The members in the order of their strings, with commas alone between them. */
+static PyObject *set_str(Specifiers *self)
+{
+    PyObject *members = Py_XNewRef(compared_members(self)), *each, *all = members ? PyObject_GetIter(members) : NULL, *texts = all ? PyList_New(0) : NULL;
+    PyObject *comma = NULL, *made = NULL;
+    while (texts && (each = PyIter_Next(all))) {
+        PyObject *text = PyObject_Str(each);
+        if (!text || PyList_Append(texts, text) < 0)
+            Py_CLEAR(texts);
+        Py_XDECREF(text);
+        Py_DECREF(each);
+    }
+    if (texts && !PyErr_Occurred() && (follows_26 || PyList_Sort(texts) == 0) && (comma = PyUnicode_FromString(",")))
+        made = PyUnicode_Join(comma, texts);
+    Py_XDECREF(comma);
+    Py_XDECREF(texts);
+    Py_XDECREF(all);
+    Py_XDECREF(members);
+    return made;
 }
 
 static Py_hash_t set_hash(Specifiers *self)
@@ -296,4 +399,76 @@ static PyObject *set_compare(PyObject *left, PyObject *right, int operation)
     Py_XDECREF(one);
     Py_XDECREF(two);
     return answer;
+}
+
+/* ---- sets as bytes */
+
+typedef uint8_t (*Joiner)(const uint8_t *, size_t, const uint8_t *, size_t, uint8_t *, size_t, size_t *);
+
+/* The bytes of a set by itself or of a compiled list. 0, or -1 with an error. */
+static int view_set(PyObject *given, pep440_string *set)
+{
+    char *bytes;
+    Py_ssize_t length;
+    if (PyBytes_AsStringAndSize(given, &bytes, &length) < 0)
+        return -1;
+    *set = (pep440_string){(const uint8_t *)bytes, (size_t)length};
+    return 0;
+}
+
+/* Raises the exception of what is no set. */
+static PyObject *raise_no_set(uint8_t status)
+{
+    if (status == PEP440_OUT_OF_MEMORY || PyErr_Occurred())
+        return raise_by(PEP440_OUT_OF_MEMORY, NULL, NULL);
+    PyErr_SetString(PyExc_ValueError, "these bytes have no set");
+    return NULL;
+}
+
+/* What the call writes of two sets. */
+static PyObject *joined_sets(const char *name, Joiner call, PyObject *const *args, Py_ssize_t count)
+{
+    pep440_string one, two;
+    uint8_t few[1024], *bytes = few, status;
+    size_t written = 0;
+    PyObject *made;
+    if (!has_count(name, count, 2) || view_set(args[0], &one) < 0 || view_set(args[1], &two) < 0)
+        return NULL;
+    status = call(one.bytes, one.length, two.bytes, two.length, few, sizeof few, &written);
+    if (status == PEP440_NO_ROOM) {
+        bytes = PyMem_Malloc(written);
+        status = bytes ? call(one.bytes, one.length, two.bytes, two.length, bytes, written, &written) : PEP440_OUT_OF_MEMORY;
+    }
+    made = status == PEP440_OK ? PyBytes_FromStringAndSize((const char *)bytes, (Py_ssize_t)written) : raise_no_set(status);
+    if (bytes != few)
+        PyMem_Free(bytes);
+    return made;
+}
+
+static PyObject *intersection(PyObject *module, PyObject *const *args, Py_ssize_t count)
+{
+    return joined_sets("intersection", pep440_intersection, args, count);
+}
+
+static PyObject *union_of(PyObject *module, PyObject *const *args, Py_ssize_t count) { return joined_sets("union", pep440_union, args, count); }
+
+static PyObject *complement(PyObject *module, PyObject *given)
+{
+    pep440_string set;
+    uint8_t status;
+    PyObject *made;
+    if (view_set(given, &set) < 0)
+        return NULL;
+    made = written_by(pep440_complement, set, PyBytes_FromStringAndSize, &status);
+    return made ? made : raise_no_set(status);
+}
+
+static PyObject *is_subset(PyObject *module, PyObject *const *args, Py_ssize_t count)
+{
+    pep440_string one, two;
+    uint8_t inside, status;
+    if (!has_count("is_subset", count, 2) || view_set(args[0], &one) < 0 || view_set(args[1], &two) < 0)
+        return NULL;
+    status = pep440_is_subset(one.bytes, one.length, two.bytes, two.length, &inside);
+    return status == PEP440_OK ? PyBool_FromLong(inside) : raise_no_set(status);
 }

@@ -9,8 +9,11 @@ typedef struct {
     PyObject *attributes; /* `__dict__`, once asked for */
     PyObject *references; /* the weak ones */
     PyObject *text;       /* of a specifier as it prints, else NULL */
-    PyObject *members;    /* of a set: a tuple, and by 25 once they are asked for a frozenset; of a specifier: (operator, version) once asked for */
-    PyObject *canonical;  /* of a specifier, once asked for: what equal ones share */
+    PyObject *members;    /* once asked for: of a set a tuple, and by 25 then a frozenset; of a specifier (operator, version) */
+    union {
+        PyObject *canonical; /* of a specifier, once asked for: what equal ones share */
+        PyObject *source;    /* of a set whose members are not made yet: the string of them, of which each has a word */
+    };
     PyObject *said;       /* of pre-releases; NULL until `__init__` has read a string */
     uint8_t *compiled;    /* `few`, or a block of its own; with its set once 26 was to match by it */
     size_t length;
@@ -42,6 +45,8 @@ static int is_read(const Specifiers *self)
         PyErr_Format(PyExc_AttributeError, "%R was made without its __init__", Py_TYPE((PyObject *)self));
     return self->said != NULL;
 }
+
+static int is_empty_set(const Specifiers *self) { return !is_specifier(self) && self->members && PyObject_Size(self->members) == 0; }
 
 /* The list in what was compiled, behind its set. */
 static inline pep440_string list_of(const Specifiers *self)
@@ -517,6 +522,21 @@ static int names_prerelease(Specifiers *self)
     return self->allows = (signed char)early;
 }
 
+/* Whether the version behind any operator but `!=` is a pre-release, of a compiled list of versions without local parts. */
+static int list_names_prerelease(pep440_string list)
+{
+    size_t at = LIST_HEAD;
+    int found = 0;
+    while (at < list.length && !found) {
+        uint8_t operator = list.bytes[at++] - OPERATOR;
+        KeyView view = view_key(list.bytes + at);
+        found = view.is_early && operator != PEP440_NOT_EQUAL;
+        for (at += view.local + 1; at < list.length && list.bytes[at] == 1;)
+            at++;
+    }
+    return found;
+}
+
 /* Whether some member allows pre-releases, asked again once `prereleases` of any specifier was set. */
 static int some_allows(Specifiers *self)
 {
@@ -525,6 +545,12 @@ static int some_allows(Specifiers *self)
     long asked_at = times_set;
     if (self->allows >= 0 && self->asked_at == asked_at)
         return self->allows;
+    if (!self->members) {
+        if (compile_list_of(self) < 0)
+            return -1;
+        self->asked_at = asked_at;
+        return self->allows = (signed char)list_names_prerelease(list_of(self));
+    }
     members = Py_NewRef(self->members);
     all = PyObject_GetIter(members);
     while (all && found == 0 && (each = PyIter_Next(all))) {
@@ -562,7 +588,7 @@ static PyObject *get_prereleases(Specifiers *self, void *unused)
         return NULL;
     if (self->said != Py_None)
         return Py_NewRef(self->said);
-    if (!is_specifier(self) && PyObject_Size(self->members) == 0)
+    if (is_empty_set(self))
         return Py_NewRef(Py_None);
     allows = allows_prereleases(self);
     if (allows == UNKNOWN || (allows == 0 && follows_26 && !is_specifier(self)))
@@ -608,7 +634,7 @@ static int is_changed(Specifiers *self)
     Py_XDECREF(flag);
     if (changed == 0 && is_arbitrary(self))
         changed = 1;
-    if (changed == 0 && !is_specifier(self)) {
+    if (changed == 0 && !is_specifier(self) && self->members) {
         all = PyObject_GetIter(self->members);
         while (all && changed == 0 && (each = PyIter_Next(all))) {
             changed = is_changed((Specifiers *)each);
@@ -665,8 +691,6 @@ static int excludes_prereleases(Specifiers *self, PyObject *prereleases)
     return allows < 0 ? -1 : !allows;
 }
 
-static int is_empty_set(const Specifiers *self) { return !is_specifier(self) && PyObject_Size(self->members) == 0; }
-
 /* Whether the version of a str, or this version, is contained: 1, 0, or -1 with an error. By 26 what is no version is in the empty set alone. */
 static int contains(Specifiers *self, PyObject *item, int excludes)
 {
@@ -683,27 +707,6 @@ static int contains(Specifiers *self, PyObject *item, int excludes)
         return -1;
     }
     return contained;
-}
-
-/* Sets each of the named arguments of a call; 0, or -1 with an error. */
-static int arguments_of(const char *call, PyObject *const *args, Py_ssize_t count, PyObject *named, const char *const *names, PyObject **given, Py_ssize_t most)
-{
-    Py_ssize_t more = named ? PyTuple_Size(named) : 0;
-    for (Py_ssize_t place = 0; place < count && place < most; place++)
-        given[place] = args[place];
-    for (Py_ssize_t turn = 0; turn < more; turn++) {
-        Py_ssize_t place = 0;
-        while (place < most && PyUnicode_CompareWithASCIIString(PyTuple_GetItem(named, turn), names[place]))
-            place++;
-        if (place == most || place < count) {
-            PyErr_Format(PyExc_TypeError, "%s() got an unexpected or a second argument %R", call, PyTuple_GetItem(named, turn));
-            return -1;
-        }
-        given[place] = args[count + turn];
-    }
-    if (count > most || !given[0])
-        PyErr_Format(PyExc_TypeError, count > most ? "%s() takes fewer arguments" : "%s() needs an argument 'item'", call);
-    return count > most || !given[0] ? -1 : 0;
 }
 
 /* Whether it stands for what `asked_item` was given. */
@@ -777,11 +780,3 @@ static int has(PyObject *self, PyObject *item)
     Py_XDECREF(answer);
     return found;
 }
-
-static int has_count(const char *call, Py_ssize_t count, Py_ssize_t wanted)
-{
-    if (count != wanted)
-        PyErr_Format(PyExc_TypeError, "%s() takes %zd arguments", call, wanted);
-    return count == wanted;
-}
-

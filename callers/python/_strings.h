@@ -237,6 +237,36 @@ static PyObject *raise_by(uint8_t status, PyObject *version, PyObject *list)
     return PyErr_Format(PyExc_SystemError, "pep440: no such status here: %d", (int)status);
 }
 
+/* ---- arguments of calls */
+
+/* Sets each of the named arguments of a call; 0, or -1 with an error. */
+static int arguments_of(const char *call, PyObject *const *args, Py_ssize_t count, PyObject *named, const char *const *names, PyObject **given, Py_ssize_t most)
+{
+    Py_ssize_t more = named ? PyTuple_Size(named) : 0;
+    for (Py_ssize_t place = 0; place < count && place < most; place++)
+        given[place] = args[place];
+    for (Py_ssize_t turn = 0; turn < more; turn++) {
+        Py_ssize_t place = 0;
+        while (place < most && PyUnicode_CompareWithASCIIString(PyTuple_GetItem(named, turn), names[place]))
+            place++;
+        if (place == most || place < count) {
+            PyErr_Format(PyExc_TypeError, "%s() got an unexpected or a second argument %R", call, PyTuple_GetItem(named, turn));
+            return -1;
+        }
+        given[place] = args[count + turn];
+    }
+    if (count > most || !given[0])
+        PyErr_Format(PyExc_TypeError, count > most ? "%s() takes fewer arguments" : "%s() needs an argument 'item'", call);
+    return count > most || !given[0] ? -1 : 0;
+}
+
+static int has_count(const char *call, Py_ssize_t count, Py_ssize_t wanted)
+{
+    if (count != wanted)
+        PyErr_Format(PyExc_TypeError, "%s() takes %zd arguments", call, wanted);
+    return count == wanted;
+}
+
 /* ---- compiled forms */
 
 static const uint8_t EMPTY_LIST[LIST_HEAD] = {LIST};

@@ -86,10 +86,9 @@ static inline int takes_one(PyObject *type, size_t flagged_count, PyObject *name
     return (flagged_count & COUNT) == 1 && !names && *(void *const *)(start + INIT_PLACE) == init && *(void *const *)(start + NEW_PLACE) == first_new;
 }
 
-/* Calls a type as all are called. */
-__attribute__((noinline)) static PyObject *call_type(PyObject *type, PyObject *const *args, size_t flagged_count, PyObject *names)
+/* Calls what takes a tuple and a dict. */
+__attribute__((noinline)) static PyObject *call_by(ternaryfunc call, PyObject *called, PyObject *const *args, size_t flagged_count, PyObject *names)
 {
-    ternaryfunc call = (ternaryfunc)PyType_GetSlot(&PyType_Type, Py_tp_call);
     Py_ssize_t count = (Py_ssize_t)(flagged_count & COUNT), more = names ? PyTuple_Size(names) : 0;
     PyObject *given = PyTuple_New(count), *named = more ? PyDict_New() : NULL, *made = NULL;
     int done = given && (named || !more) ? 0 : -1;
@@ -98,10 +97,16 @@ __attribute__((noinline)) static PyObject *call_type(PyObject *type, PyObject *c
     for (Py_ssize_t at = 0; done == 0 && at < more; at++)
         done = PyDict_SetItem(named, PyTuple_GetItem(names, at), args[count + at]);
     if (done == 0)
-        made = call(type, given, named);
+        made = call(called, given, named);
     Py_XDECREF(given);
     Py_XDECREF(named);
     return made;
+}
+
+/* Calls a type as all are called. */
+__attribute__((noinline)) static PyObject *call_type(PyObject *type, PyObject *const *args, size_t flagged_count, PyObject *names)
+{
+    return call_by((ternaryfunc)PyType_GetSlot(&PyType_Type, Py_tp_call), type, args, flagged_count, names);
 }
 
 /* Freed versions, none of a subclass. */

@@ -146,6 +146,12 @@ def programs():
     return {f"{release()}.data/scripts/{name}": path for name, path in zip(PROGRAMS, files)}
 
 
+def check_interpreter():
+    """An error where the wheel is for no such Python."""
+    if sys.implementation.name != "cpython" or "t" in sys.abiflags:
+        stop(f"no build for {sys.implementation.name} {sysconfig.get_python_version()}{sys.abiflags}: it needs CPython with its global lock")
+
+
 def compile_extension(out, libraries):
     """Compiles and links the sources in C; of what the libraries define, nothing is left to see from outside."""
     include = [sysconfig.get_path("include"), sysconfig.get_path("platinclude"), str(HEADER.parent)]
@@ -212,6 +218,7 @@ def record_line(name, data):
 
 def built(files, extension):
     """Compiles the extension. The files of a wheel, these and the programs among them, by their names in it, and the platform of its tag."""
+    check_interpreter()
     libraries, brought = archives(), programs()
     compile_extension(extension, libraries)
     return files | {name: path.read_bytes() for name, path in brought.items()}, platform_of([extension, *brought.values()])

@@ -1,7 +1,10 @@
 """What the README says of 25.0 and 26.3, here and in `packaging`; and the public names of 26.3."""
+import doctest
+import importlib
 import inspect
 import json
 import os
+import pkgutil
 import re
 import subprocess
 import sys
@@ -10,10 +13,18 @@ import warnings
 
 import peer
 import pep440_rattle
-from pep440_rattle import markers, requirements, specifiers, tags, utils, version
+from pep440_rattle import markers, ranges, requirements, specifiers, tags, utils, version
 
 README = os.path.join(os.path.dirname(os.path.dirname(os.path.abspath(__file__))), "README.md")
 MODULES = {"version": version, "specifiers": specifiers, "requirements": requirements, "markers": markers, "utils": utils}
+OF_26 = {**MODULES, "ranges": ranges, "tags": tags}
+# What is not here: modules whole, and of one of them names.
+NOT_HERE = {"dependency_groups", "direct_url", "errors", "licenses", "metadata", "pylock"}
+NOT_IN_TAGS = {
+    *("INTERPRETER_SHORT_NAMES", "AppleVersion", "PythonVersion", "android_platforms", "compatible_tags", "cpython_tags"),
+    *("create_compatible_tags_selector", "generic_tags", "interpreter_name", "interpreter_version", "ios_platforms", "mac_platforms", "platform_tags"),
+    *("pure_python_tags", "sys_tags"),
+}
 # What an expression of the table is, in `packaging`: expressions are read from standard input.
 OF_PACKAGING = """
 import json, sys
@@ -74,6 +85,18 @@ def members(it):
     return found | {"__replace__", "__match_args__"} & set(dir(it))
 
 
+def functions(theirs, ours):
+    """Pairs of a function, or of those of a class."""
+    if inspect.isfunction(theirs):
+        return [(theirs, ours)]
+    names = [it for it, each in vars(theirs).items() if inspect.isclass(theirs) and inspect.isfunction(each) and it[0] != "_"] if inspect.isclass(theirs) else []
+    return [(vars(theirs)[it], getattr(ours, it)) for it in names]
+
+
+def parameters(function):
+    return [(it.name, it.kind) for it in inspect.signature(function).parameters.values() if it.name != "self"]
+
+
 class Table(unittest.TestCase):
     def tearDown(self):
         pep440_rattle.behave_like("26.3")
@@ -96,23 +119,54 @@ class Table(unittest.TestCase):
 
 
 class Names(unittest.TestCase):
+    """Of each module of `packaging` 26.3."""
+
+    def setUp(self):
+        self.addCleanup(pep440_rattle.behave_like, "26.3")
+        self.package = sys.modules[peer.load()[0].__name__.rpartition(".")[0]]
+        if self.package.__version__ != "26.3":
+            self.skipTest(f"packaging {self.package.__version__} is not 26.3")
+
+    def module(self, name):
+        return importlib.import_module(f"{self.package.__name__}.{name}")
+
     def test_public_names(self):
-        """Each public name of a module, and each of a class of one, is here."""
-        try:
-            package = peer.load()[0].__name__.rpartition(".")[0]
-        finally:
-            pep440_rattle.behave_like("26.3")
-        if sys.modules[package].__version__ != "26.3":
-            self.skipTest(f"packaging {sys.modules[package].__version__} is not 26.3")
+        """Each public name of a module, and each of a class of one, is here, or among those that are not."""
+        names = {it.name for it in pkgutil.iter_modules(self.package.__path__) if it.name[0] != "_"}
+        self.assertEqual(names - set(OF_26), NOT_HERE)
         missing = {}
-        for name, ours in MODULES.items():
-            theirs = __import__(f"{package}.{name}", fromlist=["*"])
+        for name, ours in OF_26.items():
+            theirs = self.module(name)
             missing[name] = {it for it in theirs.__all__ if not hasattr(ours, it)}
             for each in set(theirs.__all__) - missing[name]:
                 if inspect.isclass(getattr(theirs, each)):
                     missing[name] |= {f"{each}.{it}" for it in members(getattr(theirs, each)) - members(getattr(ours, each))}
-        self.assertEqual(missing, {name: set() for name in MODULES})
-        self.assertLessEqual({"InvalidTag", "Tag", "UnsortedTagsError", "parse_tag"}, set(vars(tags)))
+        self.assertEqual(missing, {name: NOT_IN_TAGS if name == "tags" else set() for name in OF_26})
+
+    def test_parameters(self):
+        """Each public function takes the parameters that theirs takes, by their names and places."""
+        for name, ours in OF_26.items():
+            theirs = self.module(name)
+            for each in set(theirs.__all__) & set(dir(ours)):
+                for function, mine in functions(getattr(theirs, each), getattr(ours, each)):
+                    with self.subTest(function=f"{name}.{each}", call=function.__name__):
+                        self.assertEqual(parameters(mine), parameters(function))
+
+    def test_docstrings(self):
+        """The examples of their docstrings, over these modules."""
+        runner = doctest.DocTestRunner(verbose=False, optionflags=doctest.IGNORE_EXCEPTION_DETAIL | doctest.ELLIPSIS | doctest.NORMALIZE_WHITESPACE)
+        wide = {name: it for module in OF_26.values() for name, it in vars(module).items() if name[:2] != "__"}
+        count = 0
+        for name in OF_26:
+            for each in doctest.DocTestFinder(exclude_empty=True).find(self.module(name), globs=dict(wide)):
+                if each.name.rpartition(".")[2] in NOT_IN_TAGS or "._" in each.name:
+                    continue
+                each.examples = [it for it in each.examples if "packaging." not in it.source]
+                count += len(each.examples)
+                with self.subTest(docstring=each.name):
+                    said = []
+                    self.assertEqual(runner.run(each, out=said.append, clear_globs=False).failed, 0, "".join(said))
+        self.assertGreater(count, 150)
 
 
 class News(unittest.TestCase):
@@ -148,8 +202,7 @@ class News(unittest.TestCase):
         for other, error in ((SpecifierSet("===1"), ValueError), (SpecifierSet(">1", prereleases=True), ValueError), (">1", TypeError)):
             with self.assertRaises(error):
                 outer.is_subset(other)
-        with self.assertRaises(NotImplementedError):
-            outer.to_range()
+        self.assertEqual(repr(inner.to_range()), "<VersionRange '[3.12, 3.13.dev0)'>")
 
     def test_markers(self):
         both = [markers.Marker("os_name == 'a'"), markers.Marker("extra == 'B' or extra == 'C_d'")]

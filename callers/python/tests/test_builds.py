@@ -35,6 +35,10 @@ class Missing(unittest.TestCase):
     def test_compiler(self):
         self.assertIn("pep440_rattle: no C compiler: there is no nowhere; install one", self.said(CC="nowhere -m64"))
 
+    def test_interpreters(self):
+        self.assertIn("pep440_rattle: no build for pypy 3.", self.said("sys.implementation.name = 'pypy'"))
+        self.assertIn("t: it needs CPython with its global lock", self.said("sys.abiflags = 't'"))
+
     def test_headers(self):
         said = self.said("sysconfig.get_path = lambda name: '/nowhere'", PEP440_ARCHIVES=sys.executable)
         self.assertIn("pep440_rattle: no headers of Python: /nowhere/Python.h is not there; install them", said)

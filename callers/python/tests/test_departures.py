@@ -1,5 +1,6 @@
 """The README's table of departures from `packaging`: a test for each row, by its name, and none for what is no row."""
 import copy
+import importlib.util
 import os
 import re
 import subprocess
@@ -8,6 +9,7 @@ import unittest
 import warnings
 
 import peer
+import pep440_rattle.tags
 import pep440_rattle.version
 from pep440_rattle import InvalidSpecifier, InvalidVersion, Specifier, SpecifierSet, Version
 
@@ -114,9 +116,10 @@ class Departures(unittest.TestCase):
                 self.assertEqual([items[1] in kind(text), items[0] in kind(text), list(kind(text).filter(items)), list(kind(text).filter(iter(items)))], [True, False, items[1:2], items[1:2]])
         self.assertFalse(issubclass(InvalidVersion, theirs.InvalidVersion) or issubclass(theirs.InvalidVersion, InvalidVersion))
 
-    def test_ranges(self):
-        with self.assertRaises(NotImplementedError):
-            SpecifierSet(">=1.0").to_range()
+    def test_other_modules(self):
+        for name in ("dependency_groups", "direct_url", "errors", "licenses", "metadata", "pylock"):
+            self.assertIsNone(importlib.util.find_spec(f"pep440_rattle.{name}"))
+        self.assertFalse(hasattr(pep440_rattle.tags, "sys_tags"))
 
     def test_error_messages(self):
         with self.assertRaises(InvalidVersion) as caught:

@@ -306,6 +306,8 @@ REFUSED = """
 import ctypes, sys
 from pep440_rattle import InvalidSpecifier, InvalidVersion, Specifier, SpecifierSet, Version, filter_texts, sort_keys, sort_texts, _core
 arm, refused = ctypes.CDLL(None).refuse_arm, ctypes.CDLL(None).refuse_came
+from pep440_rattle import markers, utils
+marker = markers.Marker("python_version >= '3.8' and (os_name == 'x' or extra != 'y')")
 long = "V1!1.2.3.4.5.6-Alpha.2-3.DEV+Ubuntu-01.long.local.part"
 texts = [long, "1.0+b", "1.0", "0.9rc1", "1.0+a"] * 40
 members = ">=1.16,!=1.5.*,===1.17,<2.0"
@@ -322,6 +324,9 @@ calls = [
     lambda: SpecifierSet(members).contains("1.17", False), lambda: SpecifierSet(">=1.0a1,!=" + long).contains(longest + "rc1"),
     lambda: SpecifierSet(members).contains(Version(long)), lambda: filter_texts(">=0", [Version(it) for it in texts]),
     lambda: filter_texts(members, texts), lambda: list(SpecifierSet(">=0").filter(texts, False)), lambda: sort_texts(texts), lambda: sort_keys(texts),
+    lambda: list(SpecifierSet(">=0,<9").filter(iter(texts))), lambda: list(SpecifierSet(">=2").filter(texts + ["3rc1"], key=str)), lambda: str(SpecifierSet(members)),
+    lambda: repr(SpecifierSet(">=1.16,!=1.5.*").to_range() - SpecifierSet("===1.17").to_range()), lambda: len(SpecifierSet(">=1.16,!=1.5.*") & SpecifierSet("<2")),
+    lambda: SpecifierSet(">=1.16").is_subset(SpecifierSet(">=1")), lambda: utils.parse_wheel_filename("a.B-1.0-py3-none-any.whl"), lambda: marker.evaluate({"extra": ""}),
     lambda: sort_keys([longest] * 3), lambda: refusal(sort_texts, texts + ["x"], InvalidVersion),
 ]
 def attempt(call, number):

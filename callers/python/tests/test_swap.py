@@ -186,26 +186,55 @@ WITHOUT = "or run this without pep440_rattle.swap"
 REFUSED = {"name>=18446744073709551616": "big numbers"}
 
 # Programs of others, by the module that runs them and their words; each is run over a project of its own.
-OF_WHEELS = ["pip", "download", "--no-index", "--find-links", ".", "--dest", "out"]
+OF_WHEELS = ["--no-index", "--find-links", "."]
+DOWNLOAD = ["pip", "download", *OF_WHEELS, "--dest", "out"]
+INSTALL = ["pip", "install", *OF_WHEELS, "--dry-run", "--ignore-installed", "--break-system-packages"]
 PROGRAMS = [
     ("hatchling", ["hatchling", "version"]),
     ("hatchling", ["hatchling", "version", "minor"]),
     ("hatchling", ["hatchling", "version", "rc"]),
+    ("hatchling", ["hatchling", "version", "post"]),
+    ("hatchling", ["hatchling", "version", "1.2.3"]),
+    ("hatchling", ["hatchling", "metadata"]),
     ("hatchling", ["hatchling", "build", "--target", "wheel"]),
     ("setuptools_scm", ["setuptools_scm"]),
     ("build", ["build", "--wheel", "--no-isolation"]),
+    ("build", ["build", "--sdist", "--no-isolation"]),
     ("pip", ["pip", "check"]),
     ("pip", ["pip", "list"]),
-    ("pip", [*OF_WHEELS, "nothing>=1.0rc1,<2"]),
-    ("pip", [*OF_WHEELS, "thing"]),
-    ("pip", [*OF_WHEELS, "--pre", "thing>=1"]),
-    ("pip", [*OF_WHEELS, "thing!=1.0,>=0.1"]),
-    ("pip", [*OF_WHEELS, "thing==1.0", "other<1"]),
-    ("pip", [*OF_WHEELS, "thing=1.0"]),
+    ("pip", ["pip", "inspect"]),
+    ("pip", ["pip", "index", "versions", *OF_WHEELS, "--pre", "thing"]),
+    ("pip", [*DOWNLOAD, "nothing>=1.0rc1,<2"]),
+    ("pip", [*DOWNLOAD, "thing"]),
+    ("pip", [*DOWNLOAD, "--pre", "thing>=1"]),
+    ("pip", [*DOWNLOAD, "thing!=1.0,>=0.1"]),
+    ("pip", [*DOWNLOAD, "thing==1.0", "other<1"]),
+    ("pip", [*DOWNLOAD, "thing=1.0"]),
+    ("pip", [*DOWNLOAD, "thing===1.1RC1"]),
+    ("pip", [*DOWNLOAD, "thing>=1.1.dev0,~=1.0", "--only-binary", ":all:"]),
+    ("pip", [*DOWNLOAD, "other~=1.0; python_version > '3' and extra == ''"]),
+    ("pip", ["pip", "wheel", *OF_WHEELS, "--wheel-dir", "out", "thing>=1.1rc1"]),
+    ("pip", ["pip", "lock", *OF_WHEELS, "--output", "-", "thing"]),
+    ("pip", ["pip", "install", *OF_WHEELS, "--target", "out", "thing"]),
+    ("pip", [*INSTALL, "thing", "other>=2"]),
+    ("pip", [*INSTALL, "thing==1.0", "other>=2"]),
+    ("pip", [*INSTALL, "--constraint", "constraints.txt", "thing"]),
+    ("pip", [*INSTALL, "--constraint", "constraints.txt", "--pre", "thing[extra]", "--report", "-", "--quiet"]),
+    ("pip", [*INSTALL, "--python-version", "3.5", "--target", "out", "--only-binary", ":all:", "thing"]),
+    ("pip", [*INSTALL, "--requirement", "constraints.txt"]),
+    ("pdm", ["pdm", "lock", "--quiet"]),
+    ("pdm", ["pdm", "lock", "--quiet", "--strategy", "no_cross_platform"]),
+    ("pdm", ["pdm", "lock", "--quiet", "--python", ">=3.9,<3.12"]),
+    ("unearth", ["unearth", "--find-links", ".", "thing>=1.0", "--all"]),
+    ("unearth", ["unearth", "--find-links", ".", "thing"]),
+    ("twine", ["twine", "check", "thing-1.0-py3-none-any.whl"]),
     ("tox", ["tox", "-l"]),
+    ("tox", ["tox", "config", "-e", "one", "-k", "requires", "min_version"]),
     ("nox", ["nox", "-l"]),
     ("poetry", ["poetry", "check"]),
     ("poetry", ["poetry", "version", "minor"]),
+    ("poetry", ["poetry", "version", "prerelease"]),
+    ("poetry", ["poetry", "version", "2.0.post1"]),
 ]
 PROJECT = """[build-system]
 requires = ["hatchling>=1.0,<99"]
@@ -229,13 +258,19 @@ description = ""
 authors = []
 
 [tool.poetry.dependencies]
-python = "^3.7"
+python = ">=3.7,!=3.8.*"
 other = ">=1.0,<2"
+
+[[tool.pdm.source]]
+name = "pypi"
+type = "find_links"
+url = "file:///${PROJECT_ROOT}"
 """
 FILES = {
     "pyproject.toml": PROJECT,
     "thing.py": '__version__ = "1.2.3rc1"\n',
-    "tox.ini": "[tox]\nminversion = 3.20\nrequires = tox >= 3.20, <99\nenvlist = one, two\n",
+    "tox.ini": "[tox]\nminversion = 3.20\nrequires =\n    tox >= 3.20\nenvlist = one, two\n",
+    "constraints.txt": "other<1.5\nthing!=1.1rc1 ; python_version >= '3'\n",
     "noxfile.py": 'import nox\nnox.needs_version = ">=2020.1.1a1, <9999"\n@nox.session\ndef one(session): pass\n',
 }
 WHEELS = {"thing-0.1": "", "thing-1.0": "other>=1.0,<2", "thing-1.1rc1": "other~=1.4", "other-0.9": "", "other-1.5": "", "other-2.0": ""}
@@ -252,9 +287,9 @@ def make_project(folder):
         name, _, version = release.partition("-")
         head = ["Metadata-Version: 2.1", f"Name: {name}", f"Version: {version}", *([f"Requires-Dist: {requirement}"] if requirement else []), ""]
         with zipfile.ZipFile(os.path.join(folder, f"{release}-py3-none-any.whl"), "w") as it:
-            it.writestr(f"{release}.dist-info/METADATA", "\n".join(head))
-            it.writestr(f"{release}.dist-info/WHEEL", "Wheel-Version: 1.0\nRoot-Is-Purelib: true\nTag: py3-none-any\n")
-            it.writestr(f"{release}.dist-info/RECORD", "")
+            inside = {"METADATA": "\n".join(head), "WHEEL": "Wheel-Version: 1.0\nRoot-Is-Purelib: true\nTag: py3-none-any\n", "RECORD": ""}
+            for each, text in inside.items():
+                it.writestr(zipfile.ZipInfo(f"{release}.dist-info/{each}"), text)
     environment = dict(os.environ, **{f"GIT_{who}_{what}": "2020-01-01T00:00:00Z" for who in ("AUTHOR", "COMMITTER") for what in ("NAME", "EMAIL", "DATE")})
     for words in COMMITS if shutil.which("git") else []:
         subprocess.run(["git", *words.split()], cwd=folder, env=environment, check=True)
@@ -388,10 +423,11 @@ class Programs(unittest.TestCase):
     def results(self, words, folder):
         """What the program says, and what it leaves of the project's files."""
         make_project(folder)
-        done, left = run(words, folder), []
-        for name in FILES:
-            with open(os.path.join(folder, name), encoding="utf-8") as it:
-                left.append(it.read())
+        done, left = run(words, folder), {}
+        for name in [*FILES, "pdm.lock"]:
+            if os.path.exists(os.path.join(folder, name)):
+                with open(os.path.join(folder, name), encoding="utf-8") as it:
+                    left[name] = it.read()
         return done, left
 
 

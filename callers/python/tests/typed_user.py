@@ -1,5 +1,6 @@
 """A user of the package with annotations of each kind, for a checker of types: it is never run."""
 from pep440_rattle import Specifier, SpecifierSet, Version, filter_texts, sort_keys, sort_texts
+from pep440_rattle.ranges import VersionRange
 from pep440_rattle.swap import swap
 
 
@@ -22,4 +23,5 @@ text: str = lower.version.public if lower else ""
 made: Version = Mine.from_parts(release=(1, 2)).__replace__(dev=1)
 pairs: list[tuple[str, int]] = [*SpecifierSet(">=1").filter([("1", 2)], key=lambda pair: pair[0])]
 is_within: bool = SpecifierSet(">=1").is_subset(SpecifierSet(">=0"))
+both: SpecifierSet | None = (SpecifierSet(">=1").to_range() - VersionRange.singleton("1.5")).to_specifier_set()
 swap()

@@ -16,7 +16,7 @@ from collections.abc import Callable, Mapping
 from collections.abc import Set as AbstractSet
 from typing import Any, Literal, TypedDict, Union, cast
 
-from pep440_rattle._core import follows_26
+from pep440_rattle._core import evaluate_marker, follows_26
 
 from ._parser import MarkerItem, MarkerList, Op, ParserSyntaxError, Value, Variable, parse_marker
 from .specifiers import InvalidSpecifier, Specifier
@@ -66,7 +66,7 @@ def format_full_version(info: sys._version_info) -> str:
 
 _READERS: dict[str, Callable[[], str]] = {
     "implementation_name": lambda: sys.implementation.name,
-    "implementation_version": lambda: format_full_version(cast("sys._version_info", sys.implementation.version)),
+    "implementation_version": lambda: format_full_version(sys.implementation.version),
     "os_name": lambda: os.name,
     "platform_machine": lambda: platform.machine(),
     "platform_release": lambda: platform.release(),
@@ -101,7 +101,14 @@ class _Environment(dict[str, _Operand]):
         if name not in _READERS:
             raise UndefinedEnvironmentName(name) if follows_26() else KeyError(name)
         self[name] = value = _read(name)
-        return _repair(value) if name == "python_full_version" else value
+        found = _repair(value) if name == "python_full_version" else value
+        if follows_26():
+            _known[name] = found
+        return found
+
+
+# The variables of this process that some marker named, which by 26 are read once.
+_known: dict[str, str] = {}
 
 
 def _repair(python_full_version: str) -> str:
@@ -137,6 +144,11 @@ def _normalize_extra_values(markers: MarkerList) -> MarkerList:
         elif isinstance(right, Variable) and right.value == "extra":
             markers[0] = Value(canonicalize_name(left.value)), op, right
     return markers
+
+
+def _normalize_marker(markers: MarkerList, source: str) -> MarkerList:
+    """The same of what was read of a string, which most often names none."""
+    return _normalize_extra_values(markers) if "extra" in source or "group" in source else markers
 
 
 def _format_marker(marker: MarkerList | MarkerItem | str, first: bool = True) -> str:
@@ -183,6 +195,13 @@ def _specifier_of(sign: str, version: str) -> Specifier | None:
         return Specifier(sign + version)
     except InvalidSpecifier:
         return None
+
+
+@functools.lru_cache(1024)
+def _compare_versions(sign: str, version: str, candidate: str) -> bool | None:
+    """Whether a specifier contains the candidate, or None where there is none."""
+    specifier = _specifier_of(sign, version)
+    return None if specifier is None else specifier.contains(candidate, prereleases=True)
 
 
 def _eval_op(lhs: str, op: Op, rhs: _Operand, key: str) -> bool:
@@ -245,6 +264,14 @@ def _evaluate_markers(markers: MarkerList, environment: dict[str, _Operand]) -> 
     return any(all(group) for group in groups)
 
 
+# What the extension evaluates markers with.
+_TOOLS = (
+    *(Variable, Value, Op),
+    {**dict.fromkeys(MARKERS_REQUIRING_VERSION, True), **dict.fromkeys(MARKERS_ALLOWING_SET, False)},
+    *(_known, _compare_versions, _evaluate_item),
+)
+
+
 class Marker:
     """A condition on the environment, as `python_version >= "3.8"`.
 
@@ -259,7 +286,7 @@ class Marker:
     def __init__(self, marker: str) -> None:
         # a requirement makes one without this call
         try:
-            self._markers = _normalize_extra_values(parse_marker(marker))
+            self._markers = _normalize_marker(parse_marker(marker), marker)
         except ParserSyntaxError as error:
             raise InvalidMarker(str(error)) from error
 
@@ -269,7 +296,7 @@ class Marker:
     def __setstate__(self, state: Any) -> None:
         if isinstance(state, str):
             try:
-                self._markers = _normalize_extra_values(parse_marker(state))
+                self._markers = _normalize_marker(parse_marker(state), state)
             except ParserSyntaxError as error:
                 raise TypeError(f"Cannot restore Marker from {state!r}") from error
             return
@@ -333,4 +360,4 @@ class Marker:
                 variables["extra"] = ""
             elif "extra" in variables and follows_26():
                 variables["extra"] = canonicalize_name(variables["extra"])  # type: ignore[arg-type]
-        return _evaluate_markers(self._markers, variables)
+        return evaluate_marker(self._markers, variables, _TOOLS) if follows_26() else _evaluate_markers(self._markers, variables)

@@ -13,7 +13,7 @@ from typing import Any
 from pep440_rattle._core import follows_26, read_requirement
 
 from ._parser import NODES, ParserSyntaxError, parse_requirement
-from .markers import Marker, _normalize_extra_values
+from .markers import Marker, _normalize_marker
 from .specifiers import InvalidSpecifier, SpecifierSet
 from .utils import canonicalize_name
 
@@ -56,7 +56,7 @@ class Requirement:
         self.marker: Marker | None = None
         if marker is not None:
             self.marker = Marker.__new__(Marker)
-            self.marker._markers = _normalize_extra_values(marker)
+            self.marker._markers = _normalize_marker(marker, requirement_string)
 
     def _parts(self, name: str) -> Iterator[str]:
         yield name

@@ -28,6 +28,8 @@ if TYPE_CHECKING:
     from collections.abc import Callable, Iterable, Iterator
     from typing import Any, TypeVar
 
+    from .ranges import VersionRange
+
     UnparsedVersionVar = TypeVar("UnparsedVersionVar", bound=UnparsedVersion)
     _Item = TypeVar("_Item")
 else:
@@ -92,6 +94,10 @@ class _WholeSpecifier:
         import re
 
         return re.compile(rf"^\s*{kind._operator_regex_str}{kind._version_regex_str}\s*\Z", re.VERBOSE | re.IGNORECASE)
+
+
+# The set without versions, as `_core` has it.
+_EMPTY_SET = b"\x07"
 
 
 def _version_of(item: UnparsedVersion) -> Version:
@@ -215,9 +221,13 @@ def _kept_at_once(
 
 
 def _filter(
-    several: Specifier | SpecifierSet, items: Iterable[Any], prereleases: bool | None, key: Callable[[Any], UnparsedVersion] | None, is_open: bool
+    several: Specifier | SpecifierSet, items: Iterable[Any], prereleases: bool | None, key: Callable[[Any], UnparsedVersion] | None
 ) -> Iterator[Any]:
     """The items that are contained, by `packaging` 26; of a set that is open strings that are no versions, too."""
+    found = several._filtered(items, prereleases, key)
+    if found is not None:
+        return found
+    is_open = several._is_open
     if not (is_open or prereleases is None):
         prereleases = prereleases is not False
     kept = _kept_at_once(several, items, prereleases if prereleases is None else bool(prereleases), key, not is_open)
@@ -343,6 +353,11 @@ class Specifier(_core.HeldSpecifier, BaseSpecifier, metaclass=_Called):
             return False
         return self._get_operator(self.operator)(candidate, self.version)
 
+    @property
+    def _is_open(self) -> bool:
+        """Whether strings that are no versions may be contained."""
+        return self.operator == "==="
+
     def _default_prereleases(self) -> bool | None:
         if self._prereleases is not None:
             return self._prereleases
@@ -366,7 +381,7 @@ class Specifier(_core.HeldSpecifier, BaseSpecifier, metaclass=_Called):
         [('2.2', 2)]
         """
         if _core.follows_26():
-            return _filter(self, iterable, prereleases, key, self.operator == "===")
+            return _filter(self, iterable, prereleases, key)
         return self._filter_by_25(iterable, prereleases, key)
 
     def _filter_by_25(self, iterable: Iterable[Any], prereleases: bool | None, key: Callable[[Any], UnparsedVersion] | None) -> Iterator[Any]:
@@ -386,12 +401,6 @@ class Specifier(_core.HeldSpecifier, BaseSpecifier, metaclass=_Called):
                 yield item
         if not is_found:
             yield from later
-
-    def _to_ranges(self) -> Any:
-        """What `packaging.ranges` reads."""
-        if self.operator == "===":
-            return _module_of_packaging("_ranges").FULL_RANGE
-        return _module_of_packaging("_ranges").bounds_for_spec(self.operator, self.version, Version(self.version.removesuffix(".*")))
 
     # ---- a comparison for each operator, which a subclass may have its own of
 
@@ -473,16 +482,6 @@ class SpecifierSet(_core.HeldSet, BaseSpecifier, metaclass=_Called):
     def __repr__(self) -> str:
         return _shown(self, type(self).__name__ if _core.follows_26() else "SpecifierSet")
 
-    def __str__(self) -> str:
-        """The members in the order of their texts, with commas alone between them.
-
-        >>> str(SpecifierSet(">2.1, !=2.2.*"))
-        '!=2.2.*,>2.1'
-        """
-        if _core.follows_26():
-            return ",".join(map(str, self._sorted_specs))
-        return ",".join(sorted(map(str, self._specs)))
-
     def _contains(self, item: UnparsedVersion, prereleases: bool | None, installed: bool | None) -> bool:
         """Whether the version is contained, by each member; by 25 the base version of an installed one."""
         if _core.follows_26():
@@ -512,7 +511,7 @@ class SpecifierSet(_core.HeldSet, BaseSpecifier, metaclass=_Called):
         plain = [it for it in self._specs if it.operator != "==="]
         texts = {it.version.lower() for it in self._specs if it.operator == "==="}
         if not texts:
-            return bool(self._specs) and not self._has_more_than(())
+            return bool(self._specs) and self._is_empty()
         if len(texts) > 1:
             return True
         candidate = _version_or_none(texts.pop())
@@ -530,8 +529,11 @@ class SpecifierSet(_core.HeldSet, BaseSpecifier, metaclass=_Called):
         Raises `TypeError` where the other one is no set, and `ValueError` where one has `===`, or other `prereleases` than the other one.
         """
         self._check_relation_operand(other)
-        # the empty set contains strings, too
-        return not (other._specs and (not self._specs or self._has_more_than(other._specs)))
+        if not self._specs or not other._specs:
+            return not other._specs  # the empty set contains strings, too
+        if self._prereleases is False:
+            return self.to_range().is_subset(other.to_range())
+        return _core.is_subset(self._compiled, other._compiled)
 
     def is_superset(self, other: SpecifierSet) -> bool:
         """Whether this one contains all that the other one contains; raises as `is_subset`."""
@@ -556,24 +558,26 @@ class SpecifierSet(_core.HeldSet, BaseSpecifier, metaclass=_Called):
             both = f"{self._prereleases!r} and {other._prereleases!r}"
             raise ValueError(f"Cannot combine VersionRange operands with different pre-release policies: {both}")
 
-    def _has_more_than(self, others: Iterable[Specifier]) -> bool:
-        """Whether it contains a version, or a release where pre-releases are forbidden, that some of the others does not; any where there are none."""
-        from ._relations import least_versions
+    def _is_empty(self) -> bool:
+        """Whether no version is contained; where pre-releases are forbidden, whether none but these is."""
+        if self._prereleases is False:
+            return self.to_range().is_empty
+        return _core.intersection(self._compiled, self._compiled) == _EMPTY_SET
 
-        left_out = SpecifierSet(others)
-        for version in least_versions(it._spec for it in (*self._specs, *left_out._specs)):
-            is_asked = not (version.is_prerelease and self._prereleases is False)
-            if is_asked and _matches_all(self, version) and not (left_out._specs and _matches_all(left_out, version)):
-                return True
-        return False
+    def to_range(self) -> VersionRange:
+        """What is contained, as a set of `pep440_rattle.ranges`.
 
-    def to_range(self) -> Any:
-        """The `VersionRange` of `packaging.ranges`, where these modules stand in for `packaging`; else raises `NotImplementedError`."""
-        return _module_of_packaging("ranges").VersionRange._from_specifier_set(self)
+        >>> SpecifierSet(">=1.0,<2.0").to_range()
+        <VersionRange '[1.0, 2.0.dev0)'>
+        """
+        from .ranges import VersionRange
 
-    def _get_ranges(self) -> Any:
-        """What `packaging.ranges` reads."""
-        return _module_of_packaging("_ranges").intersect_specifier_bounds(it._to_ranges() for it in self._specs)
+        return VersionRange._from_specifier_set(self)
+
+    @property
+    def _is_open(self) -> bool:
+        """Whether strings that are no versions may be contained."""
+        return not self._specs or self._has_arbitrary
 
     def _default_prereleases(self) -> bool | None:
         return self.prereleases
@@ -598,7 +602,7 @@ class SpecifierSet(_core.HeldSet, BaseSpecifier, metaclass=_Called):
         [('2.2', 2)]
         """
         if _core.follows_26():
-            return _filter(self, iterable, prereleases, key, not self._specs or self._has_arbitrary)
+            return _filter(self, iterable, prereleases, key)
         allowed = self.prereleases if prereleases is None else prereleases
         if not self._specs:
             items = tuple(iterable)
@@ -610,20 +614,6 @@ class SpecifierSet(_core.HeldSet, BaseSpecifier, metaclass=_Called):
         for each in self._specs:
             iterable = each.filter(iterable, bool(allowed), key)
         return iter(iterable)
-
-
-def _matches_all(several: SpecifierSet, version: Version) -> bool:
-    return _core.HeldSet.contains(several, version, True)
-
-
-def _module_of_packaging(name: str) -> Any:
-    """A module of ranges of the `packaging` that these modules stand in for."""
-    package = SpecifierSet.__module__.rpartition(".")[0]
-    if package == __package__:
-        raise NotImplementedError("there are no ranges of pep440_rattle; where it stands in for packaging 26.3, that has them")
-    import importlib
-
-    return importlib.import_module(f"{package}.{name}")
 
 
 def _is_of_26(state: object, kind: type) -> bool:

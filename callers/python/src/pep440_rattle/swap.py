@@ -1,4 +1,4 @@
-"""Runs a program with these modules in place of those of `packaging`: `version`, `specifiers`, `requirements`, `markers` and `utils`.
+"""Runs a program with these modules in place of those of `packaging`: `version`, `specifiers`, `ranges`, `requirements`, `markers` and `utils`.
 
     python -m pep440_rattle.swap PROGRAM WORD..        a script by its path, or one of those that the interpreter's environment has
     python -m pep440_rattle.swap -m MODULE WORD..      a module
@@ -25,13 +25,13 @@ from collections.abc import Sequence
 
 import pep440_rattle
 
-from . import specifiers, version
+from . import ranges, specifiers, version
 
 __all__ = ["swap"]
 
-_OURS = {"version": version, "specifiers": specifiers}
+_OURS = {"version": version, "specifiers": specifiers, "ranges": ranges}
 # The classes that `packaging` has, too: pickles know them by their modules' names.
-_CLASSES = ("Version", "InvalidVersion", "_Version", "BaseSpecifier", "Specifier", "SpecifierSet", "InvalidSpecifier")
+_CLASSES = ("Version", "InvalidVersion", "_Version", "BaseSpecifier", "Specifier", "SpecifierSet", "InvalidSpecifier", "VersionRange")
 # Modules that each copy has of its own, executed under its name, since they use others of the copy, as its `tags`.
 _COPIED = ("requirements", "markers", "utils", "_parser")
 # The releases of `packaging` that the tests are run beside, and the one whose behaviour each has.
@@ -71,6 +71,8 @@ class _Finder(importlib.abc.MetaPathFinder, importlib.abc.Loader):
     ) -> importlib.machinery.ModuleSpec | None:
         package, _, last = name.rpartition(".")
         if not _REPLACED.fullmatch(name) or not _is_replaced(package):
+            return None
+        if last == "ranges" and sys.modules[package].__version__ != "26.3":  # no other release has them
             return None
         if last in _OURS:
             return importlib.machinery.ModuleSpec(name, self)

@@ -1,11 +1,12 @@
 """Tags of wheels, as `parse_wheel_filename` returns them: the class of `packaging.tags` and how a string is read, without the tags of a machine."""
 from __future__ import annotations
 
+import math
 from typing import NamedTuple
 
 from ._core import follows_26
 
-__all__ = ["InvalidTag", "Tag", "UnsortedTagsError", "parse_tag"]
+__all__ = ["InvalidTag", "Tag", "TooManyTagsError", "UnsortedTagsError", "parse_tag"]
 
 
 class InvalidTag(ValueError):
@@ -14,6 +15,10 @@ class InvalidTag(ValueError):
 
 class UnsortedTagsError(ValueError):
     """Parts of a tag are not sorted, as PEP 425 has them."""
+
+
+class TooManyTagsError(ValueError):
+    """A string stands for more tags than are wanted."""
 
 
 class _Parts(NamedTuple):
@@ -38,13 +43,16 @@ class Tag(_Parts):
         return "-".join(self)
 
 
-def _check(tag: str, parts: list[list[str]], validate_order: bool) -> None:
+def _check(tag: str, parts: list[list[str]], validate_order: bool, limit: int | None) -> None:
     """As `packaging` 26 does."""
     for part in parts:
         if "" in part:
             raise InvalidTag(f"Tag {tag!r} has an empty component: {'.'.join(part)!r}")
         if validate_order and part != sorted(part):
             raise UnsortedTagsError(f"Tag component {'.'.join(part)!r} is not in sorted order per PEP 425")
+    count = math.prod(map(len, parts))
+    if limit is not None and count > limit:
+        raise TooManyTagsError(f"Compressed tag set would generate {count} tags, exceeding limit {limit}")
     if len(parts) != 3:
         raise InvalidTag(f"Tag {tag!r} must have exactly three components")
     for interpreter in parts[0]:
@@ -52,16 +60,19 @@ def _check(tag: str, parts: list[list[str]], validate_order: bool) -> None:
             raise InvalidTag(f"Tag {tag!r} has an invalid interpreter: {interpreter!r}")
 
 
-def parse_tag(tag: str, *, validate_order: bool = False) -> frozenset[Tag]:
+def parse_tag(tag: str, *, validate_order: bool = False, limit: int | None = None) -> frozenset[Tag]:
     """The tags that a string with points in it stands for.
 
     >>> sorted(map(str, parse_tag("py2.py3-none-any")))
     ['py2-none-any', 'py3-none-any']
 
-    Raises `InvalidTag` where the string is none, and with `validate_order` `UnsortedTagsError` where a part is not sorted.
+    Raises `InvalidTag` where the string is none, with `validate_order` `UnsortedTagsError` where a part is not sorted, `TooManyTagsError` where they are more
+    than the limit, and `ValueError` where this is negative.
     """
+    if limit is not None and limit < 0:
+        raise ValueError("limit must be non-negative")
     parts = [part.split(".") for part in tag.split("-")]
     if follows_26():
-        _check(tag, parts, validate_order)
+        _check(tag, parts, validate_order, limit)
     interpreters, abis, platforms = parts
     return frozenset(Tag(interpreter, abi, platform) for interpreter in interpreters for abi in abis for platform in platforms)

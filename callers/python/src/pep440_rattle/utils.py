@@ -1,10 +1,12 @@
 """Names of projects and of their files, with the names and the behaviour of `packaging.utils`."""
 from __future__ import annotations
 
+import functools
 import re
-from typing import NewType, Union, cast
+import sys
+from typing import TYPE_CHECKING, NewType, Union, cast
 
-from pep440_rattle._core import follows_26, normal_name
+from pep440_rattle._core import follows_26, make_name_call, normal_name, split_wheel
 
 from . import tags as _tags
 from .tags import Tag, parse_tag
@@ -69,6 +71,11 @@ def _normalize_name(name: str) -> NormalizedName:
     return cast(NormalizedName, name)
 
 
+_canonicalize_by_python = canonicalize_name
+if not TYPE_CHECKING:
+    canonicalize_name = make_name_call(sys.modules[__name__])
+
+
 def is_normalized_name(name: str) -> bool:
     """Whether it is a normalized name."""
     return (_NORMALIZED_NAME if follows_26() else _NORMALIZED_NAME_BY_25).match(name) is not None
@@ -99,9 +106,15 @@ def _parse_version(text: str, error: type[ValueError], kind: str, filename: str)
         raise error(f"Invalid {kind} filename (invalid version): {filename!r}") from reason
 
 
+@functools.lru_cache(256)
+def _read_tags(text: str, by_26: bool) -> frozenset[Tag]:
+    """The tags of a string: most wheels have one of a few."""
+    return parse_tag(text)
+
+
 def _parse_tags(text: str, validate_order: bool, filename: str) -> frozenset[Tag]:
     try:
-        return parse_tag(text, validate_order=validate_order) if validate_order else parse_tag(text)
+        return parse_tag(text, validate_order=validate_order) if validate_order else _read_tags(text, follows_26())
     except ValueError as error:
         # 24 and 25 have no such classes
         if isinstance(error, getattr(_tags, "UnsortedTagsError", ())):
@@ -118,23 +131,32 @@ def parse_wheel_filename(filename: str, *, validate_order: bool = False) -> tupl
 
     Raises `InvalidWheelFilename` where the string is no name of one, or with `validate_order` has tags that are not sorted.
     """
+    name, text, build, tags = split_wheel(filename) or _split_wheel(filename)
+    stem = filename[: -len(".whl")]
+    version = _parse_version(text, InvalidWheelFilename, "wheel", stem)
+    number: BuildTag = () if build is None else _parse_build(build, stem)
+    return cast(NormalizedName, name), version, number, _parse_tags(tags, validate_order, stem)
+
+
+def _split_wheel(filename: str) -> tuple[str, str, str | None, str]:
+    """The normalized name, version, build and tags, of any string."""
     if not filename.endswith(".whl"):
         raise InvalidWheelFilename(f"Invalid wheel filename (extension must be '.whl'): {filename!r}")
-    filename = filename[: -len(".whl")]
-    dashes = filename.count("-")
+    stem = filename[: -len(".whl")]
+    dashes = stem.count("-")
     if dashes not in (4, 5):
-        raise InvalidWheelFilename(f"Invalid wheel filename (wrong number of parts): {filename!r}")
-    parts = filename.split("-", dashes - 2)
-    if "__" in parts[0] or not (_NAME_IN_WHEEL if follows_26() else _NAME_IN_WHEEL_BY_25).match(parts[0]):
-        raise InvalidWheelFilename(f"Invalid project name: {filename!r}")
-    version = _parse_version(parts[1], InvalidWheelFilename, "wheel", filename)
-    build: BuildTag = ()
-    if dashes == 5:
-        number = (_BUILD_TAG if follows_26() else _BUILD_TAG_BY_25).match(parts[2])
-        if not number:
-            raise InvalidWheelFilename(f"Invalid build number: {parts[2]} in {filename!r}")
-        build = int(number[1]), number[2]
-    return canonicalize_name(parts[0]), version, build, _parse_tags(parts[-1], validate_order, filename)
+        raise InvalidWheelFilename(f"Invalid wheel filename (wrong number of parts): {stem!r}")
+    name, version, *more = stem.split("-", dashes - 2)
+    if "__" in name or not (_NAME_IN_WHEEL if follows_26() else _NAME_IN_WHEEL_BY_25).match(name):
+        raise InvalidWheelFilename(f"Invalid project name: {stem!r}")
+    return canonicalize_name(name), version, more[0] if dashes == 5 else None, more[-1]
+
+
+def _parse_build(text: str, filename: str) -> tuple[int, str]:
+    found = (_BUILD_TAG if follows_26() else _BUILD_TAG_BY_25).match(text)
+    if not found:
+        raise InvalidWheelFilename(f"Invalid build number: {text} in {filename!r}")
+    return int(found[1]), found[2]
 
 
 def parse_sdist_filename(filename: str) -> tuple[NormalizedName, Version]:

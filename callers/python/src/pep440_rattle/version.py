@@ -179,7 +179,7 @@ def _set_attributes(it: object, attributes: dict[str, Any], slots: dict[str, Any
 # ---- what the type of versions has of Python; it is written in C, so that a version is one object, which the garbage collector does not see
 
 
-def _init_subclass(cls: type[Version], **named: object) -> None:
+def _init_subclass(cls: type[Version], /, **named: object) -> None:
     super(Version, cls).__init_subclass__(**named)
     _remove_held_slots(cls)
     is_changed = any(getattr(cls, it) is not getattr(Version, it) for it in _PRINTED)
