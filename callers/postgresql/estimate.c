@@ -1,7 +1,7 @@
 /* How many rows the planner expects: of `specs @> version`, by the statistics of a column of versions, of a column of lists, or of both; and of two columns
-   whose lists have a version in common.
+   whose lists have a version in common. A list may be a set.
 
-   Whoever creates an operator or a function may name these estimators, for operands of any types: only values of both types are read. */
+   Whoever creates an operator or a function may name these estimators, for operands of any types: only values of the extension's types are read. */
 #include "extension.h"
 
 /* The most lists of a column that are asked of one statistic: those that are common, and as many others. */
@@ -32,29 +32,31 @@ typedef struct {
     double rows;
 } Sampled;
 
-/* Whether its values are those of the type with this output function, as are those of domains over it. */
-static bool has_output(Oid type, PGFunction output)
+typedef enum { VERSIONS, LISTS } Contents;
+
+/* Whether its values are versions, or lists or sets, as are those of domains over these: by the output function. */
+static bool has_contents(Oid type, Contents contents)
 {
     Oid function;
     bool is_varlena;
     FmgrInfo called;
     getTypeOutputInfo(type, &function, &is_varlena);
     fmgr_info(function, &called);
-    return called.fn_addr == output;
+    return contents == VERSIONS ? called.fn_addr == version_out : called.fn_addr == specs_out || called.fn_addr == set_out;
 }
 
-static bool is_known_as(Node *node, PGFunction output)
+static bool is_known_as(Node *node, Contents contents)
 {
-    return node != NULL && IsA(node, Const) && has_output(((Const *)node)->consttype, output);
+    return node != NULL && IsA(node, Const) && has_contents(((Const *)node)->consttype, contents);
 }
 
-static bool is_of(const AttStatsSlot *slot, PGFunction output)
+static bool is_of(const AttStatsSlot *slot, Contents contents)
 {
-    return slot->nvalues == 0 || has_output(slot->valuetype, output);
+    return slot->nvalues == 0 || has_contents(slot->valuetype, contents);
 }
 
-/* Whether there are statistics, and of values with this output function. */
-static bool find_statistics(const VariableStatData *variable, PGFunction output, Statistics *found)
+/* Whether there are statistics, and of such values. */
+static bool find_statistics(const VariableStatData *variable, Contents contents, Statistics *found)
 {
     memset(found, 0, sizeof *found);
     if (!HeapTupleIsValid(variable->statsTuple))
@@ -66,7 +68,7 @@ static bool find_statistics(const VariableStatData *variable, PGFunction output,
     for (int each = 0; each < found->common.nvalues; each++)
         found->other_rows -= found->common.numbers[each];
     found->other_rows = Max(found->other_rows, 0);
-    return found->common.nvalues + found->others.nvalues > 0 && is_of(&found->common, output) && is_of(&found->others, output);
+    return found->common.nvalues + found->others.nvalues > 0 && is_of(&found->common, contents) && is_of(&found->others, contents);
 }
 
 /* ---- a column of versions */
@@ -107,9 +109,10 @@ static double part_below(const Versions *versions, Bytes bound)
     return (first - (compare_bytes(versions->others[first], bound) == 0 ? 0 : 0.5)) / last;
 }
 
-static double part_between(const Versions *versions, Bytes low, Bytes high)
+static double part_between(const Versions *versions, KeyInterval interval)
 {
     const Statistics *statistics = versions->statistics;
+    Bytes low = interval.low, high = interval.high;
     double found = 0, all = 1 - statistics->nulls - statistics->other_rows, others;
     for (int each = 0; each < statistics->common.nvalues; each++)
         if (compare_bytes(versions->common[each], low) >= 0 && (high.length == 0 || compare_bytes(versions->common[each], high) < 0))
@@ -125,9 +128,9 @@ static double part_between(const Versions *versions, Bytes low, Bytes high)
 static double part_covered(const Versions *versions, const Cover *cover)
 {
     double sum = 0, most = 1 - versions->statistics->nulls;
-    for (size_t each = 0; each < cover->count && sum < most; each += 2) {
+    for (size_t each = 0; each < cover->count && sum < most; each++) {
         CHECK_FOR_INTERRUPTS();
-        sum += Max(versions->least, part_between(versions, cover_key(cover, each), cover_key(cover, each + 1)));
+        sum += Max(versions->least, part_between(versions, cover->intervals[each]));
     }
     return Min(sum, most);
 }
@@ -169,11 +172,11 @@ static bool do_overlap(const Cover *left, const Cover *right)
 {
     size_t one = 0, other = 0;
     while (one < left->count && other < right->count) {
-        Bytes end = cover_key(left, one + 1), other_end = cover_key(right, other + 1);
-        if (end.length != 0 && compare_bytes(end, cover_key(right, other)) <= 0)
-            one += 2;
-        else if (other_end.length != 0 && compare_bytes(other_end, cover_key(left, one)) <= 0)
-            other += 2;
+        const KeyInterval *first = &left->intervals[one], *second = &right->intervals[other];
+        if (first->high.length != 0 && compare_bytes(first->high, second->low) <= 0)
+            one++;
+        else if (second->high.length != 0 && compare_bytes(second->high, first->low) <= 0)
+            other++;
         else
             return true;
     }
@@ -200,7 +203,7 @@ static double part_overlapping(const Statistics *left, const Statistics *right)
 static double of_columns(VariableStatData *lists, VariableStatData *versions)
 {
     Statistics of_lists, of_versions;
-    if (!find_statistics(lists, specs_out, &of_lists) || !find_statistics(versions, version_out, &of_versions))
+    if (!find_statistics(lists, LISTS, &of_lists) || !find_statistics(versions, VERSIONS, &of_versions))
         return NOT_KNOWN;
     Versions known = versions_of(versions, &of_versions);
     return part_containing(&of_lists, &known, NULL);
@@ -210,7 +213,7 @@ static double of_version(const VariableStatData *lists, Node *version)
 {
     Statistics statistics;
     VersionBuffer buffer;
-    if (!is_known_as(version, version_out) || !find_statistics(lists, specs_out, &statistics))
+    if (!is_known_as(version, VERSIONS) || !find_statistics(lists, LISTS, &statistics))
         return NOT_KNOWN;
     if (((Const *)version)->constisnull)
         return 0;
@@ -222,7 +225,7 @@ static double of_version(const VariableStatData *lists, Node *version)
 static double of_list(VariableStatData *versions, Node *list, bool is_between_ends)
 {
     Statistics statistics;
-    if (!is_known_as(list, specs_out) || !find_statistics(versions, version_out, &statistics))
+    if (!is_known_as(list, LISTS) || !find_statistics(versions, VERSIONS, &statistics))
         return NOT_KNOWN;
     if (((Const *)list)->constisnull)
         return 0;
@@ -231,7 +234,7 @@ static double of_list(VariableStatData *versions, Node *list, bool is_between_en
     double found = part_covered(&known, &cover);
     if (!is_between_ends || cover.count == 0)
         return found;
-    return found / Max(found, part_between(&known, cover_key(&cover, 0), cover_key(&cover, cover.count - 1)));
+    return found / Max(found, part_between(&known, ends_of_cover(&cover)));
 }
 
 /* Of a column and a value that is known; or, as for the inner side of a nested loop, of a column and one of another table. */
@@ -267,7 +270,7 @@ static double joined(PlannerInfo *root, List *arguments, SpecialJoinInfo *join, 
 static double of_lists(VariableStatData *left, VariableStatData *right)
 {
     Statistics one, other;
-    return find_statistics(left, specs_out, &one) && find_statistics(right, specs_out, &other) ? part_overlapping(&one, &other) : NOT_KNOWN;
+    return find_statistics(left, LISTS, &one) && find_statistics(right, LISTS, &other) ? part_overlapping(&one, &other) : NOT_KNOWN;
 }
 
 static double probability(double found, double unknown)

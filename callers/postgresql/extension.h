@@ -1,4 +1,4 @@
-/* What the files of the extension share: the two types, and how a call of the library becomes a datum or an error. */
+/* What the files of the extension share: the types, and how a call of the library becomes a datum or an error. */
 #ifndef PEP440_EXTENSION_H
 #define PEP440_EXTENSION_H
 
@@ -18,10 +18,15 @@ typedef struct {
     Bytes bytes;
 } Version;
 
-/* Keys of intervals, as pep440_boundaries writes them, that cover a list. */
+/* An interval of keys: at least the low one, and below the high one, which has no bytes where there is no bound. */
 typedef struct {
-    const uint8_t *keys;
-    const size_t *ends;
+    Bytes low;
+    Bytes high;
+} KeyInterval;
+
+/* The intervals that cover a list or a set, in order. Their bytes are those of the list or the set, where these are compiled. */
+typedef struct {
+    KeyInterval *intervals;
     size_t count;
     bool is_exact; /* whether the list has no `===`, and so contains whatever lies in an interval */
 } Cover;
@@ -43,7 +48,7 @@ typedef struct {
     uint8_t bytes[MOST_COMPILED];
 } VersionBuffer;
 
-/* The first byte of compiled versions, of the members of a list, which an earlier release stored alone, of lists, and of sets, which are not stored. */
+/* The first byte of compiled versions, of the members of a list, which an earlier release stored alone, of lists, and of sets. */
 enum { VERSION_FORMAT = 4, MEMBERS_FORMAT = 5, LIST_FORMAT = 6, SET_FORMAT = 7 };
 
 /* The argument of a function that takes a text. */
@@ -54,6 +59,8 @@ Datum read_binary(FunctionCallInfo fcinfo, Reader read);
 Datum read_text(FunctionCallInfo fcinfo, Reader read);
 /* The binary form of a value. */
 Datum binary_of(const char *normal);
+/* A text of the server's: a copy in its encoding, with a zero at the end. */
+char *server_text(Bytes utf8);
 /* Keeps the error that says why the text is no value of the type, or raises it. */
 struct varlena *fail_text(Bytes text, const char *type, Writer reason, Node *context);
 /* What the call writes, however long, in memory of the server's. Where it is not PEP440_OK, nothing is written. */
@@ -74,36 +81,41 @@ Bytes bytes_of(const struct varlena *stored);
 Version version_of(const struct varlena *stored, VersionBuffer *buffer);
 /* The order of two versions, -1, 0 or 1. */
 int compare_versions(const struct varlena *left, const struct varlena *right);
-/* A number that is not above that of a greater version: nearly all versions have epoch 0, and their keys a first byte 0; the eight bytes behind it. */
-uint64 first_of_key(const struct varlena *stored);
-/* What the first bytes of a stored version show of what follows its release: nothing, or a pre-release or dev release; or that the library has to parse it. */
-typedef enum { UNKNOWN_SUFFIX, NO_SUFFIX, PRERELEASE_SUFFIX } Suffix;
-Suffix suffix_of(const struct varlena *stored);
-/* The normal form of a version that is a release alone, and stored as such; else NULL. */
-char *release_text(const struct varlena *stored);
+/* A number that is not above that of a greater key, or version: nearly all versions have epoch 0, and their keys a first byte 0; the eight bytes behind it. */
+uint64 first_of_key(Bytes key);
+uint64 first_of_version(const struct varlena *stored);
+/* Whether a version is a pre-release or dev release, by its stored bytes; or that the library has to parse these. */
+typedef enum { UNKNOWN_KIND, FINAL_KIND, PRERELEASE_KIND } VersionKind;
+VersionKind kind_of(const struct varlena *stored);
+/* The normal form of a version that is stored without what most have in common; NULL where the library has to write it. */
+char *short_text(const struct varlena *stored);
 /* The normal form of a version that is the first argument. */
 char *normal_argument(FunctionCallInfo fcinfo);
-/* The output functions of both types, which no other type has but domains over these. */
+/* The output functions of the types, which no other type has but domains over these. */
 extern PGDLLEXPORT Datum version_out(PG_FUNCTION_ARGS);
 extern PGDLLEXPORT Datum specs_out(PG_FUNCTION_ARGS);
-/* What the library takes as the list: compiled bytes, or the normal form where an older release stored the value. */
+extern PGDLLEXPORT Datum set_out(PG_FUNCTION_ARGS);
+/* What the library takes as the list or the set: compiled bytes, or the normal form where an older release stored a list. */
 Bytes list_of(const struct varlena *stored);
-/* The members in a compiled list. */
+/* The members in a compiled list; of a set all bytes. So lists and sets are equal if these are. */
 Bytes members_of(Bytes compiled);
+/* Reads bytes that follow how many they are, as a set has its keys; false if there are none. */
+bool read_sized(const uint8_t **at, const uint8_t *end, Bytes *found);
 /* The value of a compiled version. */
 struct varlena *make_version(Bytes compiled);
 struct varlena *read_version(Bytes text, Node *context);
 
-/* The keys that cover a list. */
+/* The compiled bytes of a list of the type; if the text is none, the error that says why, as of a Reader, and false. */
+bool read_list(Bytes text, const char *type, Node *context, Bytes *compiled);
+
+/* What covers a list or a set. */
 Cover cover_of(Bytes list);
-/* The key number `place` of a cover. */
-Bytes cover_key(const Cover *cover, size_t place);
 /* Whether the key lies in one of the intervals. */
 bool is_in_cover(const Cover *cover, Bytes key);
 /* The cover of a list that is that of the function's last call too, in memory that the function keeps; else NULL. */
 const Cover *known_cover(FmgrInfo *function, Bytes list);
-/* The lowest key of a cover, and the one above all of it; no bytes where there is no such bound. Nothing lies in an empty cover. */
-void ends_of_cover(const Cover *cover, Bytes *low, Bytes *high);
+/* From the lowest key of a cover to the one above all of it; nothing lies in those of an empty cover. */
+KeyInterval ends_of_cover(const Cover *cover);
 struct varlena *make_bytea(Bytes bytes);
 /* Writes to the request how many rows the function that it asks about has, whose first argument is the version, or the list; of all, or of those between the
    ends of the list's cover. */

@@ -1,4 +1,4 @@
-/* GiST indexes on lists, for `specs @> version` and `specs && specs`: an entry has the ends of the list's cover, and the server rechecks each row.
+/* GiST indexes on lists and sets, for `@>` and `&&`: an entry has the ends of the cover, and the server rechecks each row.
 
    An entry is a bytea: how many bytes the low key takes, the low key, and the high key, which has no bytes where there is no bound. */
 #include "extension.h"
@@ -9,31 +9,25 @@ enum { MOST_KEY = 120 };
 /* The strategy numbers of ranges, whose operators have the same names. */
 enum { OVERLAPS = 3, CONTAINS = 7 };
 
-typedef struct {
-    Bytes low;
-    Bytes high;
-} Ends;
-
-static Ends ends_of_entry(Datum entry)
+static KeyInterval ends_of_entry(Datum entry)
 {
     Bytes value = bytes_of(PG_DETOAST_DATUM_PACKED(entry));
     if (value.length == 0 || value.bytes[0] >= value.length)
         fail(PEP440_INVALID_LIST);
     size_t low = value.bytes[0];
-    return (Ends){{value.bytes + 1, low}, {value.bytes + 1 + low, value.length - 1 - low}};
+    return (KeyInterval){{value.bytes + 1, low}, {value.bytes + 1 + low, value.length - 1 - low}};
 }
 
-static Ends cover_ends(const Cover *cover)
+static KeyInterval cover_ends(const Cover *cover)
 {
-    Ends made;
-    ends_of_cover(cover, &made.low, &made.high);
+    KeyInterval made = ends_of_cover(cover);
     made.low.length = Min(made.low.length, MOST_KEY);
     if (made.high.length > MOST_KEY)
         made.high.length = 0;
     return made;
 }
 
-static Datum make_entry(Ends interval)
+static Datum make_entry(KeyInterval interval)
 {
     struct varlena *made = palloc(VARHDRSZ + 1 + interval.low.length + interval.high.length);
     uint8_t *bytes = (uint8_t *)VARDATA(made);
@@ -52,9 +46,9 @@ static int compare_ends(Bytes left, Bytes right)
     return compare_bytes(left, right);
 }
 
-static Ends join_ends(Ends one, Ends other)
+static KeyInterval join_ends(KeyInterval one, KeyInterval other)
 {
-    return (Ends){compare_bytes(one.low, other.low) <= 0 ? one.low : other.low, compare_ends(one.high, other.high) >= 0 ? one.high : other.high};
+    return (KeyInterval){compare_bytes(one.low, other.low) <= 0 ? one.low : other.low, compare_ends(one.high, other.high) >= 0 ? one.high : other.high};
 }
 
 static bool is_below(Bytes key, Bytes end)
@@ -74,7 +68,7 @@ Datum specs_gist_compress(PG_FUNCTION_ARGS)
     PG_RETURN_POINTER(made);
 }
 
-static bool is_consistent(FmgrInfo *function, Ends interval, Datum asked, StrategyNumber strategy)
+static bool is_consistent(FmgrInfo *function, KeyInterval interval, Datum asked, StrategyNumber strategy)
 {
     const struct varlena *stored = PG_DETOAST_DATUM_PACKED(asked);
     VersionBuffer buffer;
@@ -87,7 +81,7 @@ static bool is_consistent(FmgrInfo *function, Ends interval, Datum asked, Strate
     Bytes list = list_of(stored);
     const Cover *known = known_cover(function, list);
     Cover cover = known != NULL ? *known : cover_of(list);
-    Ends other = cover_ends(&cover);
+    KeyInterval other = cover_ends(&cover);
     return is_below(interval.low, other.high) && is_below(other.low, interval.high);
 }
 
@@ -103,7 +97,7 @@ PG_FUNCTION_INFO_V1(specs_gist_union);
 Datum specs_gist_union(PG_FUNCTION_ARGS)
 {
     GistEntryVector *entries = (GistEntryVector *)PG_GETARG_POINTER(0);
-    Ends all = ends_of_entry(entries->vector[0].key);
+    KeyInterval all = ends_of_entry(entries->vector[0].key);
     for (int each = 1; each < entries->n; each++)
         all = join_ends(all, ends_of_entry(entries->vector[each].key));
     Datum made = make_entry(all);
@@ -114,16 +108,10 @@ Datum specs_gist_union(PG_FUNCTION_ARGS)
 /* Where a key is among all keys, from 0 to 1: nearly all begin with the epoch 0. */
 static double place_of(Bytes key, double none)
 {
-    uint64 first = 0;
-    if (key.length == 0)
-        return none;
-    if (key.bytes[0] != 0)
-        return 1;
-    memcpy(&first, key.bytes + 1, Min(key.length - 1, sizeof first));
-    return (double)pg_ntoh64(first) / (double)PG_UINT64_MAX;
+    return key.length == 0 ? none : (double)first_of_key(key) / (double)PG_UINT64_MAX;
 }
 
-static double length_of(Ends interval)
+static double length_of(KeyInterval interval)
 {
     return place_of(interval.high, 1) - place_of(interval.low, 0);
 }
@@ -132,13 +120,13 @@ static double length_of(Ends interval)
 PG_FUNCTION_INFO_V1(specs_gist_penalty);
 Datum specs_gist_penalty(PG_FUNCTION_ARGS)
 {
-    Ends kept = ends_of_entry(((GISTENTRY *)PG_GETARG_POINTER(0))->key), added = ends_of_entry(((GISTENTRY *)PG_GETARG_POINTER(1))->key);
+    KeyInterval kept = ends_of_entry(((GISTENTRY *)PG_GETARG_POINTER(0))->key), added = ends_of_entry(((GISTENTRY *)PG_GETARG_POINTER(1))->key);
     *(float *)PG_GETARG_POINTER(2) = (float)(length_of(join_ends(kept, added)) - length_of(kept));
     PG_RETURN_DATUM(PG_GETARG_DATUM(2));
 }
 
 typedef struct {
-    Ends interval;
+    KeyInterval interval;
     OffsetNumber number;
 } Placed;
 
@@ -160,7 +148,7 @@ Datum specs_gist_picksplit(PG_FUNCTION_ARGS)
     for (int each = 0; each < count; each++)
         placed[each] = (Placed){ends_of_entry(entries->vector[each + FirstOffsetNumber].key), (OffsetNumber)(each + FirstOffsetNumber)};
     qsort(placed, count, sizeof *placed, compare_placed);
-    Ends left = placed[0].interval, right = placed[half].interval;
+    KeyInterval left = placed[0].interval, right = placed[half].interval;
     split->spl_left = palloc(count * sizeof *split->spl_left);
     split->spl_right = palloc(count * sizeof *split->spl_right);
     split->spl_nleft = half;

@@ -81,9 +81,9 @@ Datum version_dev(PG_FUNCTION_ARGS)
 PG_FUNCTION_INFO_V1(version_is_prerelease);
 Datum version_is_prerelease(PG_FUNCTION_ARGS)
 {
-    Suffix suffix = suffix_of(GET_STORED(0));
-    if (suffix != UNKNOWN_SUFFIX)
-        PG_RETURN_BOOL(suffix == PRERELEASE_SUFFIX);
+    VersionKind kind = kind_of(GET_STORED(0));
+    if (kind != UNKNOWN_KIND)
+        PG_RETURN_BOOL(kind == PRERELEASE_KIND);
     pep440_parts parts = parts_of(fcinfo);
     PG_RETURN_BOOL(parts.pre_kind != PEP440_NO_PRE || parts.has_dev);
 }

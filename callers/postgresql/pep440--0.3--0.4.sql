@@ -1,4 +1,4 @@
--- Texts beside lists; estimates of joins; and row security keeps indexes. Values of release 0.3 are read as they are.
+-- Sets of versions; texts beside lists; estimates of joins; and row security keeps indexes. Values of release 0.3 are read as they are.
 \echo Use "ALTER EXTENSION pep440 UPDATE TO '0.4'" to load this file. \quit
 
 -- ---- these raise no error that has a value in it: of valid values none but that memory is out
@@ -73,3 +73,77 @@ CREATE OPERATOR CLASS pep440_specs_ops DEFAULT FOR TYPE pep440_specs USING gist 
 -- ---- to load lists of an index, of which some have empty items
 
 CREATE FUNCTION pep440_specs_without_empty_items(text) RETURNS text AS 'MODULE_PATHNAME', 'specs_without_empty_items' LANGUAGE C IMMUTABLE STRICT PARALLEL SAFE;
+
+-- ---- sets of versions, with the operators of multiranges; `union` and `difference` of lists may be no list
+
+CREATE TYPE pep440_set;
+CREATE FUNCTION pep440_set_in(cstring) RETURNS pep440_set AS 'MODULE_PATHNAME', 'set_in' LANGUAGE C IMMUTABLE STRICT PARALLEL SAFE;
+CREATE FUNCTION pep440_set_out(pep440_set) RETURNS cstring AS 'MODULE_PATHNAME', 'set_out' LANGUAGE C IMMUTABLE STRICT PARALLEL SAFE;
+CREATE FUNCTION pep440_set_recv(internal) RETURNS pep440_set AS 'MODULE_PATHNAME', 'set_recv' LANGUAGE C IMMUTABLE STRICT PARALLEL SAFE;
+CREATE FUNCTION pep440_set_send(pep440_set) RETURNS bytea AS 'MODULE_PATHNAME', 'set_send' LANGUAGE C IMMUTABLE STRICT PARALLEL SAFE;
+CREATE TYPE pep440_set (INPUT = pep440_set_in, OUTPUT = pep440_set_out, RECEIVE = pep440_set_recv, SEND = pep440_set_send, STORAGE = extended);
+COMMENT ON TYPE pep440_set IS 'set of versions';
+
+CREATE FUNCTION pep440_set(text) RETURNS pep440_set AS 'MODULE_PATHNAME', 'set_from_text' LANGUAGE C IMMUTABLE STRICT PARALLEL SAFE;
+CREATE FUNCTION text(pep440_set) RETURNS text AS 'MODULE_PATHNAME', 'set_to_text' LANGUAGE C IMMUTABLE STRICT PARALLEL SAFE;
+CREATE FUNCTION pep440_set(pep440_specs) RETURNS pep440_set AS 'MODULE_PATHNAME', 'set_from_specs' LANGUAGE C IMMUTABLE STRICT PARALLEL SAFE;
+CREATE CAST (text AS pep440_set) WITH FUNCTION pep440_set(text) AS ASSIGNMENT;
+CREATE CAST (pep440_set AS text) WITH FUNCTION text(pep440_set) AS ASSIGNMENT;
+CREATE CAST (pep440_specs AS pep440_set) WITH FUNCTION pep440_set(pep440_specs) AS IMPLICIT;
+
+CREATE FUNCTION pep440_set_lt(pep440_set, pep440_set) RETURNS boolean AS 'MODULE_PATHNAME', 'specs_lt' LANGUAGE C IMMUTABLE STRICT PARALLEL SAFE LEAKPROOF;
+CREATE FUNCTION pep440_set_le(pep440_set, pep440_set) RETURNS boolean AS 'MODULE_PATHNAME', 'specs_le' LANGUAGE C IMMUTABLE STRICT PARALLEL SAFE LEAKPROOF;
+CREATE FUNCTION pep440_set_eq(pep440_set, pep440_set) RETURNS boolean AS 'MODULE_PATHNAME', 'specs_eq' LANGUAGE C IMMUTABLE STRICT PARALLEL SAFE LEAKPROOF;
+CREATE FUNCTION pep440_set_ge(pep440_set, pep440_set) RETURNS boolean AS 'MODULE_PATHNAME', 'specs_ge' LANGUAGE C IMMUTABLE STRICT PARALLEL SAFE LEAKPROOF;
+CREATE FUNCTION pep440_set_gt(pep440_set, pep440_set) RETURNS boolean AS 'MODULE_PATHNAME', 'specs_gt' LANGUAGE C IMMUTABLE STRICT PARALLEL SAFE LEAKPROOF;
+CREATE FUNCTION pep440_set_ne(pep440_set, pep440_set) RETURNS boolean AS 'MODULE_PATHNAME', 'specs_ne' LANGUAGE C IMMUTABLE STRICT PARALLEL SAFE LEAKPROOF;
+CREATE FUNCTION pep440_set_cmp(pep440_set, pep440_set) RETURNS integer AS 'MODULE_PATHNAME', 'specs_cmp' LANGUAGE C IMMUTABLE STRICT PARALLEL SAFE LEAKPROOF;
+CREATE FUNCTION pep440_set_hash(pep440_set) RETURNS integer AS 'MODULE_PATHNAME', 'specs_hash' LANGUAGE C IMMUTABLE STRICT PARALLEL SAFE LEAKPROOF;
+CREATE FUNCTION pep440_set_hash_extended(pep440_set, bigint) RETURNS bigint AS 'MODULE_PATHNAME', 'specs_hash_extended' LANGUAGE C IMMUTABLE STRICT PARALLEL SAFE LEAKPROOF;
+CREATE OPERATOR < (LEFTARG = pep440_set, RIGHTARG = pep440_set, FUNCTION = pep440_set_lt, COMMUTATOR = >, NEGATOR = >=, RESTRICT = scalarltsel, JOIN = scalarltjoinsel);
+CREATE OPERATOR <= (LEFTARG = pep440_set, RIGHTARG = pep440_set, FUNCTION = pep440_set_le, COMMUTATOR = >=, NEGATOR = >, RESTRICT = scalarlesel, JOIN = scalarlejoinsel);
+CREATE OPERATOR = (LEFTARG = pep440_set, RIGHTARG = pep440_set, FUNCTION = pep440_set_eq, COMMUTATOR = =, NEGATOR = <>, RESTRICT = eqsel, JOIN = eqjoinsel, HASHES, MERGES);
+CREATE OPERATOR >= (LEFTARG = pep440_set, RIGHTARG = pep440_set, FUNCTION = pep440_set_ge, COMMUTATOR = <=, NEGATOR = <, RESTRICT = scalargesel, JOIN = scalargejoinsel);
+CREATE OPERATOR > (LEFTARG = pep440_set, RIGHTARG = pep440_set, FUNCTION = pep440_set_gt, COMMUTATOR = <, NEGATOR = <=, RESTRICT = scalargtsel, JOIN = scalargtjoinsel);
+CREATE OPERATOR <> (LEFTARG = pep440_set, RIGHTARG = pep440_set, FUNCTION = pep440_set_ne, COMMUTATOR = <>, NEGATOR = =, RESTRICT = neqsel, JOIN = neqjoinsel);
+CREATE OPERATOR CLASS pep440_set_ops DEFAULT FOR TYPE pep440_set USING btree AS
+    OPERATOR 1 <, OPERATOR 2 <=, OPERATOR 3 =, OPERATOR 4 >=, OPERATOR 5 >, FUNCTION 1 pep440_set_cmp(pep440_set, pep440_set), FUNCTION 4 btequalimage(oid);
+CREATE OPERATOR CLASS pep440_set_ops DEFAULT FOR TYPE pep440_set USING hash AS
+    OPERATOR 1 =, FUNCTION 1 pep440_set_hash(pep440_set), FUNCTION 2 pep440_set_hash_extended(pep440_set, bigint);
+
+CREATE FUNCTION pep440_set_union(pep440_set, pep440_set) RETURNS pep440_set AS 'MODULE_PATHNAME', 'set_union' LANGUAGE C IMMUTABLE STRICT PARALLEL SAFE;
+CREATE FUNCTION pep440_set_difference(pep440_set, pep440_set) RETURNS pep440_set AS 'MODULE_PATHNAME', 'set_difference' LANGUAGE C IMMUTABLE STRICT PARALLEL SAFE;
+CREATE FUNCTION pep440_set_intersection(pep440_set, pep440_set) RETURNS pep440_set AS 'MODULE_PATHNAME', 'set_intersection' LANGUAGE C IMMUTABLE STRICT PARALLEL SAFE;
+CREATE FUNCTION pep440_set_overlap(pep440_set, pep440_set) RETURNS boolean AS 'MODULE_PATHNAME', 'set_overlap' LANGUAGE C IMMUTABLE STRICT PARALLEL SAFE;
+CREATE FUNCTION pep440_set_contains_set(pep440_set, pep440_set) RETURNS boolean AS 'MODULE_PATHNAME', 'set_contains' LANGUAGE C IMMUTABLE STRICT PARALLEL SAFE;
+CREATE FUNCTION pep440_set_contained_by(pep440_set, pep440_set) RETURNS boolean AS 'MODULE_PATHNAME', 'set_contained_by' LANGUAGE C IMMUTABLE STRICT PARALLEL SAFE;
+CREATE FUNCTION isempty(pep440_set) RETURNS boolean AS 'MODULE_PATHNAME', 'set_isempty' LANGUAGE C IMMUTABLE STRICT PARALLEL SAFE;
+CREATE OPERATOR + (LEFTARG = pep440_set, RIGHTARG = pep440_set, FUNCTION = pep440_set_union, COMMUTATOR = +);
+CREATE OPERATOR - (LEFTARG = pep440_set, RIGHTARG = pep440_set, FUNCTION = pep440_set_difference);
+CREATE OPERATOR * (LEFTARG = pep440_set, RIGHTARG = pep440_set, FUNCTION = pep440_set_intersection, COMMUTATOR = *);
+CREATE OPERATOR && (LEFTARG = pep440_set, RIGHTARG = pep440_set, FUNCTION = pep440_set_overlap, COMMUTATOR = &&, RESTRICT = matchingsel, JOIN = pep440_specs_overlap_join_selectivity);
+CREATE OPERATOR @> (LEFTARG = pep440_set, RIGHTARG = pep440_set, FUNCTION = pep440_set_contains_set, COMMUTATOR = <@, RESTRICT = matchingsel, JOIN = matchingjoinsel);
+CREATE OPERATOR <@ (LEFTARG = pep440_set, RIGHTARG = pep440_set, FUNCTION = pep440_set_contained_by, COMMUTATOR = @>, RESTRICT = matchingsel, JOIN = matchingjoinsel);
+CREATE AGGREGATE intersect_agg(pep440_set) (SFUNC = pep440_set_intersection, STYPE = pep440_set, COMBINEFUNC = pep440_set_intersection, PARALLEL = SAFE);
+CREATE AGGREGATE union_agg(pep440_set) (SFUNC = pep440_set_union, STYPE = pep440_set, COMBINEFUNC = pep440_set_union, PARALLEL = SAFE);
+CREATE FUNCTION unnest(pep440_set, OUT low bytea, OUT high bytea, OUT bounds text) RETURNS SETOF record AS 'MODULE_PATHNAME', 'specs_cover' LANGUAGE C IMMUTABLE STRICT PARALLEL SAFE ROWS 2;
+
+-- ---- a version in a set. Beside a set the version has a domain, so that a constant beside a version is still a list, whose operators take the type itself
+
+CREATE DOMAIN pep440_member AS pep440;
+CREATE FUNCTION pep440_cover_start(pep440_set) RETURNS bytea AS 'MODULE_PATHNAME', 'specs_cover_start' LANGUAGE C IMMUTABLE STRICT PARALLEL SAFE;
+CREATE FUNCTION pep440_cover_end(pep440_set) RETURNS bytea AS 'MODULE_PATHNAME', 'specs_cover_end' LANGUAGE C IMMUTABLE STRICT PARALLEL SAFE;
+CREATE FUNCTION pep440_version_contained_between_ends(pep440, pep440_set) RETURNS boolean AS 'MODULE_PATHNAME', 'version_contained_by' LANGUAGE C IMMUTABLE STRICT PARALLEL SAFE LEAKPROOF SUPPORT pep440_version_between_ends_support;
+CREATE FUNCTION pep440_set_contains(pep440_set, pep440_member) RETURNS boolean AS 'MODULE_PATHNAME', 'specs_contains' LANGUAGE C IMMUTABLE STRICT PARALLEL SAFE LEAKPROOF SUPPORT pep440_specs_contains_support;
+CREATE FUNCTION pep440_version_contained_by_set(pep440_member, pep440_set) RETURNS boolean AS 'MODULE_PATHNAME', 'version_contained_by' LANGUAGE C IMMUTABLE STRICT PARALLEL SAFE LEAKPROOF SUPPORT pep440_version_contained_by_support;
+CREATE OPERATOR @> (LEFTARG = pep440_set, RIGHTARG = pep440_member, FUNCTION = pep440_set_contains, COMMUTATOR = <@,
+    RESTRICT = pep440_specs_contains_selectivity, JOIN = pep440_specs_contains_join_selectivity);
+CREATE OPERATOR <@ (LEFTARG = pep440_member, RIGHTARG = pep440_set, FUNCTION = pep440_version_contained_by_set, COMMUTATOR = @>,
+    RESTRICT = pep440_version_contained_by_selectivity, JOIN = pep440_version_contained_by_join_selectivity);
+
+CREATE FUNCTION pep440_set_gist_consistent(internal, pep440_set, smallint, oid, internal) RETURNS boolean AS 'MODULE_PATHNAME', 'specs_gist_consistent' LANGUAGE C IMMUTABLE STRICT PARALLEL SAFE;
+CREATE OPERATOR CLASS pep440_set_ops DEFAULT FOR TYPE pep440_set USING gist AS
+    OPERATOR 3 &&, OPERATOR 7 @> (pep440_set, pep440_member),
+    FUNCTION 1 pep440_set_gist_consistent(internal, pep440_set, smallint, oid, internal), FUNCTION 2 pep440_specs_gist_union(internal, internal),
+    FUNCTION 3 pep440_specs_gist_compress(internal), FUNCTION 5 pep440_specs_gist_penalty(internal, internal, internal),
+    FUNCTION 6 pep440_specs_gist_picksplit(internal, internal), FUNCTION 7 pep440_specs_gist_same(bytea, bytea, internal), STORAGE bytea;

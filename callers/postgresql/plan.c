@@ -1,9 +1,18 @@
-/* What the planner asks of a call: which condition an index on the versions can serve for `specs @> version`; and of the function how many rows that is, as of
-   the operator.
+/* What the planner asks of a call: which condition an index on the versions can serve for `specs @> version`, where `specs` is a list or a set; and of the
+   function how many rows that is, as of the operator.
 
    The condition is `version >= low AND version < high`, with the ends of the list's cover. It holds for each version that the list contains. Where the
    list may have gaps or `===` it may hold for others, and the server rechecks each row by matching. */
 #include "extension.h"
+
+/* The version of a call as one of type pep440: beside a set it is a domain over that, and may be of another domain before. */
+static Node *plain_version(Node *version)
+{
+    Oid type = getBaseType(exprType(version));
+    while (IsA(version, RelabelType))
+        version = (Node *)((RelabelType *)version)->arg;
+    return exprType(version) == type ? version : (Node *)makeRelabelType((Expr *)version, type, -1, InvalidOid, COERCE_IMPLICIT_CAST);
+}
 
 /* `version OPERATOR key`, or null where the operator family has no such operator. */
 static Expr *make_bound(Oid family, Node *version, Oid type, StrategyNumber strategy, Expr *key)
@@ -18,8 +27,9 @@ static Expr *make_key(Bytes key)
 }
 
 /* The conditions of an interval; no list where neither end has a bound, or an operator is missing. */
-static List *interval_conditions(Oid family, Node *version, Oid type, Bytes low, Bytes high)
+static List *interval_conditions(Oid family, Node *version, Oid type, KeyInterval interval)
 {
+    Bytes low = interval.low, high = interval.high;
     List *found = NIL;
     Expr *above = low.length == 0 ? NULL : make_bound(family, version, type, BTGreaterEqualStrategyNumber, make_key(low));
     Expr *below = high.length == 0 ? NULL : make_bound(family, version, type, BTLessStrategyNumber, make_key(high));
@@ -35,13 +45,11 @@ static List *interval_conditions(Oid family, Node *version, Oid type, Bytes low,
 /* A list that is known: the keys stand in the plan. Of a single interval, or none, nothing is rechecked. */
 static List *constant_conditions(SupportRequestIndexCondition *request, Node *version, Oid type, const Const *list)
 {
-    Bytes low, high;
     if (list->constisnull)
         return NIL;
     Cover cover = cover_of(list_of(PG_DETOAST_DATUM_PACKED(list->constvalue)));
-    request->lossy = !cover.is_exact || cover.count > 2;
-    ends_of_cover(&cover, &low, &high);
-    return interval_conditions(request->opfamily, version, type, low, high);
+    request->lossy = !cover.is_exact || cover.count > 1;
+    return interval_conditions(request->opfamily, version, type, ends_of_cover(&cover));
 }
 
 /* A call of the function with this name, and one or two arguments, that is in the schema of another one; NULL where another session moved the extension just
@@ -92,7 +100,7 @@ static List *index_conditions(SupportRequestIndexCondition *request, bool versio
         return NIL;
     if (list_length(arguments) != 2 || request->indexarg != (version_is_first ? 0 : 1))
         return NIL;
-    Node *version = list_nth(arguments, request->indexarg), *list = list_nth(arguments, 1 - request->indexarg);
+    Node *version = plain_version(list_nth(arguments, request->indexarg)), *list = list_nth(arguments, 1 - request->indexarg);
     Oid type = exprType(version);
     if (IsA(list, Const))
         return constant_conditions(request, version, type, (Const *)list);
@@ -112,18 +120,16 @@ static bool is_in_partitioned_table(PlannerInfo *root, const Node *version)
 /* A known list beside versions of a partitioned table: with the ends of its cover, by which the planner leaves out partitions, as it does by comparisons alone. */
 static Node *add_ends(SupportRequestSimplify *request, bool version_is_first)
 {
-    Node *version = list_nth(request->fcall->args, version_is_first ? 0 : 1), *list = list_nth(request->fcall->args, version_is_first ? 1 : 0);
-    Bytes low, high;
+    Node *version = plain_version(list_nth(request->fcall->args, version_is_first ? 0 : 1)), *list = list_nth(request->fcall->args, version_is_first ? 1 : 0);
     if (!IsA(list, Const) || ((Const *)list)->constisnull || !is_in_partitioned_table(request->root, version))
         return NULL;
     Oid type = exprType(version), family = lookup_type_cache(type, TYPECACHE_BTREE_OPFAMILY)->btree_opf;
     Cover cover = cover_of(list_of(PG_DETOAST_DATUM_PACKED(((Const *)list)->constvalue)));
-    ends_of_cover(&cover, &low, &high);
-    List *conditions = interval_conditions(family, version, type, low, high);
+    List *conditions = interval_conditions(family, version, type, ends_of_cover(&cover));
     Expr *rest = make_call(request->fcall->funcid, "pep440_version_contained_between_ends", list_make2(version, list));
     if (conditions == NIL || rest == NULL)
         return NULL;
-    if (!cover.is_exact || cover.count > 2)
+    if (!cover.is_exact || cover.count > 1)
         conditions = lappend(conditions, rest);
     return (Node *)make_ands_explicit(copyObject(conditions));
 }

@@ -26,24 +26,25 @@ USER = ["setpriv", "--reuid=postgres", "--regid=postgres", "--clear-groups"] if 
 
 
 class Server:
-    """A server of its own, in a folder of its own."""
+    """A server of its own, in a folder of its own, of the programs in a folder."""
 
-    def __init__(self, name):
-        self.folder = FOLDER / name
+    def __init__(self, name, *options, home=FOLDER):
+        self.home = home
+        self.folder = home / name
         self.data = self.folder / "data"
         self.log = self.folder / "log"
         subprocess.run(USER + ["mkdir", str(self.folder)], check=True)
-        self.run("initdb", "-D", self.data, "-U", "tester", "-E", "UTF8", "--locale=C.UTF-8", "--no-sync")
+        self.run("initdb", "-D", self.data, "-U", "tester", "-E", "UTF8", "--locale=C.UTF-8", "--no-sync", *options)
 
     def run(self, program, *words, environment=None, limit=None):
         def limited():
             if limit:
                 resource.setrlimit(resource.RLIMIT_AS, (limit, limit))
 
-        command = USER + [str(FOLDER / "bin" / program), *map(str, words)]
+        command = USER + [str(self.home / "bin" / program), *map(str, words)]
         output = (self.folder / "output") if program == "pg_ctl" else None
         with open(output or os.devnull, "wb") as file:
-            ran = subprocess.run(command, cwd=FOLDER, env={**os.environ, "LC_ALL": "C", **(environment or {})}, preexec_fn=limited, check=False,
+            ran = subprocess.run(command, cwd=self.folder, env={**os.environ, "LC_ALL": "C", **(environment or {})}, preexec_fn=limited, check=False,
                                  stdout=file if output else subprocess.PIPE, stderr=subprocess.STDOUT)
         assert ran.returncode == 0, (program, ran.stdout, output and output.read_text())
         return ran.stdout

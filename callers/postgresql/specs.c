@@ -6,8 +6,8 @@ static const uint8_t ABOVE_ALL[] = {0xff};
 
 /* ---- values */
 
-#define TOO_LONG \
-    (errcode(ERRCODE_PROGRAM_LIMIT_EXCEEDED), errmsg("list is too long for type %s", "pep440_specs"), \
+#define TOO_LONG(type) \
+    (errcode(ERRCODE_PROGRAM_LIMIT_EXCEEDED), errmsg("list is too long for type %s", type), \
      errdetail("Its text or its normal form has more than %d bytes.", MOST_TEXT))
 
 /* Whether the normal form, which dumps have, would be too long: it has less than four times the bytes of the text. */
@@ -22,16 +22,21 @@ static uint8_t compile_list(Bytes text, Bytes *compiled)
     return is_too_long(text) ? PEP440_NO_ROOM : write_all(pep440_compile_list, text, compiled);
 }
 
-static struct varlena *read_list(Bytes text, Node *context)
+bool read_list(Bytes text, const char *type, Node *context, Bytes *compiled)
+{
+    uint8_t status = compile_list(text, compiled);
+    if (status == PEP440_INVALID_LIST)
+        return fail_text(text, type, pep440_list_error, context) != NULL;
+    if (status == PEP440_NO_ROOM)
+        ereturn(context, false, TOO_LONG(type));
+    expect_ok(status);
+    return true;
+}
+
+static struct varlena *read_specs(Bytes text, Node *context)
 {
     Bytes compiled;
-    uint8_t status = compile_list(text, &compiled);
-    if (status == PEP440_INVALID_LIST)
-        return fail_text(text, "pep440_specs", pep440_list_error, context);
-    if (status == PEP440_NO_ROOM)
-        ereturn(context, NULL, TOO_LONG);
-    expect_ok(status);
-    return make_bytea(compiled);
+    return read_list(text, "pep440_specs", context, &compiled) ? make_bytea(compiled) : NULL;
 }
 
 static char *normal_list(FunctionCallInfo fcinfo, int number)
@@ -39,11 +44,11 @@ static char *normal_list(FunctionCallInfo fcinfo, int number)
     return normal_text(pep440_normalize_list, GET_LIST(number));
 }
 
-SQL_FUNCTION(specs_in, read_cstring(fcinfo, read_list));
+SQL_FUNCTION(specs_in, read_cstring(fcinfo, read_specs));
 SQL_FUNCTION(specs_out, CStringGetDatum(normal_list(fcinfo, 0)));
-SQL_FUNCTION(specs_recv, read_binary(fcinfo, read_list));
+SQL_FUNCTION(specs_recv, read_binary(fcinfo, read_specs));
 SQL_FUNCTION(specs_send, binary_of(normal_list(fcinfo, 0)));
-SQL_FUNCTION(specs_from_text, read_text(fcinfo, read_list));
+SQL_FUNCTION(specs_from_text, read_text(fcinfo, read_specs));
 SQL_FUNCTION(specs_to_text, PointerGetDatum(cstring_to_text(normal_list(fcinfo, 0))));
 
 PG_FUNCTION_INFO_V1(specs_valid);
@@ -88,12 +93,12 @@ static Bytes join_lists(FunctionCallInfo fcinfo)
     const char *left = normal_list(fcinfo, 0), *right = normal_list(fcinfo, 1);
     Bytes joined = bytes_of_text(psprintf("%s%s%s", left, *left != 0 && *right != 0 ? "," : "", right));
     if (joined.length > MOST_TEXT)
-        ereport(ERROR, TOO_LONG);
+        ereport(ERROR, TOO_LONG("pep440_specs"));
     return joined;
 }
 
 /* The list of the members of both: a version is in it if it is in both. */
-SQL_FUNCTION(specs_both, PointerGetDatum(read_list(join_lists(fcinfo), NULL)));
+SQL_FUNCTION(specs_both, PointerGetDatum(read_specs(join_lists(fcinfo), NULL)));
 
 /* A version that the list contains, no bytes if there is none. */
 static Bytes find_version(Bytes list)
@@ -175,31 +180,27 @@ SQL_FUNCTION(specs_hash_extended, hash_of_list(fcinfo));
 
 /* ---- covers */
 
-static void free_cover(const Cover *cover)
+/* A list with its set, or a set: all but lists with `===`, and values of older releases. */
+static bool has_set(Bytes list)
 {
-    pfree(unconstify(uint8_t *, cover->keys));
-    pfree(unconstify(size_t *, cover->ends));
+    return list.length > 0 && (list.bytes[0] == LIST_FORMAT || list.bytes[0] == SET_FORMAT);
 }
 
-/* The keys of the list's set, or PEP440_NO_SET. A first call has what nearly all lists need; where that is not enough, a second one has the room that the
-   first told. */
-static uint8_t boundaries_of(Bytes list, Cover *cover)
+/* The intervals of such bytes: of a list the set stands behind how many bytes it takes. All keys have six bytes or more, but for the first and the last one. */
+static Cover intervals_of(Bytes compiled)
 {
-    size_t room = 64 + 2 * list.length, keys = 4 + list.length / 2;
-    for (;;) {
-        uint8_t *written = palloc(room + 1);
-        size_t *ends = palloc((keys + 1) * sizeof *ends);
-        CHECK_FOR_INTERRUPTS();
-        uint8_t status = pep440_boundaries(list.bytes, list.length, written, room, ends, keys, &room, &keys);
-        *cover = (Cover){written, ends, keys, true};
-        if (status == PEP440_OK)
-            return status;
-        free_cover(cover);
-        if (status == PEP440_NO_SET)
-            return status;
-        if (status != PEP440_NO_ROOM)
-            fail(status);
+    const uint8_t *at = compiled.bytes + 1, *end = compiled.bytes + compiled.length;
+    Bytes set = {at, compiled.length - 1};
+    if (compiled.bytes[0] == LIST_FORMAT && !read_sized(&at, end, &set))
+        fail(PEP440_INVALID_LIST);
+    size_t most = set.length / 16 + 2;
+    Cover cover = {palloc(most * sizeof *cover.intervals), 0, true};
+    for (at = set.bytes, end = at + set.length; at < end; cover.count++) {
+        KeyInterval *next = &cover.intervals[cover.count];
+        if (cover.count == most || !read_sized(&at, end, &next->low) || !read_sized(&at, end, &next->high))
+            fail(PEP440_INVALID_LIST);
     }
+    return cover;
 }
 
 /* The list with `==` for each `===`: it contains what the list contains, and other spellings of that. */
@@ -214,72 +215,112 @@ static Bytes loosened(Bytes list)
 
 Cover cover_of(Bytes list)
 {
-    Cover cover;
-    if (boundaries_of(list, &cover) == PEP440_OK)
-        return cover;
-    Bytes loose = loosened(list);
-    expect_ok(boundaries_of(loose, &cover));
-    pfree(unconstify(uint8_t *, loose.bytes));
-    cover.is_exact = false;
+    Bytes compiled = list;
+    if (!has_set(compiled))
+        expect_ok(write_all(pep440_compile_list, list, &compiled));
+    bool is_exact = has_set(compiled);
+    if (!is_exact)
+        expect_ok(write_all(pep440_compile_list, loosened(list), &compiled));
+    Cover cover = intervals_of(compiled);
+    cover.is_exact = is_exact;
     return cover;
 }
 
-Bytes cover_key(const Cover *cover, size_t place)
+KeyInterval ends_of_cover(const Cover *cover)
 {
-    size_t start = place == 0 ? 0 : cover->ends[place - 1];
-    return (Bytes){cover->keys + start, cover->ends[place] - start};
-}
-
-void ends_of_cover(const Cover *cover, Bytes *low, Bytes *high)
-{
-    *low = *high = (Bytes){ABOVE_ALL, cover->count == 0 ? 1 : 0};
+    Bytes above = {ABOVE_ALL, sizeof ABOVE_ALL};
     if (cover->count == 0)
-        return;
-    *low = cover_key(cover, 0);
-    *high = cover_key(cover, cover->count - 1);
+        return (KeyInterval){above, above};
+    return (KeyInterval){cover->intervals[0].low, cover->intervals[cover->count - 1].high};
 }
 
 /* ---- matching */
 
-/* The list of the last call; and, since it came a second time, its cover. */
+/* The first bytes of the keys of an interval, as first_of_key has them. */
 typedef struct {
-    Bytes list;
+    uint64 low;
+    uint64 high;
+} Firsts;
+
+/* The list of the last call, in memory of its own; and, since it came a second time, or is the same in each call, its cover. */
+typedef struct {
+    MemoryContext memory;
+    bool is_constant;
     bool is_known;
+    Bytes list;
     Cover cover;
+    Firsts *firsts;
 } Kept;
 
-static void keep_list(FmgrInfo *function, Bytes list)
+/* Whether the argument is a constant of the statement. */
+static bool is_constant(const FmgrInfo *function, int argument)
 {
-    Kept *kept = MemoryContextAllocZero(function->fn_mcxt, sizeof *kept + list.length), *last = function->fn_extra;
-    kept->list = (Bytes){memcpy(kept + 1, list.bytes, list.length), list.length};
-    if (last != NULL && last->is_known)
-        free_cover(&last->cover);
-    if (last != NULL)
-        pfree(last);
-    function->fn_extra = kept;
+    const Node *call = function->fn_expr;
+    const List *arguments = call == NULL ? NIL : IsA(call, OpExpr) ? ((const OpExpr *)call)->args : IsA(call, FuncExpr) ? ((const FuncExpr *)call)->args : NIL;
+    return list_length(arguments) > argument && IsA(list_nth(arguments, argument), Const);
 }
 
-/* Finds the cover of a list that came again, in the memory that the function keeps. */
-static void know_list(FmgrInfo *function, Kept *kept, Bytes list)
+/* A copy of the list, in place of what was kept. */
+static Kept *keep_list(FmgrInfo *function, Bytes list)
 {
-    MemoryContext before = MemoryContextSwitchTo(function->fn_mcxt);
-    kept->cover = cover_of(list);
+    Kept *kept = function->fn_extra;
+    if (kept == NULL) {
+        kept = MemoryContextAllocZero(function->fn_mcxt, sizeof *kept);
+        kept->memory = AllocSetContextCreate(function->fn_mcxt, "list of a function", ALLOCSET_SMALL_SIZES);
+        function->fn_extra = kept;
+    }
+    kept->list.length = 0;
+    kept->is_known = false;
+    MemoryContextReset(kept->memory);
+    kept->list = (Bytes){memcpy(MemoryContextAlloc(kept->memory, list.length + 1), list.bytes, list.length), list.length};
+    return kept;
+}
+
+/* Finds the cover of the list. */
+static void know_list(Kept *kept)
+{
+    MemoryContext before = MemoryContextSwitchTo(kept->memory);
+    kept->cover = cover_of(kept->list);
+    kept->firsts = palloc((kept->cover.count + 1) * sizeof *kept->firsts);
+    for (size_t each = 0; each < kept->cover.count; each++) {
+        KeyInterval interval = kept->cover.intervals[each];
+        kept->firsts[each] = (Firsts){first_of_key(interval.low), interval.high.length == 0 ? PG_UINT64_MAX : first_of_key(interval.high)};
+    }
     kept->is_known = true;
     MemoryContextSwitchTo(before);
 }
 
 bool is_in_cover(const Cover *cover, Bytes key)
 {
-    size_t first = 0, end = cover->count / 2;
+    size_t first = 0, end = cover->count;
     while (first < end) {
         size_t middle = first + (end - first) / 2;
-        Bytes high = cover_key(cover, 2 * middle + 1);
-        if (compare_bytes(key, cover_key(cover, 2 * middle)) < 0)
+        const KeyInterval *interval = &cover->intervals[middle];
+        if (compare_bytes(key, interval->low) < 0)
             end = middle;
-        else if (high.length != 0 && compare_bytes(key, high) >= 0)
+        else if (interval->high.length != 0 && compare_bytes(key, interval->high) >= 0)
             first = middle + 1;
         else
             return true;
+    }
+    return false;
+}
+
+/* Whether the version is in the cover of the list: by the first bytes of its key, where these decide. */
+static bool is_covered(const Kept *kept, const struct varlena *stored)
+{
+    VersionBuffer buffer;
+    uint64 sought = first_of_version(stored);
+    size_t first = 0, end = kept->cover.count;
+    while (first < end) {
+        size_t middle = first + (end - first) / 2;
+        Firsts firsts = kept->firsts[middle];
+        if (sought < firsts.low)
+            end = middle;
+        else if (sought > firsts.high)
+            first = middle + 1;
+        else
+            return (sought > firsts.low && sought < firsts.high) || is_in_cover(&kept->cover, version_of(stored, &buffer).key);
     }
     return false;
 }
@@ -295,7 +336,7 @@ static const Kept *known_list(FmgrInfo *function, Bytes list)
         return NULL;
     }
     if (!kept->is_known)
-        know_list(function, kept, list);
+        know_list(kept);
     return kept;
 }
 
@@ -305,25 +346,45 @@ const Cover *known_cover(FmgrInfo *function, Bytes list)
     return known == NULL ? NULL : &known->cover;
 }
 
-/* Whether the list contains the version, pre-releases like others: by its key where this decides, else by the library. */
-static bool contains(FmgrInfo *function, Bytes list, const struct varlena *stored)
+/* What is known of the list that is this argument: of a constant all, from the first call on. */
+static const Kept *known_argument(FunctionCallInfo fcinfo, int list_at)
+{
+    FmgrInfo *function = fcinfo->flinfo;
+    Kept *kept = function == NULL ? NULL : function->fn_extra;
+    if (kept != NULL && kept->is_constant && kept->is_known)
+        return kept;
+    if (function == NULL || !is_constant(function, list_at))
+        return known_list(function, GET_LIST(list_at));
+    kept = keep_list(function, GET_LIST(list_at));
+    know_list(kept);
+    kept->is_constant = true;
+    return kept;
+}
+
+/* Whether the list or the set contains the version, pre-releases like others: by its key where this decides, else by the library. */
+static bool contains(FunctionCallInfo fcinfo, int list_at, const struct varlena *stored)
 {
     VersionBuffer buffer;
     uint8_t allowed;
-    Version version = version_of(stored, &buffer);
-    const Kept *known = known_list(function, list);
+    const Kept *known = known_argument(fcinfo, list_at);
     if (known != NULL) {
-        bool is_covered = is_in_cover(&known->cover, version.key);
-        if (!is_covered || known->cover.is_exact)
-            return is_covered;
+        bool found = is_covered(known, stored);
+        if (!found || known->cover.is_exact)
+            return found;
+    }
+    Bytes list = GET_LIST(list_at);
+    Version version = version_of(stored, &buffer);
+    if (list.length > 0 && list.bytes[0] == SET_FORMAT) {
+        Cover cover = cover_of(list);
+        return is_in_cover(&cover, version.key);
     }
     expect_ok(pep440_allows(list.bytes, list.length, version.bytes.bytes, version.bytes.length, PEP440_ALL_PRERELEASES, &allowed));
     return allowed != 0;
 }
 
-SQL_FUNCTION(specs_contains, BoolGetDatum(contains(fcinfo->flinfo, GET_LIST(0), GET_STORED(1))));
-SQL_FUNCTION(version_contained_by, BoolGetDatum(contains(fcinfo->flinfo, GET_LIST(1), GET_STORED(0))));
-SQL_FUNCTION(text_contained_by, BoolGetDatum(contains(fcinfo->flinfo, GET_LIST(1), read_version(utf8_argument(fcinfo), NULL))));
+SQL_FUNCTION(specs_contains, BoolGetDatum(contains(fcinfo, 0, GET_STORED(1))));
+SQL_FUNCTION(version_contained_by, BoolGetDatum(contains(fcinfo, 1, GET_STORED(0))));
+SQL_FUNCTION(text_contained_by, BoolGetDatum(contains(fcinfo, 1, read_version(utf8_argument(fcinfo), NULL))));
 
 /* Whether the list names a pre-release or a developmental release. */
 PG_FUNCTION_INFO_V1(specs_any_prerelease);
@@ -340,29 +401,12 @@ Datum specs_any_prerelease(PG_FUNCTION_ARGS)
 /* The two ends of the list's cover, as an index condition needs them: with no bound the lowest key, and one above all keys. */
 static Datum end_of(FunctionCallInfo fcinfo, bool upper)
 {
-    Bytes low, high;
     Cover cover = cover_of(GET_LIST(0));
-    ends_of_cover(&cover, &low, &high);
-    if (high.length == 0)
-        high = (Bytes){ABOVE_ALL, 1};
-    PG_RETURN_BYTEA_P(make_bytea(upper ? high : low));
+    KeyInterval ends = ends_of_cover(&cover);
+    if (ends.high.length == 0)
+        ends.high = (Bytes){ABOVE_ALL, sizeof ABOVE_ALL};
+    PG_RETURN_BYTEA_P(make_bytea(upper ? ends.high : ends.low));
 }
 
 SQL_FUNCTION(specs_cover_start, end_of(fcinfo, false));
 SQL_FUNCTION(specs_cover_end, end_of(fcinfo, true));
-
-/* A row for each interval; the high key is null where there is no bound. */
-PG_FUNCTION_INFO_V1(specs_cover);
-Datum specs_cover(PG_FUNCTION_ARGS)
-{
-    Cover cover = cover_of(GET_LIST(0));
-    InitMaterializedSRF(fcinfo, 0);
-    ReturnSetInfo *result = (ReturnSetInfo *)fcinfo->resultinfo;
-    for (size_t each = 0; each < cover.count; each += 2) {
-        Bytes low = cover_key(&cover, each), high = cover_key(&cover, each + 1);
-        Datum values[] = {PointerGetDatum(make_bytea(low)), PointerGetDatum(make_bytea(high))};
-        bool nulls[] = {false, high.length == 0};
-        tuplestore_putvalues(result->setResult, result->setDesc, values, nulls);
-    }
-    return (Datum)0;
-}

@@ -15,7 +15,7 @@ static const struct {
     uint8_t bytes[5];
 } ENDS[] = {{5, {0, 0x50, 0, 0x10, 0}}, {3, {0, 0x10, 0}}, {2, {0x10, 0}}, {1, {0}}};
 
-enum { RELEASE_ALONE = 0, SHORT = 0x80, MOST_SHORT = 0x7f, MOST_FIRST = 7, MOST_ZEROS = 3, MOST_END = 3, ZEROS_SHIFT = 3, END_SHIFT = 5, ZERO = 1, NO_PRERELEASE = 0x50 };
+enum { RELEASE_ALONE = 0, SHORT = 0x80, MOST_SHORT = 0x7f, MOST_FIRST = 7, MOST_ZEROS = 3, MOST_END = 3, ZEROS_SHIFT = 3, END_SHIFT = 5, ZERO = 1 };
 
 Bytes bytes_of(const struct varlena *stored)
 {
@@ -94,44 +94,160 @@ static bool read_number(const uint8_t **at, const uint8_t *end, int bytes, uint6
     return true;
 }
 
-Suffix suffix_of(const struct varlena *stored)
+bool read_sized(const uint8_t **at, const uint8_t *end, Bytes *found)
+{
+    uint64 length;
+    if (*at >= end)
+        return false;
+    int bytes = *(*at)++;
+    if (!read_number(at, end, bytes, &length) || length > (uint64)(end - *at))
+        return false;
+    *found = (Bytes){*at, length};
+    *at += length;
+    return true;
+}
+
+/* ---- what most versions print, and whether they are pre-releases. The library would parse the key again, in ten times the instructions; it is left all
+   bytes that no version has, and names the error. */
+
+/* A part of a key behind the release: its rank, and its number. */
+typedef struct {
+    int rank;
+    uint64 number;
+} Part;
+
+enum { DEV_STAGE = 1, FINAL_STAGE = 5, NO_POST = 0, HAS_POST = 1, HAS_DEV = 0, NO_DEV = 1, STRING_SEGMENT = 1, NUMBER_BASE = 2 };
+
+/* What follows a release in a key: stage, post-release and dev release, and then the local part. */
+typedef struct {
+    Part stage;
+    Part post;
+    Part dev;
+    const uint8_t *local;
+    const uint8_t *end;
+    uint8_t bytes[MOST_SHORT + sizeof ENDS->bytes];
+} Suffix;
+
+static bool read_part(Suffix *suffix, Part *part)
+{
+    if (suffix->local >= suffix->end)
+        return false;
+    part->rank = *suffix->local >> 4;
+    int bytes = *suffix->local++ & 0xf;
+    return read_number(&suffix->local, suffix->end, bytes, &part->number);
+}
+
+/* Reads what follows the 0 behind a release, with the end that is not stored; false if it is of no version. */
+static bool read_suffix(Bytes value, const uint8_t *at, Suffix *suffix)
+{
+    size_t rest = (size_t)(value.bytes + value.length - at);
+    memcpy(suffix->bytes, at, rest);
+    memcpy(suffix->bytes + rest, ENDS[end_of(value)].bytes, sizeof ENDS->bytes);
+    suffix->local = suffix->bytes;
+    suffix->end = suffix->bytes + rest + ENDS[end_of(value)].length;
+    if (!read_part(suffix, &suffix->stage) || !read_part(suffix, &suffix->post) || !read_part(suffix, &suffix->dev))
+        return false;
+    int stage = suffix->stage.rank, post = suffix->post.rank, dev = suffix->dev.rank;
+    if (stage < DEV_STAGE || stage > FINAL_STAGE || post > HAS_POST || dev > NO_DEV)
+        return false;
+    if (((stage == DEV_STAGE || stage == FINAL_STAGE) && suffix->stage.number != 0) || (post == NO_POST && suffix->post.number != 0) || (dev == NO_DEV && suffix->dev.number != 0))
+        return false;
+    return stage == DEV_STAGE ? post == NO_POST && dev == HAS_DEV : stage != FINAL_STAGE || post == HAS_POST || dev == NO_DEV;
+}
+
+/* Reads the numbers of the release, of which the last is above 0, and writes them with a dot behind each, unless `out` is NULL. Returns where the suffix
+   begins, or the end of a release alone; NULL where the value is of no version. */
+static const uint8_t *read_release(Bytes value, char **out)
+{
+    const uint8_t *at = value.bytes + 1, *end = value.bytes + value.length;
+    bool is_alone = end_of(value) == RELEASE_ALONE, has_end = !is_alone;
+    uint64 number = 1;
+    for (int length = value.bytes[0] & MOST_FIRST; length > 0; length = has_end ? *at++ : 0) {
+        if (!read_number(&at, end, length - 1, &number))
+            return NULL;
+        if (out != NULL) {
+            *out = put_number(*out, number);
+            *(*out)++ = '.';
+        }
+        has_end = at < end;
+    }
+    return number == 0 || has_end == is_alone || (is_alone && at != end) ? NULL : at;
+}
+
+VersionKind kind_of(const struct varlena *stored)
+{
+    Bytes value = bytes_of(stored);
+    Suffix suffix;
+    const uint8_t *at = is_short(value) ? read_release(value, NULL) : NULL;
+    if (at == NULL)
+        return UNKNOWN_KIND;
+    if (end_of(value) == RELEASE_ALONE)
+        return FINAL_KIND;
+    if (!read_suffix(value, at, &suffix))
+        return UNKNOWN_KIND;
+    return suffix.stage.rank < FINAL_STAGE || suffix.dev.rank == HAS_DEV ? PRERELEASE_KIND : FINAL_KIND;
+}
+
+static char *put_word(char *out, const char *word, uint64 number)
+{
+    while (*word != 0)
+        *out++ = *word++;
+    return put_number(out, number);
+}
+
+/* Writes the local part; NULL if it is none, or has a string without a letter. */
+static char *put_local(char *out, const uint8_t *at, const uint8_t *end)
+{
+    for (char mark = '+'; at < end && *at != 0; mark = '.') {
+        int kind = *at++;
+        bool has_letter = false;
+        uint64 number;
+        *out++ = mark;
+        for (; kind == STRING_SEGMENT && at < end && *at != 0; has_letter |= *at++ >= 'a') {
+            if ((*at < '0' || *at > '9') && (*at < 'a' || *at > 'z'))
+                return NULL;
+            *out++ = (char)*at;
+        }
+        if (kind == STRING_SEGMENT ? !has_letter || at++ >= end : !read_number(&at, end, kind - NUMBER_BASE, &number))
+            return NULL;
+        if (kind != STRING_SEGMENT)
+            out = put_number(out, number);
+    }
+    return at + 1 == end ? out : NULL;
+}
+
+static char *put_suffix(char *out, Bytes value, const uint8_t *at)
+{
+    static const char *const stages[] = {NULL, NULL, "a", "b", "rc", NULL};
+    Suffix suffix;
+    if (!read_suffix(value, at, &suffix))
+        return NULL;
+    if (stages[suffix.stage.rank] != NULL)
+        out = put_word(out, stages[suffix.stage.rank], suffix.stage.number);
+    if (suffix.post.rank == HAS_POST)
+        out = put_word(out, ".post", suffix.post.number);
+    if (suffix.dev.rank == HAS_DEV)
+        out = put_word(out, ".dev", suffix.dev.number);
+    return put_local(out, suffix.local, suffix.end);
+}
+
+char *short_text(const struct varlena *stored)
 {
     Bytes value = bytes_of(stored);
     if (!is_short(value))
-        return UNKNOWN_SUFFIX;
-    const uint8_t *at = value.bytes + 1, *end = value.bytes + value.length;
-    uint64 number;
-    for (int length = value.bytes[0] & MOST_FIRST; length > 0; length = at < end ? *at++ : 0)
-        if (!read_number(&at, end, length - 1, &number))
-            return UNKNOWN_SUFFIX;
-    if (end_of(value) == RELEASE_ALONE)
-        return at == end ? NO_SUFFIX : UNKNOWN_SUFFIX;
-    return at < end && *at < NO_PRERELEASE ? PRERELEASE_SUFFIX : UNKNOWN_SUFFIX;
-}
-
-/* The numbers with dots between them, and the zeros at the end. The library would parse the key again, in ten times the instructions; it is left all bytes
-   that are not such numbers, the last of them above 0, and names the error. */
-char *release_text(const struct varlena *stored)
-{
-    Bytes value = bytes_of(stored);
-    if (!is_short(value) || end_of(value) != RELEASE_ALONE)
         return NULL;
-    const uint8_t *at = value.bytes + 1, *end = value.bytes + value.length;
-    int length = value.bytes[0] & MOST_FIRST;
-    uint64 number = zeros_of(value);
-    char *text = palloc(4 * value.length + 2 * MOST_ZEROS + 1), *out = text;
-    for (bool has_number = length > 0 || at < end; has_number; length = has_number ? *at++ : 0) {
-        if (!read_number(&at, end, length - 1, &number))
-            return NULL;
-        out = put_number(out, number);
-        *out++ = '.';
-        has_number = at < end;
-    }
+    char *text = palloc(4 * (value.length + sizeof ENDS->bytes) + 2 * MOST_ZEROS + sizeof "rc.post.dev"), *out = text;
+    const uint8_t *at = read_release(value, &out);
     for (size_t zeros = zeros_of(value); zeros > 0; zeros--)
         *out++ = '0', *out++ = '.';
-    if (number == 0)
+    if (at == NULL || out == text)
         return NULL;
-    out[-1] = 0;
+    out--;
+    if (end_of(value) != RELEASE_ALONE)
+        out = put_suffix(out, value, at);
+    if (out == NULL)
+        return NULL;
+    *out = 0;
     return text;
 }
 
@@ -159,6 +275,30 @@ Version version_of(const struct varlena *stored, VersionBuffer *buffer)
     return (Version){.key = key_of(value), .bytes = value};
 }
 
+uint64 first_of_key(Bytes key)
+{
+    uint64 first = 0;
+    if (key.length == 0)
+        return 0;
+    if (key.bytes[0] != 0)
+        return PG_UINT64_MAX;
+    memcpy(&first, key.bytes + 1, Min(key.length - 1, sizeof first));
+    return pg_ntoh64(first);
+}
+
+uint64 first_of_version(const struct varlena *stored)
+{
+    Bytes value = bytes_of(stored);
+    VersionBuffer buffer;
+    if (!is_short(value))
+        return first_of_key(version_of(stored, &buffer).key);
+    uint64 first;
+    uint8_t bytes[2 * sizeof first] = {0};
+    write_key(value, bytes, sizeof first);
+    memcpy(&first, bytes, sizeof first);
+    return pg_ntoh64(first);
+}
+
 int compare_versions(const struct varlena *left, const struct varlena *right)
 {
     Bytes one = bytes_of(left), other = bytes_of(right);
@@ -168,25 +308,10 @@ int compare_versions(const struct varlena *left, const struct varlena *right)
     bool are_releases = is_short(one) && is_short(other) && end_of(one) == RELEASE_ALONE && end_of(other) == RELEASE_ALONE;
     if (are_releases && (one.bytes[0] & MOST_FIRST) == (other.bytes[0] & MOST_FIRST))
         return compare_bytes((Bytes){one.bytes + 1, one.length - 1}, (Bytes){other.bytes + 1, other.length - 1});
+    uint64 first = first_of_version(left), second = first_of_version(right);
+    if (first != second)
+        return first < second ? -1 : 1;
     return compare_bytes(version_of(left, &buffers[0]).key, version_of(right, &buffers[1]).key);
-}
-
-uint64 first_of_key(const struct varlena *stored)
-{
-    Bytes value = bytes_of(stored);
-    VersionBuffer buffer;
-    uint64 first = 0;
-    if (is_short(value)) {
-        uint8_t bytes[2 * sizeof first] = {0};
-        write_key(value, bytes, sizeof first);
-        memcpy(&first, bytes, sizeof first);
-        return pg_ntoh64(first);
-    }
-    Bytes key = version_of(stored, &buffer).key;
-    if (key.length == 0 || key.bytes[0] != 0)
-        return PG_UINT64_MAX;
-    memcpy(&first, key.bytes + 1, Min(key.length - 1, sizeof first));
-    return pg_ntoh64(first);
 }
 
 static bool ends_with(Bytes key, int end)
@@ -229,7 +354,7 @@ Bytes list_of(const struct varlena *stored)
 {
     Bytes value = bytes_of(stored);
     uint32_t length;
-    if (value.length > 0 && (value.bytes[0] == LIST_FORMAT || value.bytes[0] == MEMBERS_FORMAT) && last_of(value) <= MEMBERS_FORMAT)
+    if (value.length > 0 && value.bytes[0] >= MEMBERS_FORMAT && value.bytes[0] <= SET_FORMAT && (last_of(value) <= MEMBERS_FORMAT || value.length == 1))
         return value;
     /* Of releases before 0.3: a length, compiled bytes and the normal form. */
     if (value.length < sizeof length)
@@ -241,14 +366,14 @@ Bytes list_of(const struct varlena *stored)
     return (Bytes){value.bytes + before, value.length - before};
 }
 
-/* Before the members are the format, how many bytes the set takes, and the set; how many bytes the number takes is in the one before it. */
+/* Before the members are the format, and the set behind how many bytes it takes. */
 Bytes members_of(Bytes compiled)
 {
-    const uint8_t *at = compiled.bytes + 2, *end = compiled.bytes + compiled.length;
-    uint64 length;
-    if (compiled.bytes[0] == MEMBERS_FORMAT)
+    const uint8_t *at = compiled.bytes + 1, *end = compiled.bytes + compiled.length;
+    Bytes set;
+    if (compiled.bytes[0] != LIST_FORMAT)
         return compiled;
-    if (at >= end || !read_number(&at, end, at[-1], &length) || length >= (uint64)(end - at))
+    if (!read_sized(&at, end, &set) || at == end)
         fail(PEP440_INVALID_LIST);
-    return (Bytes){at + length, (size_t)(end - at) - length};
+    return (Bytes){at, (size_t)(end - at)};
 }

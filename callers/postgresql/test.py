@@ -2,15 +2,20 @@
 
 FOLDER has `bin`, the programs of a server in which the extension is installed; `src`, where it was built; and `refuse.so`, built of refuse.c. The servers
 run there as an ordinary user, on a socket, and are ended. PREFIX is that of the C library; PROGRAM, if given, is `pep440`, whose `filter` must print
-what `@>` finds. With --small there are fewer rows, and nothing is timed; --only=NAME runs one test. The last line is `N passed, M failed`.
+what `@>` finds. With --small there are fewer rows, and nothing is timed; --only=NAME runs one test; --from=FOLDER is that of an older server, to be upgraded.
+The last line is `N passed, M failed`.
 """
 import ctypes
 import os
+import pathlib
 import random
 import re
+import signal
 import statistics
 import subprocess
 import sys
+import threading
+import time
 
 import test_hostile
 import test_plans
@@ -42,7 +47,7 @@ def test_page(server):
             assert not wanted or found == wanted, (query, found)
             count += bool(wanted)
     db.close()
-    assert count == 8, count
+    assert count == 4, count
     return f"{count} queries"
 
 
@@ -305,14 +310,15 @@ def test_speed(server):
     without = min(milliseconds(db, newest) for _ in range(5))
     ratios = [f"ORDER BY with LIMIT {without / by_index:.0f} times faster by the index"]
     matches = []
-    conditions = {f"`{specs}`": f"'{specs}' @> version" for specs in (">=1.0", ">=1.0,<2.0,!=1.5.*", "~=1.4.2")} | {"pep440_is_prerelease": "pep440_is_prerelease(version)"}
+    conditions = {f"`{specs}`": f"'{specs}' @> version" for specs in (">=1.0", ">=1.0,<2.0,!=1.5.*", "~=1.4.2")}
+    conditions |= {"pep440_is_prerelease": "pep440_is_prerelease(version)", "a comparison": "version >= '1.0'", "a set": "version <@ '{[1, 1.5), [1.6, 2.dev0)}'::pep440_set"}
     for name, condition in conditions.items():
-        match, like = (f"SELECT count(*) FROM releases WHERE {it}" for it in (condition, "written LIKE '%a%'"))
+        match, like = (f"SELECT count(*) FROM releases WHERE {it}" for it in (condition, "written LIKE '1.%'"))
         # The median, since a processor is slow while its neighbour works.
         matches.append(statistics.median(time_of(db, match) / time_of(db, like) for _ in range(15)))
         ratios.append(f"{name} over all rows {matches[-1]:.2f} of a LIKE")
     db.close()
-    assert without / by_index >= 1000 and max(matches[:-1]) <= 2, ratios
+    assert without / by_index >= 1000 and max(matches) <= 1.5, ratios
     return "; ".join(ratios)
 
 
@@ -335,6 +341,8 @@ QUERIES = [
     "SET LOCAL enable_seqscan = off; SELECT string_agg(specs::text, ' ' ORDER BY id) FROM lists WHERE specs && '>=1,!=1.5' AND specs @> '1.7'",
     "CREATE INDEX ON lists USING gist (specs)",
     "SELECT count(*) FROM lists, kept WHERE kept.version <@ lists.specs",
+    "SELECT union_agg(specs) - '>2,!=3+a', intersect_agg(specs), '{[1.0, 2+a], (1.post*, *)}'::text::pep440_set, (SELECT string_agg(bounds, ' ') FROM unnest('!=1'::text::pep440_specs)) FROM lists",
+    "SELECT count(*) FROM kept WHERE version <@ (SELECT union_agg(specs) * '!=3' FROM lists)",
     "UPDATE kept SET version = (version::text || '.dev1')::pep440 WHERE version <@ '>=1,!=1.5+a' AND version::text !~ 'dev|[+]' RETURNING version",
 ]
 
@@ -422,6 +430,96 @@ def test_limited(unused):
     return f"{refused} of 4 queries out of memory, and no row changed"
 
 
+KEPT = ("CREATE EXTENSION pep440; CREATE EXTENSION amcheck; CREATE TABLE kept (client int, number int, version pep440, specs pep440_specs, versions pep440_set); CREATE INDEX by_version ON kept (version); "
+        "CREATE INDEX by_hash ON kept USING hash (version); CREATE INDEX by_specs ON kept USING gist (specs); CREATE INDEX by_versions ON kept USING gist (versions)")
+WRITES = """INSERT INTO kept SELECT {0}, {1}, v, '>=' || v, '>=0,!=' || v FROM (SELECT ('{0}.' || {1} || '.' || n || CASE n % 3 WHEN 0 THEN 'rc1' ELSE '' END)::text AS v FROM generate_series(1, 20) AS n) AS new;
+    UPDATE kept SET version = (version::text || '.dev1')::pep440, versions = versions - '==2.*' WHERE client = {0} AND number = {1} - 1 AND version::text !~ 'dev'"""
+
+
+def write_until_killed(server, client, first, written):
+    """Numbered transactions, until there is no server; the last that was committed."""
+    db, written[client] = server.connect(), first
+    try:
+        while True:
+            db.rows(WRITES.format(client, written[client] + 1))
+            written[client] += 1
+    except Refused:
+        db.close()
+
+
+def kill(server):
+    """Ends each process of the server at once."""
+    postmaster = int((server.data / "postmaster.pid").read_text().split()[0])
+    children = subprocess.run(["ps", "-o", "pid=", "--ppid", str(postmaster)], capture_output=True, text=True, check=True).stdout.split()
+    for process in [postmaster, *map(int, children)]:
+        os.kill(process, signal.SIGKILL)
+    while any(os.path.exists(f"/proc/{process}") for process in [postmaster, *children]):
+        time.sleep(0.05)
+
+
+def test_killed(unused):
+    """A server whose processes are all killed while clients write: what was committed is there, and each index finds what is in the table."""
+    server, written, turns = Server("killed"), {}, 2 if SMALL else 5
+    try:
+        server.start()
+        db = server.connect()
+        db.rows(KEPT)
+        db.close()
+        for _ in range(turns):
+            clients = [threading.Thread(target=write_until_killed, args=(server, client, written.get(client, 0), written)) for client in range(4)]
+            for client in clients:
+                client.start()
+            time.sleep(2)
+            kill(server)
+            for client in clients:
+                client.join()
+            server.start()
+            db = server.connect()
+            for client, found, least in db.rows("SELECT client, max(number), min(count) FROM (SELECT client, number, count(*) FROM kept GROUP BY 1, 2) AS each GROUP BY 1"):
+                assert written[int(client)] <= int(found) <= written[int(client)] + 1 and least == "20", (client, found, written)
+                written[int(client)] = int(found)
+            db.rows("SELECT bt_index_check('by_version', true)")
+            for condition in ("version <@ '~=1.7'", "version = '2.8.1'", "specs @> '1.9.3'", "versions @> '1.9.3'::pep440", "versions && '==3.*'"):
+                query = f"SELECT count(*), sum(number) FROM kept WHERE {condition}"
+                assert db.rows("RESET ALL;" + NO_TABLE + query) == db.rows("RESET ALL;" + NO_INDEX + query), condition
+            db.close()
+    finally:
+        server.stop()
+    return f"{turns} times, with {sum(written.values())} transactions"
+
+
+HELD = ["SELECT * FROM kept ORDER BY version, number", "SELECT count(*), sum(number) FROM kept WHERE version <@ '~=1.7'", "SELECT count(*), sum(number) FROM kept WHERE specs @> '1.9.3'",
+        "SELECT count(*), sum(number) FROM kept WHERE versions && '==1.*'", "SELECT count(*) FROM kept WHERE version = '1.8.1.dev1'", "SELECT versions - '>=1.5' FROM kept ORDER BY versions, 1 LIMIT 50"]
+
+
+def test_pg_upgrade(unused):
+    """The tables and indexes of another server, by pg_upgrade."""
+    homes = [pathlib.Path(word[7:]) for word in sys.argv if word.startswith("--from=")]
+    if not homes:
+        return "left out"
+    old, new = Server("upgraded", "-k", home=homes[0]), Server("upgrading", "-k")
+    try:
+        old.start()
+        db = old.connect()
+        db.rows(KEPT + ";" + ";".join(WRITES.format(1, number) for number in range(1, 101)))
+        held, version = [db.rows(query) for query in HELD], db.value("SHOW server_version_num")
+        db.close()
+        old.stop()
+        new.run("pg_upgrade", "-b", homes[0] / "bin", "-B", FOLDER / "bin", "-d", old.data, "-D", new.data, "-U", "tester", "-s", new.folder)
+        new.start()
+        db = new.connect()
+        for setting in (NO_TABLE, NO_INDEX):
+            assert [db.rows("RESET ALL;" + setting + query) for query in HELD] == held, setting
+        db.rows("SELECT bt_index_check('by_version', true); INSERT INTO kept VALUES (2, 1, '7.0', '>=7', '==7'); REINDEX TABLE kept")
+        assert db.value("SELECT count(*) FROM kept WHERE versions @> '7.0'::pep440 AND version <@ '>=7'") == "1"
+        versions = version, db.value("SHOW server_version_num")
+        db.close()
+    finally:
+        old.stop()
+        new.stop()
+    return f"{len(held[0])} rows of {versions[0]} in {versions[1]}"
+
+
 def test_valgrind(unused):
     """No query reads or writes what it may not in the extension or the library: a server under valgrind that runs them alone."""
     server, log = Server("checked"), FOLDER / "valgrind"
@@ -430,7 +528,7 @@ def test_valgrind(unused):
     queries = ["CREATE EXTENSION pep440", *SMALL_TABLE.split(";")[:2], *rows, *LIST_TABLE, "ANALYZE", "SET enable_seqscan = off", *QUERIES, *failing, "ANALYZE kept", "SELECT * FROM kept WHERE version <@ '~=1.5' ORDER BY version"]
     command = USER + ["valgrind", f"--log-file={log}", "--num-callers=30", str(FOLDER / "bin" / "postgres"), "--single", "-D", str(server.data), "postgres"]
     subprocess.run(command, cwd=FOLDER, env={**os.environ, "LC_ALL": "C"}, input="\n".join(queries) + "\n", capture_output=True, text=True, check=True)
-    found = [block for block in log.read_text().split("== \n") if re.search(r"pep440|\((version|stored|specs|parts|plan|estimate|gist)\.c", block) and "Command:" not in block]
+    found = [block for block in log.read_text().split("== \n") if re.search(r"pep440|\((version|stored|specs|set|parts|plan|estimate|gist)\.c", block) and "Command:" not in block]
     assert not found, found[0]
     return f"{len(queries)} queries"
 

@@ -11,8 +11,8 @@ CORRUPTED = "XX001"
 SCRIPTS = "".join(re.sub(r"^(--|\\).*$", "", file.read_text(encoding="utf-8"), flags=re.M) for file in sorted(HERE.glob("pep440--*.sql")))
 # Statements that have no expression, and find what they name by its types.
 FUNCTION = r"CREATE FUNCTION \w+\((?:(?!DEFAULT)[\w, ])*\) RETURNS [\w\[\] ]+ AS 'MODULE_PATHNAME', '\w+' LANGUAGE C [\w ]+"
-STATEMENT = rf"{FUNCTION}|(CREATE (TYPE|CAST|OPERATOR|OPERATOR CLASS|AGGREGATE) |ALTER OPERATOR |COMMENT ON TYPE )[^$]*|ALTER FUNCTION \w+\([\w, ]+\) LEAKPROOF"
-CATALOG_TYPES, OWN_TYPES = ["text", "name", "regtype", "regclass"], ["pep440", "pep440_specs"]
+STATEMENT = rf"{FUNCTION}|(CREATE (TYPE|DOMAIN|CAST|OPERATOR|OPERATOR CLASS|AGGREGATE) |ALTER OPERATOR |COMMENT ON TYPE )[^$]*|ALTER FUNCTION \w+\([\w, ]+\) LEAKPROOF"
+CATALOG_TYPES, OWN_TYPES = ["text", "name", "regtype", "regclass"], ["pep440", "pep440_specs", "pep440_set", "pep440_member"]
 TYPES = CATALOG_TYPES + ["oid", "bytea", "integer"]
 TRAP = "LANGUAGE plpgsql AS $$BEGIN RAISE INFO 'sprung: {}, as %', current_user; RETURN NULL; END$$"
 MEMBERS = "(SELECT classid, objid FROM pg_depend WHERE deptype = 'e')"
@@ -159,6 +159,26 @@ def test_damaged(server):
                 text = db.value(f"SELECT {given}")
                 assert db.rows(f"SELECT '{text}'::pep440::text, pep440_key('{text}') = pep440_key({given})") == [(text, "t")], (stored, text)
                 printed += 1
+    sets = damaged_sets(db, rng)
     db.close()
     assert server.is_sound() and printed > 100, printed
-    return f"{STRINGS + 4} byte strings: {printed} are versions, the others errors"
+    return f"{STRINGS + 4} byte strings: {printed} are versions, the others errors; {STRINGS} of sets, of which {sets} print"
+
+
+def damaged_sets(db, rng):
+    """How many of damaged sets print; all other calls of these give an error, or what they find."""
+    printed = 0
+    db.rows("CREATE CAST (bytea AS pep440_set) WITHOUT FUNCTION; CREATE CAST (pep440_set AS bytea) WITHOUT FUNCTION")
+    for _ in range(STRINGS):
+        stored = bytearray(bytes.fromhex(db.value(f"SELECT encode(('>={rng.randrange(9)},!={rng.randrange(99)}+a,!=1.{rng.randrange(999)}'::pep440_set)::bytea, 'hex')")))
+        for _ in range(rng.randrange(3)):
+            place = rng.randrange(1, len(stored))
+            stored[place : place + rng.randrange(2)] = bytes([rng.choice([0, 1, 7, 16, 32, 80, rng.randrange(256)])])
+        given = f"'\\x{stored[: rng.choice([len(stored), rng.randrange(1, len(stored))])].hex()}'::bytea::pep440_set"
+        for query in (f"SELECT {given}::text", f"SELECT {given} + '>1' <@ {given} - '<3', isempty({given}), '1.0'::pep440 <@ {given}, {given} = '>1', pep440_set_hash({given})", f"SELECT * FROM unnest({given})"):
+            try:
+                db.rows(query)
+                printed += query.endswith("::text")
+            except Refused as error:
+                assert error.code == CORRUPTED, (query, error)
+    return printed

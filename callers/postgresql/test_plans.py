@@ -17,7 +17,8 @@ JOINS = [
     "domains s JOIN domains r ON s.name = r.name AND s.specs @> r.version WHERE s.name < 'p2'", "releases r WHERE EXISTS (SELECT FROM requires s WHERE s.dep = r.name AND s.specs @> r.version)",
     "requires WHERE specs @> '1.5'", "requires WHERE specs @> '0.0.1'", "requires WHERE '0.9' <@ specs", "requires WHERE specs && '>=1.5,<2'", "releases WHERE version <@ '>=1,<2'",
     "releases WHERE version <@ '>=1,!=1.5.*,<2'", "releases WHERE version <@ '==1.2.1'", "releases WHERE pep440_version_contained_by(version, '==1.2.1')", "domains WHERE version <@ '==1.2.1'",
-    "domains WHERE specs @> '1.2.1'", "parts WHERE version <@ '~=1.4'", "parts WHERE version <@ '>=1.4,!=1.5,<1.9'",
+    "domains WHERE specs @> '1.2.1'", "allowed s JOIN releases r ON r.name = s.dep AND r.version <@ s.shared", "allowed WHERE shared @> '1.5'::pep440", "allowed WHERE shared && '>=1.5,<2'",
+    "releases WHERE version <@ '{[1, 2.dev0)}'::pep440_set", "parts WHERE '{[1.4, 2.dev0)}'::pep440_set @> version", "domains WHERE version <@ '==1.2.1'::pep440_set", "parts WHERE version <@ '~=1.4'", "parts WHERE version <@ '>=1.4,!=1.5,<1.9'",
 ]
 ROWS_OF_JOIN = re.compile(r"Join|Nested Loop")
 
@@ -53,6 +54,7 @@ def index_of_packages(server):
     db.rows("CREATE TABLE domains AS SELECT name, version::numbered, specs::listed FROM releases JOIN (SELECT dep, (array_agg(specs))[1] AS specs FROM requires GROUP BY 1) AS r ON dep = name")
     db.rows("CREATE TABLE parts (name text, version pep440) PARTITION BY RANGE (version); CREATE TABLE parts_0 PARTITION OF parts FOR VALUES FROM (MINVALUE) TO ('1'); "
             "CREATE TABLE parts_1 PARTITION OF parts FOR VALUES FROM ('1') TO ('2'); CREATE TABLE parts_2 PARTITION OF parts FOR VALUES FROM ('2') TO (MAXVALUE); INSERT INTO parts SELECT * FROM releases")
+    db.rows("CREATE TABLE allowed AS SELECT dep, intersect_agg(specs) AS shared, union_agg(specs) AS either FROM requires GROUP BY dep")
     db.rows("VACUUM ANALYZE")
     return db
 
@@ -104,6 +106,34 @@ def test_list_index(server):
     db.rows("INSERT INTO exclusive VALUES ('a', '==1.5'), ('a', '>2,<1')")
     db.close()
     return f"{len(conditions)} conditions by the index as without, a join, and a constraint"
+
+
+def test_set_index(server):
+    """Sets find versions by an index on these, and are found by one on sets, as by a scan; what all lists of a package allow is one query."""
+    db, rng = server.connect("packages"), random.Random(915)
+    wrong = db.value("""SELECT count(*) FROM allowed s JOIN releases r ON r.name = s.dep JOIN LATERAL (SELECT bool_and(t.specs @> r.version) AS all_of, bool_or(t.specs @> r.version) AS one_of
+        FROM requires t WHERE t.dep = s.dep) AS t ON true WHERE s.dep BETWEEN 'p1' AND 'p3' AND (s.shared @> r.version <> all_of OR s.either @> r.version <> one_of)""")
+    assert wrong == "0", wrong
+    db.rows("SET enable_seqscan = off; SET enable_bitmapscan = off")
+    query = "SELECT max(version) FROM releases WHERE name = 'p7' AND version <@ (SELECT intersect_agg(specs) FROM requires WHERE dep = 'p7')"
+    plan = plan_of(db, query)
+    assert re.search(r"Index Cond: [^\n]*version >= pep440_cover_start", plan), plan
+    found = [db.rows(query), db.rows("RESET ALL;" + NO_INDEX + query)]
+    assert found[0] == found[1], found
+    db.rows("CREATE TABLE unlike AS SELECT DISTINCT a.specs + b.specs - c.specs AS versions FROM (SELECT specs FROM requires LIMIT 30) a, (SELECT specs FROM requires OFFSET 50 LIMIT 30) b, "
+            "(SELECT specs FROM requires OFFSET 90 LIMIT 30) c; INSERT INTO unlike VALUES (NULL), ('{}'), ('{(*, *)}'), ('{(1.post*, 2+a]}'); CREATE INDEX by_set ON unlike USING gist (versions); ANALYZE unlike")
+    conditions = [f"versions @> '{version(rng)}'::pep440" for _ in range(10)] + [f"versions && '{specifiers(rng).replace('===', '==')}'" for _ in range(15)] + ["'1.5'::pep440 <@ versions"]
+    for condition in conditions:
+        query = f"SELECT versions FROM unlike WHERE {condition} ORDER BY 1"
+        alone = db.rows("RESET ALL;" + NO_INDEX + query)
+        db.rows("RESET ALL;" + NO_TABLE)
+        assert "by_set" in plan_of(db, query) and db.rows(query) == alone, condition
+    assert set(re.findall(r"Scan on (parts_\d)\b", plan_of(db, "SELECT * FROM parts WHERE version <@ '{[1.4, 1.5), [1.6, 1.9)}'::pep440_set"))) == {"parts_1"}
+    db.rows("RESET ALL; CREATE TABLE rules (name text, versions pep440_set, EXCLUDE USING gist (name WITH =, versions WITH &&)); INSERT INTO rules VALUES ('a', '<1'), ('a', '{[1, 2)}')")
+    refused(db, "INSERT INTO rules VALUES ('a', '{[1.5, *)}')", EXCLUSION_VIOLATION)
+    count = db.value("SELECT count(*) FROM unlike")
+    db.close()
+    return f"{len(conditions)} conditions over {count} sets by the index as without"
 
 
 def test_partitions(server):

@@ -1,7 +1,9 @@
-"""Tests of lists as values, of what values take, and of updates from older releases; test.py runs them."""
+"""Tests of lists and sets as values, of what values take, and of updates from older releases; test.py runs them."""
 import importlib
+import os
 import random
 import re
+import subprocess
 import sys
 import time
 import unittest
@@ -102,6 +104,71 @@ def test_emptiness(server):
     return f"{empty} of 10000 pairs have no version in common"
 
 
+def without_exact(rng):
+    """A list that has a set."""
+    return ",".join(filter(None, (specifiers(rng).replace("===", "=="), rng.choice(["", "", "", "==1.0+a", "!=1.0+a.1", "<=1.0.post1", ">1.0rc1", "==1.0.*"]))))
+
+
+RELATIONS = [
+    "(one <@ other) <> isempty(rest)", "(other @> one) <> isempty(rest)", "(one && other) = isempty(shared)", "(other && one) = isempty(shared)", "shared + rest <> one", "either - other <> rest",
+    "shared <> other * one", "either <> other + one", "(one = other) <> (one <@ other AND other <@ one)", "isempty(one) <> isempty(a)", "NOT shared <@ one", "NOT either @> other",
+    "either::text::pep440_set <> either", "rest::text::pep440_set <> rest", "(rest < shared) = (rest >= shared)", "pep440_set_hash(either) <> pep440_set_hash(other + one)",
+]
+
+
+def test_sets(server):
+    """Sets made of random lists have the versions that they should, in all operators, and are parsed as they are printed."""
+    db, rng, count = database(server, "sets"), random.Random(914), 2_000 if SMALL else 100_000
+    pairs = [(number, without_exact(rng), without_exact(rng)) for number in range(count)]
+    file = server.folder / "pairs"
+    file.write_text("".join(f"{number}\t{a}\t{b}\n" for number, a, b in pairs))
+    db.rows("CREATE TABLE near (number serial, version pep440); INSERT INTO near (version) VALUES " + ",".join(f"('{it}')" for it in NEAR))
+    db.rows(f"CREATE TABLE pair (id int, a pep440_specs, b pep440_specs); COPY pair FROM '{file}'")
+    db.rows("CREATE TABLE made AS SELECT *, one + other AS either, one - other AS rest, one * other AS shared FROM (SELECT *, a::pep440_set AS one, b::pep440_set AS other FROM pair) AS given; ANALYZE made")
+    for relation in RELATIONS:
+        assert db.value(f"SELECT count(*) FROM made WHERE {relation}") == "0", relation
+    wrong = db.value("""SELECT count(*) FROM made, near WHERE (version <@ either) <> (version <@ a OR version <@ b) OR (rest @> version) <> (a @> version AND NOT b @> version)
+        OR (version <@ shared) <> (version <@ a AND version <@ b) OR (version <@ one) <> (version <@ a)""")
+    assert wrong == "0", wrong
+    empty = int(db.value("SELECT count(*) FROM made WHERE isempty(shared)"))
+    assert 0.05 * count < empty < 0.95 * count, empty
+    told = compare_ranges(db, pairs) + compare_lines(db, rng)
+    db.close()
+    return f"{3 * count} sets of {len(NEAR)} versions, {empty} of {count} pairs have none in common{told}"
+
+
+def compare_ranges(db, pairs):
+    """Whether the same versions are in the sets of `packaging`."""
+    try:
+        versions, specifiers_of, name = peer_of_26()
+    except unittest.SkipTest:
+        return ""
+    if not hasattr(specifiers_of.SpecifierSet, "to_range"):
+        return ""
+    near, ranges = [versions.Version(it) for it in NEAR], {}
+    for number, a, b in pairs:
+        one, other = (ranges.setdefault(text, specifiers_of.SpecifierSet(text, prereleases=True).to_range()) if text not in ranges else ranges[text] for text in (a, b))
+        if number % 1000 == 0:
+            columns = ", ".join(f"string_agg((version <@ {it})::int::text, '' ORDER BY number)" for it in ("either", "rest", "shared"))
+            found = {int(row[0]): row[1:] for row in db.rows(f"SELECT id, {columns} FROM made, near WHERE id BETWEEN {number} AND {number + 999} GROUP BY id")}
+        wanted = tuple("".join(str(int(made.contains(it))) for it in near) for made in (one | other, one - other, one & other))
+        assert found[number] == wanted, (a, b, found[number], wanted)
+    return f", as in {name}"
+
+
+def compare_lines(db, rng):
+    """Whether sets are printed as `pyver range` prints them, where no version ends with a zero."""
+    program = os.environ.get("PYVER")
+    if not program:
+        return ""
+    lists = [re.sub(r"(\d)(\.0)+(?!\d)", r"\1", without_exact(rng)).replace("~=", ">=") for _ in range(200)]
+    for text in lists:
+        ran = subprocess.run([program, "range", text], capture_output=True, text=True, check=False)
+        lines = [] if ran.stdout == "no version\n" else ran.stdout.splitlines()
+        assert db.value(f"SELECT '{text}'::pep440_set") == "{" + ", ".join(lines) + "}", (text, lines)
+    return f", {len(lists)} printed as `pyver range`"
+
+
 def test_replica(server):
     """Changes of a table whose replica identity is the whole row arrive."""
     sender, receiver = database(server, "sender"), database(server, "receiver")
@@ -143,13 +210,18 @@ def test_estimates(server):
     return f"of {rows} lists " + ", ".join(told)
 
 
-def test_packaging(server):
-    """The order of all rows, and how many each list contains, beside the library `packaging`; and what random lists contain of versions near to theirs."""
+def peer_of_26():
+    """The modules `version` and `specifiers` of `packaging`, and which one it is."""
     sys.path.insert(0, str(HERE.parent / "python" / "tests"))
     peer = importlib.import_module("peer")
     peer.RELEASES = ("26.0", "26.1", "26.2", "26.3")
+    return peer.find()
+
+
+def test_packaging(server):
+    """The order of all rows, and how many each list contains, beside the library `packaging`; and what random lists contain of versions near to theirs."""
     try:
-        versions, specifiers_of, name = peer.find()
+        versions, specifiers_of, name = peer_of_26()
     except unittest.SkipTest as reason:
         return f"left out: {reason}"
     db = server.connect()
@@ -178,17 +250,14 @@ def test_sizes(server):
     db = server.connect()
     average = float(db.value("SELECT avg(pg_column_size(version)) FROM releases"))
     strings = float(db.value("SELECT avg(pg_column_size(written)) FROM releases"))
-    db.rows("CREATE INDEX by_size ON releases (version)")
-    index = int(db.value("SELECT pg_relation_size('by_size')")) / ROWS
-    db.rows("DROP INDEX by_size; CREATE INDEX by_size ON releases (written) WITH (deduplicate_items = off)")
-    of_strings = int(db.value("SELECT pg_relation_size('by_size')")) / ROWS
-    db.rows("DROP INDEX by_size")
-    db.rows(f"CREATE TABLE plain AS SELECT ('1.' || n / 1000 % 100 || '.' || n % 250)::pep440 AS version FROM generate_series(1, {ROWS}) AS n; CREATE INDEX by_plain ON plain (version)")
-    plain = int(db.value("SELECT pg_relation_size('by_plain')")) / ROWS
-    db.rows("DROP TABLE plain")
+    sizes = []
+    for index in ("(version)", "(pep440_key(version))", "(written)", "(written) WITH (deduplicate_items = off)"):
+        db.rows(f"CREATE INDEX by_size ON releases {index}")
+        sizes.append(int(db.value("SELECT pg_relation_size('by_size')")) / ROWS)
+        db.rows("DROP INDEX by_size")
     db.close()
-    assert average <= 16 and index <= of_strings, (average, index, of_strings)
-    return f"{average:.1f} bytes a version (their strings {strings:.1f}), {index:.1f} in an index ({of_strings:.1f} where none is deduplicated), {plain:.1f} of releases alone"
+    assert average <= 16 and sizes[0] <= sizes[3], (average, sizes)
+    return "{:.1f} bytes a version (their strings {:.1f}); in an index {:.1f}, of keys {:.1f} (strings {:.1f}, not deduplicated {:.1f})".format(average, strings, *sizes)
 
 
 def copied_from(server, name):
@@ -304,6 +373,8 @@ LONG = [  # what takes the longest of the texts that a server takes, and of the 
     f"(SELECT count(*) FROM releases WHERE version <@ '{GAPS}')", f"(SELECT count(*) FROM releases, pep440_specs('{GAPS}') AS specs WHERE version <@ specs)",
     f"(SELECT count(*) FROM generate_series(1, 100), pep440_cover('{GAPS}'))", f"(SELECT count(isempty(specs)) FROM pep440_specs('{GAPS}') AS specs, generate_series(1, 100))",
     f"(SELECT count(specs && ('>=' || n)::pep440_specs) FROM pep440_specs('{GAPS}') AS specs, generate_series(1, 100) AS n)",
+    f"(SELECT union_agg(specs - ('==' || n)::pep440_specs) FROM pep440_specs('{GAPS}') AS specs, generate_series(1, 1000) AS n)", f"('{GAPS}'::pep440_set::text)::pep440_set",
+    "('{' || repeat('[2, 3), [1, 1.5), ', 1000000) || '[1, 2)}')::pep440_set",
 ]
 
 

@@ -24,8 +24,7 @@ static Bytes utf8_of(const char *text, int length)
     return (Bytes){(const uint8_t *)utf8, utf8 == text ? (size_t)length : strlen(utf8)};
 }
 
-/* A text of the server's: a copy in its encoding, with a zero at the end. */
-static char *server_text(Bytes utf8)
+char *server_text(Bytes utf8)
 {
     char *text = pnstrdup((const char *)utf8.bytes, utf8.length);
     return GetDatabaseEncoding() == PG_SQL_ASCII ? text : pg_any_to_server(text, (int)utf8.length, PG_UTF8);
@@ -143,7 +142,7 @@ char *normal_argument(FunctionCallInfo fcinfo)
 {
     const struct varlena *stored = GET_STORED(0);
     VersionBuffer buffer;
-    char *text = release_text(stored);
+    char *text = short_text(stored);
     return text != NULL ? text : normal_text(pep440_normalize, version_of(stored, &buffer).bytes);
 }
 
@@ -248,7 +247,7 @@ static int compare_datums(Datum left, Datum right, SortSupport unused)
 static Datum abbreviate(Datum original, SortSupport unused)
 {
     struct varlena *stored = PG_DETOAST_DATUM_PACKED(original);
-    uint64 first = first_of_key(stored);
+    uint64 first = first_of_version(stored);
     (void)unused;
     if ((Pointer)stored != DatumGetPointer(original))
         pfree(stored);

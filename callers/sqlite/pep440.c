@@ -1,7 +1,8 @@
-/* Versions of Python packages (PEP 440) in SQLite: sort keys for indexes, a collation, normal forms, matching, intervals of lists of specifiers.
+/* Versions of Python packages (PEP 440) in SQLite: sort keys for indexes, a collation, normal forms, matching, sets of versions and their intervals.
 
    Each function is deterministic and innocuous, so it serves in an index on an expression and in a generated column. A version is a TEXT; any
-   other value, and a text that is no version, gives NULL (pep440_valid gives 0). A text that is no list of specifiers is an error that says why. */
+   other value, and a text that is no version, gives NULL (pep440_valid gives 0). A list of specifiers is a TEXT, and a set a BLOB that these functions
+   made; a text that is no list is an error that says why. */
 #include <string.h>
 
 #include <sqlite3ext.h>
@@ -82,13 +83,18 @@ static void give_number(sqlite3_context *context, uint8_t status, int number)
         sqlite3_result_int(context, number);
 }
 
-/* A function of SQL; of those that are one call of the library, the call, and whether it writes bytes that are no text. */
+/* A call of the library that makes a set of two. */
+typedef uint8_t (*Combination)(const uint8_t *, size_t, const uint8_t *, size_t, uint8_t *, size_t, size_t *);
+
+/* A function of SQL; of those that are one call of the library, the call, and whether it writes bytes that are no text; and of an aggregate, what ends it. */
 typedef struct {
     const char *name;
     int arguments;
     void (*run)(sqlite3_context *, int, sqlite3_value **);
     Writer call;
     int is_blob;
+    Combination combination;
+    void (*finish)(sqlite3_context *);
 } Function;
 
 /* pep440_key(v), pep440_normalize(v): what the call writes; NULL where v is no version. */
@@ -169,6 +175,257 @@ static int collate(void *db, int left_length, const void *left, int right_length
     return order;
 }
 
+/* ---- sets: the byte 7, and of each interval the low key, and the high key, which has no bytes where there is no bound; each behind how many bytes it takes, and
+   that behind how many bytes it takes */
+
+enum { SET_FORMAT = 7, VERSION_FORMAT = 4, MOST_LENGTH = 8 };
+
+typedef struct {
+    Text low;
+    Text high;
+} Interval;
+
+/* Whether the value is a list, or a set that these functions made. */
+static int is_set(sqlite3_value *value, Text *set)
+{
+    if (sqlite3_value_type(value) != SQLITE_BLOB)
+        return is_text(value, set);
+    *set = (Text){sqlite3_value_blob(value), (size_t)sqlite3_value_bytes(value)};
+    return set->length > 0 && set->bytes[0] == SET_FORMAT;
+}
+
+static uint8_t combine(Combination call, Text left, Text right, Written *out)
+{
+    out->bytes = out->here;
+    uint8_t status = call(left.bytes, left.length, right.bytes, right.length, out->bytes, sizeof out->here, &out->length);
+    if (status != PEP440_NO_ROOM)
+        return status;
+    size_t room = out->length;
+    out->bytes = sqlite3_malloc64(room);
+    return out->bytes == NULL ? PEP440_OUT_OF_MEMORY : call(left.bytes, left.length, right.bytes, right.length, out->bytes, room, &out->length);
+}
+
+/* Passes over bytes behind how many they are; 0 where there are none. */
+static int read_sized(Text *rest, Text *found)
+{
+    size_t length = 0;
+    if (rest->length == 0 || rest->bytes[0] > MOST_LENGTH || rest->bytes[0] >= rest->length)
+        return 0;
+    uint8_t taken = rest->bytes[0];
+    for (uint8_t each = 1; each <= taken; each++)
+        length = length << 8 | rest->bytes[each];
+    if (length > rest->length - 1 - taken)
+        return 0;
+    *found = (Text){rest->bytes + 1 + taken, length};
+    *rest = (Text){found->bytes + length, rest->length - 1 - taken - length};
+    return 1;
+}
+
+/* Passes over an interval; 0 where there are no more. */
+static int read_interval(Text *rest, Interval *found)
+{
+    return read_sized(rest, &found->low) && read_sized(rest, &found->high);
+}
+
+static void match_set(sqlite3_context *context, Text set, Text version)
+{
+    Text rest = {set.bytes + 1, set.length - 1};
+    Interval interval;
+    Written key;
+    int is_inside = 0;
+    uint8_t status = write_all(pep440_sort_key, version, &key);
+    Text sought = {key.bytes, key.length};
+    while (status == PEP440_OK && !is_inside && read_interval(&rest, &interval) && compare_bytes(interval.low, sought) <= 0)
+        is_inside = interval.high.length == 0 || compare_bytes(sought, interval.high) < 0;
+    give_number(context, status, is_inside);
+    release(&key);
+}
+
+/* Says in an error why there is no set, as of the list that is invalid. Of a set that is damaged the status may name the other side. */
+static void fail_set(sqlite3_context *context, uint8_t status, Text list)
+{
+    size_t length;
+    uint8_t nothing[1];
+    if (status == PEP440_OUT_OF_MEMORY)
+        sqlite3_result_error_nomem(context);
+    else if (status == PEP440_NO_SET)
+        sqlite3_result_error(context, "a list with === has no set", -1);
+    else if (list.bytes[0] == SET_FORMAT || pep440_list_error(list.bytes, list.length, nothing, 0, &length) == PEP440_OK)
+        sqlite3_result_error(context, "not a set", -1);
+    else
+        fail_list(context, list);
+}
+
+/* Ends with the set, or with the error of its status. */
+static void give_set(sqlite3_context *context, uint8_t status, Text left, Text right, Written *set)
+{
+    if (status == PEP440_OK)
+        sqlite3_result_blob64(context, set->bytes, set->length, SQLITE_TRANSIENT);
+    else
+        fail_set(context, status, status == PEP440_INVALID_RIGHT ? right : left);
+    release(set);
+}
+
+/* pep440_set(a), pep440_union(a, b), pep440_intersection(a, b): a set of one or two. */
+static void give_combined(sqlite3_context *context, int count, sqlite3_value **values)
+{
+    const Function *function = sqlite3_user_data(context);
+    Text left, right;
+    Written set;
+    if (!is_set(values[0], &left) || !is_set(values[count - 1], &right))
+        return;
+    give_set(context, combine(function->combination, left, right, &set), left, right, &set);
+}
+
+/* pep440_complement(a) */
+static void give_complement(sqlite3_context *context, int count, sqlite3_value **values)
+{
+    Text given;
+    Written set;
+    (void)count;
+    if (is_set(values[0], &given))
+        give_set(context, write_all(pep440_complement, given, &set), given, given, &set);
+}
+
+/* pep440_difference(a, b) */
+static void give_difference(sqlite3_context *context, int count, sqlite3_value **values)
+{
+    Text left, right;
+    Written outside, set = {.bytes = set.here};
+    (void)count;
+    if (!is_set(values[0], &left) || !is_set(values[1], &right))
+        return;
+    uint8_t status = write_all(pep440_complement, right, &outside);
+    if (status == PEP440_OK)
+        status = combine(pep440_intersection, left, (Text){outside.bytes, outside.length}, &set);
+    else if (status == PEP440_INVALID_LIST)
+        status = PEP440_INVALID_RIGHT;
+    give_set(context, status, left, right, &set);
+    release(&outside);
+}
+
+/* pep440_is_subset(a, b): 1 or 0 */
+static void is_subset(sqlite3_context *context, int count, sqlite3_value **values)
+{
+    Text left, right;
+    uint8_t inside = 0;
+    (void)count;
+    if (!is_set(values[0], &left) || !is_set(values[1], &right))
+        return;
+    uint8_t status = pep440_is_subset(left.bytes, left.length, right.bytes, right.length, &inside);
+    if (status == PEP440_OK)
+        sqlite3_result_int(context, inside);
+    else
+        fail_set(context, status, status == PEP440_INVALID_RIGHT ? right : left);
+}
+
+/* The set of the rows so far; no bytes before the first one. */
+typedef struct {
+    uint8_t *bytes;
+    size_t length;
+    int has_failed;
+} Total;
+
+/* pep440_union_agg(a), pep440_intersect_agg(a): of all rows, but for NULL. */
+static void add_row(sqlite3_context *context, int count, sqlite3_value **values)
+{
+    const Function *function = sqlite3_user_data(context);
+    Total *total = sqlite3_aggregate_context(context, sizeof *total);
+    Text given;
+    Written set;
+    (void)count;
+    if (total == NULL)
+        sqlite3_result_error_nomem(context);
+    if (total == NULL || total->has_failed || !is_set(values[0], &given))
+        return;
+    Text before = total->bytes == NULL ? given : (Text){total->bytes, total->length};
+    uint8_t status = combine(function->combination, before, given, &set);
+    uint8_t *kept = status == PEP440_OK ? sqlite3_realloc64(total->bytes, set.length) : NULL;
+    if (kept != NULL) {
+        total->bytes = memcpy(kept, set.bytes, set.length);
+        total->length = set.length;
+    } else {
+        total->has_failed = 1;
+        fail_set(context, status == PEP440_OK ? PEP440_OUT_OF_MEMORY : status, given);
+    }
+    release(&set);
+}
+
+static void give_total(sqlite3_context *context)
+{
+    Total *total = sqlite3_aggregate_context(context, 0);
+    if (total != NULL && total->bytes != NULL && !total->has_failed)
+        sqlite3_result_blob64(context, total->bytes, total->length, SQLITE_TRANSIENT);
+    if (total != NULL)
+        sqlite3_free(total->bytes);
+}
+
+/* ---- sets as text */
+
+/* A sort key ends so where the version is a release alone; and so, where a key is a bound above all post-releases of it. */
+static const uint8_t RELEASE_END[] = {0, 0x50, 0, 0x10, 0}, POSTS_END[] = {0, 0x50, 0x20, 0x10, 0};
+
+/* What a bound is: none, just below a version, or above the post-releases of one or above a version with a local part, behind whose key it has a zero. */
+typedef enum { NONE, BELOW, ABOVE } Side;
+
+/* The normal form of a version's key: of a release of zeros, which are not in a key, with one zero. */
+static uint8_t normalize_key(uint8_t *compiled, size_t length, Written *normal)
+{
+    size_t numbers = (size_t)compiled[0] + 1;
+    compiled[-1] = VERSION_FORMAT;
+    compiled[length] = 1;
+    return write_all(pep440_normalize, (Text){compiled - 1, length + (numbers < length && compiled[numbers] != 0 ? 1 : 2)}, normal);
+}
+
+/* The text of a bound, which the caller frees; null where the status is not PEP440_OK. */
+static uint8_t bound_text(Text key, char **text, Side *side)
+{
+    const size_t end = sizeof POSTS_END;
+    const char *suffix = "";
+    uint8_t *compiled = sqlite3_malloc64(key.length + 2);
+    size_t length = key.length;
+    Written normal;
+    *text = NULL;
+    if (compiled == NULL)
+        return PEP440_OUT_OF_MEMORY;
+    memcpy(compiled + 1, key.bytes, key.length);
+    uint8_t status = normalize_key(compiled + 1, length, &normal);
+    *side = status == PEP440_OK ? BELOW : ABOVE;
+    if (status == PEP440_INVALID_VERSION) {
+        if (length >= end && memcmp(compiled + 1 + length - end, POSTS_END, end) == 0) {
+            memcpy(compiled + 1 + length - end, RELEASE_END, end);
+            suffix = ".post*";
+        } else
+            length--;
+        status = length == 0 ? status : normalize_key(compiled + 1, length, &normal);
+    }
+    if (status == PEP440_OK)
+        *text = sqlite3_mprintf("%.*s%s", (int)normal.length, (const char *)normal.bytes, suffix);
+    release(&normal);
+    sqlite3_free(compiled);
+    return status == PEP440_OK && *text == NULL ? PEP440_OUT_OF_MEMORY : status;
+}
+
+/* Ends with the interval as text: `[1, 2.dev0)`, `(1.post*, *)`. */
+static void give_interval(sqlite3_context *context, Interval interval)
+{
+    char *low = NULL, *high = NULL;
+    Side from = NONE, to = NONE;
+    uint8_t status = interval.low.length == 0 ? PEP440_OK : bound_text(interval.low, &low, &from);
+    if (status == PEP440_OK && interval.high.length != 0)
+        status = bound_text(interval.high, &high, &to);
+    char start = from == BELOW ? '[' : '(', end = to == ABOVE ? ']' : ')';
+    char *text = status != PEP440_OK ? NULL : sqlite3_mprintf("%c%s, %s%c", start, low == NULL ? "*" : low, high == NULL ? "*" : high, end);
+    if (text != NULL)
+        sqlite3_result_text(context, text, -1, sqlite3_free);
+    else if (status == PEP440_OK || status == PEP440_OUT_OF_MEMORY)
+        sqlite3_result_error_nomem(context);
+    else
+        sqlite3_result_error(context, "not a set", -1);
+    sqlite3_free(low);
+    sqlite3_free(high);
+}
+
 /* ---- matching */
 
 /* pep440_is_prerelease(v): whether v is a pre-release or a developmental release, 1 or 0. */
@@ -221,15 +478,20 @@ static void keep_list(sqlite3_context *context, Compiled *made)
         sqlite3_set_auxdata(context, 0, made, sqlite3_free);
 }
 
-/* pep440_match(specs, v): whether the list matches the version, 1 or 0. Pre-releases are versions like others. */
+/* pep440_match(specs, v): whether the list, or the set, has the version, 1 or 0. Pre-releases are versions like others. */
 static void match(sqlite3_context *context, int count, sqlite3_value **values)
 {
     Compiled *made;
-    Text text;
+    Text text, set;
     uint8_t allowed = 0;
     (void)count;
     if (sqlite3_value_type(values[1]) == SQLITE_NULL)
         return;
+    if (sqlite3_value_type(values[0]) == SQLITE_BLOB) {
+        if (is_set(values[0], &set) && is_text(values[1], &text))
+            match_set(context, set, text);
+        return;
+    }
     const Compiled *list = compiled_list(context, values[0], &made);
     if (list != NULL && is_text(values[1], &text)) {
         uint8_t status = pep440_allows(list->bytes, list->length, text.bytes, text.length, PEP440_ALL_PRERELEASES, &allowed);
@@ -238,24 +500,26 @@ static void match(sqlite3_context *context, int count, sqlite3_value **values)
     keep_list(context, made);
 }
 
-/* ---- pep440_intervals(specs): a table of intervals of keys, low and high, that hold exactly what the list matches; `===` counts as `==` */
+/* ---- pep440_intervals(specs): a table of the intervals of a list, or of a set: keys, low and high, between which is exactly what it has, and both as text;
+   `===` counts as `==` */
 
-enum { LOW, HIGH, SPECS };
+enum { LOW, HIGH, BOUNDS, SPECS };
 
-/* The keys of an interval end where `ends` says; its low one comes first, then its high one. The list is kept for the hidden column. */
+/* The set, in memory of its own, and what of it follows the interval. The list is kept for the hidden column. */
 typedef struct {
     sqlite3_vtab_cursor base;
-    uint8_t *keys;
-    size_t *ends;
-    size_t count;
-    size_t at;
+    uint8_t *set;
+    Text rest;
+    Interval interval;
+    int is_at_end;
+    sqlite3_int64 row;
     sqlite3_value *specs;
 } Intervals;
 
 static int intervals_connect(sqlite3 *db, void *unused, int words, const char *const *names, sqlite3_vtab **table, char **error)
 {
     (void)unused, (void)words, (void)names, (void)error;
-    int status = sqlite3_declare_vtab(db, "CREATE TABLE intervals(low BLOB, high BLOB, specs HIDDEN)");
+    int status = sqlite3_declare_vtab(db, "CREATE TABLE intervals(low BLOB, high BLOB, bounds TEXT, specs HIDDEN)");
     if (status != SQLITE_OK)
         return status;
     sqlite3_vtab_config(db, SQLITE_VTAB_INNOCUOUS);
@@ -272,8 +536,25 @@ static int intervals_disconnect(sqlite3_vtab *table)
     return SQLITE_OK;
 }
 
+/* How many intervals the list has, where the planner knows it already; else nearly all lists have no more than two. */
+static sqlite3_int64 count_intervals(sqlite3_index_info *info, int constraint)
+{
+#if SQLITE_VERSION_NUMBER >= 3038000
+    sqlite3_value *value;
+    Text list;
+    size_t bytes, keys, none[1];
+    uint8_t nothing[1];
+    if (sqlite3_libversion_number() >= 3038000 && sqlite3_vtab_rhs_value(info, constraint, &value) == SQLITE_OK && is_text(value, &list) &&
+        pep440_boundaries(list.bytes, list.length, nothing, 0, none, 0, &bytes, &keys) == PEP440_NO_ROOM)
+        return (sqlite3_int64)keys / 2;
+#else
+    (void)info, (void)constraint;
+#endif
+    return 2;
+}
+
 /* The list is the one argument. Without it there are no intervals, at a cost that no other plan has; but a join that has it and cannot give it yet is
-   planned in another order. */
+   planned in another order. To begin again costs more than to read the next interval. */
 static int intervals_best_index(sqlite3_vtab *table, sqlite3_index_info *info)
 {
     int status = SQLITE_OK;
@@ -284,8 +565,8 @@ static int intervals_best_index(sqlite3_vtab *table, sqlite3_index_info *info)
         if (info->aConstraint[each].usable) {
             info->aConstraintUsage[each].argvIndex = 1;
             info->aConstraintUsage[each].omit = 1;
-            info->estimatedCost = 10;
-            info->estimatedRows = 2;
+            info->estimatedRows = count_intervals(info, each);
+            info->estimatedCost = 10 + (double)info->estimatedRows;
             return SQLITE_OK;
         }
         status = SQLITE_CONSTRAINT;
@@ -306,13 +587,11 @@ static int intervals_open(sqlite3_vtab *table, sqlite3_vtab_cursor **cursor)
 
 static void forget(Intervals *found)
 {
-    sqlite3_free(found->keys);
-    sqlite3_free(found->ends);
+    sqlite3_free(found->set);
     sqlite3_value_free(found->specs);
-    found->keys = NULL;
-    found->ends = NULL;
+    found->set = NULL;
     found->specs = NULL;
-    found->count = found->at = 0;
+    found->is_at_end = 1;
 }
 
 static int intervals_close(sqlite3_vtab_cursor *cursor)
@@ -331,29 +610,31 @@ static int no_intervals(sqlite3_vtab_cursor *cursor, Text list, uint8_t status)
     char **message = &cursor->pVtab->zErrMsg;
     sqlite3_free(*message);
     *message = NULL;
-    if (write_all(pep440_list_error, list, &why) == PEP440_OK)
+    if (list.bytes[0] == SET_FORMAT)
+        *message = sqlite3_mprintf("not a set");
+    else if (write_all(pep440_list_error, list, &why) == PEP440_OK)
         *message = sqlite3_mprintf("%.*s", (int)why.length, (const char *)why.bytes);
-    release(&why);
+    if (list.bytes[0] != SET_FORMAT)
+        release(&why);
     return *message == NULL ? SQLITE_NOMEM : SQLITE_ERROR;
 }
 
-/* The intervals of the list. */
+/* The set of the list. */
 static uint8_t find(Intervals *found, Text list)
 {
-    size_t room, keys, none[1];
-    uint8_t nothing[1], status = pep440_boundaries(list.bytes, list.length, nothing, 0, none, 0, &room, &keys);
-    if (status == PEP440_NO_ROOM) {
-        found->keys = sqlite3_malloc64(room + 1);
-        found->ends = sqlite3_malloc64(keys * sizeof *found->ends + 1);
-        if (found->keys == NULL || found->ends == NULL)
-            return PEP440_OUT_OF_MEMORY;
-        status = pep440_boundaries(list.bytes, list.length, found->keys, room, found->ends, keys, &room, &keys);
+    Written set;
+    uint8_t status = combine(pep440_intersection, list, list, &set);
+    if (status == PEP440_OK) {
+        found->set = sqlite3_malloc64(set.length);
+        status = found->set == NULL ? PEP440_OUT_OF_MEMORY : PEP440_OK;
     }
-    found->count = status == PEP440_OK ? keys / 2 : 0;
+    if (status == PEP440_OK)
+        found->rest = (Text){(const uint8_t *)memcpy(found->set, set.bytes, set.length) + 1, set.length - 1};
+    release(&set);
     return status;
 }
 
-/* The intervals of a list with `===`, with `==` in its place: in a list three `=` stand together nowhere else. */
+/* The set of a list with `===`, with `==` in its place: in a list three `=` stand together nowhere else. */
 static uint8_t find_equal(Intervals *found, Text list)
 {
     uint8_t *bytes = sqlite3_malloc64(list.length), status;
@@ -368,13 +649,21 @@ static uint8_t find_equal(Intervals *found, Text list)
     return status;
 }
 
+static int intervals_next(sqlite3_vtab_cursor *cursor)
+{
+    Intervals *found = (Intervals *)cursor;
+    found->is_at_end = !read_interval(&found->rest, &found->interval);
+    found->row++;
+    return SQLITE_OK;
+}
+
 static int intervals_filter(sqlite3_vtab_cursor *cursor, int number, const char *name, int count, sqlite3_value **values)
 {
     Intervals *found = (Intervals *)cursor;
     Text list;
     (void)number, (void)name;
     forget(found);
-    if (count == 0 || !is_text(values[0], &list))
+    if (count == 0 || !is_set(values[0], &list))
         return SQLITE_OK;
     found->specs = sqlite3_value_dup(values[0]);
     if (found->specs == NULL)
@@ -382,34 +671,28 @@ static int intervals_filter(sqlite3_vtab_cursor *cursor, int number, const char 
     uint8_t status = find(found, list);
     if (status == PEP440_NO_SET)
         status = find_equal(found, list);
-    return status == PEP440_OK ? SQLITE_OK : no_intervals(cursor, list, status);
-}
-
-static int intervals_next(sqlite3_vtab_cursor *cursor)
-{
-    ((Intervals *)cursor)->at++;
-    return SQLITE_OK;
+    if (status != PEP440_OK)
+        return no_intervals(cursor, list, status);
+    found->row = 0;
+    return intervals_next(cursor);
 }
 
 static int intervals_eof(sqlite3_vtab_cursor *cursor)
 {
-    const Intervals *found = (const Intervals *)cursor;
-    return found->at >= found->count;
+    return ((const Intervals *)cursor)->is_at_end;
 }
 
 /* No low key is an empty blob, since each key is at least that; no high key is NULL. */
 static int intervals_column(sqlite3_vtab_cursor *cursor, sqlite3_context *context, int column)
 {
     const Intervals *found = (const Intervals *)cursor;
-    if (column == SPECS) {
+    Text key = column == LOW ? found->interval.low : found->interval.high;
+    if (column == SPECS)
         sqlite3_result_value(context, found->specs);
-        return SQLITE_OK;
-    }
-    size_t place = 2 * found->at + (column == HIGH);
-    size_t start = place == 0 ? 0 : found->ends[place - 1];
-    size_t length = found->ends[place] - start;
-    if (length != 0)
-        sqlite3_result_blob64(context, found->keys + start, length, SQLITE_TRANSIENT);
+    else if (column == BOUNDS)
+        give_interval(context, found->interval);
+    else if (key.length != 0)
+        sqlite3_result_blob64(context, key.bytes, key.length, SQLITE_TRANSIENT);
     else if (column == LOW)
         sqlite3_result_zeroblob(context, 0);
     return SQLITE_OK;
@@ -417,7 +700,7 @@ static int intervals_column(sqlite3_vtab_cursor *cursor, sqlite3_context *contex
 
 static int intervals_rowid(sqlite3_vtab_cursor *cursor, sqlite3_int64 *rowid)
 {
-    *rowid = (sqlite3_int64)((const Intervals *)cursor)->at;
+    *rowid = ((const Intervals *)cursor)->row;
     return SQLITE_OK;
 }
 
@@ -440,20 +723,29 @@ static const sqlite3_module INTERVALS = {
 __attribute__((visibility("default"))) int sqlite3_pep_init(sqlite3 *db, char **error, const sqlite3_api_routines *api)
 {
     static Function functions[] = {
-        {"pep440_key", 1, give_written, pep440_sort_key, 1},
-        {"pep440_normalize", 1, give_written, pep440_normalize, 0},
-        {"pep440_valid", 1, is_valid, pep440_normalize, 0},
-        {"pep440_specs_valid", 1, is_valid, pep440_normalize_list, 0},
-        {"pep440_compare", 2, compare, NULL, 0},
-        {"pep440_is_prerelease", 1, is_prerelease, NULL, 0},
-        {"pep440_match", 2, match, NULL, 0},
+        {"pep440_key", 1, give_written, .call = pep440_sort_key, .is_blob = 1},
+        {"pep440_normalize", 1, give_written, .call = pep440_normalize},
+        {"pep440_valid", 1, is_valid, .call = pep440_normalize},
+        {"pep440_specs_valid", 1, is_valid, .call = pep440_normalize_list},
+        {"pep440_compare", 2, compare, .call = NULL},
+        {"pep440_is_prerelease", 1, is_prerelease, .call = NULL},
+        {"pep440_match", 2, match, .call = NULL},
+        {"pep440_set", 1, give_combined, .combination = pep440_intersection},
+        {"pep440_intersection", 2, give_combined, .combination = pep440_intersection},
+        {"pep440_union", 2, give_combined, .combination = pep440_union},
+        {"pep440_difference", 2, give_difference, .call = NULL},
+        {"pep440_complement", 1, give_complement, .call = NULL},
+        {"pep440_is_subset", 2, is_subset, .call = NULL},
+        {"pep440_intersect_agg", 1, add_row, .combination = pep440_intersection, .finish = give_total},
+        {"pep440_union_agg", 1, add_row, .combination = pep440_union, .finish = give_total},
     };
     const int flags = SQLITE_UTF8 | SQLITE_DETERMINISTIC | SQLITE_INNOCUOUS;
     int status = SQLITE_OK;
     (void)error;
     SQLITE_EXTENSION_INIT2(api);
     for (Function *each = functions; each < functions + sizeof functions / sizeof *functions && status == SQLITE_OK; each++)
-        status = sqlite3_create_function_v2(db, each->name, each->arguments, flags, each, each->run, NULL, NULL, NULL);
+        status = each->finish == NULL ? sqlite3_create_function_v2(db, each->name, each->arguments, flags, each, each->run, NULL, NULL, NULL)
+                                      : sqlite3_create_function_v2(db, each->name, each->arguments, flags, each, NULL, each->run, each->finish, NULL);
     if (status == SQLITE_OK)
         status = sqlite3_create_collation_v2(db, "pep440", SQLITE_UTF8, db, collate, NULL);
     return status == SQLITE_OK ? sqlite3_create_module_v2(db, "pep440_intervals", &INTERVALS, NULL, NULL) : status;

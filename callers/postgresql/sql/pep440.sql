@@ -49,6 +49,24 @@ SELECT isempty('>=1,<=1,!=1'::pep440_specs), isempty('<=1.0,==1.0+cu1'::pep440_s
 SELECT pep440_specs_valid('>=1, <2'), pep440_specs_valid(''), pep440_specs_valid('>=1, =<2'), pep440_specs_valid(NULL) IS NULL;
 -- empty items
 SELECT pep440_specs_valid('>=1,'), pep440_specs_without_empty_items(text), pep440_specs_valid(pep440_specs_without_empty_items(text)) FROM (VALUES ('>=1,'), (' ,, >=1 , ,<2'), (''), (','), ('>=1'), (',>=1,x,')) AS t(text);
+-- sets
+SELECT '>=1,<2'::pep440_set, '>1.0'::pep440_set, ''::pep440_set, '>2,<1'::pep440_set, '==1.0+a'::pep440_set, '!=1.5,>=1.0rc1'::pep440_set, '==18446744073709551615.*'::pep440_set;
+SELECT ' { [ v1.0 , 2.0.DEV0 ) } '::pep440_set = '>=1,<2', '{[2, *), (*, 1.0), [1, 2)}'::pep440_set, '{[2, 1)}'::pep440_set, '{[0.dev0, 1), (*, 0.dev0)}'::pep440_set, '{(1.0.post*, 2+A.01]}'::pep440_set;
+SELECT '>=1'::pep440_specs + '<0.5', '>=1'::pep440_set - '>=2', ''::pep440_set - '==1.*', '>=1'::pep440_set * '<2', '>=1'::pep440_specs * '<2', '>1'::pep440_specs * '<=1'::pep440_set;
+SELECT '==1.*'::pep440_specs <@ '>=1.dev0'::pep440_specs, '==1.*'::pep440_set <@ '>=1', '>=1'::pep440_set @> '==1.5', '>=1'::pep440_set && '<1', isempty('>1,<1'::pep440_set), isempty('>1'::pep440_set);
+SELECT version <@ '{[1, 1.5), (2.post*, *)}'::pep440_set, '{[1, 1.5), (2.post*, *)}'::pep440_set @> version, version <@ '==1.*' FROM unnest('{1,1.5,1.4+a,2,2.post3,2.0.1.dev0,NULL}'::pep440[]) AS version;
+SELECT bounds, low = pep440_key('1'), high FROM unnest('>=1,!=1.5'::pep440_specs);
+SELECT intersect_agg(s), union_agg(s) FROM unnest('{">=1,<2","!=1.5",NULL}'::pep440_specs[]) AS s;
+SELECT intersect_agg(s) IS NULL FROM unnest('{}'::pep440_specs[]) AS s;
+SELECT versions, count(*) FROM unnest('{"==1.0","==1","{[1, 1.post0.dev0)}",">=1"}'::pep440_set[]) AS versions GROUP BY 1 ORDER BY 2;
+SELECT '{[1.0, 2.0]}'::pep440_set;
+SELECT '{(1.0, *)}'::pep440_set;
+SELECT '{(1.0a1.post*, *)}'::pep440_set;
+SELECT '{[x, 2)}'::pep440_set;
+SELECT '{[1, 2), }'::pep440_set;
+SELECT '{[1, 2)} 3'::pep440_set;
+SELECT '>=1;'::pep440_set;
+SELECT pep440_set('===1.0'::pep440_specs);
 -- what begins as compiled bytes is a text like others
 SELECT pep440_specs_valid(E'\005'), pep440_specs_valid(E'\006'), pep440_specs_valid(E'\007'), pep440_valid(E'\004');
 -- errors
