@@ -9,16 +9,16 @@ use pep440_rs::{
 };
 use std::alloc::Global;
 use std::ops::Bound;
-use testing::{CaseError, bound_argument, copy, equals_copy, parse_version, print_value};
+use testing::{
+    CaseError, bound_argument, check, check_copy, parse_version, print_or_none, print_value,
+};
 
 // The operator that the error names, and its message.
 fn error_text(alloc: Global, error: &BoundError) -> Result<String, CaseError> {
     let BoundError::Build(inner) = error else {
         return Err(CaseError::OutOfMemory);
     };
-    if !equals_copy(error)? {
-        return Err(CaseError::Disagreement);
-    }
+    check_copy(error)?;
     let message = print_value(alloc, error)?;
     match inner.kind() {
         BuildErrorKind::OperatorLocalCombo { operator, .. } => {
@@ -34,8 +34,7 @@ fn member_text(
     answer: Result<Option<VersionSpecifier>, BoundError>,
 ) -> Result<String, CaseError> {
     match answer {
-        Ok(Some(member)) => Ok(print_value(alloc, &member)?),
-        Ok(None) => Ok(String::from_str(alloc, "none")?),
+        Ok(member) => print_or_none(alloc, member),
         Err(error) => error_text(alloc, &error),
     }
 }
@@ -87,11 +86,9 @@ fn members_of_pair(
     requires { IsReleasePair pair.now }
 {
     let members = VersionSpecifier::from_release_only_bounds(alloc, (&pair.0, &pair.1))?;
-    let copy = copy(&members)?;
+    let copy = members.clone()?;
     let prints = print_members(alloc, members)?;
-    if print_members(alloc, copy)? != prints {
-        return Err(CaseError::Disagreement);
-    }
+    check(print_members(alloc, copy)? == prints)?;
     Ok(prints)
 }
 

@@ -1,24 +1,16 @@
 //! The newest candidate, and the range that is allowed.
+use crate::parsers::list_argument;
+use crate::ranges::range_text;
 use pep440_pick::{Requirement, RequirementError, allowed, newest};
-use pep440_rs::{RangeError, RangeLines, Version, VersionSpecifiers};
+use pep440_rs::{Version, VersionSpecifiers};
 use std::alloc::Global;
-use testing::{CaseError, print_value, version_argument};
-
-fn list(alloc: Global, text: &str) -> Result<VersionSpecifiers, CaseError> {
-    VersionSpecifiers::from_str(alloc, text).map_err(|error| {
-        if error.is_out_of_memory() {
-            CaseError::OutOfMemory
-        } else {
-            CaseError::Unreadable
-        }
-    })
-}
+use testing::{CaseError, print_or_none, version_argument};
 
 // The lists, each with a semicolon after it.
 fn lists(alloc: Global, text: &str) -> Result<Vec<VersionSpecifiers>, CaseError> {
     let mut lists = Vec::new(alloc);
     for piece in text.split_terminator(';') {
-        lists.push(list(alloc, piece)?)?;
+        lists.push(list_argument(alloc, piece)?)?;
     }
     Ok(lists)
 }
@@ -36,10 +28,8 @@ fn candidates(alloc: Global, text: &str) -> Result<Vec<Version>, CaseError> {
 pub fn newest_candidate(alloc: Global, texts: &str, versions: &str) -> Result<String, CaseError> {
     let lists = lists(alloc, texts)?;
     let candidates = candidates(alloc, versions)?;
-    match newest(alloc, lists.as_slice(), candidates.as_slice())? {
-        Some(index) => Ok(format!(in alloc; "{index}")?),
-        None => Ok(String::from_str(alloc, "none")?),
-    }
+    let index = newest(alloc, lists.as_slice(), candidates.as_slice())?;
+    print_or_none(alloc, index)
 }
 
 fn requirement(alloc: Global, text: &str) -> Result<Requirement, CaseError> {
@@ -55,9 +45,5 @@ pub fn allowed_range(alloc: Global, name: &str, lines: &[String]) -> Result<Stri
     for line in lines {
         requirements.push(requirement(alloc, line.as_str())?)?;
     }
-    match allowed(alloc, requirements.as_slice(), name) {
-        Ok(range) => Ok(print_value(alloc, &RangeLines(&range))?),
-        Err(RangeError::OutOfMemory) => Err(CaseError::OutOfMemory),
-        Err(RangeError::NumberAtMax) => Ok(print_value(alloc, &RangeError::NumberAtMax)?),
-    }
+    range_text(alloc, allowed(alloc, requirements.as_slice(), name))
 }

@@ -2,7 +2,7 @@
 use crate::errors::message;
 use pep440_version::{Change, ChangeError, ChangeWordError, WithSentinels, parse_change};
 use std::alloc::Global;
-use testing::{CaseError, change_argument, copy, has_debug, parse_version, print_value};
+use testing::{CaseError, change_argument, check_debug, parse_version, print_value};
 
 /// The debug form of the change that the word asks for.
 pub fn print_change(alloc: Global, word: &str) -> Result<String, CaseError> {
@@ -18,10 +18,8 @@ fn changes(alloc: Global, words: &str) -> Result<Vec<Change>, CaseError> {
     let mut changes = Vec::new(alloc);
     for word in words.split_ascii_whitespace() {
         let change = change_argument(alloc, word)?;
-        if !has_debug(alloc, &change)? {
-            return Err(CaseError::Disagreement);
-        }
-        changes.push(copy(&change)?)?;
+        check_debug(alloc, &change)?;
+        changes.push(change.clone()?)?;
     }
     Ok(changes)
 }

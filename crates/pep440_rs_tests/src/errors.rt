@@ -5,13 +5,11 @@ use pep440_version::{
 use std::alloc::{AllocError, Global};
 use std::error::Error;
 use std::fmt::Debug;
-use testing::{CaseError, equals_copy, has_debug, print_value};
+use testing::{CaseError, check, check_copy, check_debug, print_value};
 
 /// The message of an error.
 pub fn message<E: Error + Debug>(alloc: Global, error: &E) -> Result<String, CaseError> {
-    if !has_debug(alloc, error)? {
-        return Err(CaseError::Disagreement);
-    }
+    check_debug(alloc, error)?;
     Ok(print_value(alloc, error)?)
 }
 
@@ -19,9 +17,7 @@ pub fn message<E: Error + Debug>(alloc: Global, error: &E) -> Result<String, Cas
 pub fn out_of_memory(alloc: Global) -> Result<String, CaseError> {
     let error = VersionParseError::from(ErrorKind::from(AllocError));
     let of_pattern = VersionPatternParseError::from(ErrorKind::from(AllocError));
-    if !error.is_out_of_memory() || !of_pattern.is_out_of_memory() {
-        return Err(CaseError::Disagreement);
-    }
+    check(error.is_out_of_memory() && of_pattern.is_out_of_memory())?;
     let mut messages = message(alloc, &error)?;
     messages.push_str(", ")?;
     messages.push_str(message(alloc, &ChangeError::from(AllocError))?.as_str())?;
@@ -61,53 +57,33 @@ fn pattern_kind_text(alloc: Global, kind: &PatternErrorKind) -> Result<String, C
     }
 }
 
-// The name of the kind, which has a debug form, and the message.
-fn join<K: Debug>(
+// The name of the kind and the message of the error, which equals its copy, as its kind does.
+fn join<E: Error + Debug + Clone + PartialEq + Drop, K: Debug + Clone + PartialEq + Drop>(
     alloc: Global,
+    error: &E,
     kind: &K,
     name: String,
-    message: &str,
 ) -> Result<String, CaseError> {
-    if !has_debug(alloc, kind)? {
-        return Err(CaseError::Disagreement);
-    }
+    check_copy(error)?;
+    check_copy(kind)?;
+    check_debug(alloc, kind)?;
     let mut text = name;
     text.push_str(": ")?;
-    text.push_str(message)?;
+    text.push_str(message(alloc, error)?.as_str())?;
     Ok(text)
 }
 
-/// The error, which equals its copy, as its kind does.
+/// The error: its kind with what it holds, and its message.
 pub fn error_text(alloc: Global, error: &VersionParseError) -> Result<String, CaseError> {
-    if error.is_out_of_memory() {
-        return Err(CaseError::OutOfMemory);
-    }
-    if !equals_copy(error)? || !equals_copy(error.kind())? {
-        return Err(CaseError::Disagreement);
-    }
-    join(
-        alloc,
-        error.kind(),
-        kind_text(alloc, error.kind())?,
-        message(alloc, error)?.as_str(),
-    )
+    let name = kind_text(alloc, error.kind())?;
+    join(alloc, error, error.kind(), name)
 }
 
-/// The error of a pattern, which equals its copy, as its kind does.
+/// The error of a pattern: its kind with what it holds, and its message.
 pub fn pattern_error_text(
     alloc: Global,
     error: &VersionPatternParseError,
 ) -> Result<String, CaseError> {
-    if error.is_out_of_memory() {
-        return Err(CaseError::OutOfMemory);
-    }
-    if !equals_copy(error)? || !equals_copy(error.kind())? {
-        return Err(CaseError::Disagreement);
-    }
-    join(
-        alloc,
-        error.kind(),
-        pattern_kind_text(alloc, error.kind())?,
-        message(alloc, error)?.as_str(),
-    )
+    let name = pattern_kind_text(alloc, error.kind())?;
+    join(alloc, error, error.kind(), name)
 }

@@ -6,7 +6,7 @@ use pep440_rs::{
 };
 use serde_json::Value;
 use std::alloc::Global;
-use testing::{CaseError, equals_copy, print_value, version_argument};
+use testing::{CaseError, check, check_copy, print_value, version_argument};
 
 // The value of JSON's text.
 fn value(alloc: Global, text: &str) -> Result<Value, CaseError> {
@@ -21,9 +21,7 @@ fn value(alloc: Global, text: &str) -> Result<Value, CaseError> {
 
 // What comes of a value: the value where it is equal to what was made a value of.
 fn same_again(alloc: Global, value: &Value, same: bool) -> Result<String, CaseError> {
-    if !same {
-        return Err(CaseError::Disagreement);
-    }
+    check(same)?;
     Ok(print_value(alloc, value)?)
 }
 
@@ -31,30 +29,24 @@ fn same_again(alloc: Global, value: &Value, same: bool) -> Result<String, CaseEr
 pub fn json_version(alloc: Global, text: &str) -> Result<String, CaseError> {
     let version = version_argument(alloc, text)?;
     let value = version_to_json(alloc, &version)?;
-    match version_from_json(alloc, &value) {
-        Ok(again) => same_again(alloc, &value, again == version),
-        Err(_) => Err(CaseError::OutOfMemory),
-    }
+    let again = version_from_json(alloc, &value).map_err(|_| CaseError::OutOfMemory)?;
+    same_again(alloc, &value, again == version)
 }
 
 /// The JSON string of the specifier, which is parsed as the specifier again.
 pub fn json_specifier(alloc: Global, text: &str) -> Result<String, CaseError> {
     let specifier = specifier_argument(alloc, text)?;
     let value = specifier.to_json(alloc)?;
-    match VersionSpecifier::from_json(alloc, &value) {
-        Ok(again) => same_again(alloc, &value, again == specifier),
-        Err(_) => Err(CaseError::OutOfMemory),
-    }
+    let again = VersionSpecifier::from_json(alloc, &value).map_err(|_| CaseError::OutOfMemory)?;
+    same_again(alloc, &value, again == specifier)
 }
 
 /// The JSON string of the list, which is parsed as the list again.
 pub fn json_list(alloc: Global, text: &str) -> Result<String, CaseError> {
     let list = list_argument(alloc, text)?;
     let value = list.to_json(alloc)?;
-    match VersionSpecifiers::from_json(alloc, &value) {
-        Ok(again) => same_again(alloc, &value, again == list),
-        Err(_) => Err(CaseError::OutOfMemory),
-    }
+    let again = VersionSpecifiers::from_json(alloc, &value).map_err(|_| CaseError::OutOfMemory)?;
+    same_again(alloc, &value, again == list)
 }
 
 /// The version that the value denotes as it prints, or the message of the error.
@@ -80,9 +72,7 @@ fn list_error(
     alloc: Global,
     error: &JsonError<VersionSpecifiersParseError>,
 ) -> Result<String, CaseError> {
-    if !equals_copy(error)? {
-        return Err(CaseError::Disagreement);
-    }
+    check_copy(error)?;
     match error {
         JsonError::NotAString => Ok(print_value(alloc, error)?),
         JsonError::Text(inner) => list_error_text(alloc, inner, inner.line()),

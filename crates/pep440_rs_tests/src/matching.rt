@@ -3,40 +3,23 @@ use crate::operators::operator_argument;
 use crate::order::pattern;
 use crate::parsers::{build_kind_name, list_argument, specifier_argument};
 use pep440_rs::{Operator, Version, VersionSpecifier, cmp_releases, cmp_without_local};
-use std::alloc::{AllocError, Global};
+use std::alloc::Global;
 use std::cmp::Ordering;
-use testing::{CaseError, equals_copy, print_value, version_argument};
+use testing::{CaseError, check, check_copy, print_value, version_argument};
 
 /// `yes` or `no`.
 pub fn yes_or_no(alloc: Global, answer: bool) -> Result<String, CaseError> {
     Ok(String::from_str(alloc, if answer { "yes" } else { "no" })?)
 }
 
-/// Whether the specifier contains the version, once more if an allocation failed.
-pub fn holds(
-    alloc: Global,
-    specifier: &VersionSpecifier,
-    version: &Version,
-) -> Result<bool, AllocError> {
-    match specifier.contains(alloc, version) {
-        Ok(contained) => Ok(contained),
-        Err(_) => specifier.contains(alloc, version),
-    }
-}
-
 /// Whether the list contains the version; a list of one specifier contains what the specifier does.
 pub fn contains(alloc: Global, text: &str, version: &str) -> Result<String, CaseError> {
     let list = list_argument(alloc, text)?;
     let version = version_argument(alloc, version)?;
-    let contained = match list.contains(alloc, &version) {
-        Ok(contained) => contained,
-        Err(_) => list.contains(alloc, &version)?,
-    };
+    let contained = list.contains(alloc, &version)?;
     if list.as_slice().len() == 1 {
         let alone = specifier_argument(alloc, text)?;
-        if holds(alloc, &alone, &version)? != contained {
-            return Err(CaseError::Disagreement);
-        }
+        check(alone.contains(alloc, &version)? == contained)?;
     }
     yes_or_no(alloc, contained)
 }
@@ -46,14 +29,11 @@ pub fn allows(alloc: Global, text: &str, version: &str) -> Result<String, CaseEr
     let list = list_argument(alloc, text)?;
     let version = version_argument(alloc, version)?;
     let prereleases = list.requests_prereleases();
-    let allowed = match list.allows(alloc, prereleases, &version) {
-        Ok(allowed) => allowed,
-        Err(_) => list.allows(alloc, prereleases, &version)?,
-    };
-    yes_or_no(alloc, allowed)
+    yes_or_no(alloc, list.allows(alloc, prereleases, &version)?)
 }
 
-fn sign(alloc: Global, order: Ordering) -> Result<String, CaseError> {
+/// The sign of the order.
+pub fn sign(alloc: Global, order: Ordering) -> Result<String, CaseError> {
     let sign = match order {
         Ordering::Less => "<",
         Ordering::Equal => "=",
@@ -67,9 +47,7 @@ pub fn compare(alloc: Global, one: &str, other: &str) -> Result<String, CaseErro
     let one = list_argument(alloc, one)?;
     let other = list_argument(alloc, other)?;
     let order = one.cmp(&other);
-    if (one == other) != (order == Ordering::Equal) {
-        return Err(CaseError::Disagreement);
-    }
+    check((one == other) == (order == Ordering::Equal))?;
     sign(alloc, order)
 }
 
@@ -127,9 +105,7 @@ pub fn unchecked_argument(
 /// How it prints, and whether its version is or precedes a pre-release.
 pub fn print_unchecked(alloc: Global, operator: &str, text: &str) -> Result<String, CaseError> {
     let specifier = unchecked_argument(alloc, operator, text)?;
-    if !equals_copy(&specifier)? {
-        return Err(CaseError::Disagreement);
-    }
+    check_copy(&specifier)?;
     let mut print = print_value(alloc, &specifier)?;
     if specifier.any_prerelease() {
         print.push_str(" pre-release")?;
@@ -148,5 +124,5 @@ pub fn contains_unchecked(
 ) -> Result<String, CaseError> {
     let specifier = unchecked_argument(alloc, operator, operand)?;
     let version = version_argument(alloc, version)?;
-    yes_or_no(alloc, holds(alloc, &specifier, &version)?)
+    yes_or_no(alloc, specifier.contains(alloc, &version)?)
 }

@@ -3,16 +3,21 @@ use pep440_rs::{Operator, OperatorErrorKind, OperatorParseError, Version, Versio
 use std::alloc::Global;
 use testing::{CaseError, print_value};
 
-/// The operator, also of one with a star, which no string parses to.
-pub fn operator_argument(alloc: Global, text: &str) -> Result<Operator, CaseError> {
+// The operator, also of one with a star, which no string parses to.
+fn parse(alloc: Global, text: &str) -> Result<Operator, OperatorParseError> {
     match text {
         "==.*" => Ok(Operator::EqualStar),
         "!=.*" => Ok(Operator::NotEqualStar),
-        _ => Operator::from_str(alloc, text).map_err(|error| match error.kind() {
-            OperatorErrorKind::Unknown { .. } => CaseError::Unreadable,
-            OperatorErrorKind::OutOfMemory => CaseError::OutOfMemory,
-        }),
+        _ => Operator::from_str(alloc, text),
     }
+}
+
+/// The operator.
+pub fn operator_argument(alloc: Global, text: &str) -> Result<Operator, CaseError> {
+    parse(alloc, text).map_err(|error| match error.kind() {
+        OperatorErrorKind::Unknown { .. } => CaseError::Unreadable,
+        OperatorErrorKind::OutOfMemory => CaseError::OutOfMemory,
+    })
 }
 
 // Whether a specifier with the operator bounds versions from below.
@@ -51,13 +56,9 @@ fn error_text(alloc: Global, error: &OperatorParseError) -> Result<String, CaseE
 
 /// The operator and what is known of it, or the error.
 pub fn operator(alloc: Global, text: &str) -> Result<String, CaseError> {
-    match text {
-        "==.*" => operator_text(alloc, Operator::EqualStar),
-        "!=.*" => operator_text(alloc, Operator::NotEqualStar),
-        _ => match Operator::from_str(alloc, text) {
-            Ok(operator) => operator_text(alloc, operator),
-            Err(error) => error_text(alloc, &error),
-        },
+    match parse(alloc, text) {
+        Ok(operator) => operator_text(alloc, operator),
+        Err(error) => error_text(alloc, &error),
     }
 }
 

@@ -1,4 +1,5 @@
 //! Orders.
+use crate::matching::sign;
 use pep440_version::{ErrorKind, PatternErrorKind, Version, VersionPattern};
 use std::alloc::Global;
 use std::cmp::Ordering;
@@ -20,12 +21,7 @@ pub fn compare(alloc: Global, one: &str, other: &str) -> Result<String, CaseErro
     if !is_order(&one, &other, order) {
         return Ok(String::from_str(alloc, "no order")?);
     }
-    let sign = match order {
-        Ordering::Less => "<",
-        Ordering::Equal => "=",
-        Ordering::Greater => ">",
-    };
-    Ok(String::from_str(alloc, sign)?)
+    sign(alloc, order)
 }
 
 /// Whether each version is below all that follow.

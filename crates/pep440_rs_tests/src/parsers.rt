@@ -7,8 +7,8 @@ use pep440_rs::{
     BuildErrorKind, ParseErrorKind, SpecifiersErrorKind, VersionSpecifier,
     VersionSpecifierParseError, VersionSpecifiers, VersionSpecifiersParseError,
 };
-use std::alloc::{AllocError, Global};
-use testing::{CaseError, copy, equals_copy, print_value};
+use std::alloc::Global;
+use testing::{CaseError, check, check_copy, print_value};
 
 /// The specifier.
 pub fn specifier_argument(alloc: Global, text: &str) -> Result<VersionSpecifier, CaseError> {
@@ -53,23 +53,25 @@ fn kind_name(kind: &ParseErrorKind) -> Result<&'static str, CaseError> {
     }
 }
 
-// Whether the error within the kind equals its copy, and so does its own kind.
-fn inner_equals_copy(kind: &ParseErrorKind) -> Result<bool, AllocError> {
+// Fails unless the error within the kind equals its copy, and so does its own kind.
+fn check_inner(kind: &ParseErrorKind) -> Result<(), CaseError> {
     match kind {
         ParseErrorKind::InvalidOperator(error) => {
-            Ok(equals_copy(error)? && equals_copy(error.kind())?)
+            check_copy(error)?;
+            check_copy(error.kind())
         }
         ParseErrorKind::InvalidSpecifier(error) => {
-            Ok(equals_copy(error)? && equals_copy(error.kind())?)
+            check_copy(error)?;
+            check_copy(error.kind())
         }
-        _ => Ok(true),
+        _ => Ok(()),
     }
 }
 
 fn error_text(alloc: Global, error: &VersionSpecifierParseError) -> Result<String, CaseError> {
-    if !equals_copy(error)? || !equals_copy(error.kind())? || !inner_equals_copy(error.kind())? {
-        return Err(CaseError::Disagreement);
-    }
+    check_copy(error)?;
+    check_copy(error.kind())?;
+    check_inner(error.kind())?;
     let name = kind_name(error.kind())?;
     let message = print_value(alloc, error)?;
     Ok(format!(in alloc; "{name}: {message}")?)
@@ -80,11 +82,8 @@ pub fn specifier(alloc: Global, text: &str) -> Result<String, CaseError> {
     match VersionSpecifier::from_str(alloc, text) {
         Ok(specifier) => {
             let print = print_value(alloc, &specifier)?;
-            if !equals_copy(&specifier)?
-                || specifier != specifier_argument(alloc, print.as_str())?
-            {
-                return Err(CaseError::Disagreement);
-            }
+            check_copy(&specifier)?;
+            check(specifier == specifier_argument(alloc, print.as_str())?)?;
             Ok(print)
         }
         Err(error) => error_text(alloc, &error),
@@ -97,21 +96,15 @@ pub fn list_error_text(
     error: &VersionSpecifiersParseError,
     line: &str,
 ) -> Result<String, CaseError> {
-    if error.is_out_of_memory() {
-        return Err(CaseError::OutOfMemory);
-    }
-    if !equals_copy(error)? || !equals_copy(error.kind())? {
-        return Err(CaseError::Disagreement);
-    }
+    check_copy(error)?;
+    check_copy(error.kind())?;
     match error.kind() {
         SpecifiersErrorKind::Piece {
             start,
             stop,
             error: inner,
         } => {
-            if error.line() != line {
-                return Err(CaseError::Disagreement);
-            }
+            check(error.line() == line)?;
             let name = kind_name(inner.kind())?;
             let message = print_value(alloc, error)?;
             Ok(format!(in alloc; "{name} from {start} to {stop}: {message}")?)
@@ -125,9 +118,8 @@ pub fn list(alloc: Global, text: &str) -> Result<String, CaseError> {
     match VersionSpecifiers::from_str(alloc, text) {
         Ok(list) => {
             let print = print_value(alloc, &list)?;
-            if !equals_copy(&list)? || list != list_argument(alloc, print.as_str())? {
-                return Err(CaseError::Disagreement);
-            }
+            check_copy(&list)?;
+            check(list == list_argument(alloc, print.as_str())?)?;
             Ok(print)
         }
         Err(error) => list_error_text(alloc, &error, text),
@@ -137,7 +129,7 @@ pub fn list(alloc: Global, text: &str) -> Result<String, CaseError> {
 /// The operators of the members, in order, of the list and of a copy.
 pub fn members(alloc: Global, text: &str) -> Result<String, CaseError> {
     let list = list_argument(alloc, text)?;
-    let copy = copy(&list)?;
+    let copy = list.clone()?;
     let mut text = String::from_str(alloc, "list")?;
     for member in list.iter() {
         let operator = *member.operator();

@@ -2,16 +2,14 @@
 use pep440_version::{LocalSegment, Version, WithSentinels, laws};
 use std::alloc::{AllocError, Global};
 use std::fmt::Display;
-use testing::{CaseError, copy, equals_copy, print_value, version_argument};
+use testing::{CaseError, check, check_copy, print_value, version_argument};
 
 /// The normalized form with the sentinels, as `1.0~min0`; also of a copy.
 pub fn print(alloc: Global, text: &str) -> Result<String, CaseError> {
     let version = version_argument(alloc, text)?;
-    let copy = copy(&version)?;
+    let copy = version.clone()?;
     let text = print_value(alloc, &WithSentinels(&version))?;
-    if copy != version || print_value(alloc, &WithSentinels(&copy))? != text {
-        return Err(CaseError::Disagreement);
-    }
+    check(copy == version && print_value(alloc, &WithSentinels(&copy))? == text)?;
     Ok(text)
 }
 
@@ -41,9 +39,7 @@ fn push_part<T: Display + Drop>(
 fn local_text(alloc: Global, segments: &[LocalSegment]) -> Result<String, CaseError> {
     let mut text = String::new(alloc);
     for (index, segment) in segments.iter().enumerate() {
-        if !equals_copy(segment)? {
-            return Err(CaseError::Disagreement);
-        }
+        check_copy(segment)?;
         if index > 0 {
             text.push('.')?;
         }
@@ -108,9 +104,7 @@ pub fn is_stable(alloc: Global, text: &str) -> Result<String, CaseError> {
 pub fn word(alloc: Global, text: &str) -> Result<String, CaseError> {
     let version = version_argument(alloc, text)?;
     let word = laws::word(&version).copied();
-    if laws::word(&copy(&version)?).copied() != word {
-        return Err(CaseError::Disagreement);
-    }
+    check(laws::word(&version.clone()?).copied() == word)?;
     match word {
         Some(word) => Ok(format!(in alloc; "{word:016x}")?),
         None => Ok(String::from_str(alloc, "unpacked")?),

@@ -6,7 +6,7 @@ ghost use Rattle.pep440_version.specs.Segments.{segment};
 use pep440_version::{LocalSegment, min_version, write_local_segments};
 use std::alloc::Global;
 use std::fmt::{self, Debug, Display};
-use testing::{CaseError, has_debug, print_value, version_argument};
+use testing::{CaseError, check_debug, print_value, version_argument};
 
 /// The `Display` output and the debug form.
 pub fn show(alloc: Global, text: &str) -> Result<String, CaseError> {
@@ -53,9 +53,7 @@ fn push_alone<T: Debug + Display>(
     text: &mut String,
     value: &T,
 ) -> Result<(), CaseError> {
-    if !has_debug(alloc, value)? {
-        return Err(CaseError::Disagreement);
-    }
+    check_debug(alloc, value)?;
     text.push(' ')?;
     text.push_str(print_value(alloc, value)?.as_str())?;
     Ok(())

@@ -1,22 +1,22 @@
 //! Ranges, a line for each segment.
-use crate::matching::{holds, unchecked_argument};
+use crate::matching::unchecked_argument;
 use crate::parsers::{list_argument, specifier_argument};
 use pep440_rs::{
     RangeError, RangeLines, Ranges, Version, release_specifier_to_range,
     release_specifiers_to_ranges, specifier_to_range, specifiers_to_ranges,
 };
 use std::alloc::Global;
-use testing::{CaseError, bound_argument, print_value, version_argument};
+use testing::{CaseError, bound_argument, check, print_value, version_argument};
 
-// The range, or the message of the error.
-fn range_text(
+/// The range, or the message of the error.
+pub fn range_text(
     alloc: Global,
     range: Result<Ranges<Version>, RangeError>,
 ) -> Result<String, CaseError> {
     match range {
         Ok(range) => Ok(print_value(alloc, &RangeLines(&range))?),
         Err(RangeError::OutOfMemory) => Err(CaseError::OutOfMemory),
-        Err(RangeError::NumberAtMax) => Ok(print_value(alloc, &RangeError::NumberAtMax)?),
+        Err(error) => Ok(print_value(alloc, &error)?),
     }
 }
 
@@ -27,9 +27,7 @@ pub fn range(alloc: Global, text: &str) -> Result<String, CaseError> {
     let found = range_text(alloc, specifiers_to_ranges(alloc, list))?;
     if is_one {
         let alone = specifier_to_range(alloc, specifier_argument(alloc, text)?);
-        if range_text(alloc, alone)? != found {
-            return Err(CaseError::Disagreement);
-        }
+        check(range_text(alloc, alone)? == found)?;
     }
     Ok(found)
 }
@@ -41,9 +39,7 @@ pub fn release_range(alloc: Global, text: &str) -> Result<String, CaseError> {
     let found = range_text(alloc, release_specifiers_to_ranges(alloc, list))?;
     if is_one {
         let alone = release_specifier_to_range(alloc, specifier_argument(alloc, text)?);
-        if range_text(alloc, alone)? != found {
-            return Err(CaseError::Disagreement);
-        }
+        check(range_text(alloc, alone)? == found)?;
     }
     Ok(found)
 }
@@ -61,7 +57,7 @@ pub fn unchecked_range(alloc: Global, operator: &str, text: &str) -> Result<Stri
 pub fn beside(alloc: Global, text: &str, version: &str) -> Result<String, CaseError> {
     let specifier = specifier_argument(alloc, text)?;
     let version = version_argument(alloc, version)?;
-    let contained = holds(alloc, &specifier, &version)?;
+    let contained = specifier.contains(alloc, &version)?;
     let Ok(range) = specifier_to_range(alloc, specifier) else {
         return Err(CaseError::OutOfMemory);
     };

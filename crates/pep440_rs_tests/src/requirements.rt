@@ -2,7 +2,7 @@
 use crate::matching::yes_or_no;
 use pep440_pick::{Requirement, RequirementError};
 use std::alloc::Global;
-use testing::{CaseError, copy, equals_copy, print_value};
+use testing::{CaseError, check, check_copy, print_value};
 
 /// Whether the text is a name.
 pub fn is_name(alloc: Global, text: &str) -> Result<String, CaseError> {
@@ -12,9 +12,7 @@ pub fn is_name(alloc: Global, text: &str) -> Result<String, CaseError> {
 /// Whether the names are the same, either way round.
 pub fn same_names(alloc: Global, one: &str, other: &str) -> Result<String, CaseError> {
     let answer = pep440_pick::same_name(one, other);
-    if pep440_pick::same_name(other, one) != answer {
-        return Err(CaseError::Disagreement);
-    }
+    check(pep440_pick::same_name(other, one) == answer)?;
     yes_or_no(alloc, answer)
 }
 
@@ -29,9 +27,7 @@ fn error_text(alloc: Global, error: &RequirementError) -> Result<String, CaseErr
         RequirementError::Specifiers(_) => "Specifiers",
         RequirementError::OutOfMemory => return Err(CaseError::OutOfMemory),
     };
-    if !equals_copy(error)? {
-        return Err(CaseError::Disagreement);
-    }
+    check_copy(error)?;
     let message = print_value(alloc, error)?;
     Ok(format!(in alloc; "{name}: {message}")?)
 }
@@ -55,11 +51,9 @@ pub fn requirement(alloc: Global, text: &str) -> Result<String, CaseError> {
         Ok(requirement) => requirement,
         Err(error) => return error_text(alloc, &error),
     };
-    let copy = copy(&requirement)?;
+    let copy = requirement.clone()?;
     let text = print(alloc, &requirement)?;
-    if print(alloc, &copy)? != text {
-        return Err(CaseError::Disagreement);
-    }
+    check(print(alloc, &copy)? == text)?;
     Ok(text)
 }
 

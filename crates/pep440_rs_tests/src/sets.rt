@@ -1,12 +1,9 @@
 //! Matching by the literal rule, and sets of versions.
+use crate::matching::yes_or_no;
 use crate::parsers::list_argument;
 use pep440_sets::{SetError, SetLines, VersionSet, find_version, specifiers_to_set};
 use std::alloc::Global;
-use testing::{CaseError, print_value, version_argument};
-
-fn yes_or_no(alloc: Global, holds: bool) -> Result<String, CaseError> {
-    Ok(String::from_str(alloc, if holds { "yes" } else { "no" })?)
-}
+use testing::{CaseError, print_or_none, print_value, version_argument};
 
 /// Whether the list matches the version literally.
 pub fn matches_literally(alloc: Global, list: &str, version: &str) -> Result<String, CaseError> {
@@ -65,19 +62,15 @@ pub fn complement(alloc: Global, text: &str) -> Result<String, CaseError> {
 
 /// A version of the set, or none.
 pub fn version_of_set(alloc: Global, text: &str) -> Result<String, CaseError> {
-    match set_argument(alloc, text)?.find_version(alloc)? {
-        Some(version) => Ok(print_value(alloc, &version)?),
-        None => Ok(String::from_str(alloc, "none")?),
-    }
+    let version = set_argument(alloc, text)?.find_version(alloc)?;
+    print_or_none(alloc, version)
 }
 
 /// A version that the list matches literally, or none.
 pub fn literal_version(alloc: Global, text: &str) -> Result<String, CaseError> {
     let list = list_argument(alloc, text)?;
-    match find_version(alloc, list.as_slice())? {
-        Some(version) => Ok(print_value(alloc, &version)?),
-        None => Ok(String::from_str(alloc, "none")?),
-    }
+    let version = find_version(alloc, list.as_slice())?;
+    print_or_none(alloc, version)
 }
 
 /// What the call gives of the sets of two lists; `Unreadable` of any other call.

@@ -2,14 +2,12 @@
 use crate::errors::{error_text, pattern_error_text};
 use pep440_version::{Version, VersionParseError, VersionPattern, VersionPatternParseError};
 use std::alloc::Global;
-use testing::{CaseError, equals_copy, has_debug, print_value};
+use testing::{CaseError, check, check_copy, check_debug, print_value};
 
 // The error, which has the same message as that of a pattern.
 fn print_error(alloc: Global, error: VersionParseError) -> Result<String, CaseError> {
     let text = error_text(alloc, &error)?;
-    if pattern_error_text(alloc, &VersionPatternParseError::from(error))? != text {
-        return Err(CaseError::Disagreement);
-    }
+    check(pattern_error_text(alloc, &VersionPatternParseError::from(error))? == text)?;
     Ok(text)
 }
 
@@ -23,9 +21,8 @@ pub fn parse(alloc: Global, text: &str) -> Result<String, CaseError> {
 
 // The version's normalized form, and `.*` if a star follows.
 fn print_pattern(alloc: Global, pattern: &VersionPattern) -> Result<String, CaseError> {
-    if !equals_copy(pattern)? || !has_debug(alloc, pattern)? {
-        return Err(CaseError::Disagreement);
-    }
+    check_copy(pattern)?;
+    check_debug(alloc, pattern)?;
     let mut text = print_value(alloc, pattern.version())?;
     if pattern.is_wildcard() {
         text.push_str(".*")?;

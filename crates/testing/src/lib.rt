@@ -21,4 +21,4 @@ pub use error::CaseError;
 pub use run::{Calls, run_cases};
 pub use sizes::{repeat, sizes_up_to};
 pub use streams::{After, Manner, Sink, Trickle};
-pub use values::{copy, equals_copy, has_debug, print_value};
+pub use values::{check, check_copy, check_debug, print_or_none, print_value};

@@ -1,9 +1,10 @@
-//! `Display` output, debug forms and copies of values.
+//! `Display` output of values, and what holds of each: it equals its copy, and has a debug form.
+use crate::error::CaseError;
 use std::alloc::{AllocError, Global};
 use std::fmt::{Debug, Display};
 
-// Plainly, and in 30 columns filled with blanks and with stars, with bars between those that differ.
-fn print_widths<T: Display>(alloc: Global, value: &T) -> Result<String, AllocError> {
+/// The `Display` output; where the padded ones differ, these too: in 30 columns filled with blanks and with stars, after bars.
+pub fn print_value<T: Display>(alloc: Global, value: &T) -> Result<String, AllocError> {
     let mut text = value.to_string(alloc)?;
     let right = format!(in alloc; "{value:>30}")?;
     let left = format!(in alloc; "{value:*<30}")?;
@@ -13,29 +14,33 @@ fn print_widths<T: Display>(alloc: Global, value: &T) -> Result<String, AllocErr
     Ok(text)
 }
 
-/// The `Display` output, and the padded ones if they differ; retried if out of memory.
-pub fn print_value<T: Display>(alloc: Global, value: &T) -> Result<String, AllocError> {
-    match print_widths(alloc, value) {
-        Ok(text) => Ok(text),
-        Err(_) => print_widths(alloc, value),
+/// The `Display` output, or `none`.
+pub fn print_or_none<T: Display + Drop>(
+    alloc: Global,
+    value: Option<T>,
+) -> Result<String, CaseError> {
+    match value {
+        Some(value) => Ok(print_value(alloc, &value)?),
+        None => Ok(String::from_str(alloc, "none")?),
     }
 }
 
-/// A copy; retried if out of memory.
-pub fn copy<T: Clone>(value: &T) -> Result<T, AllocError> {
-    match value.clone() {
-        Ok(copy) => Ok(copy),
-        Err(_) => value.clone(),
+/// Fails unless two results of the case are the same.
+pub fn check(is_same: bool) -> Result<(), CaseError> {
+    if is_same {
+        Ok(())
+    } else {
+        Err(CaseError::Disagreement)
     }
 }
 
-/// Whether the value equals its copy.
-pub fn equals_copy<T: Clone + PartialEq + Drop>(value: &T) -> Result<bool, AllocError> {
-    Ok(copy(value)? == *value)
+/// Fails unless the value equals its copy.
+pub fn check_copy<T: Clone + PartialEq + Drop>(value: &T) -> Result<(), CaseError> {
+    check(value.clone()? == *value)
 }
 
-/// Whether the value has a debug form that is not empty.
-pub fn has_debug<T: Debug>(alloc: Global, value: &T) -> Result<bool, AllocError> {
+/// Fails unless the value has a debug form that is not empty.
+pub fn check_debug<T: Debug>(alloc: Global, value: &T) -> Result<(), CaseError> {
     let form = format!(in alloc; "{value:?}")?;
-    Ok(!form.is_empty())
+    check(!form.is_empty())
 }
