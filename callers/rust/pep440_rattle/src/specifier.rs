@@ -66,6 +66,7 @@ impl VersionSpecifier {
     ///
     /// Where the version has a local part and the operator is none of `==`, `!=` and `===`, or the operator is `~=` and the
     /// version has one release number.
+    #[inline]
     pub fn from_version(operator: Operator, version: Version) -> Result<VersionSpecifier, VersionSpecifierBuildError> {
         if operator.takes(&version) {
             Ok(VersionSpecifier::unchecked(operator, version))
