@@ -44,7 +44,7 @@ pub(crate) fn count_zeros(bytes: &[u8]) -> usize {
 /// Where the release ends, behind the byte 0 after its numbers. The first byte of a number says how many follow: of the epoch as it is, of the
 /// others with 1 added.
 #[inline]
-fn find_release_end(room: &Room) -> usize {
+fn find_release_end(room: &[u8]) -> usize {
     let mut end = 1 + usize::from(room[0]);
     while let Some(step @ 1..) = room.get(end) {
         end += usize::from(*step);
@@ -59,7 +59,7 @@ impl Key {
 
     /// The key of a version whose bytes begin `room`, filled up with zero bytes; None where the words do not tell the version.
     #[inline]
-    pub(crate) fn from_room(mut room: Room, length: usize) -> Option<Key> {
+    pub(crate) fn from_room(mut room: [u8; SHORT + ZEROS], length: usize) -> Option<Key> {
         let mut end = length;
         while let Some(last @ 1) = room.get_mut(end.wrapping_sub(1)) {
             *last = 0;
@@ -70,26 +70,26 @@ impl Key {
 
     /// The key that begins `room`, filled up with zero bytes, of so many zeros; None where the words do not tell the version.
     #[inline]
-    pub(crate) fn from_key(room: &Room, length: usize, zeros: usize, release_end: usize) -> Option<Key> {
+    pub(crate) fn from_key<const SIZE: usize>(room: &[u8; SIZE], length: usize, zeros: usize, release_end: usize) -> Option<Key> {
         (length <= SHORT && zeros <= ZEROS).then(|| Key::from_words(room, length, zeros, release_end))
     }
 
     /// The key of a version of these bytes; None where the words do not tell the version.
     pub(crate) fn from_bytes(bytes: &[u8]) -> Option<Key> {
-        let mut room = [0; ROOM];
+        let mut room = [0; SHORT + ZEROS];
         room.get_mut(..bytes.len())?.copy_from_slice(bytes);
         Key::from_room(room, bytes.len())
     }
 
     /// The key of a version of these bytes that is told elsewhere.
     pub(crate) fn untold(bytes: &[u8]) -> Key {
-        let (mut room, key) = ([0; ROOM], &bytes[..bytes.len() - count_zeros(bytes)]);
+        let (mut room, key) = ([0; SHORT + ZEROS], &bytes[..bytes.len() - count_zeros(bytes)]);
         room[..SHORT].iter_mut().zip(key).for_each(|(place, byte)| *place = *byte);
         Key::from_words(&room, if key.len() > SHORT { 0 } else { key.len() }, UNTOLD, 0)
     }
 
     #[inline]
-    fn from_words(room: &Room, length: usize, zeros: usize, release_end: usize) -> Key {
+    fn from_words<const SIZE: usize>(room: &[u8; SIZE], length: usize, zeros: usize, release_end: usize) -> Key {
         let word = |place: usize| u64::from_be_bytes(array::from_fn(|index| room[8 * place + index]));
         let is_final = room.get(release_end..release_end + FINAL.len()).is_some_and(|after| *after == FINAL);
         let counts = usize::from(is_final) << 15 | release_end << 10 | zeros << 6 | length << 1;

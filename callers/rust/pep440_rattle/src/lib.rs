@@ -43,7 +43,6 @@ mod logged;
 mod operator;
 mod parts;
 mod pattern;
-mod plain;
 mod range;
 mod segment;
 #[cfg(feature = "serde")]

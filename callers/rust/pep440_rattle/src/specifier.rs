@@ -1,7 +1,6 @@
 //! Specifiers: an operator and a version.
 use crate::bytes;
 use crate::calls;
-use crate::plain;
 use crate::range;
 use crate::{Operator, RangeError, Segment, Version, VersionPattern, VersionSpecifierBuildError, VersionSpecifierParseError};
 use alloc::vec::Vec;
@@ -66,6 +65,7 @@ impl VersionSpecifier {
     ///
     /// Where the version has a local part and the operator is none of `==`, `!=` and `===`, or the operator is `~=` and the
     /// version has one release number.
+    #[inline]
     pub fn from_version(operator: Operator, version: Version) -> Result<VersionSpecifier, VersionSpecifierBuildError> {
         if operator.takes(&version) {
             Ok(VersionSpecifier::unchecked(operator, version))
@@ -347,12 +347,40 @@ pub(crate) fn is_next_minor(low: &Version, high: &Version) -> bool {
     }
 }
 
+/// The specifiers with commas between them, spelled as nearly all are; None where the library has to parse them.
+pub(crate) fn parse_plain_list(list: &str) -> Option<Vec<VersionSpecifier>> {
+    let (mut members, mut rest) = (Vec::new(), list);
+    while let Some(end) = rest.bytes().position(|byte| byte == b',') {
+        members.push(parse_plain(&rest[..end])?);
+        rest = &rest[end + 1..];
+    }
+    members.push(parse_plain(rest)?);
+    Some(members)
+}
+
+/// The specifier, of an operator and a version with blanks of ASCII around each. The library parses the version; None where it has to parse all.
+#[inline]
+fn parse_plain(text: &str) -> Option<VersionSpecifier> {
+    let text = text.trim_ascii();
+    let is_symbol = |byte: &u8| matches!(byte, b'=' | b'!' | b'~' | b'<' | b'>');
+    let (symbol, rest) = text.split_at(text.as_bytes().iter().take_while(|byte| is_symbol(byte)).count());
+    let (operator, text) = (Operator::from_symbol(symbol)?, rest.trim_ascii_start());
+    let Some(base) = text.strip_suffix(".*") else {
+        let version = Version::parse(text).ok()?;
+        return operator.takes(&version).then(|| VersionSpecifier::unchecked(operator, version));
+    };
+    // A version with a blank behind it parses, but not before a star.
+    let is_release = |version: &Version| version.is_final() && base.ends_with(|last: char| last.is_ascii_digit());
+    let version = Version::parse(base).ok().filter(is_release)?;
+    Some(VersionSpecifier::unchecked(operator.to_star()?, version))
+}
+
 impl FromStr for VersionSpecifier {
     type Err = VersionSpecifierParseError;
 
     /// Parses a specifier, as `>= 1.19`, `== 1.1.*` or `<=1!2012.2`.
     fn from_str(specifier: &str) -> Result<VersionSpecifier, VersionSpecifierParseError> {
-        let read = match plain::specifier(specifier) {
+        let read = match parse_plain(specifier) {
             Some(read) => read,
             None => {
                 calls::compile_specifier(specifier, bytes::read_member).map_err(|_| VersionSpecifierParseError::new(specifier))?

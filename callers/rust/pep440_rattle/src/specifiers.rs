@@ -2,9 +2,8 @@
 use crate::bytes;
 use crate::calls;
 use crate::lazy::Lazy;
-use crate::plain;
 use crate::range;
-use crate::specifier::is_next_minor;
+use crate::specifier::{is_next_minor, parse_plain_list};
 use crate::{RangeError, Segment, Version, VersionSpecifier, VersionSpecifiersParseError};
 use alloc::vec;
 use alloc::vec::Vec;
@@ -163,7 +162,7 @@ impl FromStr for VersionSpecifiers {
 
     /// Parses specifiers with commas between them; the empty string is the empty list.
     fn from_str(list: &str) -> Result<VersionSpecifiers, VersionSpecifiersParseError> {
-        let members = match plain::specifiers(list) {
+        let members = match parse_plain_list(list) {
             Some(members) => members,
             None => calls::compile_list(list, bytes::read_list).map_err(|_| VersionSpecifiersParseError::new(list))?,
         };
