@@ -71,17 +71,14 @@ static Version short_version(Bytes value, VersionBuffer *buffer)
     return (Version){.key = {buffer->bytes + 1, length - 1}, .bytes = {buffer->bytes, length + zeros}};
 }
 
-/* Most numbers have one to three digits. */
+/* Most numbers have one or two digits. */
 static char *put_number(char *out, uint64 number)
 {
-    if (number >= 1000)
+    if (number >= 100)
         return out + pg_ulltoa_n(number, out);
-    uint32 rest = (uint32)number;
-    if (rest >= 100)
-        *out++ = (char)('0' + rest / 100);
-    if (rest >= 10)
-        *out++ = (char)('0' + rest / 10 % 10);
-    *out++ = (char)('0' + rest % 10);
+    if (number >= 10)
+        *out++ = (char)('0' + number / 10);
+    *out++ = (char)('0' + number % 10);
     return out;
 }
 
@@ -312,14 +309,14 @@ int compare_versions(const struct varlena *left, const struct varlena *right)
 {
     Bytes one = bytes_of(left), other = bytes_of(right);
     VersionBuffer buffers[2];
+    if (one.length == other.length && memcmp(one.bytes, other.bytes, one.length) == 0)
+        return 0;
     bool are_releases = is_short(one) && is_short(other) && end_of(one) == RELEASE_ALONE && end_of(other) == RELEASE_ALONE;
     if (are_releases && (one.bytes[0] & MOST_FIRST) == (other.bytes[0] & MOST_FIRST))
         return compare_bytes((Bytes){one.bytes + 1, one.length - 1}, (Bytes){other.bytes + 1, other.length - 1});
     uint64 first = first_of_version(left), second = first_of_version(right);
     if (first != second)
         return first < second ? -1 : 1;
-    if (one.length == other.length && memcmp(one.bytes, other.bytes, one.length) == 0)
-        return 0;
     return compare_bytes(version_of(left, &buffers[0]).key, version_of(right, &buffers[1]).key);
 }
 
