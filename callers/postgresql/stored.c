@@ -46,12 +46,11 @@ static Bytes key_of(Bytes compiled)
     return end == 0 ? compiled : (Bytes){compiled.bytes + 1, end - 1};
 }
 
-/* Writes the first bytes of the sort key behind the epoch, no more than `most` of those before the end, and then five of the end; returns how many
-   come before it. */
-static size_t write_key(Bytes value, uint8_t *out, size_t most)
+/* Writes the sort key behind the epoch, and five bytes of its end; returns how many come before the end. */
+static size_t write_key(Bytes value, uint8_t *out)
 {
     uint8_t first = value.bytes[0] & MOST_FIRST;
-    size_t before = first != 0 || end_of(value) != RELEASE_ALONE, rest = Min(value.length - 1, most);
+    size_t before = first != 0 || end_of(value) != RELEASE_ALONE, rest = value.length - 1;
     out[0] = first;
     memcpy(out + before, value.bytes + 1, rest);
     memcpy(out + before + rest, ENDS[end_of(value)].bytes, sizeof ENDS->bytes);
@@ -65,7 +64,7 @@ static size_t zeros_of(Bytes value)
 
 static Version short_version(Bytes value, VersionBuffer *buffer)
 {
-    size_t zeros = zeros_of(value), length = 2 + write_key(value, buffer->bytes + 2, MOST_SHORT) + ENDS[end_of(value)].length;
+    size_t zeros = zeros_of(value), length = 2 + write_key(value, buffer->bytes + 2) + ENDS[end_of(value)].length;
     buffer->bytes[0] = VERSION_FORMAT;
     buffer->bytes[1] = 0;
     memset(buffer->bytes + length, ZERO, MOST_ZEROS);
@@ -178,14 +177,18 @@ VersionKind kind_of(const struct varlena *stored)
 {
     Bytes value = bytes_of(stored);
     Suffix suffix;
-    const uint8_t *at = is_short(value) ? read_release(value, NULL) : NULL;
-    if (at == NULL)
+    if (!is_short(value))
         return UNKNOWN_KIND;
     if (end_of(value) == RELEASE_ALONE)
         return FINAL_KIND;
-    if (!read_suffix(value, at, &suffix))
+    const uint8_t *at = value.bytes + 1, *end = value.bytes + value.length;
+    for (int length = value.bytes[0] & MOST_FIRST; length > 0; length = at < end ? *at++ : 0)
+        at += length - 1;
+    if (at < end && *at >> 4 < FINAL_STAGE)
+        return PRERELEASE_KIND;
+    if (at >= end || !read_suffix(value, at, &suffix))
         return UNKNOWN_KIND;
-    return suffix.stage.rank < FINAL_STAGE || suffix.dev.rank == HAS_DEV ? PRERELEASE_KIND : FINAL_KIND;
+    return suffix.dev.rank == HAS_DEV ? PRERELEASE_KIND : FINAL_KIND;
 }
 
 static char *put_word(char *out, const char *word, uint64 number)
@@ -292,11 +295,14 @@ uint64 first_of_version(const struct varlena *stored)
     VersionBuffer buffer;
     if (!is_short(value))
         return first_of_key(version_of(stored, &buffer).key);
-    uint64 first;
-    uint8_t bytes[2 * sizeof first] = {0};
-    write_key(value, bytes, sizeof first);
-    memcpy(&first, bytes, sizeof first);
-    return pg_ntoh64(first);
+    const uint8_t *end = ENDS[end_of(value)].bytes;
+    uint64 first = value.bytes[0] & MOST_FIRST;
+    int room = first != 0 || end_of(value) != RELEASE_ALONE ? sizeof first - 1 : sizeof first;
+    for (size_t each = 1; each < value.length && room > 0; each++, room--)
+        first = first << 8 | value.bytes[each];
+    for (size_t each = 0; each < sizeof ENDS->bytes && room > 0; each++, room--)
+        first = first << 8 | end[each];
+    return first << (8 * room);
 }
 
 int compare_versions(const struct varlena *left, const struct varlena *right)

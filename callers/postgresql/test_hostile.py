@@ -12,7 +12,7 @@ SCRIPTS = "".join(re.sub(r"^(--|\\).*$", "", file.read_text(encoding="utf-8"), f
 # Statements that have no expression, and find what they name by its types.
 FUNCTION = r"CREATE FUNCTION \w+\((?:(?!DEFAULT)[\w, ])*\) RETURNS [\w\[\] ]+ AS 'MODULE_PATHNAME', '\w+' LANGUAGE C [\w ]+"
 STATEMENT = rf"{FUNCTION}|(CREATE (TYPE|DOMAIN|CAST|OPERATOR|OPERATOR CLASS|AGGREGATE) |ALTER OPERATOR |COMMENT ON TYPE )[^$]*|ALTER FUNCTION \w+\([\w, ]+\) LEAKPROOF"
-CATALOG_TYPES, OWN_TYPES = ["text", "name", "regtype", "regclass"], ["pep440", "pep440_specs", "pep440_set", "pep440_member"]
+CATALOG_TYPES, OWN_TYPES = ["text", "name", "regtype", "regclass"], ["pep440", "pep440_specs"]
 TYPES = CATALOG_TYPES + ["oid", "bytea", "integer"]
 TRAP = "LANGUAGE plpgsql AS $$BEGIN RAISE INFO 'sprung: {}, as %', current_user; RETURN NULL; END$$"
 MEMBERS = "(SELECT classid, objid FROM pg_depend WHERE deptype = 'e')"

@@ -277,7 +277,7 @@ def test_copy(server):
     server.stop()
     ratios = [versions / strings for versions, strings in zip(copied_from(server, "version"), copied_from(server, "string"))]
     server.start()
-    assert max(ratios) <= 1.5, ratios
+    assert ratios[0] <= 1.15 and ratios[1] <= 1.35, ratios
     return "COPY FROM takes {:.2f} of the instructions of strings, COPY TO {:.2f}".format(*ratios)
 
 
