@@ -30,7 +30,7 @@ def check_formats():
                 yield f"{crate}: {ran.stdout.strip()}"
 
 
-AT_THE_TOP = ".git .gitignore CHANGELOG.md CONTRIBUTING.md HANDLES LICENSE NOTICE README.md crates.txt pep440 pyproject.toml".split()
+AT_THE_TOP = ".git .gitignore .pre-commit-hooks.yaml CHANGELOG.md CONTRIBUTING.md HANDLES LICENSE NOTICE README.md crates.txt pep440 pyproject.toml".split()
 OF_A_FUNCTION = ("Answers.antt", "Invariants.antt", "Proof.antt")
 COMMENT = {".rt": re.compile(r"//!? \S"), ".antt": re.compile(r"-- ?\S")}
 
