@@ -160,7 +160,8 @@ pub fn split_requirement(text: &[u8]) -> LineParts<'_>
 
 // What stands before the first option.
 pub(crate) fn before_options(text: &[u8]) -> &[u8]
-    ensures { result.now ≡ before_options text.now }
+    ensures value { result.now ≡ before_options text.now }
+    ensures inside { length result.now ≤ length text.now }
 {
     for (at, byte) in text.iter().enumerate() {
         if *byte == b' ' && opens_with(&text[at + 1..], b'-') {

@@ -141,13 +141,14 @@ fn make_constant<'a>(inside: &'a [u8], behind: Option<&'a [u8]>) -> Side<'a>
 fn scan_side(text: &[u8]) -> Side<'_>
     ensures { side_of result ≡ side text.now }
 {
-    match text {
-        [] => Side::Invalid(MarkerFault::MissingOperand),
-        [quote, rest @ ..] if is_quote(*quote) => {
-            let (inside, behind) = split_at_first(rest, *quote);
-            make_constant(inside, behind)
-        }
-        _ => find_variable(scan_word(text)),
+    let [first, rest @ ..] = text else {
+        return Side::Invalid(MarkerFault::MissingOperand);
+    };
+    if is_quote(*first) {
+        let (inside, behind) = split_at_first(rest, *first);
+        make_constant(inside, behind)
+    } else {
+        find_variable(scan_word(text))
     }
 }
 

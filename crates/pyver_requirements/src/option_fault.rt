@@ -3,6 +3,7 @@ ghost use Rattle.std.specs.Prelude.{◌≡◌, ◌||◌, None, bytes_eq, codes, 
 ghost use Rattle.std.specs.List.{list_any};
 ghost use Rattle.pyver_requirements.specs.OptionFaults.{end_fault, flag_step, given_step, is_shell_byte, is_strong_hash, known_step, named_step, option_name, option_step, option_words, options_fault, options_in, short_value, taken_if, value_step, word_step, word_value, words_fault};
 ghost use Rattle.pyver_requirements.specs.LineViews.{misplaced_of, word_step_of};
+ghost use Rattle.pyver_requirements.specs.OptionNames.{name_fault, names_option};
 
 use crate::line_fault::LineFault;
 use crate::line_kind::opens_with;

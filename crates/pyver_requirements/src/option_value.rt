@@ -1,5 +1,5 @@
 //! Words and values of options, as a shell splits them.
-ghost use Rattle.std.specs.Prelude.{◌≡◌, ◌==◌, drop, option_map};
+ghost use Rattle.std.specs.Prelude.{◌≡◌, ◌≤◌, ◌==◌, drop, length, option_map};
 ghost use Rattle.pyver_requirements.specs.OptionValues.{closes, first_value, from_long_value, from_value, is_plain, is_quote, long_value, next_state, shell_word, value_column, without_quotes};
 
 use crate::comment::trim_blanks;
@@ -51,7 +51,8 @@ fn pass_byte(state: ShellState, byte: u8) -> ShellState
 
 // Up to the first blank that stands in no quotes and behind no backslash.
 pub(crate) fn take_word(text: &[u8]) -> &[u8]
-    ensures { result.now ≡ shell_word ShellState.Plain text.now }
+    ensures value { result.now ≡ shell_word ShellState.Plain text.now }
+    ensures inside { length result.now ≤ length text.now }
 {
     let mut state = ShellState::Plain;
     for (at, byte) in text.iter().enumerate() {
