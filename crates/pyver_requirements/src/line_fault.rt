@@ -12,7 +12,7 @@ pub enum LineFault {
     AmbiguousOption,
     /// An option without its value.
     MissingValue,
-    /// A value behind `=` of an option that takes none.
+    /// A value after `=` of an option that takes none.
     UnwantedValue,
     /// A value of `--hash` that begins with none of `sha256:`, `sha384:` and `sha512:`.
     WrongHash,

@@ -230,8 +230,8 @@ fn kind_unless(text: &[u8], fault: Option<Misplaced>) -> LineKind<'_>
 /// What the logical line is: the first that holds of the mark of a merge conflict, the mark of UTF-16, options that pip 26.2 does not take, an
 /// option, a line with a variable, a location and a requirement.
 ///
-/// Options stand behind a requirement or alone, and the first one alone decides. A long one may be abbreviated if no other that pip knows begins
-/// so. A path ends at a blank that stands in no quotes and behind no backslash, and quotes around the whole path are left out. The first word, up
+/// Options stand after a requirement or alone, and the first one alone decides. A long one may be abbreviated if no other that pip knows begins
+/// so. A path ends at a blank that stands in no quotes and after no backslash, and quotes around the whole path are left out. The first word, up
 /// to a blank, `;` or `@`, makes a location if it has a `/`, begins with `.` or ends as an archive, in any case: so a later URL makes none. Files
 /// are not looked for.
 ///

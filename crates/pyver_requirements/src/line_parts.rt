@@ -148,7 +148,7 @@ fn split_list<'a>(text: &'a [u8], requirement: &'a [u8], rest: &'a [u8]) -> Line
 
 /// The name with extras and list, the URL and the marker of a string that is a requirement (PEP 508, "Grammar").
 ///
-/// A URL ends at a blank, so that a `;` begins a marker behind it only after one.
+/// A URL ends at a blank, so that a `;` begins a marker after it only if one stands between.
 ///
 /// Allocates nothing.
 pub fn split_requirement(text: &[u8]) -> LineParts<'_>
@@ -171,7 +171,7 @@ pub(crate) fn before_options(text: &[u8]) -> &[u8]
     text
 }
 
-// The parts of the string whose marker stands behind its first `;`.
+// The parts of the string whose marker stands after its first `;`.
 fn split_at_semicolon(text: &[u8]) -> LineParts<'_>
     ensures { line_parts_of result ≡ semicolon_parts text.now }
 {
@@ -185,8 +185,8 @@ fn split_at_semicolon(text: &[u8]) -> LineParts<'_>
     }
 }
 
-/// The same of a line of a requirements file (pip, "Requirements File Format"): without its options, of which the first begins with `-` behind
-/// a space, and with the marker behind its first `;`, also behind a URL without a blank.
+/// The same of a line of a requirements file (pip, "Requirements File Format"): without its options, whose first begins with `-` after
+/// a space, and with the marker after its first `;`, also after a URL without a blank.
 ///
 /// Allocates nothing.
 pub fn split_pip_line(text: &[u8]) -> LineParts<'_>

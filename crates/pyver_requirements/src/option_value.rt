@@ -49,7 +49,7 @@ fn pass_byte(state: ShellState, byte: u8) -> ShellState
     }
 }
 
-// Up to the first blank that stands in no quotes and behind no backslash.
+// Up to the first blank that stands in no quotes and after no backslash.
 pub(crate) fn take_word(text: &[u8]) -> &[u8]
     ensures value { result.now ≡ shell_word ShellState.Plain text.now }
     ensures inside { length result.now ≤ length text.now }

@@ -6,8 +6,8 @@ use Rattle.pyver_requirements.proofs.marker_token.scan_side.Goals as goal
 
 -- the side of a string without a quote at its start
 word_side : (text : List ℕ) → 1 ≤ length text → is_quote (get_or text 0 0) ≡ false → side text ≡ variable (marker_word text)
-word_side [] some no = absurd (omega (arith, some))
-word_side (b ∷ rest) some no = ap (λ q. if q then constant (before_byte b rest) (behind_byte b rest) else variable (marker_word (b ∷ rest))) no
+word_side [] some other = absurd (omega (arith, some))
+word_side (b ∷ rest) some other = ap (λ q. if q then constant (before_byte b rest) (behind_byte b rest) else variable (marker_word (b ∷ rest))) other
 
 pub returns-else-is_quote : goal.returns-else-is_quote
 returns-else-is_quote c =
