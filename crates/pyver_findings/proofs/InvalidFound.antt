@@ -20,11 +20,11 @@ module _ (l : FileLine) where
   module _ (kind : line_kind l.text ≡ Requirement) (text : IsPlain (pip_parts l.text).requirement) (n : Needed) (d : DerivesRequirement (pip_parts l.text).requirement n) (lacks : IsRequirementLine l → ⊥) where
     by_list : (m : Option (List ℕ)) → HasMarker (pip_parts l.text) m → (url : List ℕ) → ¬ (url ≡ []) → (pip_parts l.text).url ≡ Some url → (b : Bool) (reason : List ℕ) (column : ℕ) → has_right_url url n ≡ b
         → Some_is (IsAlone l) (invalid_in (if b then LeftOut cause.Url else IsNone (NoRequirement l reason column)))
-    by_list m has url some is true reason column right = absurd (lacks (kind, text, (n, d, ((m, has), subst (λ (u : Option (List ℕ)). FitsUrl u n) (sym is) (some, right)))))
+    by_list m has url some is true reason column right = absurd (lacks (kind, (text, (n, d, ((m, has), subst (λ (u : Option (List ℕ)). FitsUrl u n) (sym is) (some, right))))))
     by_list m has url some is false reason column wrong = inl refl
 
     by_url : (m : Option (List ℕ)) → HasMarker (pip_parts l.text) m → (url : Option (List ℕ)) → (pip_parts l.text).url ≡ url → Some_is (IsAlone l) (invalid_in (with_url l (pip_parts l.text) n m url))
-    by_url m has None is = absurd (lacks (kind, text, (n, d, ((m, has), subst (λ (u : Option (List ℕ)). FitsUrl u n) (sym is) tt))))
+    by_url m has None is = absurd (lacks (kind, (text, (n, d, ((m, has), subst (λ (u : Option (List ℕ)). FitsUrl u n) (sym is) tt)))))
     by_url m has (Some []) is = inl refl
     by_url m has (Some (b ∷ url)) is = by_list m has (b ∷ url) (λ e. cc e) is (has_right_url (b ∷ url) n) _ _ refl
 

@@ -20,23 +20,23 @@ use Rattle.pyver_requirements.specs.MarkerReading.{Misfit, marker}
 
 module _ (l : FileLine) where
   not_invalid : (f : LineFault) (column : ℕ) → line_kind l.text ≡ Invalid f column → IsRequirementLine l → ⊥
-  not_invalid f column is (kind, text, (m, e, (marker, fits))) = let same : Invalid f column ≡ Requirement = sym is ∙ kind in cc same
+  not_invalid f column is (kind, (text, (m, e, (marker, fits)))) = let same : Invalid f column ≡ Requirement = sym is ∙ kind in cc same
 
   no_plain : (IsPlain (pip_parts l.text).requirement → ⊥) → IsRequirementLine l → ⊥
-  no_plain none (kind, text, (m, e, (marker, fits))) = none text
+  no_plain none (kind, (text, (m, e, (marker, fits)))) = none text
 
   refused : (f : RequirementRejection) → RejectsRequirement (pip_parts l.text).requirement f → IsRequirementLine l → ⊥
-  refused f r (kind, text, (m, e, (marker, fits))) = not_both_requirement (pip_parts l.text).requirement m f e r
+  refused f r (kind, (text, (m, e, (marker, fits)))) = not_both_requirement (pip_parts l.text).requirement m f e r
 
   no_marker : (t : List ℕ) (f : Misfit) → (pip_parts l.text).marker ≡ Some t → marker t ≡ Err f → IsRequirementLine l → ⊥
-  no_marker t f is read (kind, text, (m, e, ((None, has), fits))) = let same : Some (Err f) ≡ None = ap Some (sym read) ∙ ap (option_map marker) (sym is) ∙ has in cc same
-  no_marker t f is read (kind, text, (m, e, ((Some n, has), fits))) = let same : Some (Err f) ≡ Some (Ok n) = ap Some (sym read) ∙ ap (option_map marker) (sym is) ∙ has in cc same
+  no_marker t f is read (kind, (text, (m, e, ((None, has), fits)))) = let same : Some (Err f) ≡ None = ap Some (sym read) ∙ ap (option_map marker) (sym is) ∙ has in cc same
+  no_marker t f is read (kind, (text, (m, e, ((Some n, has), fits)))) = let same : Some (Err f) ≡ Some (Ok n) = ap Some (sym read) ∙ ap (option_map marker) (sym is) ∙ has in cc same
 
   no_url : (pip_parts l.text).url ≡ Some [] → IsRequirementLine l → ⊥
-  no_url is (kind, text, (m, e, (marker, fits))) = (subst (λ (u : Option (List ℕ)). FitsUrl u m) is fits).0 refl
+  no_url is (kind, (text, (m, e, (marker, fits)))) = (subst (λ (u : Option (List ℕ)). FitsUrl u m) is fits).0 refl
 
   before_the_url : (n : Needed) (url : List ℕ) → DerivesRequirement (pip_parts l.text).requirement n → has_right_url url n ≡ false → (pip_parts l.text).url ≡ Some url → IsRequirementLine l → ⊥
-  before_the_url n url d wrong is (kind, text, (m, e, (marker, fits))) =
+  before_the_url n url d wrong is (kind, (text, (m, e, (marker, fits)))) =
       let same : n ≡ m = one_requirement (pip_parts l.text).requirement n m d e in
       true≢false (sym (subst (λ (u : Option (List ℕ)). FitsUrl u m) is fits).1 ∙ sym (ap (has_right_url url) same) ∙ wrong)
 
