@@ -11,7 +11,7 @@ use Rattle.pep440_version.specs.Reading.{lead, past}
 use Rattle.pyver_findings.proofs.SmallestLists.{is_nil}
 use Rattle.pyver_findings.specs.FindingLaws.{AreParts, FitsUrl, HasMarker}
 use Rattle.pyver_findings.specs.LineMeanings.{IsPlain, has_right_url}
-use Rattle.pyver_findings.specs.StringGrammar.{AreBlanks, DerivesString, IsLinked, IsMarkerPart, IsUrl, StringsHaveGrammar}
+use Rattle.pyver_findings.specs.StringGrammar.{AreSpaces, DerivesString, IsLinked, IsMarkerPart, IsUrl, StringsHaveGrammar}
 use Rattle.pyver_requirements.proofs.MarkerDerivations.{read_markers_are_derived}
 use Rattle.pyver_requirements.proofs.MarkerReadings.{markers_are_read}
 use Rattle.pyver_requirements.specs.LineParts.{LineParts, behind_url, is_blank_byte, is_list_byte, is_url_byte, line_parts, parts_before, parts_behind, skip_blanks, url_parts}
@@ -76,7 +76,7 @@ starts_url : (url later : List ℕ) → IsUrl url → starts is_blank_byte (url 
 starts_url [] later (some, all) = absurd (some refl)
 starts_url (x ∷ url) later (some, all) = not_true (is_blank_byte x) (and_parts (is_url_byte x) (list_all is_url_byte url) all).0
 
-module _ (front blanks url more rest : List ℕ) (n : Needed) (plain : IsPlain front) (d : DerivesRequirement front n) (lists : n.specifiers ≡ []) (before : AreBlanks blanks) (is_url : IsUrl url) (behind : AreBlanks more) where
+module _ (front blanks url more rest : List ℕ) (n : Needed) (plain : IsPlain front) (d : DerivesRequirement front n) (lists : n.specifiers ≡ []) (before : AreSpaces blanks) (is_url : IsUrl url) (behind : AreSpaces more) where
   abbrev tail : List ℕ
   tail = url ++ (more ++ rest)
 
@@ -95,7 +95,7 @@ module _ (front blanks url more rest : List ℕ) (n : Needed) (plain : IsPlain f
   url_here : starts is_url_byte (more ++ rest) ≡ false → FitsUrl (Some (lead is_url_byte tail)) n
   url_here ends_url = subst (λ w. FitsUrl (Some w) n) (sym (lead-run is_url_byte url (more ++ rest) is_url.1 ends_url)) fits
 
-ends_blanks : (more rest : List ℕ) → AreBlanks more → ¬ (more ≡ []) → starts is_url_byte (more ++ rest) ≡ false
+ends_blanks : (more rest : List ℕ) → AreSpaces more → ¬ (more ≡ []) → starts is_url_byte (more ++ rest) ≡ false
 ends_blanks [] rest all some = absurd (some refl)
 ends_blanks (x ∷ more) rest all some = let blank = (and_parts (is_blank_byte x) (list_all is_blank_byte more) all).0 in ap not blank
 
@@ -181,8 +181,19 @@ module _ (text : List ℕ) where
     by_semicolon true b last e is (plain, (n, d, ((k, has), (some, right)))) =
         let semicolon : b ≡ 59 = eqb-true b 59 e in
         let m = denoted_by last k has in
-        inr (front, blanks, url, more, b ∷ last, split_text (b ∷ last) is, (plain, (n, d, specifiers_none n url right)), lead-all is_blank_byte t, (some, lead-all is_url_byte rest),
-            lead-all is_blank_byte (past is_url_byte rest), inr (some_more b last is (ap is_url_byte semicolon), inr (last, m.0, ap (λ c. c ∷ last) semicolon, m.1)))
+        inr (
+          front,
+          blanks,
+          url,
+          more,
+          b ∷ last,
+          split_text (b ∷ last) is,
+          (plain, (n, d, specifiers_none n url right)),
+          lead-all is_blank_byte t,
+          (some, lead-all is_url_byte rest),
+          lead-all is_blank_byte (past is_url_byte rest),
+          inr (some_more b last is (ap is_url_byte semicolon), inr (last, m.0, ap (λ c. c ∷ last) semicolon, m.1)),
+        )
     by_semicolon false b last e is (plain, (n, d, ((k, has), (some, right)))) =
         let whole = not_true (list_any is_blank_byte rest) (and_parts (length n.specifiers == 0) (not (list_any is_blank_byte rest)) right).1 in
         let none : past is_url_byte rest ≡ [] = sym (ap (past is_url_byte) (append-nil rest)) ∙ past-run is_url_byte rest [] (all_url rest whole) refl in
@@ -192,8 +203,19 @@ module _ (text : List ℕ) where
 
     by_behind : (last : List ℕ) → behind_url rest ≡ last → AreParts (parts_behind text front rest last) → DerivesString text
     by_behind [] is (plain, (n, d, ((k, has), (some, right)))) =
-        inr (front, blanks, url, more, [], split_text [] is, (plain, (n, d, specifiers_none n url right)), lead-all is_blank_byte t, (some, lead-all is_url_byte rest),
-            lead-all is_blank_byte (past is_url_byte rest), more_or_none more)
+        inr (
+          front,
+          blanks,
+          url,
+          more,
+          [],
+          split_text [] is,
+          (plain, (n, d, specifiers_none n url right)),
+          lead-all is_blank_byte t,
+          (some, lead-all is_url_byte rest),
+          lead-all is_blank_byte (past is_url_byte rest),
+          more_or_none more,
+        )
     by_behind (b ∷ last) is parts = by_semicolon (b == 59) b last refl is parts
 
   by_byte : (e : Bool) (b : ℕ) (t : List ℕ) → (b == 64) ≡ e → past is_list_byte text ≡ b ∷ t

@@ -8,8 +8,8 @@ use Rattle.pyver_requirements.specs.LineParts.{is_blank_byte, is_url_byte, line_
 use Rattle.pyver_requirements.specs.MarkerGrammar.{DenotesMarker, Marker}
 
 -- spaces and tabs, or nothing
-abbrev pub AreBlanks : List ℕ → Type 0
-AreBlanks text = list_all is_blank_byte text ≡ true
+abbrev pub AreSpaces : List ℕ → Type 0
+AreSpaces text = list_all is_blank_byte text ≡ true
 
 -- one or more bytes without a blank
 abbrev pub IsUrl : List ℕ → Type 0
@@ -30,7 +30,7 @@ IsListed text = (front : List ℕ) × (rest : List ℕ) × (text ≡ front ++ re
 -- a name with extras, `@`, a URL, and then nothing, or blanks and perhaps `;` and a marker
 abbrev pub IsLinked : List ℕ → Type 0
 IsLinked text = (front blanks url more rest : List ℕ) × (text ≡ front ++ 64 ∷ (blanks ++ (url ++ (more ++ rest))))
-    × IsNamed front × AreBlanks blanks × IsUrl url × AreBlanks more × (((more ≡ []) × (rest ≡ [])) ⊎ ((¬ (more ≡ [])) × IsMarkerPart rest))
+    × IsNamed front × AreSpaces blanks × IsUrl url × AreSpaces more × (((more ≡ []) × (rest ≡ [])) ⊎ ((¬ (more ≡ [])) × IsMarkerPart rest))
 
 -- the string is a requirement
 abbrev pub DerivesString : List ℕ → Type 0

@@ -1,7 +1,7 @@
 //! The lines of a file, and what each is.
 use pyver_requirements::{
-    LineFault, LineKind, LineParts, MarkerError, MarkerFault, classify, logical_lines, parse_marker,
-    split_pip_line, split_requirement,
+    LineFault, LineKind, LineParts, MarkerError, MarkerFault, classify, logical_lines,
+    parse_marker, split_pip_line, split_requirement,
 };
 use std::alloc::Global;
 use std::str;

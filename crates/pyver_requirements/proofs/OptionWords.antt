@@ -5,7 +5,7 @@ use Rattle.std.specs.Char.{is_ascii_whitespace}
 use Rattle.std.specs.List.{prefix_len}
 use Rattle.pep440_version.specs.Grammar.{starts}
 use Rattle.pep440_version.specs.Reading.{past}
-use Rattle.pyver_requirements.specs.OptionFaults.{Misplaced, OptionWord, WordStep, after_step, end_fault, option_words, word_step, words_fault}
+use Rattle.pyver_requirements.specs.OptionFaults.{FaultPosition, OptionWord, WordStep, step_fault, end_fault, option_words, word_step, words_fault}
 use Rattle.pyver_requirements.specs.OptionValues.{next_state, shell_word}
 use Rattle.pyver_requirements.specs.declared.option_value.ShellState.TheVariants.{Plain}
 
@@ -59,26 +59,26 @@ pub some_word : (text : List ℕ) → 0 < length text → starts is_ascii_whites
 some_word [] some filled = absurd (omega (arith, some))
 some_word (b ∷ rest) some filled = let is = ap length (word_here b rest (sym filled)) in omega (arith, is)
 
-read_word : (awaited : Option (List ℕ)) (w : OptionWord) (ws : List OptionWord) → words_fault awaited (w ∷ ws) ≡ after_step w.left (word_step awaited w.text) (λ next. words_fault next ws)
+read_word : (awaited : Option (List ℕ)) (w : OptionWord) (ws : List OptionWord) → words_fault awaited (w ∷ ws) ≡ step_fault w.left (word_step awaited w.text) (λ next. words_fault next ws)
 unfolding words_fault
 read_word awaited w ws = refl
 
 -- the fault from a word on
-pub from_word : (awaited : Option (List ℕ)) (text word : List ℕ) (whole : Option Misplaced) → 0 < length text → starts is_ascii_whitespace text ≡ false → word ≡ shell_word Plain text
-    → words_fault awaited (option_words 0 text) ≡ whole → after_step (length text) (word_step awaited word) (λ next. words_fault next (option_words 0 (drop (length word) text))) ≡ whole
+pub from_word : (awaited : Option (List ℕ)) (text word : List ℕ) (whole : Option FaultPosition) → 0 < length text → starts is_ascii_whitespace text ≡ false → word ≡ shell_word Plain text
+    → words_fault awaited (option_words 0 text) ≡ whole → step_fault (length text) (word_step awaited word) (λ next. words_fault next (option_words 0 (drop (length word) text))) ≡ whole
 from_word awaited [] word whole some filled is kept = absurd (omega (arith, some))
 from_word awaited (b ∷ rest) word whole some filled is kept =
-    ap (λ (w : List ℕ). after_step (length (b ∷ rest)) (word_step awaited w) (λ next. words_fault next (option_words 0 (drop (length w) (b ∷ rest))))) is
+    ap (λ (w : List ℕ). step_fault (length (b ∷ rest)) (word_step awaited w) (λ next. words_fault next (option_words 0 (drop (length w) (b ∷ rest))))) is
     ∙ sym (read_word awaited (record { text = shell_word Plain (b ∷ rest); left = length (b ∷ rest) }) (option_words 0 (drop (length (shell_word Plain (b ∷ rest))) (b ∷ rest))))
     ∙ sym (ap (words_fault awaited) (split_word b rest (sym filled))) ∙ kept
 
 -- the same behind the blanks that follow it, by what the word is
-pub goes_on : (awaited : Option (List ℕ)) (text word : List ℕ) (whole : Option Misplaced) → 0 < length text → starts is_ascii_whitespace text ≡ false → word ≡ shell_word Plain text
+pub goes_on : (awaited : Option (List ℕ)) (text word : List ℕ) (whole : Option FaultPosition) → 0 < length text → starts is_ascii_whitespace text ≡ false → word ≡ shell_word Plain text
     → words_fault awaited (option_words 0 text) ≡ whole → (step : WordStep) → word_step awaited word ≡ step
-    → after_step (length text) step (λ next. words_fault next (option_words 0 (past is_ascii_whitespace (drop (length word) text)))) ≡ whole
+    → step_fault (length text) step (λ next. words_fault next (option_words 0 (past is_ascii_whitespace (drop (length word) text)))) ≡ whole
 goes_on awaited text word whole some filled is kept step e =
-    ap (λ (ws : List OptionWord). after_step (length text) step (λ next. words_fault next ws)) (behind_blanks (drop (length word) text))
-    ∙ ap (λ (s : WordStep). after_step (length text) s (λ next. words_fault next (option_words 0 (drop (length word) text)))) (sym e)
+    ap (λ (ws : List OptionWord). step_fault (length text) step (λ next. words_fault next ws)) (behind_blanks (drop (length word) text))
+    ∙ ap (λ (s : WordStep). step_fault (length text) s (λ next. words_fault next (option_words 0 (drop (length word) text)))) (sym e)
     ∙ from_word awaited text word whole some filled is kept
 
 no_words : option_words 0 [] ≡ []
@@ -90,6 +90,6 @@ unfolding words_fault
 fault_at_end awaited = refl
 
 -- no words are left
-pub at_end : (awaited : Option (List ℕ)) (text : List ℕ) (whole : Option Misplaced) → length text ≡ 0 → words_fault awaited (option_words 0 text) ≡ whole → end_fault awaited ≡ whole
+pub at_end : (awaited : Option (List ℕ)) (text : List ℕ) (whole : Option FaultPosition) → length text ≡ 0 → words_fault awaited (option_words 0 text) ≡ whole → end_fault awaited ≡ whole
 at_end awaited [] whole none kept = sym (ap (words_fault awaited) no_words ∙ fault_at_end awaited) ∙ kept
 at_end awaited (b ∷ rest) whole none kept = absurd (omega (arith, none))

@@ -8,7 +8,7 @@ use Rattle.pep440_version.specs.Grammar.{starts}
 use Rattle.pep440_version.specs.Reading.{lead, past}
 use Rattle.pyver_requirements.specs.ConflictMarks.{is_conflict_mark}
 use Rattle.pyver_requirements.specs.LogicalLines.{is_utf16}
-use Rattle.pyver_requirements.specs.OptionFaults.{Misplaced, options_fault, options_in}
+use Rattle.pyver_requirements.specs.OptionFaults.{FaultPosition, options_fault, options_in}
 use Rattle.pyver_requirements.specs.OptionNames.{behind_long_name, long_name, names_option}
 use Rattle.pyver_requirements.specs.OptionValues.{first_value, long_value}
 use Rattle.pyver_requirements.specs.declared.line_fault.LineFault.{LineFault}
@@ -99,13 +99,13 @@ right_kind text =
     else Requirement
 
 -- the kind, unless there is a fault
-abbrev pub unless_misplaced : List ℕ → Option Misplaced → LineKind → LineKind
-unless_misplaced text None kind = kind
-unless_misplaced text (Some m) kind = Invalid m.fault (length text - m.left)
+abbrev pub unless_fault : List ℕ → Option FaultPosition → LineKind → LineKind
+unless_fault text None kind = kind
+unless_fault text (Some m) kind = Invalid m.fault (length text - m.left)
 
 -- what the line is: the first of these that holds
 abbrev pub line_kind : List ℕ → LineKind
 line_kind text =
     if is_conflict_mark text then Invalid ConflictMark 0
     else if is_utf16 text then Invalid Utf16 0
-    else unless_misplaced text (options_fault (options_in text)) (right_kind text)
+    else unless_fault text (options_fault (options_in text)) (right_kind text)

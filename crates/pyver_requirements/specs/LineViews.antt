@@ -3,13 +3,13 @@ use Rattle.std.specs.Prelude.{ℕ, List, ◌++◌, map, option_map}
 use Rattle.pyver_requirements.specs.LineKinds.{ConstraintsFile, Editable, Invalid, LineKind, Location, PipOption, Requirement, RequirementsFile, Variable}
 use Rattle.pyver_requirements.specs.LineParts.{LineParts}
 use Rattle.pyver_requirements.specs.LogicalLines.{Line, filled, joined_from, prefixed}
-use Rattle.pyver_requirements.specs.OptionFaults.{Awaits, Ends, Misplaced, Taken, WordStep, Wrong}
+use Rattle.pyver_requirements.specs.OptionFaults.{Awaits, Ends, FaultPosition, Taken, WordStep, Wrong}
 use Rattle.pyver_requirements.specs.declared.line_kind.LineKind.{LineKind as LineKindValue}
 use Rattle.pyver_requirements.specs.declared.line_kind.LineKind.TheVariants as kind
 use Rattle.pyver_requirements.specs.declared.line_parts.LineParts.{LineParts as LinePartsValue}
 use Rattle.pyver_requirements.specs.declared.logical_line.LogicalLine.{LogicalLine}
 use Rattle.pyver_requirements.specs.declared.logical_line.LineJoiner.{LineJoiner}
-use Rattle.pyver_requirements.specs.declared.option_fault.Misplaced.{Misplaced as MisplacedValue}
+use Rattle.pyver_requirements.specs.declared.option_fault.FaultPosition.{FaultPosition as FaultPositionValue}
 use Rattle.pyver_requirements.specs.declared.option_fault.WordStep.{WordStep as WordStepValue}
 use Rattle.pyver_requirements.specs.declared.option_fault.WordStep.TheVariants as step
 
@@ -33,8 +33,8 @@ line_kind_of kind.Requirement = Requirement
 abbrev pub line_parts_of : LinePartsValue → LineParts
 line_parts_of p = record { text = p.text.now; requirement = p.requirement.now; url = option_map (λ x. x.now) p.url; marker = option_map (λ x. x.now) p.marker }
 
-abbrev pub misplaced_of : MisplacedValue → Misplaced
-misplaced_of m = record { fault = m.fault; left = m.left }
+abbrev pub fault_position_of : FaultPositionValue → FaultPosition
+fault_position_of m = record { fault = m.fault; left = m.left }
 
 abbrev pub word_step_of : WordStepValue → WordStep
 word_step_of (step.Wrong fault) = Wrong fault

@@ -104,29 +104,29 @@ option_words zero (b ∷ rest) = if is_ascii_whitespace b then option_words 0 re
     else record { text = shell_word Plain (b ∷ rest); left = length (b ∷ rest) } ∷ option_words (length (shell_word Plain (b ∷ rest)) - 1) rest
 
 -- a fault, and how many bytes there are from it on
-pub record Misplaced : Type 0 where
+pub record FaultPosition : Type 0 where
   pub fault : LineFault
   pub left : ℕ
 
 -- what comes of a step at a word with so many bytes from it on
-abbrev pub after_step : ℕ → WordStep → (Option (List ℕ) → Option Misplaced) → Option Misplaced
-after_step left (Wrong f) next = Some (record { fault = f; left = left })
-after_step left (Awaits name) next = next (Some name)
-after_step left Taken next = next None
-after_step left Ends next = None
+abbrev pub step_fault : ℕ → WordStep → (Option (List ℕ) → Option FaultPosition) → Option FaultPosition
+step_fault left (Wrong f) next = Some (record { fault = f; left = left })
+step_fault left (Awaits name) next = next (Some name)
+step_fault left Taken next = next None
+step_fault left Ends next = None
 
 -- the value is missing of the option that awaits one at the end
-abbrev pub end_fault : Option (List ℕ) → Option Misplaced
+abbrev pub end_fault : Option (List ℕ) → Option FaultPosition
 end_fault None = None
 end_fault (Some name) = Some (record { fault = MissingValue; left = 0 })
 
 -- the first fault of the words, of which the first is the value of this option if one awaits its value
-unfoldable pub words_fault : Option (List ℕ) → List OptionWord → Option Misplaced
+unfoldable pub words_fault : Option (List ℕ) → List OptionWord → Option FaultPosition
 words_fault awaited [] = end_fault awaited
-words_fault awaited (w ∷ rest) = after_step w.left (word_step awaited w.text) (λ next. words_fault next rest)
+words_fault awaited (w ∷ rest) = step_fault w.left (word_step awaited w.text) (λ next. words_fault next rest)
 
 -- why pip does not take these options
-abbrev pub options_fault : List ℕ → Option Misplaced
+abbrev pub options_fault : List ℕ → Option FaultPosition
 options_fault text = if closes Plain text then words_fault None (option_words 0 text) else Some (record { fault = UnclosedQuote; left = length text })
 
 -- the options of a line

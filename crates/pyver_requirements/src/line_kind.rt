@@ -3,13 +3,13 @@ ghost use Rattle.std.specs.Prelude.{◌≡◌, ◌≤◌, ◌==◌, ◌||◌, Is
 ghost use Rattle.std.specs.Char.{eq_ignore_ascii_case, is_ascii_whitespace};
 ghost use Rattle.std.specs.List.{ends_with, list_any, prefix_len};
 ghost use Rattle.pep440_rs.specs.Blanks.{opens, trim_blanks};
-ghost use Rattle.pyver_requirements.specs.LineKinds.{closes_variable, ends_as, first_word, has_variable, is_archive, is_location, is_variable_byte, line_kind, long_option_value, opens_variable, option_kind, option_value, right_kind, short_endings, tar_endings, unless_misplaced};
-ghost use Rattle.pyver_requirements.specs.LineViews.{line_kind_of, misplaced_of};
+ghost use Rattle.pyver_requirements.specs.LineKinds.{closes_variable, ends_as, first_word, has_variable, is_archive, is_location, is_variable_byte, line_kind, long_option_value, opens_variable, option_kind, option_value, right_kind, short_endings, tar_endings, unless_fault};
+ghost use Rattle.pyver_requirements.specs.LineViews.{line_kind_of, fault_position_of};
 ghost use Rattle.pyver_requirements.specs.OptionFaults.{options_fault, options_in};
 
 use crate::comment::trim_blanks;
 use crate::line_fault::{LineFault, is_conflict_mark};
-use crate::option_fault::{Misplaced, line_fault};
+use crate::option_fault::{FaultPosition, line_fault};
 use crate::option_name::{count_name_bytes, names_option};
 use crate::option_value::{first_value, long_value};
 use crate::physical_line::opens_with_mark;
@@ -218,8 +218,8 @@ fn right_kind(text: &[u8]) -> LineKind<'_>
 }
 
 // What the line is, which has this fault or none.
-fn kind_unless(text: &[u8], fault: Option<Misplaced>) -> LineKind<'_>
-    ensures { line_kind_of result ≡ unless_misplaced text.now (option_map misplaced_of fault) (right_kind text.now) }
+fn kind_unless(text: &[u8], fault: Option<FaultPosition>) -> LineKind<'_>
+    ensures { line_kind_of result ≡ unless_fault text.now (option_map fault_position_of fault) (right_kind text.now) }
 {
     match fault {
         None => right_kind(text),
@@ -230,7 +230,7 @@ fn kind_unless(text: &[u8], fault: Option<Misplaced>) -> LineKind<'_>
 /// What the logical line is: the first that holds of the mark of a merge conflict, the mark of UTF-16, options that pip 26.2 does not take, an
 /// option, a line with a variable, a location and a requirement.
 ///
-/// Options stand after a requirement or alone, and the first one alone decides. A long one may be abbreviated if no other that pip knows begins
+/// Options stand after a requirement or without one, and the first decides. A long one may be abbreviated if no other that pip knows begins
 /// so. A path ends at a blank that stands in no quotes and after no backslash, and quotes around the whole path are left out. The first word, up
 /// to a blank, `;` or `@`, makes a location if it has a `/`, begins with `.` or ends as an archive, in any case: so a later URL makes none. Files
 /// are not looked for.

@@ -2,18 +2,20 @@
 ghost use Rattle.std.specs.Prelude.{◌≡◌, ◌||◌, None, bytes_eq, codes, option_map};
 ghost use Rattle.std.specs.List.{list_any};
 ghost use Rattle.pyver_requirements.specs.OptionFaults.{end_fault, flag_step, given_step, is_shell_byte, is_strong_hash, known_step, named_step, option_name, option_step, option_words, options_fault, options_in, short_value, taken_if, value_step, word_step, word_value, words_fault};
-ghost use Rattle.pyver_requirements.specs.LineViews.{misplaced_of, word_step_of};
+ghost use Rattle.pyver_requirements.specs.LineViews.{fault_position_of, word_step_of};
 ghost use Rattle.pyver_requirements.specs.OptionNames.{name_fault, names_option};
 
 use crate::line_fault::LineFault;
 use crate::line_kind::opens_with;
 use crate::line_parts::{before_options, split_rest};
-use crate::option_name::{count_name_bytes, is_flag, name_fault, names_option, takes_names, takes_path};
+use crate::option_name::{
+    count_name_bytes, is_flag, name_fault, names_option, takes_names, takes_path,
+};
 use crate::option_value::{closes, is_quote, skip_short_name, strip_quotes, take_word};
 
 // A fault, and how many bytes of the text there are from it on.
 #[derive(Clone, Copy)]
-pub(crate) struct Misplaced {
+pub(crate) struct FaultPosition {
     pub(crate) fault: LineFault,
     pub(crate) left: usize,
 }
@@ -169,12 +171,12 @@ fn check_word<'a>(awaited: Option<&'a [u8]>, word: &'a [u8]) -> WordStep<'a>
     }
 }
 
-fn end_fault(awaited: Option<&[u8]>) -> Option<Misplaced>
-    ensures { option_map misplaced_of result ≡ end_fault (option_map (λ x. x.now) awaited.entry) }
+fn end_fault(awaited: Option<&[u8]>) -> Option<FaultPosition>
+    ensures { option_map fault_position_of result ≡ end_fault (option_map (λ x. x.now) awaited.entry) }
 {
     match awaited {
         None => None,
-        Some(_) => Some(Misplaced {
+        Some(_) => Some(FaultPosition {
             fault: LineFault::MissingValue,
             left: 0,
         }),
@@ -182,8 +184,8 @@ fn end_fault(awaited: Option<&[u8]>) -> Option<Misplaced>
 }
 
 // The first fault of the words.
-fn words_fault(text: &[u8]) -> Option<Misplaced>
-    ensures { option_map misplaced_of result ≡ words_fault None (option_words 0 text.now) }
+fn words_fault(text: &[u8]) -> Option<FaultPosition>
+    ensures { option_map fault_position_of result ≡ words_fault None (option_words 0 text.now) }
 {
     let mut awaited: Option<&[u8]> = None;
     let mut rest = text.trim_ascii_start();
@@ -191,7 +193,7 @@ fn words_fault(text: &[u8]) -> Option<Misplaced>
         let word = take_word(rest);
         match check_word(awaited, word) {
             WordStep::Wrong(fault) => {
-                return Some(Misplaced {
+                return Some(FaultPosition {
                     fault,
                     left: rest.len(),
                 });
@@ -205,13 +207,13 @@ fn words_fault(text: &[u8]) -> Option<Misplaced>
     end_fault(awaited)
 }
 
-fn options_fault(text: &[u8]) -> Option<Misplaced>
-    ensures { option_map misplaced_of result ≡ options_fault text.now }
+fn options_fault(text: &[u8]) -> Option<FaultPosition>
+    ensures { option_map fault_position_of result ≡ options_fault text.now }
 {
     if closes(text) {
         return words_fault(text);
     }
-    Some(Misplaced {
+    Some(FaultPosition {
         fault: LineFault::UnclosedQuote,
         left: text.len(),
     })
@@ -228,8 +230,8 @@ fn options_in(text: &[u8]) -> &[u8]
 }
 
 // Why pip does not take the options of the line.
-pub(crate) fn line_fault(text: &[u8]) -> Option<Misplaced>
-    ensures { option_map misplaced_of result ≡ options_fault (options_in text.now) }
+pub(crate) fn line_fault(text: &[u8]) -> Option<FaultPosition>
+    ensures { option_map fault_position_of result ≡ options_fault (options_in text.now) }
 {
     options_fault(options_in(text))
 }

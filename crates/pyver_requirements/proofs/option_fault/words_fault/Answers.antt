@@ -42,17 +42,17 @@ loop-rest-preserved c =
     let ends : starts is_ascii_whitespace later ≡ false = ap (starts is_ascii_whitespace) trimmed ∙ past-stops is_ascii_whitespace (drop (length word) rest) in
     elim c.match-check_word.branch [
       | in-Awaits w ↦ record {
-          same = ap (λ a. words_fault (option_map (λ x. x.now) a) (option_words 0 later)) w.awaited-is ∙ ap (λ (t : List ℕ). words_fault (Some w.in-Awaits.name.now) (option_words 0 t)) trimmed
-              ∙ goes_on (option_map (λ x. x.now) c.loop-rest.awaited) rest word _ some c.loop-rest.invariant.filled c.take_word-word.ensures.value c.loop-rest.invariant.same
-              (Awaits w.in-Awaits.name.now) (sym c.check_word.ensures ∙ ap word_step_of w.in-Awaits.is);
-          filled = ends;
-        }
+        same = ap (λ a. words_fault (option_map (λ x. x.now) a) (option_words 0 later)) w.awaited-is ∙ ap (λ (t : List ℕ). words_fault (Some w.in-Awaits.name.now) (option_words 0 t)) trimmed
+            ∙ goes_on (option_map (λ x. x.now) c.loop-rest.awaited) rest word _ some c.loop-rest.invariant.filled c.take_word-word.ensures.value c.loop-rest.invariant.same
+            (Awaits w.in-Awaits.name.now) (sym c.check_word.ensures ∙ ap word_step_of w.in-Awaits.is);
+        filled = ends;
+      }
       | in-Taken w ↦ record {
-          same = ap (λ a. words_fault (option_map (λ x. x.now) a) (option_words 0 later)) w.awaited-is ∙ ap (λ (t : List ℕ). words_fault None (option_words 0 t)) trimmed
-              ∙ goes_on (option_map (λ x. x.now) c.loop-rest.awaited) rest word _ some c.loop-rest.invariant.filled c.take_word-word.ensures.value c.loop-rest.invariant.same
-              Taken (sym c.check_word.ensures ∙ ap word_step_of w.in-Taken.is);
-          filled = ends;
-        }
+        same = ap (λ a. words_fault (option_map (λ x. x.now) a) (option_words 0 later)) w.awaited-is ∙ ap (λ (t : List ℕ). words_fault None (option_words 0 t)) trimmed
+            ∙ goes_on (option_map (λ x. x.now) c.loop-rest.awaited) rest word _ some c.loop-rest.invariant.filled c.take_word-word.ensures.value c.loop-rest.invariant.same
+            Taken (sym c.check_word.ensures ∙ ap word_step_of w.in-Taken.is);
+        filled = ends;
+      }
     ]
 
 pub returns : goal.returns
