@@ -1,5 +1,5 @@
 -- A step of the reader of steps.
-use Rattle.std.proofs.Common.{◌≡◌, ◌-◌, ◌≤◌, ℕ, List, [], ◌∷◌, Ok, Err, arith, drop, false, length, refl, sub-one, sym}
+use Rattle.std.proofs.Common.{◌≡◌, ◌-◌, ◌≤◌, ℕ, List, [], ◌∷◌, Ok, Err, drop, false, length, refl, sub-one, sym}
 use Rattle.std.proofs.lemmas.List.{drop_all}
 use Rattle.std.specs.Prelude.{Result}
 use Rattle.pyver_requirements.proofs.MarkerLoop.{first_lexeme}

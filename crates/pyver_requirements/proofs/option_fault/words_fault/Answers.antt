@@ -1,4 +1,4 @@
-use Rattle.std.proofs.Common.{◌≡◌, ◌∙◌, ◌<◌, Option, None, Some, List, ℕ, ap, drop, false, length, option_map, rules, sym}
+use Rattle.std.proofs.Common.{◌≡◌, ◌∙◌, ◌<◌, None, Some, List, ℕ, ap, drop, false, length, option_map, rules, sym}
 use Rattle.std.proofs.lemmas.List.{take_rest}
 use Rattle.std.specs.Char.{is_ascii_whitespace}
 use Rattle.pep440_rs.proofs.Blanks.{start_trimmed}
