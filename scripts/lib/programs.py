@@ -30,12 +30,12 @@ def words_of(doc, parts, **options):
     return asked.parse_args()
 
 
-def beside_packaging(doc, parts, count):
+def beside_packaging(doc, parts, count, **options):
     """The words of a script that compares with `packaging`, which can be imported from then on, from pip's own copy if it is nowhere else."""
+    words = words_of(doc, parts, count=count, seed=1, packaging=".", program="", **options)
+    sys.path[:0] = [words.packaging, *([words.pip] if getattr(words, "pip", "") else [])]
     import pip._vendor
 
-    words = words_of(doc, parts, count=count, seed=1, packaging=".", program="")
-    sys.path[:0] = [words.packaging]
     sys.path += pip._vendor.__path__
     return words
 

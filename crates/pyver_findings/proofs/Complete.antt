@@ -15,10 +15,11 @@ use Rattle.pyver_findings.specs.ReadingViews.{KeepsReadings}
 use Rattle.pyver_findings.specs.Reports.{Report, demands_in, invalid_in}
 use Rattle.pyver_findings.specs.Views.{demand_of}
 use Rattle.pyver_findings.specs.declared.report.Readings.{Readings}
+use Rattle.pyver_requirements.specs.LineParts.{pip_parts}
 
 -- strings give the members of the lists of lines
 asked_sound : (lines : List FileLine) (xs : List LineMeaning) → AllZip IsMeaning lines xs → All IsSound (flat_map demands_in xs)
-asked_sound lines xs h = All-weaker (IsAsked lines) IsSound (λ a asked. derived_sound a asked.1) (flat_map demands_in xs) (all_asked lines lines xs (All-contains_itself lines) h)
+asked_sound lines xs h = All-weaker (IsAsked pip_parts lines) IsSound (λ a asked. derived_sound pip_parts a asked.1) (flat_map demands_in xs) (all_asked lines lines xs (All-contains_itself lines) h)
 
 pub readings_sound : (lines : List FileLine) (kept : Readings) → KeepsReadings lines kept → All IsSound (map demand_of kept.demands.items)
 readings_sound lines kept (xs, h, invalid, demands, left_out) = subst (All IsSound) (sym demands) (asked_sound lines xs h)

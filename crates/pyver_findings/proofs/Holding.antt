@@ -16,9 +16,9 @@ use Rattle.pep440_version.specs.Record.{Record}
 use Rattle.pyver_findings.specs.Demands.{Demand, IsSound, is_pinned, line_demand}
 use Rattle.pyver_findings.specs.Conflicts.{conflict_kind, conflicts, counts_under, first_mentions, have_none, of_all, of_name, has_same_marker, has_same_name, same_marker, smallest, under}
 use Rattle.pyver_findings.specs.FileLines.{FileLine, all_lines}
-use Rattle.pyver_findings.specs.FindingLaws.{AreNeeded, AsksFor, CountsUnder, FindingsHold, FitsConflict, HasMarker, IsRight, LineAllows, NamesVersion}
-use Rattle.pyver_findings.specs.Findings.{Conflicting, Finding}
-use Rattle.pyver_findings.specs.LineMeanings.{IsNone, LeftOut, LineMeaning, AsksNothing, IsKindMeaning, IsMeaning, requirement_meaning, has_scheme, names_file, under_marker, with_marker, with_url}
+use Rattle.pyver_findings.specs.FindingLaws.{AreNeeded, AsksFor, CountsUnder, FindingsHold, FitsConflict, HasMarker, IsRight, IsRightConflict, LineAllows, NamesVersion}
+use Rattle.pyver_findings.specs.Findings.{Conflicting, Finding, NoRequirement}
+use Rattle.pyver_findings.specs.LineMeanings.{IsNone, LeftOut, LineMeaning, AsksNothing, IsKindMeaning, IsMeaning, has_right_url, requirement_meaning, has_scheme, names_file, under_marker, with_marker, with_url}
 use Rattle.pyver_findings.proofs.Found.{marker_yes}
 use Rattle.pyver_findings.proofs.SmallestLists.{Allows, IsSpared, all_smallest, none_allowed, smallest_none, smallest_right}
 use Rattle.pyver_findings.proofs.Rejecting.{invalid_right}
@@ -26,113 +26,114 @@ use Rattle.pyver_findings.specs.Reports.{Report, demands_in, invalid_in}
 use Rattle.pyver_findings.specs.declared.cause.Cause.TheVariants as cause
 use Rattle.pyver_findings.specs.declared.finding.Conflict.TheVariants.{NoVersion, PinOutside, TwoPins}
 use Rattle.pyver_requirements.specs.LineKinds.{ConstraintsFile, Editable, Invalid, LineKind, Location, PipOption, Requirement, RequirementsFile, Variable, has_variable, line_kind}
-use Rattle.pyver_requirements.specs.LineParts.{line_parts}
+use Rattle.pyver_requirements.specs.LineParts.{LineParts, pip_parts}
 use Rattle.pyver_requirements.specs.MarkerReading.{Misfit, marker}
 
 -- ---- what a line asks for
 
--- the line derives a requirement whose name has the normal form of the demand, with this list, and with a pin where it has one
-abbrev pub IsDerived : Demand → Type 0
-IsDerived a =
-    (n : Needed) × DerivesRequirement (line_parts a.line.text).requirement n × (normal n.name ≡ a.name) × (is_pinned n.specifiers ≡ a.pinned) × (n.specifiers ≡ a.specifiers)
+module _ (parts : List ℕ → LineParts) where
+  -- the line derives a requirement whose name has the normal form of the demand, with this list, and with a pin where it has one
+  abbrev pub IsDerived : Demand → Type 0
+  IsDerived a =
+      (n : Needed) × DerivesRequirement (parts a.line.text).requirement n × (normal n.name ≡ a.name) × (is_pinned n.specifiers ≡ a.pinned) × (n.specifiers ≡ a.specifiers)
 
--- strings give the members of its list
-pub derived_sound : (a : Demand) → IsDerived a → IsSound a
-derived_sound a (n, d, called, pinned, same) =
-    subst (All IsDenotable) same (All-weaker IsDenotedSpecifier IsDenotable is_denotable n.specifiers (list_has_texts d.0 n.specifiers d.2))
+  -- strings give the members of its list
+  pub derived_sound : (a : Demand) → IsDerived a → IsSound a
+  derived_sound a (n, d, called, pinned, same) =
+      subst (All IsDenotable) same (All-weaker IsDenotedSpecifier IsDenotable is_denotable n.specifiers (list_has_texts d.0 n.specifiers d.2))
 
--- the line allows what the list contains
-line_allows : (v : Record) (a : Demand) → IsDerived a → Allows v a → LineAllows v a.line
-line_allows v a (n, d, called, pinned, same) h = (n, d, subst (λ list. IsTrue (list_matches_literally list v)) (sym same) h)
+  -- the line allows what the list contains
+  line_allows : (v : Record) (a : Demand) → IsDerived a → Allows v a → LineAllows parts v a.line
+  line_allows v a (n, d, called, pinned, same) h = (n, d, subst (λ list. IsTrue (list_matches_literally list v)) (sym same) h)
 
-allows_line : (v : Record) (a : Demand) → IsDerived a → LineAllows v a.line → Allows v a
-allows_line v a (n, d, called, pinned, same) (m, dm, h) =
-    subst (λ list. IsTrue (list_matches_literally list v)) (ap (λ (q : Needed). q.specifiers) (one_requirement (line_parts a.line.text).requirement m n dm d) ∙ same) h
+  allows_line : (v : Record) (a : Demand) → IsDerived a → LineAllows parts v a.line → Allows v a
+  allows_line v a (n, d, called, pinned, same) (m, dm, h) =
+      subst (λ list. IsTrue (list_matches_literally list v)) (ap (λ (q : Needed). q.specifiers) (one_requirement (parts a.line.text).requirement m n dm d) ∙ same) h
 
-pub sound : (lines : List Demand) → All IsDerived lines → All IsSound lines
-sound lines k = All-weaker IsDerived IsSound derived_sound lines k
+  pub sound : (lines : List Demand) → All IsDerived lines → All IsSound lines
+  sound lines k = All-weaker IsDerived IsSound derived_sound lines k
 
--- the lists contain what the lines allow, and the lines allow what the lists contain
-all_allow : (v : Record) (lines : List Demand) → All IsDerived lines → All (LineAllows v) (map (λ (a : Demand). a.line) lines) → All (Allows v) lines
-all_allow v [] k all = All-nil (Allows v)
-all_allow v (a ∷ lines) k all =
-    let rest = map (λ (b : Demand). b.line) lines in
-    All-cons (Allows v) a lines (allows_line v a (All-head IsDerived a lines k) (All-head (LineAllows v) a.line rest all)) (all_allow v lines (All-tail IsDerived a lines k) (All-tail (LineAllows v) a.line rest all))
+  -- the lists contain what the lines allow, and the lines allow what the lists contain
+  all_allow : (v : Record) (lines : List Demand) → All IsDerived lines → All (LineAllows parts v) (map (λ (a : Demand). a.line) lines) → All (Allows v) lines
+  all_allow v [] k all = All-nil (Allows v)
+  all_allow v (a ∷ lines) k all =
+      let rest = map (λ (b : Demand). b.line) lines in
+      All-cons (Allows v) a lines (allows_line v a (All-head IsDerived a lines k) (All-head (LineAllows parts v) a.line rest all)) (all_allow v lines (All-tail IsDerived a lines k) (All-tail (LineAllows parts v) a.line rest all))
 
-lines_allow : (v : Record) (lines : List Demand) → All IsDerived lines → All (Allows v) lines → All (LineAllows v) (map (λ (a : Demand). a.line) lines)
-lines_allow v [] k all = All-nil (LineAllows v)
-lines_allow v (a ∷ lines) k all =
-    All-cons (LineAllows v) a.line (map (λ (b : Demand). b.line) lines) (line_allows v a (All-head IsDerived a lines k) (All-head (Allows v) a lines all))
-    (lines_allow v lines (All-tail IsDerived a lines k) (All-tail (Allows v) a lines all))
+  lines_allow : (v : Record) (lines : List Demand) → All IsDerived lines → All (Allows v) lines → All (LineAllows parts v) (map (λ (a : Demand). a.line) lines)
+  lines_allow v [] k all = All-nil (LineAllows parts v)
+  lines_allow v (a ∷ lines) k all =
+      All-cons (LineAllows parts v) a.line (map (λ (b : Demand). b.line) lines) (line_allows v a (All-head IsDerived a lines k) (All-head (Allows v) a lines all))
+      (lines_allow v lines (All-tail IsDerived a lines k) (All-tail (Allows v) a lines all))
 
--- without any one of the lines some version is allowed
-needed : (front kept : List Demand) → All IsDerived front → All IsDerived kept → IsSpared front kept [] → AreNeeded (map (λ (a : Demand). a.line) front) (map (λ (a : Demand). a.line) kept)
-needed front [] f k s = tt
-needed front (a ∷ kept) f k ((v, denoted, here, there, behind), more) =
-    let line = λ (b : Demand). b.line in
-    let later = All-tail IsDerived a kept k in (
-      (
-        v,
-        denoted,
-        subst (All (LineAllows v)) (map-append line front kept)
-            (lines_allow v (front ++ kept) (All-append IsDerived front kept f later) (All-append (Allows v) front kept here there)),
-      ),
-      subst (λ before. AreNeeded before (map line kept)) (map-append line front (a ∷ []))
-          (needed (front ++ a ∷ []) kept (All-append IsDerived front (a ∷ []) f (All-cons IsDerived a [] (All-head IsDerived a kept k) (All-nil IsDerived))) later more),
-    )
+  -- without any one of the lines some version is allowed
+  needed : (front kept : List Demand) → All IsDerived front → All IsDerived kept → IsSpared front kept [] → AreNeeded parts (map (λ (a : Demand). a.line) front) (map (λ (a : Demand). a.line) kept)
+  needed front [] f k s = tt
+  needed front (a ∷ kept) f k ((v, denoted, here, there, behind), more) =
+      let line = λ (b : Demand). b.line in
+      let later = All-tail IsDerived a kept k in (
+        (
+          v,
+          denoted,
+          subst (All (LineAllows parts v)) (map-append line front kept)
+              (lines_allow v (front ++ kept) (All-append IsDerived front kept f later) (All-append (Allows v) front kept here there)),
+        ),
+        subst (λ before. AreNeeded parts before (map line kept)) (map-append line front (a ∷ []))
+            (needed (front ++ a ∷ []) kept (All-append IsDerived front (a ∷ []) f (All-cons IsDerived a [] (All-head IsDerived a kept k) (All-nil IsDerived))) later more),
+      )
 
--- one of these lines asks for it
-abbrev pub IsAsked : List FileLine → Demand → Type 0
-IsAsked read a = Contains read a.line × IsDerived a × HasMarker (line_parts a.line.text) a.marker
+  -- one of these lines asks for it
+  abbrev pub IsAsked : List FileLine → Demand → Type 0
+  IsAsked read a = Contains read a.line × IsDerived a × HasMarker (parts a.line.text) a.marker
 
 -- ---- what lines ask for
 
 module _ (read : List FileLine) where
-  of_file : (a b : Bool) → All (IsAsked read) (demands_in (if a then LeftOut cause.Variable else (if b then LeftOut cause.Url else AsksNothing)))
-  of_file true b = All-nil (IsAsked read)
-  of_file false true = All-nil (IsAsked read)
-  of_file false false = All-nil (IsAsked read)
+  of_file : (a b : Bool) → All (IsAsked pip_parts read) (demands_in (if a then LeftOut cause.Variable else (if b then LeftOut cause.Url else AsksNothing)))
+  of_file true b = All-nil (IsAsked pip_parts read)
+  of_file false true = All-nil (IsAsked pip_parts read)
+  of_file false false = All-nil (IsAsked pip_parts read)
 
-  of_specifiers : (b : Bool) (f : Finding) → All (IsAsked read) (demands_in (if b then LeftOut cause.Url else IsNone f))
-  of_specifiers true f = All-nil (IsAsked read)
-  of_specifiers false f = All-nil (IsAsked read)
+  of_specifiers : (b : Bool) (f : Finding) → All (IsAsked pip_parts read) (demands_in (if b then LeftOut cause.Url else IsNone f))
+  of_specifiers true f = All-nil (IsAsked pip_parts read)
+  of_specifiers false f = All-nil (IsAsked pip_parts read)
 
   module _ (l : FileLine) (known : Contains read l) where
-    module _ (n : Needed) (d : DerivesRequirement (line_parts l.text).requirement n) where
-      of_url : (m : Option (List ℕ)) → HasMarker (line_parts l.text) m → (url : Option (List ℕ)) → All (IsAsked read) (demands_in (with_url l (line_parts l.text) n m url))
-      of_url m has None = All-cons (IsAsked read) (line_demand l m n) [] (known, (n, d, refl, refl, refl), has) (All-nil (IsAsked read))
-      of_url m has (Some []) = All-nil (IsAsked read)
-      of_url m has (Some (b ∷ url)) = of_specifiers (length n.specifiers == 0) _
+    module _ (n : Needed) (d : DerivesRequirement (pip_parts l.text).requirement n) where
+      of_url : (m : Option (List ℕ)) → HasMarker (pip_parts l.text) m → (url : Option (List ℕ)) → All (IsAsked pip_parts read) (demands_in (with_url l (pip_parts l.text) n m url))
+      of_url m has None = All-cons (IsAsked pip_parts read) (line_demand l m n) [] (known, (n, d, refl, refl, refl), has) (All-nil (IsAsked pip_parts read))
+      of_url m has (Some []) = All-nil (IsAsked pip_parts read)
+      of_url m has (Some (b ∷ url)) = of_specifiers (has_right_url (b ∷ url) n) _
 
-      of_result : (t : List ℕ) (r : Result (List ℕ) Misfit) → (line_parts l.text).marker ≡ Some t → marker t ≡ r → All (IsAsked read) (demands_in (under_marker l (line_parts l.text) n r))
-      of_result t (Ok m) is found = of_url (Some m) (ap (option_map marker) is ∙ ap Some found) (line_parts l.text).url
-      of_result t (Err f) is found = All-nil (IsAsked read)
+      of_result : (t : List ℕ) (r : Result (List ℕ) Misfit) → (pip_parts l.text).marker ≡ Some t → marker t ≡ r → All (IsAsked pip_parts read) (demands_in (under_marker l (pip_parts l.text) n r))
+      of_result t (Ok m) is found = of_url (Some m) (ap (option_map marker) is ∙ ap Some found) (pip_parts l.text).url
+      of_result t (Err f) is found = All-nil (IsAsked pip_parts read)
 
-      of_marker : (t : Option (List ℕ)) → (line_parts l.text).marker ≡ t → All (IsAsked read) (demands_in (with_marker l (line_parts l.text) n t))
-      of_marker None is = of_url None (ap (option_map marker) is) (line_parts l.text).url
+      of_marker : (t : Option (List ℕ)) → (pip_parts l.text).marker ≡ t → All (IsAsked pip_parts read) (demands_in (with_marker l (pip_parts l.text) n t))
+      of_marker None is = of_url None (ap (option_map marker) is) (pip_parts l.text).url
       of_marker (Some t) is = of_result t (marker t) is refl
 
-    same_reading : (x y : LineMeaning) → x ≡ y → All (IsAsked read) (demands_in y) → All (IsAsked read) (demands_in x)
-    same_reading x y is k = subst (λ (z : LineMeaning). All (IsAsked read) (demands_in z)) (sym is) k
+    same_reading : (x y : LineMeaning) → x ≡ y → All (IsAsked pip_parts read) (demands_in y) → All (IsAsked pip_parts read) (demands_in x)
+    same_reading x y is k = subst (λ (z : LineMeaning). All (IsAsked pip_parts read) (demands_in z)) (sym is) k
 
-    of_kind : (kind : LineKind) (x : LineMeaning) → IsKindMeaning l kind x → All (IsAsked read) (demands_in x)
+    of_kind : (kind : LineKind) (x : LineMeaning) → IsKindMeaning l kind x → All (IsAsked pip_parts read) (demands_in x)
     of_kind (RequirementsFile path) x is = same_reading x (names_file path) is (of_file (has_variable path) (has_scheme path))
     of_kind (ConstraintsFile path) x is = same_reading x (names_file path) is (of_file (has_variable path) (has_scheme path))
-    of_kind (Invalid f) x is = same_reading x _ is (All-nil (IsAsked read))
-    of_kind Editable x is = same_reading x _ is (All-nil (IsAsked read))
-    of_kind PipOption x is = same_reading x _ is (All-nil (IsAsked read))
-    of_kind Variable x is = same_reading x _ is (All-nil (IsAsked read))
-    of_kind Location x is = same_reading x _ is (All-nil (IsAsked read))
-    of_kind Requirement x (inl (not_text, is)) = same_reading x _ is (All-nil (IsAsked read))
-    of_kind Requirement x (inr (text, inl (n, d, is))) = same_reading x (requirement_meaning l (line_parts l.text) n) is (of_marker n d (line_parts l.text).marker refl)
-    of_kind Requirement x (inr (text, inr (f, r, is))) = same_reading x _ is (All-nil (IsAsked read))
+    of_kind (Invalid f column) x is = same_reading x _ is (All-nil (IsAsked pip_parts read))
+    of_kind Editable x is = same_reading x _ is (All-nil (IsAsked pip_parts read))
+    of_kind PipOption x is = same_reading x _ is (All-nil (IsAsked pip_parts read))
+    of_kind Variable x is = same_reading x _ is (All-nil (IsAsked pip_parts read))
+    of_kind Location x is = same_reading x _ is (All-nil (IsAsked pip_parts read))
+    of_kind Requirement x (inl (not_text, is)) = same_reading x _ is (All-nil (IsAsked pip_parts read))
+    of_kind Requirement x (inr (text, inl (n, d, is))) = same_reading x (requirement_meaning l (pip_parts l.text) n) is (of_marker n d (pip_parts l.text).marker refl)
+    of_kind Requirement x (inr (text, inr (f, r, is))) = same_reading x _ is (All-nil (IsAsked pip_parts read))
 
-  pub all_asked : (lines : List FileLine) (xs : List LineMeaning) → All (Contains read) lines → AllZip IsMeaning lines xs → All (IsAsked read) (flat_map demands_in xs)
-  all_asked [] [] known h = All-nil (IsAsked read)
+  pub all_asked : (lines : List FileLine) (xs : List LineMeaning) → All (Contains read) lines → AllZip IsMeaning lines xs → All (IsAsked pip_parts read) (flat_map demands_in xs)
+  all_asked [] [] known h = All-nil (IsAsked pip_parts read)
   all_asked [] (x ∷ xs) known h = absurd h
   all_asked (l ∷ lines) [] known h = absurd h
   all_asked (l ∷ lines) (x ∷ xs) known h =
-      All-append (IsAsked read) (demands_in x) (flat_map demands_in xs) (of_kind l (All-head (Contains read) l lines known) (line_kind l.text) x h.0)
+      All-append (IsAsked pip_parts read) (demands_in x) (flat_map demands_in xs) (of_kind l (All-head (Contains read) l lines known) (line_kind l.text) x h.0)
       (all_asked lines xs (All-tail (Contains read) l lines known) h.1)
 
 -- ---- lists and markers
@@ -168,81 +169,84 @@ module _ (P : Finding → Type 0) where
 
 -- ---- lines of one name
 
-module _ (read : List FileLine) where
-  module _ (name : List ℕ) where
-    abbrev pub IsNamed : Demand → Type 0
-    IsNamed a = IsAsked read a × (bytes_eq name a.name ≡ true)
+module _ (parts : List ℕ → LineParts) where
+  module _ (read : List FileLine) where
+    module _ (name : List ℕ) where
+      abbrev pub IsNamed : Demand → Type 0
+      IsNamed a = IsAsked parts read a × (bytes_eq name a.name ≡ true)
 
-    asks_for : (a : Demand) → IsNamed a → AsksFor name a.line
-    asks_for a ((known, (n, d, called, pinned, list), marked), same) = (n, d, ap (bytes_eq name) called ∙ same)
+      asks_for : (a : Demand) → IsNamed a → AsksFor parts name a.line
+      asks_for a ((known, (n, d, called, pinned, list), marked), same) = (n, d, ap (bytes_eq name) called ∙ same)
 
-    counts_line : (marker : Option (List ℕ)) (a : Demand) → IsNamed a → (a.marker ≡ None) ⊎ (a.marker ≡ marker) → CountsUnder marker a.line
-    counts_line marker a ((known, derived, marked), same) (inl none) = inl (marked ∙ ap (option_map Ok) none)
-    counts_line marker a ((known, derived, marked), same) (inr is) = inr (marked ∙ ap (option_map Ok) is)
+      counts_line : (marker : Option (List ℕ)) (a : Demand) → IsNamed a → (a.marker ≡ None) ⊎ (a.marker ≡ marker) → CountsUnder parts marker a.line
+      counts_line marker a ((known, derived, marked), same) (inl none) = inl (marked ∙ ap (option_map Ok) none)
+      counts_line marker a ((known, derived, marked), same) (inr is) = inr (marked ∙ ap (option_map Ok) is)
 
-    names_version : (a : Demand) → IsNamed a → a.pinned ≡ true → NamesVersion a.line
-    names_version a ((known, (n, d, called, pinned, list), marked), same) names = (n, d, pinned ∙ names)
+      names_version : (a : Demand) → IsNamed a → a.pinned ≡ true → NamesVersion parts a.line
+      names_version a ((known, (n, d, called, pinned, list), marked), same) names = (n, d, pinned ∙ names)
 
-    names_none : (a : Demand) → IsNamed a → a.pinned ≡ false → NamesVersion a.line → ⊥
-    names_none a ((known, (n, d, called, pinned, list), marked), same) free (m, e, holds) =
-        let one : n ≡ m = one_requirement (line_parts a.line.text).requirement n m d e in
-        true≢false (sym holds ∙ sym (ap (λ (q : Needed). is_pinned q.specifiers) one) ∙ pinned ∙ free)
+      names_none : (a : Demand) → IsNamed a → a.pinned ≡ false → NamesVersion parts a.line → ⊥
+      names_none a ((known, (n, d, called, pinned, list), marked), same) free (m, e, holds) =
+          let one : n ≡ m = one_requirement (parts a.line.text).requirement n m d e in
+          true≢false (sym holds ∙ sym (ap (λ (q : Needed). is_pinned q.specifiers) one) ∙ pinned ∙ free)
 
-    -- ---- the kind
+      fits : (a b : Demand) → IsNamed a → IsNamed b → (p q : Bool) → a.pinned ≡ p → b.pinned ≡ q → FitsConflict parts (if p && q then TwoPins else (if p || q then PinOutside else NoVersion)) (a.line ∷ (b.line ∷ []))
+      fits a b one other true true p q = (a.line, b.line, refl, names_version a one p, names_version b other q)
+      fits a b one other true false p q = (a.line, b.line, refl, inl (names_version a one p), λ two. names_none b other q two.1)
+      fits a b one other false true p q = (a.line, b.line, refl, inr (names_version b other q), λ two. names_none a one p two.0)
+      fits a b one other false false p q = tt
 
-    fits : (a b : Demand) → IsNamed a → IsNamed b → (p q : Bool) → a.pinned ≡ p → b.pinned ≡ q → FitsConflict (if p && q then TwoPins else (if p || q then PinOutside else NoVersion)) (a.line ∷ (b.line ∷ []))
-    fits a b one other true true p q = (a.line, b.line, refl, names_version a one p, names_version b other q)
-    fits a b one other true false p q = (a.line, b.line, refl, inl (names_version a one p), λ two. names_none b other q two.1)
-    fits a b one other false true p q = (a.line, b.line, refl, inr (names_version b other q), λ two. names_none a one p two.0)
-    fits a b one other false false p q = tt
+      kind_fits : (lines : List Demand) → All IsNamed lines → FitsConflict parts (conflict_kind lines) (map (λ (a : Demand). a.line) lines)
+      kind_fits [] k = tt
+      kind_fits (a ∷ []) k = tt
+      kind_fits (a ∷ (b ∷ [])) k = fits a b (All-head IsNamed a (b ∷ []) k) (All-head IsNamed b [] (All-tail IsNamed a (b ∷ []) k)) a.pinned b.pinned refl refl
+      kind_fits (a ∷ (b ∷ (c ∷ rest))) k = tt
 
-    kind_fits : (lines : List Demand) → All IsNamed lines → FitsConflict (conflict_kind lines) (map (λ (a : Demand). a.line) lines)
-    kind_fits [] k = tt
-    kind_fits (a ∷ []) k = tt
-    kind_fits (a ∷ (b ∷ [])) k = fits a b (All-head IsNamed a (b ∷ []) k) (All-head IsNamed b [] (All-tail IsNamed a (b ∷ []) k)) a.pinned b.pinned refl refl
-    kind_fits (a ∷ (b ∷ (c ∷ rest))) k = tt
+      -- lines that count together
+      derived : (lines : List Demand) → All IsNamed lines → All (IsDerived parts) lines
+      derived lines k = All-weaker IsNamed (IsDerived parts) (λ a one. one.0.1) lines k
 
-    -- ---- lines that count together
+      abbrev pub Counts : Option (List ℕ) → Demand → Type 0
+      Counts marker a = IsNamed a × (counts_under marker a ≡ true)
 
-    derived : (lines : List Demand) → All IsNamed lines → All IsDerived lines
-    derived lines k = All-weaker IsNamed IsDerived (λ a one. one.0.1) lines k
+      all_right : (marker : Option (List ℕ)) (lines : List Demand) → All IsNamed lines → All (Counts marker) lines → All (IsRightConflict parts read) (of_all lines)
+      all_right marker lines named k =
+          let some = smallest lines in
+          let these = all_smallest IsNamed lines named in
+          where_true (IsRightConflict parts read) (have_none lines) (Conflicting (conflict_kind some) (map (λ (a : Demand). a.line) some)) (λ e. (
+            mapped (Contains read) IsNamed (λ a one. one.0.0) some these,
+            (name, marker, mapped (AsksFor parts name) IsNamed asks_for some these, mapped (CountsUnder parts marker) (Counts marker) (λ a one. counts_line marker a one.0 (counted_marker a.marker marker one.1)) some (all_smallest (Counts marker) lines k)),
+            kind_fits some these,
+            λ v denoted all. none_allowed some (sound parts some (derived some these)) (smallest_none lines e) v denoted (all_allow parts v some (derived some these) all),
+            needed parts [] some (All-nil (IsDerived parts)) (derived some these) (smallest_right lines (sound parts lines (derived lines named)) e).2,
+          ))
 
-    abbrev pub Counts : Option (List ℕ) → Demand → Type 0
-    Counts marker a = IsNamed a × (counts_under marker a ≡ true)
+      under_right : (marker : Option (List ℕ)) (lines : List Demand) → All IsNamed lines → All (IsRightConflict parts read) (of_all (under marker lines))
+      under_right marker lines k =
+          let named = All-filter (counts_under marker) IsNamed lines k in
+          all_right marker (under marker lines) named (both IsNamed (λ a. counts_under marker a ≡ true) (under marker lines) named (filter_passes (counts_under marker) lines))
 
-    all_right : (marker : Option (List ℕ)) (lines : List Demand) → All IsNamed lines → All (Counts marker) lines → All (IsRight read) (of_all lines)
-    all_right marker lines named k =
-        let some = smallest lines in
-        let these = all_smallest IsNamed lines named in
-        where_true (IsRight read) (have_none lines) (Conflicting (conflict_kind some) (map (λ (a : Demand). a.line) some)) (λ e. (
-          mapped (Contains read) IsNamed (λ a one. one.0.0) some these,
-          (name, marker, mapped (AsksFor name) IsNamed asks_for some these, mapped (CountsUnder marker) (Counts marker) (λ a one. counts_line marker a one.0 (counted_marker a.marker marker one.1)) some (all_smallest (Counts marker) lines k)),
-          kind_fits some these,
-          λ v denoted all. none_allowed some (sound some (derived some these)) (smallest_none lines e) v denoted (all_allow v some (derived some these) all),
-          needed [] some (All-nil IsDerived) (derived some these) (smallest_right lines (sound lines (derived lines named)) e).2,
-        ))
+      name_right : (lines : List Demand) → All IsNamed lines → All (IsRightConflict parts read) (of_name lines)
+      name_right lines k =
+          by_empty (IsRightConflict parts read) (have_none (under None lines)) _ _ (under_right None lines k)
+          (of_each (IsRightConflict parts read) (λ (a : Demand). of_all (under a.marker lines)) (λ a. under_right a.marker lines k) (first_mentions has_same_marker [] lines))
 
-    under_right : (marker : Option (List ℕ)) (lines : List Demand) → All IsNamed lines → All (IsRight read) (of_all (under marker lines))
-    under_right marker lines k =
-        let named = All-filter (counts_under marker) IsNamed lines k in
-        all_right marker (under marker lines) named (both IsNamed (λ a. counts_under marker a ≡ true) (under marker lines) named (filter_passes (counts_under marker) lines))
-
-    name_right : (lines : List Demand) → All IsNamed lines → All (IsRight read) (of_name lines)
-    name_right lines k =
-        by_empty (IsRight read) (have_none (under None lines)) _ _ (under_right None lines k)
-        (of_each (IsRight read) (λ (a : Demand). of_all (under a.marker lines)) (λ a. under_right a.marker lines k) (first_mentions has_same_marker [] lines))
-
-  pub conflicts_right : (lines : List Demand) → All (IsAsked read) lines → All (IsRight read) (conflicts lines)
-  conflicts_right lines k =
-      of_each (IsRight read) (λ (a : Demand). of_name (filter (has_same_name a) lines))
-      (λ a. name_right a.name (filter (has_same_name a) lines) (both (IsAsked read) (λ b. has_same_name a b ≡ true) (filter (has_same_name a) lines) (All-filter (has_same_name a) (IsAsked read) lines k) (filter_passes (has_same_name a) lines)))
-      (first_mentions has_same_name [] lines)
+    pub conflicts_right : (lines : List Demand) → All (IsAsked parts read) lines → All (IsRightConflict parts read) (conflicts lines)
+    conflicts_right lines k =
+        of_each (IsRightConflict parts read) (λ (a : Demand). of_name (filter (has_same_name a) lines))
+        (λ a. name_right a.name (filter (has_same_name a) lines) (both (IsAsked parts read) (λ b. has_same_name a b ≡ true) (filter (has_same_name a) lines) (All-filter (has_same_name a) (IsAsked parts read) lines k) (filter_passes (has_same_name a) lines)))
+        (first_mentions has_same_name [] lines)
 
 -- ---- all findings
+
+rightly : (lines : List FileLine) (f : Finding) → IsRightConflict pip_parts lines f → IsRight lines f
+rightly lines (NoRequirement l reason column) right = absurd right
+rightly lines (Conflicting conflict together) right = right
 
 pub findings_hold : FindingsHold
 findings_hold files r (xs, h, is) =
     let lines = all_lines files in
     subst (λ (q : Report). All (IsRight lines) q.findings) (sym is)
     (All-append (IsRight lines) (flat_map invalid_in xs) (conflicts (flat_map demands_in xs)) (invalid_right lines lines xs (All-contains_itself lines) h)
-    (conflicts_right lines (flat_map demands_in xs) (all_asked lines lines xs (All-contains_itself lines) h)))
+    (All-weaker (IsRightConflict pip_parts lines) (IsRight lines) (rightly lines) (conflicts (flat_map demands_in xs))
+    (conflicts_right pip_parts lines (flat_map demands_in xs) (all_asked lines lines xs (All-contains_itself lines) h))))

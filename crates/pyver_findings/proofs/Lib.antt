@@ -15,3 +15,4 @@ pub mod Once
 pub mod Folders
 pub mod JsonCodes
 mod PlainText
+pub mod StringReadings

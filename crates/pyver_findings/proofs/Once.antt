@@ -8,7 +8,7 @@ use Rattle.pyver_findings.specs.FindingLaws.{MeaningsOnce, ReportsOnce}
 use Rattle.pyver_findings.specs.LineMeanings.{IsKindMeaning, IsMeaning, IsPartsMeaning, LineMeaning, rejection_meaning, requirement_meaning}
 use Rattle.pyver_findings.specs.Reports.{found_in, left_out_in}
 use Rattle.pyver_requirements.specs.LineKinds.{ConstraintsFile, Editable, Invalid, LineKind, Location, PipOption, Requirement, RequirementsFile, Variable, line_kind}
-use Rattle.pyver_requirements.specs.LineParts.{LineParts, line_parts}
+use Rattle.pyver_requirements.specs.LineParts.{LineParts, pip_parts}
 
 -- a requirement, or what is to be one, has one meaning
 pub one_parts : (l : FileLine) (p : LineParts) (x y : LineMeaning) → IsPartsMeaning l p x → IsPartsMeaning l p y → x ≡ y
@@ -23,12 +23,12 @@ one_parts l p x y (inr (text, inr (f, r, a))) (inr (again, inr (g, s, b))) = a �
 of_kind : (l : FileLine) (kind : LineKind) (x y : LineMeaning) → IsKindMeaning l kind x → IsKindMeaning l kind y → x ≡ y
 of_kind l (RequirementsFile path) x y a b = a ∙ sym b
 of_kind l (ConstraintsFile path) x y a b = a ∙ sym b
-of_kind l (Invalid f) x y a b = a ∙ sym b
+of_kind l (Invalid f column) x y a b = a ∙ sym b
 of_kind l Editable x y a b = a ∙ sym b
 of_kind l PipOption x y a b = a ∙ sym b
 of_kind l Variable x y a b = a ∙ sym b
 of_kind l Location x y a b = a ∙ sym b
-of_kind l Requirement x y a b = one_parts l (line_parts l.text) x y a b
+of_kind l Requirement x y a b = one_parts l (pip_parts l.text) x y a b
 
 pub meanings_once : MeaningsOnce
 meanings_once l x y a b = of_kind l (line_kind l.text) x y a b

@@ -6,41 +6,39 @@ use Rattle.std.specs.List.{All, AllZip, Contains, flat_map}
 use Rattle.pep440_pick.proofs.Once.{not_both_requirement, one_requirement}
 use Rattle.pep440_pick.specs.RequirementGrammar.{DerivesRequirement, Needed, RejectsRequirement, RequirementRejection}
 use Rattle.pyver_findings.specs.FileLines.{FileLine}
-use Rattle.pyver_findings.specs.FindingLaws.{IsRequirementLine, IsRight}
+use Rattle.pyver_findings.specs.FindingLaws.{FitsUrl, IsRequirementLine, IsRight}
 use Rattle.pyver_findings.specs.Findings.{NoRequirement}
-use Rattle.pyver_findings.specs.LineMeanings.{IsNone, LeftOut, LineMeaning, AsksNothing, IsKindMeaning, IsMeaning, has_scheme, names_file, not_plain, rejection_meaning, requirement_meaning, invalid_line, under_marker, with_marker, with_url, IsPlain}
+use Rattle.pyver_findings.specs.LineMeanings.{IsNone, LeftOut, LineMeaning, AsksNothing, IsKindMeaning, IsMeaning, has_right_url, has_scheme, names_file, not_plain, rejection_meaning, requirement_meaning, invalid_line, under_marker, with_marker, with_url, IsPlain}
 use Rattle.pyver_findings.specs.Reports.{invalid_in}
 use Rattle.pyver_findings.specs.declared.cause.Cause.TheVariants as cause
 use Rattle.pyver_requirements.specs.LineKinds.{ConstraintsFile, Editable, Invalid, LineKind, Location, PipOption, Requirement, RequirementsFile, Variable, has_variable, line_kind}
 use Rattle.pyver_requirements.specs.declared.line_fault.LineFault.{LineFault}
-use Rattle.pyver_requirements.specs.LineParts.{line_parts}
+use Rattle.pyver_requirements.specs.LineParts.{pip_parts}
 use Rattle.pyver_requirements.specs.MarkerReading.{Misfit, marker}
 
 -- ---- why a line is no requirement
 
 module _ (l : FileLine) where
-  not_invalid : (f : LineFault) → line_kind l.text ≡ Invalid f → IsRequirementLine l → ⊥
-  not_invalid f is (kind, text, (m, e, (marker, url, either))) = let same : Invalid f ≡ Requirement = sym is ∙ kind in cc same
+  not_invalid : (f : LineFault) (column : ℕ) → line_kind l.text ≡ Invalid f column → IsRequirementLine l → ⊥
+  not_invalid f column is (kind, (text, (m, e, (marker, fits)))) = let same : Invalid f column ≡ Requirement = sym is ∙ kind in cc same
 
-  no_plain : (IsPlain (line_parts l.text).requirement → ⊥) → IsRequirementLine l → ⊥
-  no_plain none (kind, text, (m, e, (marker, url, either))) = none text
+  no_plain : (IsPlain (pip_parts l.text).requirement → ⊥) → IsRequirementLine l → ⊥
+  no_plain none (kind, (text, (m, e, (marker, fits)))) = none text
 
-  refused : (f : RequirementRejection) → RejectsRequirement (line_parts l.text).requirement f → IsRequirementLine l → ⊥
-  refused f r (kind, text, (m, e, (marker, url, either))) = not_both_requirement (line_parts l.text).requirement m f e r
+  refused : (f : RequirementRejection) → RejectsRequirement (pip_parts l.text).requirement f → IsRequirementLine l → ⊥
+  refused f r (kind, (text, (m, e, (marker, fits)))) = not_both_requirement (pip_parts l.text).requirement m f e r
 
-  no_marker : (t : List ℕ) (f : Misfit) → (line_parts l.text).marker ≡ Some t → marker t ≡ Err f → IsRequirementLine l → ⊥
-  no_marker t f is read (kind, text, (m, e, ((None, has), url, either))) = let same : Some (Err f) ≡ None = ap Some (sym read) ∙ ap (option_map marker) (sym is) ∙ has in cc same
-  no_marker t f is read (kind, text, (m, e, ((Some n, has), url, either))) = let same : Some (Err f) ≡ Some (Ok n) = ap Some (sym read) ∙ ap (option_map marker) (sym is) ∙ has in cc same
+  no_marker : (t : List ℕ) (f : Misfit) → (pip_parts l.text).marker ≡ Some t → marker t ≡ Err f → IsRequirementLine l → ⊥
+  no_marker t f is read (kind, (text, (m, e, ((None, has), fits)))) = let same : Some (Err f) ≡ None = ap Some (sym read) ∙ ap (option_map marker) (sym is) ∙ has in cc same
+  no_marker t f is read (kind, (text, (m, e, ((Some n, has), fits)))) = let same : Some (Err f) ≡ Some (Ok n) = ap Some (sym read) ∙ ap (option_map marker) (sym is) ∙ has in cc same
 
-  no_url : (line_parts l.text).url ≡ Some [] → IsRequirementLine l → ⊥
-  no_url is (kind, text, (m, e, (marker, url, either))) = url is
+  no_url : (pip_parts l.text).url ≡ Some [] → IsRequirementLine l → ⊥
+  no_url is (kind, (text, (m, e, (marker, fits)))) = (subst (λ (u : Option (List ℕ)). FitsUrl u m) is fits).0 refl
 
-  before_the_url : (n : Needed) → DerivesRequirement (line_parts l.text).requirement n → (length n.specifiers == 0) ≡ false → ((line_parts l.text).url ≡ None → ⊥) → IsRequirementLine l → ⊥
-  before_the_url n d some has (kind, text, (m, e, (marker, url, inl lacks))) = has lacks
-  before_the_url n d some has (kind, text, (m, e, (marker, url, inr empty))) =
-      let same : n ≡ m = one_requirement (line_parts l.text).requirement n m d e in
-      let none : (length n.specifiers == 0) ≡ true = ap (λ (q : Needed). length q.specifiers == 0) same ∙ ap (λ s. length s == 0) empty in
-      true≢false (sym none ∙ some)
+  before_the_url : (n : Needed) (url : List ℕ) → DerivesRequirement (pip_parts l.text).requirement n → has_right_url url n ≡ false → (pip_parts l.text).url ≡ Some url → IsRequirementLine l → ⊥
+  before_the_url n url d wrong is (kind, (text, (m, e, (marker, fits)))) =
+      let same : n ≡ m = one_requirement (pip_parts l.text).requirement n m d e in
+      true≢false (sym (subst (λ (u : Option (List ℕ)). FitsUrl u m) is fits).1 ∙ sym (ap (has_right_url url) same) ∙ wrong)
 
 -- ---- what is reported
 
@@ -55,24 +53,24 @@ module _ (read : List FileLine) where
     of_file false false = All-nil (IsRight read)
 
     -- what stands before `@` and `;` is a requirement
-    module _ (n : Needed) (d : DerivesRequirement (line_parts l.text).requirement n) where
-      of_specifiers : (b : Bool) (reason : List ℕ) (column : ℕ) → (length n.specifiers == 0) ≡ b → ((line_parts l.text).url ≡ None → ⊥)
+    module _ (n : Needed) (d : DerivesRequirement (pip_parts l.text).requirement n) where
+      of_specifiers : (b : Bool) (url reason : List ℕ) (column : ℕ) → has_right_url url n ≡ b → (pip_parts l.text).url ≡ Some url
           → IsMeaning l (if b then LeftOut cause.Url else IsNone (NoRequirement l reason column)) → All (IsRight read) (invalid_in (if b then LeftOut cause.Url else IsNone (NoRequirement l reason column)))
-      of_specifiers true reason column some has means = All-nil (IsRight read)
-      of_specifiers false reason column some has means = one_invalid reason column (before_the_url l n d some has) means
+      of_specifiers true url reason column right is means = All-nil (IsRight read)
+      of_specifiers false url reason column wrong is means = one_invalid reason column (before_the_url l n url d wrong is) means
 
-      of_url : (m url : Option (List ℕ)) → (line_parts l.text).url ≡ url → IsMeaning l (with_url l (line_parts l.text) n m url) → All (IsRight read) (invalid_in (with_url l (line_parts l.text) n m url))
+      of_url : (m url : Option (List ℕ)) → (pip_parts l.text).url ≡ url → IsMeaning l (with_url l (pip_parts l.text) n m url) → All (IsRight read) (invalid_in (with_url l (pip_parts l.text) n m url))
       of_url m None is means = All-nil (IsRight read)
       of_url m (Some []) is means = one_invalid _ _ (no_url l is) means
-      of_url m (Some (b ∷ url)) is means = of_specifiers (length n.specifiers == 0) _ _ refl (λ lacks. let same : None ≡ Some (b ∷ url) = sym lacks ∙ is in cc same) means
+      of_url m (Some (b ∷ url)) is means = of_specifiers (has_right_url (b ∷ url) n) (b ∷ url) _ _ refl is means
 
-      of_result : (t : List ℕ) (r : Result (List ℕ) Misfit) → (line_parts l.text).marker ≡ Some t → marker t ≡ r → IsMeaning l (under_marker l (line_parts l.text) n r)
-          → All (IsRight read) (invalid_in (under_marker l (line_parts l.text) n r))
-      of_result t (Ok m) is found means = of_url (Some m) (line_parts l.text).url refl means
+      of_result : (t : List ℕ) (r : Result (List ℕ) Misfit) → (pip_parts l.text).marker ≡ Some t → marker t ≡ r → IsMeaning l (under_marker l (pip_parts l.text) n r)
+          → All (IsRight read) (invalid_in (under_marker l (pip_parts l.text) n r))
+      of_result t (Ok m) is found means = of_url (Some m) (pip_parts l.text).url refl means
       of_result t (Err f) is found means = one_invalid _ _ (no_marker l t f is found) means
 
-      of_marker : (t : Option (List ℕ)) → (line_parts l.text).marker ≡ t → IsMeaning l (with_marker l (line_parts l.text) n t) → All (IsRight read) (invalid_in (with_marker l (line_parts l.text) n t))
-      of_marker None is means = of_url None (line_parts l.text).url refl means
+      of_marker : (t : Option (List ℕ)) → (pip_parts l.text).marker ≡ t → IsMeaning l (with_marker l (pip_parts l.text) n t) → All (IsRight read) (invalid_in (with_marker l (pip_parts l.text) n t))
+      of_marker None is means = of_url None (pip_parts l.text).url refl means
       of_marker (Some t) is means = of_result t (marker t) is refl means
 
     same_invalid : (x y : LineMeaning) → x ≡ y → IsMeaning l x → (IsMeaning l y → All (IsRight read) (invalid_in y)) → All (IsRight read) (invalid_in x)
@@ -81,14 +79,14 @@ module _ (read : List FileLine) where
     of_kind : (kind : LineKind) (x : LineMeaning) → line_kind l.text ≡ kind → IsKindMeaning l kind x → IsMeaning l x → All (IsRight read) (invalid_in x)
     of_kind (RequirementsFile path) x kind is means = same_invalid x (names_file path) is means (λ _. of_file (has_variable path) (has_scheme path))
     of_kind (ConstraintsFile path) x kind is means = same_invalid x (names_file path) is means (λ _. of_file (has_variable path) (has_scheme path))
-    of_kind (Invalid f) x kind is means = same_invalid x (invalid_line l f) is means (λ m. one_invalid _ _ (not_invalid l f kind) m)
+    of_kind (Invalid f column) x kind is means = same_invalid x (invalid_line l f column) is means (λ m. one_invalid _ _ (not_invalid l f column kind) m)
     of_kind Editable x kind is means = same_invalid x _ is means (λ _. All-nil (IsRight read))
     of_kind PipOption x kind is means = same_invalid x _ is means (λ _. All-nil (IsRight read))
     of_kind Variable x kind is means = same_invalid x _ is means (λ _. All-nil (IsRight read))
     of_kind Location x kind is means = same_invalid x _ is means (λ _. All-nil (IsRight read))
-    of_kind Requirement x kind (inl (none, is)) means = same_invalid x (not_plain l (line_parts l.text)) is means (λ m. one_invalid _ _ (no_plain l none) m)
-    of_kind Requirement x kind (inr (text, inl (n, d, is))) means = same_invalid x (requirement_meaning l (line_parts l.text) n) is means (λ m. of_marker n d (line_parts l.text).marker refl m)
-    of_kind Requirement x kind (inr (text, inr (f, r, is))) means = same_invalid x (rejection_meaning l (line_parts l.text) f) is means (λ m. one_invalid _ _ (refused l f r) m)
+    of_kind Requirement x kind (inl (none, is)) means = same_invalid x (not_plain l (pip_parts l.text)) is means (λ m. one_invalid _ _ (no_plain l none) m)
+    of_kind Requirement x kind (inr (text, inl (n, d, is))) means = same_invalid x (requirement_meaning l (pip_parts l.text) n) is means (λ m. of_marker n d (pip_parts l.text).marker refl m)
+    of_kind Requirement x kind (inr (text, inr (f, r, is))) means = same_invalid x (rejection_meaning l (pip_parts l.text) f) is means (λ m. one_invalid _ _ (refused l f r) m)
 
   pub invalid_right : (lines : List FileLine) (xs : List LineMeaning) → All (Contains read) lines → AllZip IsMeaning lines xs → All (IsRight read) (flat_map invalid_in xs)
   invalid_right [] [] known h = All-nil (IsRight read)

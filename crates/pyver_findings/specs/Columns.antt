@@ -7,7 +7,7 @@ use Rattle.pep440_rs.specs.Lists.ListGrammar.{PieceRejection}
 use Rattle.pep440_pick.specs.RequirementGrammar.{RequirementRejection, Specifiers}
 use Rattle.pep440_pick.specs.RequirementReading.{list_position, rejection_position}
 use Rattle.pep440_version.specs.Reading.{lead, past}
-use Rattle.pyver_requirements.specs.LineParts.{behind_byte}
+use Rattle.pyver_requirements.specs.LineParts.{LineParts}
 use Rattle.pyver_requirements.specs.MarkerTokens.{is_operator_byte}
 
 -- the operators
@@ -31,10 +31,6 @@ abbrev pub column : List ℕ → RequirementRejection → ℕ
 column text (Specifiers list f) = list_position text + list_column (drop (list_position text) text) f
 column text f = rejection_position text f
 
--- the marker of a line, and what follows it
-abbrev pub from_marker : List ℕ → List ℕ
-from_marker text = past is_ascii_whitespace (option_map_or (λ rest. rest) (behind_byte 59 text) [])
-
--- the column in the line of this position in its marker, in bytes from 0
-abbrev pub marker_column : List ℕ → ℕ → ℕ
-marker_column text position = length text - (length (from_marker text) - position)
+-- the column of this position in the marker, in bytes from 0
+abbrev pub marker_column : LineParts → ℕ → ℕ
+marker_column p position = length p.text - (length (option_map_or (λ m. m) p.marker []) - position)

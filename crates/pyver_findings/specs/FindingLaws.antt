@@ -12,69 +12,90 @@ use Rattle.pyver_findings.specs.Conflicts.{has_same_name, under}
 use Rattle.pyver_findings.specs.Demands.{Demand, is_pinned}
 use Rattle.pyver_findings.specs.FileLines.{File, FileLine, all_lines}
 use Rattle.pyver_findings.specs.Findings.{Conflicting, Finding, NoRequirement}
-use Rattle.pyver_findings.specs.LineMeanings.{IsMeaning, IsNone, IsPlain, LineMeaning}
+use Rattle.pyver_findings.specs.LineMeanings.{IsMeaning, IsNone, IsPlain, LineMeaning, has_right_url}
 use Rattle.pyver_findings.specs.Reports.{IsReport, Report, demands_in}
 use Rattle.pyver_findings.specs.declared.finding.Conflict.{Conflict}
 use Rattle.pyver_findings.specs.declared.finding.Conflict.TheVariants.{NoVersion, PinOutside, TwoPins}
 use Rattle.pyver_requirements.specs.LineKinds.{Invalid, Requirement, line_kind}
-use Rattle.pyver_requirements.specs.LineParts.{LineParts, line_parts}
+use Rattle.pyver_requirements.specs.LineParts.{LineParts, pip_parts}
 use Rattle.pyver_requirements.specs.MarkerReading.{marker}
 use Rattle.pyver_requirements.specs.declared.line_fault.LineFault.{LineFault}
-
--- the line is a requirement whose list contains the version
-abbrev pub LineAllows : Record → FileLine → Type 0
-LineAllows v l = (n : Needed) × DerivesRequirement (line_parts l.text).requirement n × IsTrue (list_matches_literally n.specifiers v)
 
 -- after `;` this marker stands, in its normal form; or there is neither
 abbrev pub HasMarker : LineParts → Option (List ℕ) → Type 0
 HasMarker p m = option_map marker p.marker ≡ option_map Ok m
 
--- a marker stands after `;`, and after `@` a URL, which has no list before it
+-- where a URL stands after `@`, it has no blank, and no list before it
+abbrev pub FitsUrl : Option (List ℕ) → Needed → Type 0
+FitsUrl None n = ⊤
+FitsUrl (Some url) n = (¬ (url ≡ [])) × IsTrue (has_right_url url n)
+
+-- a marker stands after `;`, or nothing, and after `@` a URL, or nothing
 abbrev pub IsComplete : LineParts → Needed → Type 0
-IsComplete p n = ((m : Option (List ℕ)) × HasMarker p m) × (¬ (p.url ≡ Some [])) × ((p.url ≡ None) ⊎ (n.specifiers ≡ []))
+IsComplete p n = ((m : Option (List ℕ)) × HasMarker p m) × FitsUrl p.url n
+
+-- the parts are those of a requirement
+abbrev pub AreParts : LineParts → Type 0
+AreParts p = IsPlain p.requirement × ((n : Needed) × DerivesRequirement p.requirement n × IsComplete p n)
 
 -- the line is a requirement
 abbrev pub IsRequirementLine : FileLine → Type 0
-IsRequirementLine l = (line_kind l.text ≡ Requirement) × IsPlain (line_parts l.text).requirement
-    × ((n : Needed) × DerivesRequirement (line_parts l.text).requirement n × IsComplete (line_parts l.text) n)
+IsRequirementLine l = (line_kind l.text ≡ Requirement) × AreParts (pip_parts l.text)
 
--- the line asks for a name with this normal form
-abbrev pub AsksFor : List ℕ → FileLine → Type 0
-AsksFor name l = (n : Needed) × DerivesRequirement (line_parts l.text).requirement n × IsTrue (bytes_eq name (normal n.name))
+-- ---- lines, or strings, with these parts
 
--- the line has no marker, or this one
-abbrev pub CountsUnder : Option (List ℕ) → FileLine → Type 0
-CountsUnder m l = HasMarker (line_parts l.text) None ⊎ HasMarker (line_parts l.text) m
+module _ (parts : List ℕ → LineParts) where
+  -- the line is a requirement whose list contains the version
+  abbrev pub LineAllows : Record → FileLine → Type 0
+  LineAllows v l = (n : Needed) × DerivesRequirement (parts l.text).requirement n × IsTrue (list_matches_literally n.specifiers v)
 
--- the lines ask for one name, and no two of them have different markers
-abbrev pub CountTogether : List FileLine → Type 0
-CountTogether together = (name : List ℕ) × (m : Option (List ℕ)) × All (AsksFor name) together × All (CountsUnder m) together
+  -- the line asks for a name with this normal form
+  abbrev pub AsksFor : List ℕ → FileLine → Type 0
+  AsksFor name l = (n : Needed) × DerivesRequirement (parts l.text).requirement n × IsTrue (bytes_eq name (normal n.name))
 
--- the line names a version, by `==` or `===`
-abbrev pub NamesVersion : FileLine → Type 0
-NamesVersion l = (n : Needed) × DerivesRequirement (line_parts l.text).requirement n × IsTrue (is_pinned n.specifiers)
+  -- the line has no marker, or this one
+  abbrev pub CountsUnder : Option (List ℕ) → FileLine → Type 0
+  CountsUnder m l = HasMarker (parts l.text) None ⊎ HasMarker (parts l.text) m
 
--- two lines name versions; one of two does, and the other does not
-abbrev pub FitsConflict : Conflict → List FileLine → Type 0
-FitsConflict NoVersion together = ⊤
-FitsConflict TwoPins together = (a : FileLine) × (b : FileLine) × (together ≡ a ∷ (b ∷ [])) × NamesVersion a × NamesVersion b
-FitsConflict PinOutside together = (a : FileLine) × (b : FileLine) × (together ≡ a ∷ (b ∷ [])) × (NamesVersion a ⊎ NamesVersion b) × (¬ (NamesVersion a × NamesVersion b))
+  -- the lines ask for one name, and no two of them have different markers
+  abbrev pub CountTogether : List FileLine → Type 0
+  CountTogether together = (name : List ℕ) × (m : Option (List ℕ)) × All (AsksFor name) together × All (CountsUnder m) together
 
--- some version is allowed by all these lines
-abbrev pub HaveSome : List FileLine → Type 0
-HaveSome lines = (v : Record) × IsDenoted v × All (LineAllows v) lines
+  -- the line names a version, by `==` or `===`
+  abbrev pub NamesVersion : FileLine → Type 0
+  NamesVersion l = (n : Needed) × DerivesRequirement (parts l.text).requirement n × IsTrue (is_pinned n.specifiers)
 
--- the others have one without any one of `lines`, where `front` stands before them
-abbrev pub AreNeeded : List FileLine → List FileLine → Type 0
-AreNeeded front [] = ⊤
-AreNeeded front (l ∷ lines) = HaveSome (front ++ lines) × AreNeeded (front ++ l ∷ []) lines
+  -- two lines name versions; one of two does, and the other does not
+  abbrev pub FitsConflict : Conflict → List FileLine → Type 0
+  FitsConflict NoVersion together = ⊤
+  FitsConflict TwoPins together = (a : FileLine) × (b : FileLine) × (together ≡ a ∷ (b ∷ [])) × NamesVersion a × NamesVersion b
+  FitsConflict PinOutside together =
+      (a : FileLine) × (b : FileLine) × (together ≡ a ∷ (b ∷ [])) × (NamesVersion a ⊎ NamesVersion b) × (¬ (NamesVersion a × NamesVersion b))
+
+  -- some version is allowed by all these lines
+  abbrev pub HaveSome : List FileLine → Type 0
+  HaveSome lines = (v : Record) × IsDenoted v × All (LineAllows v) lines
+
+  -- the others have one without any one of `lines`, where `front` stands before them
+  abbrev pub AreNeeded : List FileLine → List FileLine → Type 0
+  AreNeeded front [] = ⊤
+  AreNeeded front (l ∷ lines) = HaveSome (front ++ lines) × AreNeeded (front ++ l ∷ []) lines
+
+  -- lines that are reported together are some of these, count together, no version is allowed by all, and without any one of them some
+  -- version is
+  abbrev pub IsRightConflict : List FileLine → Finding → Type 0
+  IsRightConflict lines (NoRequirement l reason column) = ⊥
+  IsRightConflict lines (Conflicting conflict together) =
+      All (Contains lines) together × CountTogether together × FitsConflict conflict together × ((v : Record) → IsDenoted v → ¬ All (LineAllows v) together)
+      × AreNeeded [] together
+
+-- ---- requirements files
 
 -- a line that is reported by itself is one of these lines and no requirement, and has this reason and column; lines that are reported
--- together are some of these, count together, no version is allowed by all, and without any one of them some version is
+-- together are rightly so
 abbrev pub IsRight : List FileLine → Finding → Type 0
 IsRight lines (NoRequirement l reason column) = Contains lines l × (¬ IsRequirementLine l) × IsMeaning l (IsNone (NoRequirement l reason column))
-IsRight lines (Conflicting conflict together) =
-    All (Contains lines) together × CountTogether together × FitsConflict conflict together × ((v : Record) → IsDenoted v → ¬ All (LineAllows v) together) × AreNeeded [] together
+IsRight lines (Conflicting conflict together) = IsRightConflict pip_parts lines (Conflicting conflict together)
 
 -- each finding of a report is right
 abbrev pub FindingsHold : Type 0
@@ -87,7 +108,7 @@ IsAlone line (Conflicting conflict reported) = ⊥
 
 -- a line that ought to be a requirement or an option of pip, and is neither
 abbrev pub LacksRequirement : FileLine → Type 0
-LacksRequirement l = ((fault : LineFault) × (line_kind l.text ≡ Invalid fault)) ⊎ ((line_kind l.text ≡ Requirement) × (¬ IsRequirementLine l))
+LacksRequirement l = ((fault : LineFault) × (column : ℕ) × (line_kind l.text ≡ Invalid fault column)) ⊎ ((line_kind l.text ≡ Requirement) × (¬ IsRequirementLine l))
 
 -- each line that ought to be a requirement and is none is reported
 abbrev pub InvalidLinesHaveFindings : Type 0

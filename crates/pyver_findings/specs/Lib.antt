@@ -12,3 +12,4 @@ pub mod ReadingViews
 pub mod ReportTexts
 pub mod ReportObjects
 pub mod FindingLaws
+pub mod StringGrammar

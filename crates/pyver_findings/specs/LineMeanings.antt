@@ -1,13 +1,13 @@
 -- What a line of a requirements file is to the check: a requirement, none, a line that is left out, or one that asks for no package.
-use Rattle.std.specs.Prelude.{◌≡◌, ◌⊎◌, ◌==◌, ◌||◌, ℕ, List, [], ◌∷◌, Bool, true, false, Option, Some, None, Result, Ok, Err, codes, length, nat_eq, if◌then◌else◌}
-use Rattle.std.specs.List.{list_all, prefix_len, starts_with}
+use Rattle.std.specs.Prelude.{◌≡◌, ◌⊎◌, ◌==◌, ◌&&◌, ◌||◌, ℕ, List, [], ◌∷◌, Bool, true, false, Option, Some, None, Result, Ok, Err, codes, length, nat_eq, not, if◌then◌else◌}
+use Rattle.std.specs.List.{list_all, list_any, prefix_len, starts_with}
 use Rattle.pep440_pick.specs.RequirementGrammar.{DerivesRequirement, Needed, RejectsRequirement, RequirementRejection, Specifiers}
 use Rattle.pep440_pick.specs.RequirementTexts.{requirement_rejection_text}
 use Rattle.pep440_rs.specs.ErrorTexts.{specifier_rejection_text}
 use Rattle.pep440_rs.specs.Lists.ListGrammar.{DerivesList, PieceRejection, RejectsList}
 use Rattle.pep440_rs.specs.Specifiers.{Spec}
 use Rattle.pyver_requirements.specs.LineKinds.{ConstraintsFile, Editable, Invalid, LineKind, Location, PipOption, Requirement, RequirementsFile, Variable, has_variable, line_kind}
-use Rattle.pyver_requirements.specs.LineParts.{LineParts, line_parts}
+use Rattle.pyver_requirements.specs.LineParts.{LineParts, is_blank_byte, pip_parts}
 use Rattle.pyver_requirements.specs.MarkerReading.{Misfit, marker}
 use Rattle.pyver_requirements.specs.declared.line_fault.LineFault.{LineFault}
 use Rattle.pyver_requirements.specs.declared.line_fault.LineFault.TheVariants as fault
@@ -42,20 +42,19 @@ names_file path = if has_variable path then LeftOut cause.Variable else (if has_
 -- ---- neither a requirement nor an option
 
 abbrev pub fault_reason : LineFault → List ℕ
-fault_reason fault.MissingPath = codes "no path follows the option"
-fault_reason fault.UnknownOption = codes "pip 23.2 has no such option"
+fault_reason fault.UnknownOption = codes "pip 26.2 has no such option"
 fault_reason fault.AmbiguousOption = codes "several options of pip begin so"
+fault_reason fault.MissingValue = codes "the option has no value"
+fault_reason fault.UnwantedValue = codes "the option takes no value"
+fault_reason fault.WrongHash = codes "a hash begins with sha256:, sha384: or sha512:"
+fault_reason fault.WrongSetting = codes "a setting has the form KEY=VALUE"
+fault_reason fault.UnclosedQuote = codes "a quote or a backslash in the options has no end"
 fault_reason fault.ConflictMark = codes "the mark of a merge conflict"
 fault_reason fault.Utf16 = codes "the file is UTF-16, which is not read"
 
--- the column of the fault: a path is missing at the end
-abbrev pub fault_column : LineFault → List ℕ → ℕ
-fault_column fault.MissingPath text = length text
-fault_column _ text = 0
-
--- the line that is neither, for this reason
-abbrev pub invalid_line : FileLine → LineFault → LineMeaning
-invalid_line line f = IsNone (NoRequirement line (fault_reason f) (fault_column f line.text))
+-- the line that is neither, for this reason and from this column on
+abbrev pub invalid_line : FileLine → LineFault → ℕ → LineMeaning
+invalid_line line f column = IsNone (NoRequirement line (fault_reason f) column)
 
 -- ---- a requirement
 
@@ -64,21 +63,29 @@ abbrev pub requirement_reason : RequirementRejection → List ℕ
 requirement_reason (Specifiers list f) = specifier_rejection_text f.error
 requirement_reason f = requirement_rejection_text f
 
--- what the line is with a URL: it is left out, and has no list before the URL
-abbrev pub before_url : FileLine → ℕ → Needed → LineMeaning
-before_url line column n = if length n.specifiers == 0 then LeftOut cause.Url else IsNone (NoRequirement line (codes "version specifiers stand before a URL") column)
+-- a URL has no blank, and no list stands before it
+abbrev pub has_right_url : List ℕ → Needed → Bool
+has_right_url url n = (length n.specifiers == 0) && not (list_any is_blank_byte url)
+
+-- why one cannot stand there
+abbrev pub url_reason : Needed → List ℕ
+url_reason n = if length n.specifiers == 0 then codes "';' is expected behind the URL" else codes "version specifiers stand before a URL"
+
+-- what the line is with this URL, which is left out
+abbrev pub before_url : FileLine → ℕ → Needed → List ℕ → LineMeaning
+before_url line column n url = if has_right_url url n then LeftOut cause.Url else IsNone (NoRequirement line (url_reason n) column)
 
 -- after `@` a URL stands; this is what the line is under this marker, or always
 abbrev pub with_url : FileLine → LineParts → Needed → Option (List ℕ) → Option (List ℕ) → LineMeaning
 with_url line p n m None = Asks (line_demand line m n)
 with_url line p n m (Some []) = IsNone (NoRequirement line (codes "no URL follows '@'") (length p.requirement))
-with_url line p n m (Some (b ∷ url)) = before_url line (length p.requirement) n
+with_url line p n m (Some (b ∷ url)) = before_url line (length p.requirement) n (b ∷ url)
 
 abbrev pub marker_reason : MarkerFault → List ℕ
 marker_reason marker_fault.MissingOperand = codes "a variable or a string is expected"
 marker_reason marker_fault.UnclosedString = codes "the string has no closing quote"
 marker_reason marker_fault.MissingOperator = codes "an operator is expected"
-marker_reason marker_fault.NoVariable = codes "a variable is expected"
+marker_reason marker_fault.Backslash = codes "a backslash stands in the string"
 marker_reason marker_fault.NoConnective = codes "'and' or 'or' is expected"
 marker_reason marker_fault.Unclosed = codes "')' is expected"
 marker_reason marker_fault.TooDeep = codes "more than 100 parentheses are open"
@@ -86,7 +93,7 @@ marker_reason marker_fault.TooDeep = codes "more than 100 parentheses are open"
 -- what the line is whose marker was read so
 abbrev pub under_marker : FileLine → LineParts → Needed → Result (List ℕ) Misfit → LineMeaning
 under_marker line p n (Ok m) = with_url line p n (Some m) p.url
-under_marker line p n (Err f) = IsNone (NoRequirement line (marker_reason f.fault) (marker_column line.text f.position))
+under_marker line p n (Err f) = IsNone (NoRequirement line (marker_reason f.fault) (marker_column p f.position))
 
 -- after `;` a marker stands; this is what the line is
 abbrev pub with_marker : FileLine → LineParts → Needed → Option (List ℕ) → LineMeaning
@@ -132,12 +139,12 @@ IsListMeaning line text x = ((list : List Spec) × DerivesList text list × (x �
 abbrev pub IsKindMeaning : FileLine → LineKind → LineMeaning → Type 0
 IsKindMeaning line (RequirementsFile path) x = x ≡ names_file path
 IsKindMeaning line (ConstraintsFile path) x = x ≡ names_file path
-IsKindMeaning line (Invalid f) x = x ≡ invalid_line line f
+IsKindMeaning line (Invalid f column) x = x ≡ invalid_line line f column
 IsKindMeaning line Editable x = x ≡ LeftOut cause.Editable
 IsKindMeaning line PipOption x = x ≡ LeftOut cause.PipOption
 IsKindMeaning line Variable x = x ≡ LeftOut cause.Variable
 IsKindMeaning line Location x = x ≡ LeftOut cause.Location
-IsKindMeaning line Requirement x = IsPartsMeaning line (line_parts line.text) x
+IsKindMeaning line Requirement x = IsPartsMeaning line (pip_parts line.text) x
 
 -- what a line is
 abbrev pub IsMeaning : FileLine → LineMeaning → Type 0

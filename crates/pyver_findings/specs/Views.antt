@@ -1,5 +1,9 @@
 -- What the crate's own types hold, apart from where they lie in memory.
-use Rattle.std.specs.Prelude.{map, option_map, string_bytes}
+use Rattle.std.specs.Prelude.{◌≡◌, ℕ, List, [], ◌++◌, Option, bytes_eq, map, option_map, string_bytes}
+use Rattle.std.specs.Borrow.{Bor}
+use Rattle.std.specs.Global.{Vec}
+use Rattle.std.specs.HashMap.{HashMap, get_by}
+use Rattle.std.specs.Option.{option_map_or}
 use Rattle.pyver_findings.specs.Demands.{Demand}
 use Rattle.pyver_findings.specs.FileLines.{File, FileLine}
 use Rattle.pyver_findings.specs.Findings.{Conflicting, Finding, NoRequirement}
@@ -32,9 +36,25 @@ named_file_of f = record { name = f.name.items; position = option_map position_o
 abbrev pub demand_of : DemandValue → Demand
 demand_of a = record { line = file_line_of a.line; name = a.name.items; marker = option_map (λ m. m.items) a.marker; pinned = a.pinned; specifiers = a.specifiers }
 
+-- those that these references point to
+abbrev pub demands_at : List (Bor DemandValue) → List Demand
+demands_at lines = map (λ x. demand_of x.now) lines
+
+-- those of a group, if there is one
+abbrev pub demands_of_group : Option (Vec (Bor DemandValue)) → List Demand
+demands_of_group group = demands_at (option_map_or (λ g. g.items) group [])
+
+-- those that the groups have at the key
+abbrev pub group_at : {S : Type 0} → HashMap (Bor (List ℕ)) (Vec (Bor DemandValue)) S → List ℕ → List Demand
+group_at groups key = demands_of_group (get_by (λ k. bytes_eq key k.now) groups)
+
 abbrev pub finding_of : FindingValue → Finding
 finding_of (finding.NoRequirement line reason column) = NoRequirement (file_line_of line) (string_bytes reason) column
 finding_of (finding.Conflicting kind lines) = Conflicting kind (map file_line_of lines.items)
+
+-- the second findings are the first, and these behind them
+abbrev pub AddsFindings : List FindingValue → List FindingValue → List Finding → Type 0
+AddsFindings old new more = map finding_of new ≡ map finding_of old ++ more
 
 abbrev pub line_meaning_of : LineMeaningValue → LineMeaning
 line_meaning_of (reading.Asks a) = Asks (demand_of a)

@@ -1,14 +1,16 @@
 //! The column at which a requirement, a list or a marker is invalid.
-ghost use Rattle.std.specs.Prelude.{◌≡◌, ◌≤◌, ◌==◌, bytes_eq, drop, length, not, IfSome};
+ghost use Rattle.std.specs.Prelude.{◌≡◌, ◌≤◌, ◌==◌, bytes_eq, drop, length, IfSome};
 ghost use Rattle.std.specs.List.{list_any, prefix_len};
 ghost use Rattle.pep440_pick.specs.Requirements.{IsPositioned, IsRequirementLifted, requirement_rejection_of};
-ghost use Rattle.pyver_findings.specs.Columns.{behind_operator, column, from_marker, list_column, marker_column, operators, rest_in_list};
+ghost use Rattle.pyver_findings.specs.Columns.{behind_operator, column, list_column, marker_column, operators, rest_in_list};
+ghost use Rattle.pyver_requirements.specs.LineViews.{line_parts_of};
 ghost use Rattle.pyver_requirements.specs.MarkerTokens.{is_operator_byte};
 ghost use Rattle.pep440_rs.specs.Lists.ListResults.{list_kind_of};
 ghost use Rattle.pep440_rs.specs.Lists.ListErrors.{list_rejection_of};
 
 use pep440_pick::{RequirementError, RequirementParseError};
 use pep440_rs::{SpecifiersErrorKind, VersionSpecifiersParseError};
+use pyver_requirements::LineParts;
 
 fn skip_bytes(text: &[u8], count: usize) -> &[u8]
     ensures { result.now ≡ drop count text.now }
@@ -98,24 +100,13 @@ pub(crate) fn column(text: &[u8], error: &RequirementParseError) -> usize
     }
 }
 
-fn count_before_marker(text: &[u8]) -> usize
-    ensures count { result ≡ prefix_len (λ x. not (x == 59)) text.now }
-    ensures inside { result ≤ length text.now }
+// The column of this position in the marker, in bytes from 0.
+pub(crate) fn marker_column(parts: LineParts<'_>, position: usize) -> usize
+    ensures { result ≡ marker_column (line_parts_of parts.entry) position }
 {
-    text.iter().take_while(|byte| **byte != b';').count()
-}
-
-// The marker of a line, and what follows it.
-fn skip_to_marker(text: &[u8]) -> &[u8]
-    ensures { result.now ≡ from_marker text.now }
-{
-    skip_bytes(&text[count_before_marker(text)..], 1).trim_ascii_start()
-}
-
-// The column in the line of this position in its marker, in bytes from 0.
-pub(crate) fn marker_column(text: &[u8], position: usize) -> usize
-    ensures { result ≡ marker_column text.now position }
-{
-    let left = skip_to_marker(text).len().saturating_sub(position);
-    text.len().saturating_sub(left)
+    let marker = parts.marker.unwrap_or(&[]);
+    parts
+        .text
+        .len()
+        .saturating_sub(marker.len().saturating_sub(position))
 }

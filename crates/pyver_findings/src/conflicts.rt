@@ -5,7 +5,7 @@ ghost use Rattle.std.specs.List.{All, filter};
 ghost use Rattle.std.specs.Option.{option_map_or};
 ghost use Rattle.pyver_findings.specs.Conflicts.{conflicts, of_name};
 ghost use Rattle.pyver_findings.specs.Demands.{IsSound};
-ghost use Rattle.pyver_findings.specs.Views.{demand_of, finding_of};
+ghost use Rattle.pyver_findings.specs.Views.{AddsFindings, demand_of, demands_of_group, group_at};
 
 use crate::demand::Demand;
 use crate::finding::Finding;
@@ -19,7 +19,7 @@ fn group_by_name<'a>(
     alloc: Global,
     lines: &'a [Demand],
 ) -> Result<HashMap<&'a [u8], Vec<&'a Demand>>, AllocError>
-    ensures { IfOk result (λ groups. (q : List ℕ) → map (λ x. demand_of x.now) (option_map_or (λ g. g.items) (get_by (λ k. bytes_eq q k.now) groups) []) ≡ filter (λ a. bytes_eq q a.name) (map demand_of lines.now)) }
+    ensures { IfOk result (λ groups. (q : List ℕ) → group_at groups q ≡ filter (λ a. bytes_eq q a.name) (map demand_of lines.now)) }
 {
     let mut groups: HashMap<&'a [u8], Vec<&'a Demand>> = HashMap::new(alloc);
     for line in lines {
@@ -34,8 +34,8 @@ fn push_group(
     findings: &mut Vec<Finding>,
     group: Option<Vec<&Demand>>,
 ) -> Result<(), AllocError>
-    requires { All IsSound (map (λ x. demand_of x.now) (option_map_or (λ g. g.items) group [])) }
-    ensures { IfOk result (λ _. map finding_of findings.new.items ≡ map finding_of findings.old.items ++ of_name (map (λ x. demand_of x.now) (option_map_or (λ g. g.items) group.entry []))) }
+    requires { All IsSound (demands_of_group group) }
+    ensures { IfOk result (λ _. AddsFindings findings.old.items findings.new.items (of_name (demands_of_group group.entry))) }
 {
     match group {
         Some(lines) => push_of_name(alloc, findings, lines.as_slice()),
@@ -53,7 +53,7 @@ pub fn push_conflicts(
     lines: &[Demand],
 ) -> Result<(), AllocError>
     requires { All IsSound (map demand_of lines.now) }
-    ensures { IfOk result (λ _. map finding_of findings.new.items ≡ map finding_of findings.old.items ++ conflicts (map demand_of lines.now)) }
+    ensures { IfOk result (λ _. AddsFindings findings.old.items findings.new.items (conflicts (map demand_of lines.now))) }
 {
     let mut groups = group_by_name(alloc, lines)?;
     for line in lines {

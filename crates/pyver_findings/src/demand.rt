@@ -46,7 +46,8 @@ impl Demand {
         marker: Option<Vec<u8>>,
         requirement: &Requirement,
     ) -> Result<Demand, AllocError>
-        ensures { IfOk result (λ a. demand_of a ≡ line_demand (file_line_of line.now) (option_map (λ m. m.items) marker) (needed requirement.now)) }
+        ensures { IfOk result (λ a. demand_of a ≡ line_demand (file_line_of line.now) (option_map (λ m. m.items) marker)
+            (needed requirement.now)) }
     {
         let pinned = is_pinned(requirement.specifiers.as_slice());
         let name = normalize_name(alloc, requirement.name.as_str())?;

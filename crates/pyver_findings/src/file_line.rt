@@ -45,7 +45,8 @@ fn push_line(
     file: &[u8],
     line: LogicalLine,
 ) -> Result<(), AllocError>
-    ensures { IfOk result (λ _. map file_line_of lines.new.items ≡ map file_line_of lines.old.items ++ file_line file.now (logical_line_of line) ∷ []) }
+    ensures { IfOk result (λ _. map file_line_of lines.new.items ≡ map file_line_of lines.old.items
+        ++ file_line file.now (logical_line_of line) ∷ []) }
 {
     let file = Vec::from_slice(alloc, file)?;
     lines.push(FileLine {
@@ -62,7 +63,8 @@ fn push_lines(
     file: &[u8],
     found: Vec<LogicalLine>,
 ) -> Result<(), AllocError>
-    ensures { IfOk result (λ _. map file_line_of lines.new.items ≡ map file_line_of lines.old.items ++ map (file_line file.now) (map logical_line_of found.items)) }
+    ensures { IfOk result (λ _. map file_line_of lines.new.items ≡ map file_line_of lines.old.items
+        ++ map (file_line file.now) (map logical_line_of found.items)) }
 {
     for line in found {
         push_line(alloc, lines, file, line)?;

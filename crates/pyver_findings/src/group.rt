@@ -6,7 +6,7 @@ ghost use Rattle.std.specs.Option.{option_map_or};
 ghost use Rattle.pyver_findings.specs.Conflicts.{conflict_kind, first_mentions, has_marker, has_same_marker, have_none, of_all, of_name, pin_conflict, under};
 ghost use Rattle.pyver_findings.specs.Demands.{IsSound};
 ghost use Rattle.pyver_findings.specs.Findings.{Conflicting};
-ghost use Rattle.pyver_findings.specs.Views.{demand_of, file_line_of, finding_of};
+ghost use Rattle.pyver_findings.specs.Views.{AddsFindings, demand_of, demands_at, file_line_of, group_at};
 
 use crate::demand::Demand;
 use crate::file_line::FileLine;
@@ -29,7 +29,7 @@ fn pin_conflict(one: &Demand, other: &Demand) -> Conflict
 }
 
 fn conflict_kind(lines: &[&Demand]) -> Conflict
-    ensures { result ≡ conflict_kind (map (λ x. demand_of x.now) lines.now) }
+    ensures { result ≡ conflict_kind (demands_at lines.now) }
 {
     match lines {
         [one, other] => pin_conflict(one, other),
@@ -38,7 +38,7 @@ fn conflict_kind(lines: &[&Demand]) -> Conflict
 }
 
 fn copy_lines(alloc: Global, lines: &[&Demand]) -> Result<Vec<FileLine>, AllocError>
-    ensures { IfOk result (λ copies. map file_line_of copies.items ≡ map (λ a. a.line) (map (λ x. demand_of x.now) lines.now)) }
+    ensures { IfOk result (λ copies. map file_line_of copies.items ≡ map (λ a. a.line) (demands_at lines.now)) }
 {
     let mut copies = Vec::new(alloc);
     for line in lines {
@@ -54,7 +54,8 @@ fn push_conflict(
     conflict: Conflict,
     lines: &[&Demand],
 ) -> Result<(), AllocError>
-    ensures { IfOk result (λ _. map finding_of findings.new.items ≡ map finding_of findings.old.items ++ Conflicting conflict (map (λ a. a.line) (map (λ x. demand_of x.now) lines.now)) ∷ []) }
+    ensures { IfOk result (λ _. AddsFindings findings.old.items findings.new.items (Conflicting conflict (map (λ a. a.line)
+        (demands_at lines.now)) ∷ [])) }
 {
     let lines = copy_lines(alloc, lines)?;
     findings.push(Finding::Conflicting(conflict, lines))?;
@@ -67,8 +68,8 @@ fn push_of_all(
     findings: &mut Vec<Finding>,
     lines: &[&Demand],
 ) -> Result<(), AllocError>
-    requires { All IsSound (map (λ x. demand_of x.now) lines.now) }
-    ensures { IfOk result (λ _. map finding_of findings.new.items ≡ map finding_of findings.old.items ++ of_all (map (λ x. demand_of x.now) lines.now)) }
+    requires { All IsSound (demands_at lines.now) }
+    ensures { IfOk result (λ _. AddsFindings findings.old.items findings.new.items (of_all (demands_at lines.now))) }
 {
     if !have_none(alloc, lines, &[])? {
         return Ok(());
@@ -90,8 +91,9 @@ fn push_of_marker(
     lines: &[&Demand],
     line: &Demand,
 ) -> Result<(), AllocError>
-    requires { All IsSound (map (λ x. demand_of x.now) lines.now) }
-    ensures { IfOk result (λ _. map finding_of findings.new.items ≡ map finding_of findings.old.items ++ of_all (under (demand_of line.now).marker (map (λ x. demand_of x.now) lines.now))) }
+    requires { All IsSound (demands_at lines.now) }
+    ensures { IfOk result (λ _. AddsFindings findings.old.items findings.new.items (of_all (under (demand_of line.now).marker
+        (demands_at lines.now)))) }
 {
     let together = under(alloc, &line.marker, lines)?;
     push_of_all(alloc, findings, together.as_slice())
@@ -104,9 +106,11 @@ fn excludes_all(
     always: &[&Demand],
     line: &Demand,
 ) -> Result<bool, AllocError>
-    requires { have_none (map (λ x. demand_of x.now) always.now) ≡ false }
-    ensures none { IfOk result (λ none. none ≡ have_none (map (λ x. demand_of x.now) always.now ++ option_map_or (λ m. map (λ x. demand_of x.now) (option_map_or (λ g. g.items) (get_by (λ k. bytes_eq m k.now) groups.old) [])) (demand_of line.now).marker [])) }
-    ensures taken { (q : List ℕ) → get_by (λ k. bytes_eq q k.now) groups.new ≡ cond (has_marker q (demand_of line.now)) None (get_by (λ k. bytes_eq q k.now) groups.old) }
+    requires { have_none (demands_at always.now) ≡ false }
+    ensures none { IfOk result (λ none. none ≡ have_none (demands_at always.now
+        ++ option_map_or (group_at groups.old) (demand_of line.now).marker [])) }
+    ensures taken { (q : List ℕ) → get_by (λ k. bytes_eq q k.now) groups.new ≡ cond (has_marker q (demand_of line.now)) None (get_by
+        (λ k. bytes_eq q k.now) groups.old) }
 {
     match &line.marker {
         Some(marker) => match groups.remove(marker.as_slice()) {
@@ -124,10 +128,11 @@ fn push_of_each_marker(
     lines: &[&Demand],
     always: &[&Demand],
 ) -> Result<(), AllocError>
-    requires sound { All IsSound (map (λ x. demand_of x.now) lines.now) }
-    requires always { map (λ x. demand_of x.now) always.now ≡ under None (map (λ x. demand_of x.now) lines.now) }
-    requires some { have_none (map (λ x. demand_of x.now) always.now) ≡ false }
-    ensures { IfOk result (λ _. map finding_of findings.new.items ≡ map finding_of findings.old.items ++ flat_map (λ a. of_all (under a.marker (map (λ x. demand_of x.now) lines.now))) (first_mentions has_same_marker [] (map (λ x. demand_of x.now) lines.now))) }
+    requires sound { All IsSound (demands_at lines.now) }
+    requires always { demands_at always.now ≡ under None (demands_at lines.now) }
+    requires some { have_none (demands_at always.now) ≡ false }
+    ensures { IfOk result (λ _. AddsFindings findings.old.items findings.new.items (flat_map (λ a. of_all (under a.marker
+        (demands_at lines.now))) (first_mentions has_same_marker [] (demands_at lines.now)))) }
 {
     let mut groups = group_by_marker(alloc, lines)?;
     for line in lines {
@@ -145,8 +150,8 @@ pub(crate) fn push_of_name(
     findings: &mut Vec<Finding>,
     lines: &[&Demand],
 ) -> Result<(), AllocError>
-    requires { All IsSound (map (λ x. demand_of x.now) lines.now) }
-    ensures { IfOk result (λ _. map finding_of findings.new.items ≡ map finding_of findings.old.items ++ of_name (map (λ x. demand_of x.now) lines.now)) }
+    requires { All IsSound (demands_at lines.now) }
+    ensures { IfOk result (λ _. AddsFindings findings.old.items findings.new.items (of_name (demands_at lines.now))) }
 {
     let always = under(alloc, &None, lines)?;
     if have_none(alloc, always.as_slice(), &[])? {

@@ -2,7 +2,7 @@
 ghost use Rattle.std.specs.Prelude.{◌≡◌, ◌∷◌, ◌++◌, [], IfOk, List, bytes_eq, map, ℕ, if◌then◌else◌};
 ghost use Rattle.std.specs.HashMap.{get_by};
 ghost use Rattle.std.specs.Option.{option_map_or};
-ghost use Rattle.pyver_findings.specs.Views.{demand_of};
+ghost use Rattle.pyver_findings.specs.Views.{demand_of, group_at};
 
 use crate::demand::Demand;
 use std::alloc::{AllocError, Global};
@@ -25,7 +25,8 @@ pub(crate) fn push_to_group<'a>(
     key: &'a [u8],
     line: &'a Demand,
 ) -> Result<(), AllocError>
-    ensures { IfOk result (λ _. (q : List ℕ) → map (λ x. demand_of x.now) (option_map_or (λ g. g.items) (get_by (λ k. bytes_eq q k.now) groups.new) []) ≡ map (λ x. demand_of x.now) (option_map_or (λ g. g.items) (get_by (λ k. bytes_eq q k.now) groups.old) []) ++ (if bytes_eq q key.now then demand_of line.now ∷ [] else [])) }
+    ensures { IfOk result (λ _. (q : List ℕ) → group_at groups.new q ≡ group_at groups.old q
+        ++ (if bytes_eq q key.now then demand_of line.now ∷ [] else [])) }
 {
     let mut group = lines_or_none(alloc, groups.remove(key));
     group.push(line)?;

@@ -1,6 +1,7 @@
 //! What holds of findings, as the contract of a function that does nothing.
 ghost use Rattle.pyver_findings.specs.JsonStrings.{JsonStringsDiffer};
 ghost use Rattle.pyver_findings.specs.FindingLaws.{ConflictsHaveFindings, FindingsHold, InvalidLinesHaveFindings, MeaningsOnce, ReportsOnce};
+ghost use Rattle.pyver_findings.specs.StringGrammar.{StringsHaveGrammar};
 
 /// A line that is reported by itself is a line of the files and no requirement, for the reason and at the column that are
 /// reported. Lines that are reported together are lines of the files, ask for one name and have no two markers; no
@@ -23,6 +24,11 @@ pub fn conflicts_have_findings()
 pub fn reports_once()
     ensures meaning { MeaningsOnce }
     ensures report { ReportsOnce }
+{}
+
+/// A string has the parts of a requirement if and only if the grammar of PEP 508 derives it.
+pub fn strings_have_grammar()
+    ensures { StringsHaveGrammar }
 {}
 
 /// Different bytes are different JSON strings.

@@ -1,14 +1,14 @@
 //! What a line of a requirements file is to the check.
 ghost use Rattle.std.specs.Prelude.{◌≡◌, IfOk};
-ghost use Rattle.pyver_findings.specs.LineMeanings.{IsKindMeaning, IsMeaning, fault_column, fault_reason, has_scheme, invalid_line, names_file};
+ghost use Rattle.pyver_findings.specs.LineMeanings.{IsKindMeaning, IsMeaning, fault_reason, has_scheme, names_file};
 ghost use Rattle.pyver_findings.specs.Views.{file_line_of, line_meaning_of};
-ghost use Rattle.pyver_requirements.specs.LineKindViews.{line_kind_of};
+ghost use Rattle.pyver_requirements.specs.LineViews.{line_kind_of};
 
 use crate::cause::Cause;
 use crate::demand::Demand;
 use crate::file_line::FileLine;
 use crate::finding::Finding;
-use crate::requirement_line::{parse_requirement, reject};
+use crate::requirement_line::{parse_pip_line, reject};
 use pyver_requirements::{LineFault, LineKind, classify, has_variable};
 use std::alloc::{AllocError, Global};
 
@@ -55,29 +55,16 @@ fn fault_reason(fault: LineFault) -> &'static str
     ensures { result.now ≡ fault_reason fault }
 {
     match fault {
-        LineFault::MissingPath => "no path follows the option",
-        LineFault::UnknownOption => "pip 23.2 has no such option",
+        LineFault::UnknownOption => "pip 26.2 has no such option",
         LineFault::AmbiguousOption => "several options of pip begin so",
+        LineFault::MissingValue => "the option has no value",
+        LineFault::UnwantedValue => "the option takes no value",
+        LineFault::WrongHash => "a hash begins with sha256:, sha384: or sha512:",
+        LineFault::WrongSetting => "a setting has the form KEY=VALUE",
+        LineFault::UnclosedQuote => "a quote or a backslash in the options has no end",
         LineFault::ConflictMark => "the mark of a merge conflict",
         LineFault::Utf16 => "the file is UTF-16, which is not read",
     }
-}
-
-// A path is missing at the end.
-fn fault_column(fault: LineFault, text: &[u8]) -> usize
-    ensures { result ≡ fault_column fault text.now }
-{
-    match fault {
-        LineFault::MissingPath => text.len(),
-        _ => 0,
-    }
-}
-
-fn reject_line(alloc: Global, line: &FileLine, fault: LineFault) -> Result<LineMeaning, AllocError>
-    ensures { IfOk result (λ x. line_meaning_of x ≡ invalid_line (file_line_of line.now) fault) }
-{
-    let column = fault_column(fault, line.text.as_slice());
-    reject(alloc, line, fault_reason(fault), column)
 }
 
 fn interpret_kind(
@@ -90,12 +77,12 @@ fn interpret_kind(
     match kind {
         LineKind::RequirementsFile(path) => Ok(name_file(path)),
         LineKind::ConstraintsFile(path) => Ok(name_file(path)),
-        LineKind::Invalid(fault) => reject_line(alloc, line, fault),
+        LineKind::Invalid(fault, column) => reject(alloc, line, fault_reason(fault), column),
         LineKind::Editable => Ok(LineMeaning::LeftOut(Cause::Editable)),
         LineKind::PipOption => Ok(LineMeaning::LeftOut(Cause::PipOption)),
         LineKind::Variable => Ok(LineMeaning::LeftOut(Cause::Variable)),
         LineKind::Location => Ok(LineMeaning::LeftOut(Cause::Location)),
-        LineKind::Requirement => parse_requirement(alloc, line),
+        LineKind::Requirement => parse_pip_line(alloc, line),
     }
 }
 

@@ -4,7 +4,7 @@ ghost use Rattle.std.specs.HashMap.{get_by};
 ghost use Rattle.std.specs.List.{filter};
 ghost use Rattle.std.specs.Option.{option_map_or};
 ghost use Rattle.pyver_findings.specs.Conflicts.{counts_under, has_marker, same_marker, under};
-ghost use Rattle.pyver_findings.specs.Views.{demand_of};
+ghost use Rattle.pyver_findings.specs.Views.{demand_of, demands_at, group_at};
 
 use crate::demand::Demand;
 use crate::key_groups::push_to_group;
@@ -37,7 +37,7 @@ pub(crate) fn under<'a>(
     marker: &Option<Vec<u8>>,
     lines: &[&'a Demand],
 ) -> Result<Vec<&'a Demand>, AllocError>
-    ensures { IfOk result (λ kept. map (λ x. demand_of x.now) kept.items ≡ under (option_map (λ m. m.items) marker.now) (map (λ x. demand_of x.now) lines.now)) }
+    ensures { IfOk result (λ kept. demands_at kept.items ≡ under (option_map (λ m. m.items) marker.now) (demands_at lines.now)) }
 {
     let mut kept = Vec::new(alloc);
     for line in lines {
@@ -54,7 +54,8 @@ fn push_to_marker<'a>(
     groups: &mut HashMap<&'a [u8], Vec<&'a Demand>>,
     line: &'a Demand,
 ) -> Result<(), AllocError>
-    ensures { IfOk result (λ _. (q : List ℕ) → map (λ x. demand_of x.now) (option_map_or (λ g. g.items) (get_by (λ k. bytes_eq q k.now) groups.new) []) ≡ map (λ x. demand_of x.now) (option_map_or (λ g. g.items) (get_by (λ k. bytes_eq q k.now) groups.old) []) ++ (if has_marker q (demand_of line.now) then demand_of line.now ∷ [] else [])) }
+    ensures { IfOk result (λ _. (q : List ℕ) → group_at groups.new q ≡ group_at groups.old q
+        ++ (if has_marker q (demand_of line.now) then demand_of line.now ∷ [] else [])) }
 {
     match &line.marker {
         Some(marker) => push_to_group(alloc, groups, marker.as_slice(), line),
@@ -67,7 +68,7 @@ pub(crate) fn group_by_marker<'a>(
     alloc: Global,
     lines: &[&'a Demand],
 ) -> Result<HashMap<&'a [u8], Vec<&'a Demand>>, AllocError>
-    ensures { IfOk result (λ groups. (q : List ℕ) → map (λ x. demand_of x.now) (option_map_or (λ g. g.items) (get_by (λ k. bytes_eq q k.now) groups) []) ≡ filter (has_marker q) (map (λ x. demand_of x.now) lines.now)) }
+    ensures { IfOk result (λ groups. (q : List ℕ) → group_at groups q ≡ filter (has_marker q) (demands_at lines.now)) }
 {
     let mut groups: HashMap<&'a [u8], Vec<&'a Demand>> = HashMap::new(alloc);
     for line in lines {

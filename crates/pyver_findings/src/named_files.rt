@@ -3,7 +3,7 @@ ghost use Rattle.std.specs.Prelude.{◌≡◌, ◌++◌, IfOk, map, option_map};
 ghost use Rattle.std.specs.List.{flat_map};
 ghost use Rattle.pyver_findings.specs.NamedFiles.{folder, named_by, named_files, named_in, path_from, path_in, path_position};
 ghost use Rattle.pyver_findings.specs.Views.{file_of, named_file_of, position_of};
-ghost use Rattle.pyver_requirements.specs.LineKindViews.{line_kind_of};
+ghost use Rattle.pyver_requirements.specs.LineViews.{line_kind_of};
 ghost use Rattle.pyver_requirements.specs.LineViews.{logical_line_of};
 
 use crate::file_line::SourceFile;
@@ -100,7 +100,7 @@ fn path_in(kind: LineKind<'_>) -> Option<&[u8]>
     match kind {
         LineKind::RequirementsFile(path) => Some(path),
         LineKind::ConstraintsFile(path) => Some(path),
-        LineKind::Invalid(_) => None,
+        LineKind::Invalid(_, _) => None,
         LineKind::Editable => None,
         LineKind::PipOption => None,
         LineKind::Variable => None,
@@ -127,7 +127,8 @@ fn push_path(
     line: &LogicalLine,
     path: Option<&[u8]>,
 ) -> Result<(), AllocError>
-    ensures { IfOk result (λ _. map named_file_of names.new.items ≡ map named_file_of names.old.items ++ named_by file.now (logical_line_of line.now) (option_map (λ p. p.now) path.entry)) }
+    ensures { IfOk result (λ _. map named_file_of names.new.items ≡ map named_file_of names.old.items
+        ++ named_by file.now (logical_line_of line.now) (option_map (λ p. p.now) path.entry)) }
 {
     let Some(path) = path else {
         return Ok(());
@@ -148,7 +149,8 @@ fn push_named(
     file: &[u8],
     line: &LogicalLine,
 ) -> Result<(), AllocError>
-    ensures { IfOk result (λ _. map named_file_of names.new.items ≡ map named_file_of names.old.items ++ named_in file.now (logical_line_of line.now)) }
+    ensures { IfOk result (λ _. map named_file_of names.new.items ≡ map named_file_of names.old.items
+        ++ named_in file.now (logical_line_of line.now)) }
 {
     push_path(
         alloc,
@@ -165,7 +167,8 @@ fn push_of_lines(
     file: &[u8],
     lines: &[LogicalLine],
 ) -> Result<(), AllocError>
-    ensures { IfOk result (λ _. map named_file_of names.new.items ≡ map named_file_of names.old.items ++ flat_map (named_in file.now) (map logical_line_of lines.now)) }
+    ensures { IfOk result (λ _. map named_file_of names.new.items ≡ map named_file_of names.old.items
+        ++ flat_map (named_in file.now) (map logical_line_of lines.now)) }
 {
     for line in lines {
         push_named(alloc, names, file, line)?;
@@ -184,7 +187,8 @@ pub fn push_named_files(
     names: &mut Vec<NamedFile>,
     file: &SourceFile,
 ) -> Result<(), AllocError>
-    ensures { IfOk result (λ _. map named_file_of names.new.items ≡ map named_file_of names.old.items ++ named_files (file_of file.now)) }
+    ensures { IfOk result (λ _. map named_file_of names.new.items ≡ map named_file_of names.old.items
+        ++ named_files (file_of file.now)) }
 {
     let lines = logical_lines(alloc, file.text.as_slice())?;
     push_of_lines(alloc, names, file.name.as_slice(), lines.as_slice())

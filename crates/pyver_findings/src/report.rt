@@ -35,9 +35,12 @@ struct Readings {
 
 impl Readings {
     fn push(&mut self, reading: LineMeaning) -> Result<(), AllocError>
-        ensures invalid { IfOk result (λ _. map finding_of self.new.invalid.items ≡ map finding_of self.old.invalid.items ++ invalid_in (line_meaning_of reading)) }
-        ensures demands { IfOk result (λ _. map demand_of self.new.demands.items ≡ map demand_of self.old.demands.items ++ demands_in (line_meaning_of reading)) }
-        ensures left_out { IfOk result (λ _. self.new.left_out.items ≡ self.old.left_out.items ++ left_out_in (line_meaning_of reading)) }
+        ensures invalid { IfOk result (λ _. map finding_of self.new.invalid.items ≡ map finding_of self.old.invalid.items
+            ++ invalid_in (line_meaning_of reading)) }
+        ensures demands { IfOk result (λ _. map demand_of self.new.demands.items ≡ map demand_of self.old.demands.items
+            ++ demands_in (line_meaning_of reading)) }
+        ensures left_out { IfOk result (λ _. self.new.left_out.items
+            ≡ self.old.left_out.items ++ left_out_in (line_meaning_of reading)) }
     {
         match reading {
             LineMeaning::Asks(demand) => self.demands.push(demand)?,

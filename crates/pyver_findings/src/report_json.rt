@@ -77,7 +77,8 @@ fn push_conflict(
     conflict: Conflict,
     lines: &[FileLine],
 ) -> Result<(), AllocError>
-    ensures { IfOk result (λ _. bytes.new.items ≡ bytes.old.items ++ finding_object (Conflicting conflict (map file_line_of lines.now))) }
+    ensures { IfOk result (λ _. bytes.new.items ≡ bytes.old.items
+        ++ finding_object (Conflicting conflict (map file_line_of lines.now))) }
 {
     push_text(bytes, "{\"kind\":")?;
     push_text(bytes, conflict_word(conflict))?;
@@ -108,7 +109,8 @@ fn push_no_requirement(
     reason: &str,
     column: usize,
 ) -> Result<(), AllocError>
-    ensures { IfOk result (λ _. bytes.new.items ≡ bytes.old.items ++ finding_object (NoRequirement (file_line_of line.now) reason.now column)) }
+    ensures { IfOk result (λ _. bytes.new.items ≡ bytes.old.items
+        ++ finding_object (NoRequirement (file_line_of line.now) reason.now column)) }
 {
     push_text(bytes, "{\"kind\":\"no-requirement\",")?;
     push_members(alloc, bytes, line)?;

@@ -208,7 +208,8 @@ fn push_no_requirement(
     reason: &str,
     column: usize,
 ) -> Result<(), AllocError>
-    ensures { IfOk result (λ _. bytes.new.items ≡ bytes.old.items ++ finding_text (NoRequirement (file_line_of line.now) reason.now column)) }
+    ensures { IfOk result (λ _. bytes.new.items ≡ bytes.old.items
+        ++ finding_text (NoRequirement (file_line_of line.now) reason.now column)) }
 {
     push_column_place(alloc, bytes, line, column)?;
     push_escaped(bytes, reason.as_bytes())?;

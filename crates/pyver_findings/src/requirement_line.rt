@@ -1,5 +1,6 @@
 //! Lines that are requirements or lists of specifiers, or should be.
 ghost use Rattle.std.specs.Prelude.{◌≡◌, Some, IfOk, IfSome, false, option_map, string_bytes, is_none};
+ghost use Rattle.std.specs.List.{list_any};
 ghost use Rattle.pep440_pick.specs.RequirementGrammar.{RequirementRejection};
 ghost use Rattle.pep440_pick.specs.Requirements.{IsPositioned, IsRequirementLifted, needed, requirement_rejection_of};
 ghost use Rattle.pep440_pick.specs.RequirementTexts.{requirement_rejection_text, requirement_text_of};
@@ -13,8 +14,8 @@ ghost use Rattle.pyver_findings.specs.Findings.{NoRequirement};
 ghost use Rattle.pyver_findings.specs.LineMeanings.{IsNone, IsPartsMeaning, IsPlain, before_url, marker_reason, requirement_meaning, rejection_meaning, under_marker, with_url, IsListMeaning};
 ghost use Rattle.pyver_findings.specs.ReadingViews.{is_memory_error, piece_text_of, reason_text_of};
 ghost use Rattle.pyver_findings.specs.Views.{file_line_of, line_meaning_of};
-ghost use Rattle.pyver_requirements.specs.LineParts.{line_parts};
-ghost use Rattle.pyver_requirements.specs.LinePartViews.{line_parts_of};
+ghost use Rattle.pyver_requirements.specs.LineParts.{is_blank_byte, line_parts, pip_parts};
+ghost use Rattle.pyver_requirements.specs.LineViews.{line_parts_of};
 ghost use Rattle.pyver_requirements.specs.MarkerReading.{marker};
 
 use crate::cause::Cause;
@@ -26,7 +27,9 @@ use crate::line_meaning::LineMeaning;
 use crate::plain::plain_text;
 use pep440_pick::{Requirement, RequirementError, RequirementParseError};
 use pep440_rs::{SpecifiersErrorKind, VersionSpecifiers, VersionSpecifiersParseError};
-use pyver_requirements::{LineParts, MarkerError, MarkerFault, parse_marker, split_requirement};
+use pyver_requirements::{
+    LineParts, MarkerError, MarkerFault, parse_marker, split_pip_line, split_requirement,
+};
 use std::alloc::{AllocError, Global};
 
 // The line is no requirement, for this reason.
@@ -71,28 +74,40 @@ fn reject_error(
     error: &RequirementParseError,
 ) -> Result<LineMeaning, AllocError>
     requires lifted { IsRequirementLifted error.now.kind }
-    requires message { IfSome (requirement_rejection_of error.now.kind) (λ f. requirement_text_of error.now.kind ≡ Some (requirement_rejection_text f)) }
+    requires message { IfSome (requirement_rejection_of error.now.kind) (λ f. requirement_text_of error.now.kind ≡ Some
+        (requirement_rejection_text f)) }
     requires position { IsPositioned parts.requirement.now error.now }
-    ensures { IfOk result (λ x. (f : RequirementRejection) × (requirement_rejection_of error.now.kind ≡ Some f) × (line_meaning_of x ≡ rejection_meaning (file_line_of line.now) (line_parts_of parts.entry) f)) }
+    ensures { IfOk result (λ x. (f : RequirementRejection) × (requirement_rejection_of error.now.kind ≡ Some f) ×
+        (line_meaning_of x ≡ rejection_meaning (file_line_of line.now) (line_parts_of parts.entry) f)) }
 {
     let reason = print_reason(alloc, &error.kind)?;
     let column = column(parts.requirement, error);
     reject(alloc, line, reason.as_str(), column)
 }
 
-// What the line is, which has a URL.
+fn has_blank(url: &[u8]) -> bool
+    ensures { result ≡ list_any is_blank_byte url.now }
+{
+    url.iter().any(|byte| *byte == b' ' || *byte == b'\t')
+}
+
+// What the line is, which has this URL.
 fn interpret_before_url(
     alloc: Global,
     line: &FileLine,
     column: usize,
     requirement: &Requirement,
+    url: &[u8],
 ) -> Result<LineMeaning, AllocError>
-    ensures { IfOk result (λ x. line_meaning_of x ≡ before_url (file_line_of line.now) column (needed requirement.now)) }
+    ensures { IfOk result (λ x. line_meaning_of x ≡ before_url (file_line_of line.now) column (needed requirement.now) url.now) }
 {
-    if requirement.specifiers.as_slice().is_empty() {
-        return Ok(LineMeaning::LeftOut(Cause::Url));
+    if !requirement.specifiers.as_slice().is_empty() {
+        return reject(alloc, line, "version specifiers stand before a URL", column);
     }
-    reject(alloc, line, "version specifiers stand before a URL", column)
+    if has_blank(url) {
+        return reject(alloc, line, "';' is expected behind the URL", column);
+    }
+    Ok(LineMeaning::LeftOut(Cause::Url))
 }
 
 // What the line is under this marker, by what stands after `@`.
@@ -103,13 +118,14 @@ fn interpret_url(
     marker: Option<Vec<u8>>,
     requirement: &Requirement,
 ) -> Result<LineMeaning, AllocError>
-    ensures { IfOk result (λ x. line_meaning_of x ≡ with_url (file_line_of line.now) (line_parts_of parts.entry) (needed requirement.now) (option_map (λ m. m.items) marker) (line_parts_of parts.entry).url) }
+    ensures { IfOk result (λ x. line_meaning_of x ≡ with_url (file_line_of line.now) (line_parts_of parts.entry)
+        (needed requirement.now) (option_map (λ m. m.items) marker) (line_parts_of parts.entry).url) }
 {
     let column = parts.requirement.len();
     match parts.url {
         None => Ok(LineMeaning::Asks(Demand::new(alloc, line, marker, requirement)?)),
         Some([]) => reject(alloc, line, "no URL follows '@'", column),
-        Some([_, ..]) => interpret_before_url(alloc, line, column, requirement),
+        Some(url) => interpret_before_url(alloc, line, column, requirement, url),
     }
 }
 
@@ -120,7 +136,7 @@ fn marker_reason(fault: MarkerFault) -> &'static str
         MarkerFault::MissingOperand => "a variable or a string is expected",
         MarkerFault::UnclosedString => "the string has no closing quote",
         MarkerFault::MissingOperator => "an operator is expected",
-        MarkerFault::NoVariable => "a variable is expected",
+        MarkerFault::Backslash => "a backslash stands in the string",
         MarkerFault::NoConnective => "'and' or 'or' is expected",
         MarkerFault::Unclosed => "')' is expected",
         MarkerFault::TooDeep => "more than 100 parentheses are open",
@@ -135,12 +151,13 @@ fn interpret_marker(
     text: &[u8],
     requirement: &Requirement,
 ) -> Result<LineMeaning, AllocError>
-    ensures { IfOk result (λ x. line_meaning_of x ≡ under_marker (file_line_of line.now) (line_parts_of parts.entry) (needed requirement.now) (marker text.now)) }
+    ensures { IfOk result (λ x. line_meaning_of x ≡ under_marker (file_line_of line.now) (line_parts_of parts.entry)
+        (needed requirement.now) (marker text.now)) }
 {
     match parse_marker(alloc, text) {
         Ok(marker) => interpret_url(alloc, line, parts, Some(marker), requirement),
         Err(MarkerError::Invalid(fault, position)) => {
-            let column = marker_column(line.text.as_slice(), position);
+            let column = marker_column(parts, position);
             reject(alloc, line, marker_reason(fault), column)
         }
         Err(MarkerError::OutOfMemory) => Err(AllocError),
@@ -154,7 +171,8 @@ fn interpret_parts(
     parts: LineParts<'_>,
     requirement: &Requirement,
 ) -> Result<LineMeaning, AllocError>
-    ensures { IfOk result (λ x. line_meaning_of x ≡ requirement_meaning (file_line_of line.now) (line_parts_of parts.entry) (needed requirement.now)) }
+    ensures { IfOk result (λ x. line_meaning_of x ≡ requirement_meaning (file_line_of line.now) (line_parts_of parts.entry)
+        (needed requirement.now)) }
 {
     match parts.marker {
         None => interpret_url(alloc, line, parts, None, requirement),
@@ -208,8 +226,11 @@ fn reject_list(
 ) -> Result<LineMeaning, AllocError>
     requires lifted { IsListLifted (list_kind_of error.now) }
     requires line { line_of error.now ≡ line_for text.now (list_kind_of error.now) }
-    requires message { IfSome (list_rejection_of (list_kind_of error.now)) (λ f. list_text_of (list_kind_of error.now) (line_of error.now) ≡ Some (list_rejection_text f text.now)) }
-    ensures { IfOk result (λ x. (f : PieceRejection) × (list_rejection_of (list_kind_of error.now) ≡ Some f) × (line_meaning_of x ≡ IsNone (NoRequirement (file_line_of line.now) (specifier_rejection_text f.error) (list_column text.now f)))) }
+    requires message { IfSome (list_rejection_of (list_kind_of error.now)) (λ f. list_text_of (list_kind_of error.now)
+        (line_of error.now) ≡ Some (list_rejection_text f text.now)) }
+    ensures { IfOk result (λ x. (f : PieceRejection) × (list_rejection_of (list_kind_of error.now) ≡ Some f) ×
+        (line_meaning_of x ≡ IsNone (NoRequirement (file_line_of line.now) (specifier_rejection_text f.error)
+        (list_column text.now f)))) }
 {
     if is_list_memory(error.kind()) {
         return Err(AllocError);
@@ -236,8 +257,15 @@ pub fn parse_specifiers(
     }
 }
 
-/// What the line is, which is to be a requirement (PEP 508): one, left out if it has a URL, or invalid for this reason and at this
-/// column. The name, the extras and the list have tabs and printable ASCII alone: no other blank.
+// What the line of a requirements file is, which is to be a requirement.
+pub(crate) fn parse_pip_line(alloc: Global, line: &FileLine) -> Result<LineMeaning, AllocError>
+    ensures { IfOk result (λ x. IsPartsMeaning (file_line_of line.now) (pip_parts (file_line_of line.now).text) (line_meaning_of x)) }
+{
+    parse_parts(alloc, line, split_pip_line(line.text.as_slice()))
+}
+
+/// What the string of this line is, which is to be a requirement (PEP 508, "Grammar"): one, left out if it has a URL, or invalid for this reason
+/// and at this column. The name, the extras and the list have tabs and printable ASCII alone: no other blank.
 ///
 /// Allocates.
 pub fn parse_requirement(alloc: Global, line: &FileLine) -> Result<LineMeaning, AllocError>

@@ -3,7 +3,7 @@ ghost use Rattle.std.specs.Prelude.{◌≡◌, ◌++◌, ◌-◌, ◌<◌, ◌�
 ghost use Rattle.std.specs.List.{All};
 ghost use Rattle.pyver_findings.specs.Conflicts.{have_none, smallest, specifiers_of};
 ghost use Rattle.pyver_findings.specs.Demands.{IsSound};
-ghost use Rattle.pyver_findings.specs.Views.{demand_of};
+ghost use Rattle.pyver_findings.specs.Views.{demand_of, demands_at};
 
 use crate::demand::Demand;
 use crate::halves::find_by_sets;
@@ -28,7 +28,7 @@ pub(crate) fn push_members(
     members: &mut Vec<VersionSpecifier>,
     lines: &[&Demand],
 ) -> Result<(), AllocError>
-    ensures { IfOk result (λ _. members.new.items ≡ members.old.items ++ specifiers_of (map (λ x. demand_of x.now) lines.now)) }
+    ensures { IfOk result (λ _. members.new.items ≡ members.old.items ++ specifiers_of (demands_at lines.now)) }
 {
     for line in lines {
         push_copies(members, line.specifiers.as_slice())?;
@@ -43,7 +43,7 @@ pub(crate) fn have_none(
     lines: &[&Demand],
     kept: &[&Demand],
 ) -> Result<bool, AllocError>
-    ensures { IfOk result (λ none. none ≡ have_none (map (λ x. demand_of x.now) lines.now ++ map (λ x. demand_of x.now) kept.now)) }
+    ensures { IfOk result (λ none. none ≡ have_none (demands_at lines.now ++ demands_at kept.now)) }
 {
     let mut members = Vec::new(alloc);
     push_members(&mut members, lines)?;
@@ -63,10 +63,11 @@ fn next_try(low: usize, high: usize) -> usize
 
 // How many of the lines, from the first on, it takes to have no version in common with those that are kept.
 fn count_apart(alloc: Global, lines: &[&Demand], kept: &[&Demand]) -> Result<usize, AllocError>
-    requires { have_none (map (λ x. demand_of x.now) lines.now ++ map (λ x. demand_of x.now) kept.now) ≡ true }
+    requires { have_none (demands_at lines.now ++ demands_at kept.now) ≡ true }
     ensures inside { IfOk result (λ n. n ≤ length lines.now) }
-    ensures enough { IfOk result (λ n. have_none (map (λ x. demand_of x.now) (take n lines.now) ++ map (λ x. demand_of x.now) kept.now) ≡ true) }
-    ensures fewest { IfOk result (λ n. 0 < n → have_none (map (λ x. demand_of x.now) (take (n - 1) lines.now) ++ map (λ x. demand_of x.now) kept.now) ≡ false) }
+    ensures enough { IfOk result (λ n. have_none (demands_at (take n lines.now) ++ demands_at kept.now) ≡ true) }
+    ensures fewest { IfOk result (λ n. 0 < n → have_none (demands_at (take (n - 1) lines.now)
+        ++ demands_at kept.now) ≡ false) }
 {
     let (mut low, mut high) = (0, lines.len());
     while low < high {
@@ -83,9 +84,9 @@ fn count_apart(alloc: Global, lines: &[&Demand], kept: &[&Demand]) -> Result<usi
 // The smallest list of the lines. Asks for each line of it about twice as often as the number of lines has binary digits whether some of
 // them have a version in common.
 fn find_by_lists<'a>(alloc: Global, lines: &[&'a Demand]) -> Result<Vec<&'a Demand>, AllocError>
-    requires none { have_none (map (λ x. demand_of x.now) lines.now) ≡ true }
-    requires sound { All IsSound (map (λ x. demand_of x.now) lines.now) }
-    ensures { IfOk result (λ kept. map (λ x. demand_of x.now) kept.items ≡ smallest (map (λ x. demand_of x.now) lines.now)) }
+    requires none { have_none (demands_at lines.now) ≡ true }
+    requires sound { All IsSound (demands_at lines.now) }
+    ensures { IfOk result (λ kept. demands_at kept.items ≡ smallest (demands_at lines.now)) }
 {
     let mut kept = Vec::new(alloc);
     let mut rest = lines;
@@ -104,9 +105,9 @@ pub(crate) fn find_smallest<'a>(
     alloc: Global,
     lines: &[&'a Demand],
 ) -> Result<Vec<&'a Demand>, AllocError>
-    requires none { have_none (map (λ x. demand_of x.now) lines.now) ≡ true }
-    requires sound { All IsSound (map (λ x. demand_of x.now) lines.now) }
-    ensures { IfOk result (λ kept. map (λ x. demand_of x.now) kept.items ≡ smallest (map (λ x. demand_of x.now) lines.now)) }
+    requires none { have_none (demands_at lines.now) ≡ true }
+    requires sound { All IsSound (demands_at lines.now) }
+    ensures { IfOk result (λ kept. demands_at kept.items ≡ smallest (demands_at lines.now)) }
 {
     match find_by_sets(alloc, lines) {
         Ok(kept) => Ok(kept),

@@ -1,7 +1,7 @@
 //! The lines of a file, and what each is.
 use pyver_requirements::{
-    LineFault, LineKind, MarkerError, MarkerFault, classify, logical_lines, parse_marker,
-    split_requirement,
+    LineFault, LineKind, LineParts, MarkerError, MarkerFault, classify, logical_lines,
+    parse_marker, split_pip_line, split_requirement,
 };
 use std::alloc::Global;
 use std::str;
@@ -25,9 +25,13 @@ pub fn print_lines(alloc: Global, file: &str) -> Result<String, CaseError> {
 
 fn fault_word(fault: LineFault) -> &'static str {
     match fault {
-        LineFault::MissingPath => "no path",
         LineFault::UnknownOption => "unknown option",
         LineFault::AmbiguousOption => "ambiguous option",
+        LineFault::MissingValue => "no value",
+        LineFault::UnwantedValue => "unwanted value",
+        LineFault::WrongHash => "wrong hash",
+        LineFault::WrongSetting => "wrong setting",
+        LineFault::UnclosedQuote => "unclosed quote",
         LineFault::ConflictMark => "conflict mark",
         LineFault::Utf16 => "UTF-16",
     }
@@ -37,7 +41,7 @@ fn word_and_path(kind: LineKind<'_>) -> (&'static str, &[u8]) {
     match kind {
         LineKind::RequirementsFile(path) => ("requirements ", path),
         LineKind::ConstraintsFile(path) => ("constraints ", path),
-        LineKind::Invalid(fault) => (fault_word(fault), &[]),
+        LineKind::Invalid(fault, _) => (fault_word(fault), &[]),
         LineKind::Editable => ("editable", &[]),
         LineKind::PipOption => ("option", &[]),
         LineKind::Variable => ("variable", &[]),
@@ -60,13 +64,21 @@ fn or_none(part: Option<&[u8]>) -> Result<&str, CaseError> {
     }
 }
 
-/// The requirement, the URL and the marker with bars between them; `-` stands for none.
-pub fn print_parts(alloc: Global, line: &str) -> Result<String, CaseError> {
-    let parts = split_requirement(line.as_bytes());
+fn join_parts(alloc: Global, parts: LineParts<'_>) -> Result<String, CaseError> {
     let requirement = text(parts.requirement)?;
     let url = or_none(parts.url)?;
     let marker = or_none(parts.marker)?;
     Ok(format!(in alloc; "{requirement}|{url}|{marker}")?)
+}
+
+/// The requirement, the URL and the marker of a string with bars between them; `-` stands for none.
+pub fn print_parts(alloc: Global, string: &str) -> Result<String, CaseError> {
+    join_parts(alloc, split_requirement(string.as_bytes()))
+}
+
+/// The same of a line of a requirements file.
+pub fn print_pip_parts(alloc: Global, line: &str) -> Result<String, CaseError> {
+    join_parts(alloc, split_pip_line(line.as_bytes()))
 }
 
 fn marker_fault_word(fault: MarkerFault) -> &'static str {
@@ -74,7 +86,7 @@ fn marker_fault_word(fault: MarkerFault) -> &'static str {
         MarkerFault::MissingOperand => "no operand",
         MarkerFault::UnclosedString => "unclosed string",
         MarkerFault::MissingOperator => "no operator",
-        MarkerFault::NoVariable => "no variable",
+        MarkerFault::Backslash => "backslash",
         MarkerFault::NoConnective => "no connective",
         MarkerFault::Unclosed => "unclosed",
         MarkerFault::TooDeep => "too deep",

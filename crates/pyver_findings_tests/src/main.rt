@@ -8,7 +8,7 @@ mod reports;
 mod strings;
 
 use documents::{print_document_kind, print_document_report, print_named_kind};
-use lines::{print_kind, print_lines, print_marker, print_parts};
+use lines::{print_kind, print_lines, print_marker, print_parts, print_pip_parts};
 use reports::{
     Form, print_each, print_findings, print_named_files, print_report, print_report_of,
     print_spans, print_string,
@@ -40,7 +40,8 @@ impl Calls for FindingsCalls {
             ("named-kind", [word]) => print_named_kind(alloc, word.as_str()),
             ("lines", [text]) => print_lines(alloc, text.as_str()),
             ("kind", [line]) => print_kind(alloc, line.as_str()),
-            ("parts", [line]) => print_parts(alloc, line.as_str()),
+            ("parts", [string]) => print_parts(alloc, string.as_str()),
+            ("pip-parts", [line]) => print_pip_parts(alloc, line.as_str()),
             ("marker", [text]) => print_marker(alloc, text.as_str()),
             ("text", [name, text]) => print_report_of(
                 alloc,

@@ -9,7 +9,7 @@ fn side_text(side: Side<'_>) -> Result<&str, CaseError> {
         Side::Variable(text) | Side::Constant(text) => {
             str::from_utf8(text).map_err(|_| CaseError::Unreadable)
         }
-        Side::Unclosed | Side::Missing => Err(CaseError::Unreadable),
+        Side::Invalid(_) => Err(CaseError::Unreadable),
     }
 }
 

@@ -1,12 +1,12 @@
 -- Requirements that count always.
-use Rattle.std.proofs.Common.{◌≡◌, ◌==◌, ◌∙◌, ℕ, List, [], ◌∷◌, Bool, true, false, Option, Some, None, Result, Ok, Err, length, option_map, refl, sym, ap, inl, inr, if◌then◌else◌}
+use Rattle.std.proofs.Common.{◌≡◌, ◌∙◌, ℕ, List, [], ◌∷◌, Bool, true, false, Option, Some, None, Result, Ok, Err, option_map, refl, sym, ap, inl, inr, if◌then◌else◌}
 use Rattle.pep440_pick.specs.RequirementGrammar.{DerivesRequirement, Needed}
 use Rattle.pyver_findings.proofs.Once.{one_parts}
 use Rattle.pyver_findings.specs.Demands.{Demand, line_demand}
 use Rattle.pyver_findings.specs.FileLines.{FileLine}
 use Rattle.pyver_findings.specs.FindingLaws.{HasMarker}
 use Rattle.pyver_findings.specs.Findings.{NoRequirement}
-use Rattle.pyver_findings.specs.LineMeanings.{Asks, AsksNothing, IsNone, IsPartsMeaning, IsPlain, LeftOut, LineMeaning, requirement_meaning, under_marker, with_marker, with_url}
+use Rattle.pyver_findings.specs.LineMeanings.{Asks, AsksNothing, IsNone, IsPartsMeaning, IsPlain, LeftOut, LineMeaning, has_right_url, requirement_meaning, under_marker, with_marker, with_url}
 use Rattle.pyver_findings.specs.declared.cause.Cause.TheVariants as cause
 use Rattle.pyver_requirements.specs.LineParts.{LineParts, line_parts}
 use Rattle.pyver_requirements.specs.MarkerReading.{Misfit, marker as read_marker}
@@ -35,7 +35,7 @@ module _ (line : FileLine) (p : LineParts) (a : Demand) where
     by_url : (m : Option (List ℕ)) → (m ≡ None → p.marker ≡ None) → HasMarker p m → (url : Option (List ℕ)) → p.url ≡ url → Asks a ≡ with_url line p n m url → AsksFor line p a
     by_url m always has None is e = let same : a ≡ line_demand line m n = cc e in record { needed = n; text = text; derives = d; url = is; marker = m; always = always; has = has; is = same }
     by_url m always has (Some []) is e = cc e
-    by_url m always has (Some (b ∷ url)) is e = absurd (no_list (length n.specifiers == 0) _ _ e)
+    by_url m always has (Some (b ∷ url)) is e = absurd (no_list (has_right_url (b ∷ url) n) _ _ e)
 
     by_read : (r : Result (List ℕ) Misfit) → option_map read_marker p.marker ≡ Some r → Asks a ≡ under_marker line p n r → AsksFor line p a
     by_read (Ok m) read e = by_url (Some m) (λ none. cc none) read p.url refl e

@@ -15,7 +15,7 @@ use Rattle.pep440_version.specs.Rejections.{Rejection, Rejects}
 use Rattle.pyver_findings.specs.Conflicts.{has_same_name, under}
 use Rattle.pyver_findings.specs.Demands.{Demand}
 use Rattle.pyver_findings.specs.FileLines.{File, FileLine}
-use Rattle.pyver_findings.specs.FindingLaws.{HaveNone, IsRight}
+use Rattle.pyver_findings.specs.FindingLaws.{HaveNone, IsRightConflict}
 use Rattle.pyver_findings.specs.Findings.{Conflicting, Finding, NoRequirement}
 use Rattle.pyver_findings.specs.LineMeanings.{IsNone, IsPlain}
 use Rattle.pyver_findings.specs.Reports.{Report}
@@ -99,7 +99,7 @@ pub record IsConflict (documents : List Document) (f : Finding) : Type 0 where
   pub table : Members
   pub part : Section
   pub has : HasProject documents file table
-  pub right : IsRight (part_lines file table part) f
+  pub right : IsRightConflict line_parts (part_lines file table part) f
 
 -- the version of the package is none
 pub record IsInvalidPackage (documents : List Document) (f : Finding) : Type 0 where

@@ -5,3 +5,4 @@ pub mod MarkerReadings
 pub mod MarkerDerivations
 pub mod MarkerStepReadings
 pub mod MarkerStepLoop
+pub mod OptionWords

@@ -3,7 +3,8 @@ use Rattle.std.proofs.Common.{◌≡◌, ◌-◌, ◌<◌, ◌≤◌, ℕ, zero,
 use Rattle.std.proofs.lemmas.List.{drop_all}
 use Rattle.std.specs.Prelude.{Result}
 use Rattle.pyver_requirements.specs.MarkerReading.{Levels, Misfit, read_end, read, step}
-use Rattle.pyver_requirements.specs.MarkerTokens.{Token, behind_token, is_blank_byte, lexemes, token}
+use Rattle.pyver_requirements.specs.LineParts.{is_blank_byte}
+use Rattle.pyver_requirements.specs.MarkerTokens.{Token, behind_token, lexemes, token}
 use Rattle.pyver_requirements.specs.MarkerViews.{IsMarkerFault}
 use Rattle.pyver_requirements.specs.declared.marker_fault.MarkerError.{MarkerError}
 use Rattle.pyver_requirements.specs.declared.marker_fault.MarkerError.TheVariants as error

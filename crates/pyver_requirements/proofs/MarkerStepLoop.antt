@@ -1,11 +1,12 @@
 -- A step of the reader of steps.
-use Rattle.std.proofs.Common.{◌≡◌, ◌-◌, ◌≤◌, ℕ, List, [], ◌∷◌, Ok, Err, arith, drop, false, length, refl, sub-one, sym}
+use Rattle.std.proofs.Common.{◌≡◌, ◌-◌, ◌≤◌, ℕ, List, [], ◌∷◌, Ok, Err, drop, false, length, refl, sub-one, sym}
 use Rattle.std.proofs.lemmas.List.{drop_all}
 use Rattle.std.specs.Prelude.{Result}
 use Rattle.pyver_requirements.proofs.MarkerLoop.{first_lexeme}
 use Rattle.pyver_requirements.specs.MarkerReading.{Misfit}
 use Rattle.pyver_requirements.specs.MarkerSteps.{OpenGroups, Step, end_steps, read_tokens, take_token}
-use Rattle.pyver_requirements.specs.MarkerTokens.{Token, behind_token, is_blank_byte, lexemes, token}
+use Rattle.pyver_requirements.specs.LineParts.{is_blank_byte}
+use Rattle.pyver_requirements.specs.MarkerTokens.{Token, behind_token, lexemes, token}
 use Rattle.pyver_requirements.specs.MarkerViews.{IsMarkerFault}
 use Rattle.pyver_requirements.specs.declared.marker_fault.MarkerError.{MarkerError}
 use Rattle.pyver_requirements.specs.declared.marker_fault.MarkerError.TheVariants as error

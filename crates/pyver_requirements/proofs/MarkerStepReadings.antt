@@ -3,10 +3,9 @@ use Rattle.std.proofs.Common.{◌≡◌, ◌∙◌, ◌+◌, ◌<◌, ◌≤◌,
 use Rattle.std.proofs.lemmas.Bool.Decides.{nat_tests}
 use Rattle.std.proofs.lemmas.List.{append-nil}
 use Rattle.pyver_requirements.proofs.MarkerDerivations.{read_markers_are_derived}
-use Rattle.pyver_requirements.specs.MarkerGrammar.{Conjunction, Denotes, DenotesMarker, Disjunction, Marker, Operand, alone, at, both, compared, either, enclosed, one}
-use Rattle.pyver_requirements.specs.MarkerReading.{Level, Levels, Misfit, empty_level, marker, no_levels, read, read_end, step, unless_misfit}
-use Rattle.pyver_requirements.specs.MarkerSteps.{Compare, Group, OpenGroups, JoinBoth, JoinEither, ReadStepsAreDerived, Step, StepsAreRead, behind_operand, end_steps, join_alternatives, join_chain, marker_steps, read_tokens, steps, take_token, unless_stray}
-use Rattle.pyver_requirements.specs.MarkerTerms.{terms_text}
+use Rattle.pyver_requirements.specs.MarkerGrammar.{Conjunction, Denotes, Disjunction, Marker, Operand, alone, at, both, compared, either, enclosed, one}
+use Rattle.pyver_requirements.specs.MarkerReading.{Level, Levels, Misfit, empty_level, marker, read, read_end, step, unless_misfit}
+use Rattle.pyver_requirements.specs.MarkerSteps.{Compare, Group, OpenGroups, JoinBoth, JoinEither, ReadStepsAreDerived, Step, StepsAreRead, end_steps, join_alternatives, join_chain, marker_steps, read_tokens, steps, take_token, unless_stray}
 use Rattle.pyver_requirements.specs.MarkerTokens.{And, Close, Compares, Faulty, Lexeme, Open, Or, Side, Token, lexemes}
 use Rattle.pyver_requirements.specs.declared.marker_operator.MarkerOperator.{MarkerOperator}
 

@@ -1,12 +1,11 @@
 pub mod LogicalLines
-pub mod LineViews
+pub mod LineParts
+pub mod ConflictMarks
 pub mod OptionNames
 pub mod OptionValues
+pub mod OptionFaults
 pub mod LineKinds
-pub mod LineKindViews
-pub mod LineParts
-pub mod LinePartViews
-pub mod ConflictMarks
+pub mod LineViews
 pub mod MarkerTokens
 pub mod MarkerStepViews
 pub mod MarkerSteps

@@ -1,5 +1,5 @@
 -- What a logical line of a requirements file is (pip, "Requirements File Format").
-use Rattle.std.specs.Prelude.{ℕ, ◌==◌, ◌&&◌, ◌||◌, List, [], ◌∷◌, Bool, false, Option, Some, None, codes, drop, length, nat_eq, not, if◌then◌else◌}
+use Rattle.std.specs.Prelude.{ℕ, ◌-◌, ◌==◌, ◌&&◌, ◌||◌, List, [], ◌∷◌, Bool, false, Option, Some, None, codes, drop, length, nat_eq, not, if◌then◌else◌}
 use Rattle.std.specs.Char.{eq_ignore_ascii_case, is_ascii_digit, is_ascii_uppercase, is_ascii_whitespace}
 use Rattle.std.specs.List.{ends_with, list_any, starts_with}
 use Rattle.std.specs.Option.{option_map_or}
@@ -8,17 +8,18 @@ use Rattle.pep440_version.specs.Grammar.{starts}
 use Rattle.pep440_version.specs.Reading.{lead, past}
 use Rattle.pyver_requirements.specs.ConflictMarks.{is_conflict_mark}
 use Rattle.pyver_requirements.specs.LogicalLines.{is_utf16}
-use Rattle.pyver_requirements.specs.OptionNames.{abbreviates, behind_long_name, long_name, option_fault}
+use Rattle.pyver_requirements.specs.OptionFaults.{FaultPosition, options_fault, options_in}
+use Rattle.pyver_requirements.specs.OptionNames.{behind_long_name, long_name, names_option}
 use Rattle.pyver_requirements.specs.OptionValues.{first_value, long_value}
 use Rattle.pyver_requirements.specs.declared.line_fault.LineFault.{LineFault}
-use Rattle.pyver_requirements.specs.declared.line_fault.LineFault.TheVariants.{ConflictMark, MissingPath, Utf16}
+use Rattle.pyver_requirements.specs.declared.line_fault.LineFault.TheVariants.{ConflictMark, Utf16}
 
--- another file of requirements, and one of constraints, each with its path; neither a requirement nor an option; an editable;
+-- another file of requirements, and one of constraints, each with its path; neither a requirement nor an option, with the column; an editable;
 -- another option of pip; a line with a variable; a URL, a path or an archive; a requirement
 pub data LineKind : Type 0 where
   RequirementsFile : (path : List ℕ) → LineKind
   ConstraintsFile : (path : List ℕ) → LineKind
-  Invalid : LineFault → LineKind
+  Invalid : LineFault → (column : ℕ) → LineKind
   Editable : LineKind
   PipOption : LineKind
   Variable : LineKind
@@ -29,33 +30,18 @@ pub data LineKind : Type 0 where
 
 -- the value of this long option, if the line begins with it
 abbrev pub long_option_value : List ℕ → List ℕ → Option (List ℕ)
-long_option_value option text = if abbreviates option (long_name text) then Some (long_value (behind_long_name text)) else None
+long_option_value option text = if names_option option (long_name text) then Some (long_value (behind_long_name text)) else None
 
 -- the value of the option with this long and this short name, if the line begins with one of them
 abbrev pub option_value : List ℕ → List ℕ → List ℕ → Option (List ℕ)
 option_value option short text = if starts_with nat_eq text (codes "--") then long_option_value option text
     else (if starts_with nat_eq text short then Some (first_value (trim_blanks (drop (length short) text))) else None)
 
--- the file of requirements with this path
-abbrev pub requirements_file : List ℕ → LineKind
-requirements_file [] = Invalid MissingPath
-requirements_file (b ∷ path) = RequirementsFile (b ∷ path)
-
--- the file of constraints with this path
-abbrev pub constraints_file : List ℕ → LineKind
-constraints_file [] = Invalid MissingPath
-constraints_file (b ∷ path) = ConstraintsFile (b ∷ path)
-
--- another option of pip, or none
-abbrev pub other_option : Option LineFault → LineKind
-other_option None = PipOption
-other_option (Some fault) = Invalid fault
-
 -- what a line is that begins with `-`
 abbrev pub option_kind : List ℕ → LineKind
-option_kind text = option_map_or requirements_file (option_value (codes "--requirement") (codes "-r") text)
-    (option_map_or constraints_file (option_value (codes "--constraint") (codes "-c") text)
-    (option_map_or (λ _. Editable) (option_value (codes "--editable") (codes "-e") text) (other_option (option_fault text))))
+option_kind text = option_map_or RequirementsFile (option_value (codes "--requirement") (codes "-r") text)
+    (option_map_or ConstraintsFile (option_value (codes "--constraint") (codes "-c") text)
+    (option_map_or (λ _. Editable) (option_value (codes "--editable") (codes "-e") text) PipOption))
 
 -- ---- variables
 
@@ -104,12 +90,22 @@ is_location word = opens 46 word || (list_any (λ b. b == 47) word || is_archive
 
 -- ---- all together
 
--- what the line is: the first of these that holds
-abbrev pub line_kind : List ℕ → LineKind
-line_kind text =
-    if is_conflict_mark text then Invalid ConflictMark
-    else if is_utf16 text then Invalid Utf16
-    else if opens 45 text then option_kind text
+-- a line without a fault: the first of these that holds
+abbrev pub right_kind : List ℕ → LineKind
+right_kind text =
+    if opens 45 text then option_kind text
     else if has_variable text then Variable
     else if is_location (first_word text) then Location
     else Requirement
+
+-- the kind, unless there is a fault
+abbrev pub unless_fault : List ℕ → Option FaultPosition → LineKind → LineKind
+unless_fault text None kind = kind
+unless_fault text (Some m) kind = Invalid m.fault (length text - m.left)
+
+-- what the line is: the first of these that holds
+abbrev pub line_kind : List ℕ → LineKind
+line_kind text =
+    if is_conflict_mark text then Invalid ConflictMark 0
+    else if is_utf16 text then Invalid Utf16 0
+    else unless_fault text (options_fault (options_in text)) (right_kind text)

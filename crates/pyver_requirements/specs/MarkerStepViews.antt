@@ -1,5 +1,5 @@
 -- What the reader of steps holds, apart from where it lies in memory.
-use Rattle.std.specs.Prelude.{ℕ, map}
+use Rattle.std.specs.Prelude.{map}
 use Rattle.pyver_requirements.specs.MarkerSteps as steps
 use Rattle.pyver_requirements.specs.MarkerViews.{side_of}
 use Rattle.pyver_requirements.specs.declared.marker_steps.Group.{Group}

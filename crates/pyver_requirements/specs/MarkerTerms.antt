@@ -5,7 +5,7 @@ use Rattle.std.specs.BTreeSet.{insert_key}
 use Rattle.std.specs.List.{flat_map, list_any}
 use Rattle.std.specs.Cmp.Lexicographic.{slice_cmp}
 use Rattle.std.specs.Ordering.{nat_cmp}
-use Rattle.pyver_requirements.specs.MarkerTokens.{Constant, Missing, Side, Unclosed, Variable}
+use Rattle.pyver_requirements.specs.MarkerTokens.{Constant, Invalid, Side, Variable}
 use Rattle.pyver_requirements.specs.declared.marker_operator.MarkerOperator.{MarkerOperator}
 use Rattle.pyver_requirements.specs.declared.marker_operator.MarkerOperator.TheVariants as operator
 
@@ -41,8 +41,7 @@ quote_around text = if list_any (λ b. b == 34) text then 39 else 34
 abbrev pub side_text : Side → List ℕ
 side_text (Variable name) = name
 side_text (Constant text) = quote_around text ∷ (text ++ quote_around text ∷ [])
-side_text Unclosed = []
-side_text Missing = []
+side_text (Invalid f) = []
 
 -- the sides as they stand
 abbrev pub as_written : Side → MarkerOperator → Side → List ℕ

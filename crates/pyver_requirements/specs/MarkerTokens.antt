@@ -1,25 +1,17 @@
 -- The tokens of an environment marker (PEP 508, "Grammar"; the older names of variables are those of `packaging` 25.0).
-use Rattle.std.specs.Prelude.{ℕ, ◌-◌, ◌==◌, ◌&&◌, ◌||◌, List, [], ◌∷◌, Bool, true, false, Option, Some, None, bytes_eq, codes, drop, length, suc, zero, if◌then◌else◌}
+use Rattle.std.specs.Prelude.{ℕ, ◌-◌, ◌==◌, ◌&&◌, ◌||◌, List, [], ◌∷◌, Bool, Option, Some, None, bytes_eq, codes, drop, length, suc, zero, if◌then◌else◌}
 use Rattle.std.specs.Char.{is_ascii_alphanumeric}
 use Rattle.std.specs.List.{list_any}
 use Rattle.std.specs.Option.{option_map_or}
 use Rattle.pep440_rs.specs.Blanks.{opens}
 use Rattle.pep440_version.specs.Grammar.{starts}
 use Rattle.pep440_version.specs.Reading.{lead, past}
-use Rattle.pyver_requirements.specs.LineParts.{before_byte, behind_byte}
+use Rattle.pyver_requirements.specs.LineParts.{before_byte, behind_byte, is_blank_byte, skip_blanks}
 use Rattle.pyver_requirements.specs.OptionValues.{is_quote}
 use Rattle.pyver_requirements.specs.declared.marker_fault.MarkerFault.{MarkerFault}
 use Rattle.pyver_requirements.specs.declared.marker_fault.MarkerFault.TheVariants as fault
 use Rattle.pyver_requirements.specs.declared.marker_operator.MarkerOperator.{MarkerOperator}
 use Rattle.pyver_requirements.specs.declared.marker_operator.MarkerOperator.TheVariants as operator
-
--- a space or a tab
-abbrev pub is_blank_byte : ℕ → Bool
-is_blank_byte b = (b == 32) || (b == 9)
-
--- the string without the blanks at its start
-abbrev pub skip_blanks : List ℕ → List ℕ
-skip_blanks text = past is_blank_byte text
 
 -- ---- words
 
@@ -58,25 +50,24 @@ variables = codes "python_version" ∷ (codes "python_full_version" ∷ (codes "
     ∷ (codes "platform_version" ∷ (codes "platform_machine" ∷ (codes "platform_python_implementation" ∷ (codes "implementation_name"
     ∷ (codes "implementation_version" ∷ (codes "extra" ∷ (codes "extras" ∷ (codes "dependency_groups" ∷ [])))))))))))))
 
--- one side of a comparison: a variable, by its modern name; a string, without its quotes; a string that does not end; neither
+-- one side of a comparison: a variable, by its modern name; a string, without its quotes; neither, for this reason
 pub data Side : Type 0 where
   Variable : List ℕ → Side
   Constant : List ℕ → Side
-  Unclosed : Side
-  Missing : Side
+  Invalid : MarkerFault → Side
 
 -- the variable with this name, if there is one
 abbrev pub variable : List ℕ → Side
-variable name = if list_any (λ v. bytes_eq v (modern_name name)) variables then Variable (modern_name name) else Missing
+variable name = if list_any (λ v. bytes_eq v (modern_name name)) variables then Variable (modern_name name) else Invalid fault.MissingOperand
 
--- the string up to the quote that closes it, if one does
+-- the string up to the quote that closes it, if one does; a backslash cannot stand in it
 abbrev pub constant : List ℕ → Option (List ℕ) → Side
-constant inside None = Unclosed
-constant inside (Some rest) = Constant inside
+constant inside None = Invalid fault.UnclosedString
+constant inside (Some rest) = if list_any (λ b. b == 92) inside then Invalid fault.Backslash else Constant inside
 
--- the side of a comparison that the string begins with: any bytes but that quote may stand in quotes, and a backslash is one of them
+-- the side of a comparison that the string begins with
 abbrev pub side : List ℕ → Side
-side [] = Missing
+side [] = Invalid fault.MissingOperand
 side (b ∷ rest) = if is_quote b then constant (before_byte b rest) (behind_byte b rest) else variable (marker_word (b ∷ rest))
 
 -- what follows it, without blanks
@@ -136,17 +127,7 @@ pub data Token : Type 0 where
 abbrev pub side_fault : Side → Option MarkerFault
 side_fault (Variable name) = None
 side_fault (Constant text) = None
-side_fault Unclosed = Some fault.UnclosedString
-side_fault Missing = Some fault.MissingOperand
-
--- both sides are strings
-abbrev pub are_constants : Side → Side → Bool
-are_constants (Constant a) (Constant b) = true
-are_constants _ _ = false
-
--- a comparison has a variable on one side, at least
-abbrev pub compared_sides : Side → MarkerOperator → Side → ℕ → Token
-compared_sides left o right from_right = if are_constants left right then Faulty fault.NoVariable from_right else Compares left o right
+side_fault (Invalid f) = Some f
 
 -- the token, unless there is a fault, with so many bytes from it on
 abbrev pub unless_faulty : Option MarkerFault → ℕ → Token → Token
@@ -155,7 +136,7 @@ unless_faulty (Some f) left token = Faulty f left
 
 -- the comparison of this side with the one that the string begins with
 abbrev pub comparison_with : Side → MarkerOperator → List ℕ → Token
-comparison_with left o text = unless_faulty (side_fault (side text)) (length text) (compared_sides left o (side text) (length text))
+comparison_with left o text = unless_faulty (side_fault (side text)) (length text) (Compares left o (side text))
 
 -- the comparison of this side, from its operator on
 abbrev pub comparison_by : Side → Option MarkerOperator → List ℕ → Token

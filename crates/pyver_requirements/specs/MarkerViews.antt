@@ -5,7 +5,7 @@ use Rattle.std.specs.Global.{Vec}
 use Rattle.pyver_requirements.specs.MarkerReading.{Level, Levels, Misfit}
 use Rattle.pyver_requirements.specs.MarkerTerms as terms
 use Rattle.pyver_requirements.specs.MarkerTokens as tokens
-use Rattle.pyver_requirements.specs.MarkerTokens.{Constant, Missing, Unclosed, Variable}
+use Rattle.pyver_requirements.specs.MarkerTokens.{Constant, Invalid, Variable}
 use Rattle.pyver_requirements.specs.declared.marker_reading.Level.{Level as LevelValue}
 use Rattle.pyver_requirements.specs.declared.marker_reading.Levels.{Levels as LevelsValue}
 use Rattle.pyver_requirements.specs.declared.marker_fault.MarkerError.{MarkerError}
@@ -20,8 +20,7 @@ use Rattle.pyver_requirements.specs.declared.marker_token.Token.TheVariants as t
 abbrev pub side_of : Side → tokens.Side
 side_of (side.Variable name) = Variable name.now
 side_of (side.Constant text) = Constant text.now
-side_of side.Unclosed = Unclosed
-side_of side.Missing = Missing
+side_of (side.Invalid f) = Invalid f
 
 abbrev pub token_of : Token → tokens.Token
 token_of token.Open = tokens.Open

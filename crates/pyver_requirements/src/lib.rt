@@ -17,13 +17,14 @@ mod marker_reading;
 mod marker_steps;
 mod marker_terms;
 mod marker_token;
+mod option_fault;
 mod option_name;
 mod option_value;
 mod physical_line;
 
 pub use line_fault::LineFault;
 pub use line_kind::{LineKind, classify, has_variable};
-pub use line_parts::{LineParts, split_requirement};
+pub use line_parts::{LineParts, split_pip_line, split_requirement};
 pub use logical_line::{LogicalLine, logical_lines};
 pub use marker_fault::{MarkerError, MarkerFault};
 pub use marker_operator::MarkerOperator;

@@ -6,12 +6,20 @@ ghost use Rattle.pyver_requirements.specs.ConflictMarks.{ends_word, is_conflict_
 /// Why a line is neither a requirement nor an option.
 #[derive(Clone, Copy, Debug, PartialEq, Eq)]
 pub enum LineFault {
-    /// `-r`, `--requirement`, `-c` or `--constraint` without a path.
-    MissingPath,
-    /// An option that pip 23.2 does not know.
+    /// An option that pip 26.2 does not know.
     UnknownOption,
     /// The beginning of several options of pip.
     AmbiguousOption,
+    /// An option without its value.
+    MissingValue,
+    /// A value after `=` of an option that takes none.
+    UnwantedValue,
+    /// A value of `--hash` that begins with none of `sha256:`, `sha384:` and `sha512:`.
+    WrongHash,
+    /// A value of `-C` or `--config-settings` without `=`.
+    WrongSetting,
+    /// A quote in the options that is not closed, or a backslash at their end.
+    UnclosedQuote,
     /// A mark that version control leaves at a conflict, as `<<<<<<<`.
     ConflictMark,
     /// The mark of UTF-16, with which the file begins.

@@ -3,13 +3,14 @@ ghost use Rattle.std.specs.Prelude.{◌≡◌, ◌≤◌, ◌==◌, ◌||◌, Is
 ghost use Rattle.std.specs.Char.{eq_ignore_ascii_case, is_ascii_whitespace};
 ghost use Rattle.std.specs.List.{ends_with, list_any, prefix_len};
 ghost use Rattle.pep440_rs.specs.Blanks.{opens, trim_blanks};
-ghost use Rattle.pyver_requirements.specs.LineKinds.{closes_variable, constraints_file, ends_as, first_word, has_variable, is_archive, is_location, is_variable_byte, line_kind, long_option_value, opens_variable, option_kind, option_value, other_option, requirements_file, short_endings, tar_endings};
-ghost use Rattle.pyver_requirements.specs.LineKindViews.{line_kind_of};
-ghost use Rattle.pyver_requirements.specs.OptionNames.{option_fault};
+ghost use Rattle.pyver_requirements.specs.LineKinds.{closes_variable, ends_as, first_word, has_variable, is_archive, is_location, is_variable_byte, line_kind, long_option_value, opens_variable, option_kind, option_value, right_kind, short_endings, tar_endings, unless_fault};
+ghost use Rattle.pyver_requirements.specs.LineViews.{line_kind_of, fault_position_of};
+ghost use Rattle.pyver_requirements.specs.OptionFaults.{options_fault, options_in};
 
 use crate::comment::trim_blanks;
 use crate::line_fault::{LineFault, is_conflict_mark};
-use crate::option_name::{abbreviates, count_name_bytes, option_fault};
+use crate::option_fault::{FaultPosition, line_fault};
+use crate::option_name::{count_name_bytes, names_option};
 use crate::option_value::{first_value, long_value};
 use crate::physical_line::opens_with_mark;
 
@@ -20,8 +21,8 @@ pub enum LineKind<'a> {
     RequirementsFile(&'a [u8]),
     /// `-c FILE` or `--constraint FILE`: a file of constraints, and its path.
     ConstraintsFile(&'a [u8]),
-    /// Neither a requirement nor an option of pip.
-    Invalid(LineFault),
+    /// Neither a requirement nor an option of pip, from this column on, in bytes from 0.
+    Invalid(LineFault, usize),
     /// `-e` or `--editable`.
     Editable,
     /// Another option of pip.
@@ -48,7 +49,7 @@ fn long_option_value<'a>(text: &'a [u8], long: &[u8]) -> Option<&'a [u8]>
     ensures { option_map (λ x. x.now) result ≡ long_option_value long.now text.now }
 {
     let count = count_name_bytes(text);
-    if abbreviates(long, &text[..count]) {
+    if names_option(long, &text[..count]) {
         Some(long_value(&text[count..]))
     } else {
         None
@@ -68,47 +69,19 @@ fn option_value<'a>(text: &'a [u8], long: &[u8], short: &[u8]) -> Option<&'a [u8
     }
 }
 
-fn requirements_file(path: &[u8]) -> LineKind<'_>
-    ensures { line_kind_of result ≡ requirements_file path.now }
-{
-    match path {
-        [] => LineKind::Invalid(LineFault::MissingPath),
-        [_, ..] => LineKind::RequirementsFile(path),
-    }
-}
-
-fn constraints_file(path: &[u8]) -> LineKind<'_>
-    ensures { line_kind_of result ≡ constraints_file path.now }
-{
-    match path {
-        [] => LineKind::Invalid(LineFault::MissingPath),
-        [_, ..] => LineKind::ConstraintsFile(path),
-    }
-}
-
-// Another option of pip, or none.
-fn other_option(text: &[u8]) -> LineKind<'_>
-    ensures { line_kind_of result ≡ other_option (option_fault text.now) }
-{
-    match option_fault(text) {
-        None => LineKind::PipOption,
-        Some(fault) => LineKind::Invalid(fault),
-    }
-}
-
 // What a line is that begins with `-`.
 fn option_kind(text: &[u8]) -> LineKind<'_>
     ensures { line_kind_of result ≡ option_kind text.now }
 {
     if let Some(path) = option_value(text, "--requirement".as_bytes(), "-r".as_bytes()) {
-        return requirements_file(path);
+        return LineKind::RequirementsFile(path);
     }
     if let Some(path) = option_value(text, "--constraint".as_bytes(), "-c".as_bytes()) {
-        return constraints_file(path);
+        return LineKind::ConstraintsFile(path);
     }
     match option_value(text, "--editable".as_bytes(), "-e".as_bytes()) {
         Some(_) => LineKind::Editable,
-        None => other_option(text),
+        None => LineKind::PipOption,
     }
 }
 
@@ -229,21 +202,11 @@ fn is_location(word: &[u8]) -> bool
     opens_with(word, b'.') || has_slash(word) || is_archive(word)
 }
 
-/// What the logical line is: the first that holds of the mark of a merge conflict, the mark of UTF-16, an option, a line with a variable, a location and a requirement.
-///
-/// The first option of a line decides, and a long one may be abbreviated if no other that pip knows begins so. A path ends at a blank
-/// that stands in no quotes, and quotes around the whole path are left out. The first word, up to a blank,
-/// `;` or `@`, makes a location if it has a `/`, begins with `.` or ends as an archive, in any case: so a later URL makes none. Files are not looked for.
-///
-/// Allocates nothing.
-pub fn classify(text: &[u8]) -> LineKind<'_>
-    ensures { line_kind_of result ≡ line_kind text.now }
+// What a line without a fault is.
+fn right_kind(text: &[u8]) -> LineKind<'_>
+    ensures { line_kind_of result ≡ right_kind text.now }
 {
-    if is_conflict_mark(text) {
-        LineKind::Invalid(LineFault::ConflictMark)
-    } else if opens_with_mark(text) {
-        LineKind::Invalid(LineFault::Utf16)
-    } else if opens_with(text, b'-') {
+    if opens_with(text, b'-') {
         option_kind(text)
     } else if has_variable(text) {
         LineKind::Variable
@@ -251,5 +214,36 @@ pub fn classify(text: &[u8]) -> LineKind<'_>
         LineKind::Location
     } else {
         LineKind::Requirement
+    }
+}
+
+// What the line is, which has this fault or none.
+fn kind_unless(text: &[u8], fault: Option<FaultPosition>) -> LineKind<'_>
+    ensures { line_kind_of result ≡ unless_fault text.now (option_map fault_position_of fault) (right_kind text.now) }
+{
+    match fault {
+        None => right_kind(text),
+        Some(fault) => LineKind::Invalid(fault.fault, text.len().saturating_sub(fault.left)),
+    }
+}
+
+/// What the logical line is: the first that holds of the mark of a merge conflict, the mark of UTF-16, options that pip 26.2 does not take, an
+/// option, a line with a variable, a location and a requirement.
+///
+/// Options stand after a requirement or without one, and the first decides. A long one may be abbreviated if no other that pip knows begins
+/// so. A path ends at a blank that stands in no quotes and after no backslash, and quotes around the whole path are left out. The first word, up
+/// to a blank, `;` or `@`, makes a location if it has a `/`, begins with `.` or ends as an archive, in any case: so a later URL makes none. Files
+/// are not looked for.
+///
+/// Allocates nothing.
+pub fn classify(text: &[u8]) -> LineKind<'_>
+    ensures { line_kind_of result ≡ line_kind text.now }
+{
+    if is_conflict_mark(text) {
+        LineKind::Invalid(LineFault::ConflictMark, 0)
+    } else if opens_with_mark(text) {
+        LineKind::Invalid(LineFault::Utf16, 0)
+    } else {
+        kind_unless(text, line_fault(text))
     }
 }

@@ -62,7 +62,8 @@ impl LineJoiner {
     // One more physical line.
     fn push(&mut self, alloc: Global, line: &[u8]) -> Result<(), AllocError>
         requires { self.old.next ≤ 2 ^ 63 }
-        ensures lines { IfOk result (λ _. (rest : List (List ℕ)) → lines_with self.new rest ≡ lines_with self.old (line.now ∷ rest)) }
+        ensures lines { IfOk result (λ _. (rest : List (List ℕ)) →
+            lines_with self.new rest ≡ lines_with self.old (line.now ∷ rest)) }
         ensures next { IfOk result (λ _. self.new.next ≡ self.old.next + 1) }
     {
         let (added, continues) = split_continuation(line);

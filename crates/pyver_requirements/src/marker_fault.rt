@@ -13,8 +13,8 @@ pub enum MarkerFault {
     UnclosedString,
     /// An operator is missing.
     MissingOperator,
-    /// Both sides of a comparison are strings.
-    NoVariable,
+    /// A backslash stands in a string.
+    Backslash,
     /// Neither `and` nor `or` follows a comparison, nor a parenthesis that can close, nor the end.
     NoConnective,
     /// A parenthesis is not closed.

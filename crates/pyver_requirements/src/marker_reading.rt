@@ -4,9 +4,10 @@ ghost use Rattle.pyver_requirements.specs.MarkerReading.{after_or, closed, close
 ghost use Rattle.pyver_requirements.specs.MarkerTerms.{All};
 ghost use Rattle.pyver_requirements.specs.MarkerViews.{IsMarkerFault, level_of, levels_of, terms_of, token_of};
 
+use crate::line_parts::is_blank_byte;
 use crate::marker_fault::{MarkerError, MarkerFault};
 use crate::marker_terms::{Terms, normalize_comparison};
-use crate::marker_token::{Token, behind_token, is_blank_byte, scan_token};
+use crate::marker_token::{Token, behind_token, scan_token};
 use std::alloc::{AllocError, Global};
 use std::collections::{BTreeSet, VecDeque};
 

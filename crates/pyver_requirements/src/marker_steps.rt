@@ -5,9 +5,10 @@ ghost use Rattle.pyver_requirements.specs.MarkerStepViews.{group_of, open_groups
 ghost use Rattle.pyver_requirements.specs.MarkerViews.{IsMarkerFault, side_of, token_of};
 ghost use Rattle.pyver_requirements.specs.MarkerTokens.{Compares, Or};
 
+use crate::line_parts::is_blank_byte;
 use crate::marker_fault::{MarkerError, MarkerFault};
 use crate::marker_operator::MarkerOperator;
-use crate::marker_token::{Side, Token, behind_token, is_blank_byte, scan_token};
+use crate::marker_token::{Side, Token, behind_token, scan_token};
 use std::alloc::{AllocError, Global};
 use std::collections::VecDeque;
 
@@ -113,7 +114,8 @@ impl<'a> OpenGroups<'a> {
         inner: Group,
         steps: Vec<Step<'a>>,
     ) -> Result<OpenGroups<'a>, AllocError>
-        ensures { IfOk result (λ s. open_groups_of s ≡ behind_operand length (map group_of outer.items) (group_of inner) (map step_of steps.entry.items)) }
+        ensures { IfOk result (λ s. open_groups_of s ≡ behind_operand length (map group_of outer.items) (group_of inner)
+            (map step_of steps.entry.items)) }
     {
         let mut steps = steps;
         push_join_chain(&mut steps, inner)?;
@@ -130,7 +132,8 @@ impl<'a> OpenGroups<'a> {
     }
 
     fn close(self, left: usize) -> Result<OpenGroups<'a>, MarkerError>
-        ensures groups { IfOk result (λ s. close_group (open_groups_of self.entry) (open_groups_of self.entry).outer left ≡ Ok (open_groups_of s)) }
+        ensures groups { IfOk result (λ s. close_group (open_groups_of self.entry) (open_groups_of self.entry).outer left ≡ Ok
+            (open_groups_of s)) }
         ensures fault { IfErr result (IsMarkerFault (close_group (open_groups_of self.entry) (open_groups_of self.entry).outer left)) }
     {
         let mut outer = self.outer;
@@ -159,7 +162,8 @@ impl<'a> OpenGroups<'a> {
     }
 
     fn push_operand(self, token: Token<'a>, left: usize) -> Result<OpenGroups<'a>, MarkerError>
-        ensures groups { IfOk result (λ s. take_operand (open_groups_of self.entry) (token_of token.entry) left ≡ Ok (open_groups_of s)) }
+        ensures groups { IfOk result (λ s. take_operand (open_groups_of self.entry) (token_of token.entry) left
+            ≡ Ok (open_groups_of s)) }
         ensures fault { IfErr result (IsMarkerFault (take_operand (open_groups_of self.entry) (token_of token.entry) left)) }
     {
         match token {
@@ -190,7 +194,8 @@ impl<'a> OpenGroups<'a> {
     }
 
     fn push_connective(self, token: Token<'a>, left: usize) -> Result<OpenGroups<'a>, MarkerError>
-        ensures groups { IfOk result (λ s. take_connective (open_groups_of self.entry) (token_of token.entry) left ≡ Ok (open_groups_of s)) }
+        ensures groups { IfOk result (λ s. take_connective (open_groups_of self.entry) (token_of token.entry) left ≡ Ok
+            (open_groups_of s)) }
         ensures fault { IfErr result (IsMarkerFault (take_connective (open_groups_of self.entry) (token_of token.entry) left)) }
     {
         let mut groups = self;

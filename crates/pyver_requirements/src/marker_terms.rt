@@ -43,8 +43,7 @@ fn push_side(text: &mut Vec<u8>, side: Side<'_>) -> Result<(), AllocError>
             Ok(())
         }
         Side::Constant(inside) => push_quoted(text, inside),
-        Side::Unclosed => Ok(()),
-        Side::Missing => Ok(()),
+        Side::Invalid(_) => Ok(()),
     }
 }
 

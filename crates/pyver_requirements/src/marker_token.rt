@@ -3,11 +3,11 @@ ghost use Rattle.std.specs.Prelude.{◌≡◌, ◌≤◌, ◌==◌, bytes_eq, co
 ghost use Rattle.std.specs.List.{list_any, prefix_len};
 ghost use Rattle.pep440_version.specs.Grammar.{starts};
 ghost use Rattle.pep440_version.specs.Reading.{lead, past};
-ghost use Rattle.pyver_requirements.specs.MarkerTokens.{are_constants, behind_comparing, behind_side, behind_token, behind_word, comparison_by, comparison_with, comparing, comparison, constant, has_word, is_blank_byte, is_operator_byte, is_word_byte, modern_name, side, side_fault, skip_blanks, symbol, token, variable, variables, marker_word, word_operator};
+ghost use Rattle.pyver_requirements.specs.MarkerTokens.{behind_comparing, behind_side, behind_token, behind_word, comparison_by, comparison_with, comparing, comparison, constant, has_word, is_operator_byte, is_word_byte, modern_name, side, side_fault, symbol, token, variable, variables, marker_word, word_operator};
 ghost use Rattle.pyver_requirements.specs.MarkerViews.{side_of, token_of};
 
 use crate::line_kind::opens_with;
-use crate::line_parts::split_at_first;
+use crate::line_parts::{skip_blanks, split_at_first};
 use crate::marker_fault::MarkerFault;
 use crate::marker_operator::MarkerOperator;
 use crate::option_value::is_quote;
@@ -36,10 +36,8 @@ pub enum Side<'a> {
     Variable(&'a [u8]),
     /// A string, without its quotes.
     Constant(&'a [u8]),
-    /// A string that does not end; of no step.
-    Unclosed,
-    /// Neither; of no step.
-    Missing,
+    /// Neither, for this reason; of no step.
+    Invalid(MarkerFault),
 }
 
 #[derive(Clone, Copy)]
@@ -51,25 +49,6 @@ pub(crate) enum Token<'a> {
     Compares(Side<'a>, MarkerOperator, Side<'a>),
     // A comparison with this fault, and how many bytes there are from it on.
     Faulty(MarkerFault, usize),
-}
-
-pub(crate) fn is_blank_byte(byte: u8) -> bool
-    ensures { result ≡ is_blank_byte byte }
-{
-    byte == b' ' || byte == b'\t'
-}
-
-fn count_blanks(text: &[u8]) -> usize
-    ensures count { result ≡ prefix_len is_blank_byte text.now }
-    ensures inside { result ≤ length text.now }
-{
-    text.iter().take_while(|byte| is_blank_byte(**byte)).count()
-}
-
-fn skip_blanks(text: &[u8]) -> &[u8]
-    ensures { result.now ≡ skip_blanks text.now }
-{
-    &text[count_blanks(text)..]
 }
 
 fn is_word_byte(byte: u8) -> bool
@@ -144,7 +123,7 @@ fn find_variable(name: &[u8]) -> Side<'_>
     if is_variable(name) {
         Side::Variable(name)
     } else {
-        Side::Missing
+        Side::Invalid(MarkerFault::MissingOperand)
     }
 }
 
@@ -152,7 +131,8 @@ fn make_constant<'a>(inside: &'a [u8], behind: Option<&'a [u8]>) -> Side<'a>
     ensures { side_of result ≡ constant inside.now (option_map (λ x. x.now) behind.entry) }
 {
     match behind {
-        None => Side::Unclosed,
+        None => Side::Invalid(MarkerFault::UnclosedString),
+        Some(_) if inside.contains(&b'\\') => Side::Invalid(MarkerFault::Backslash),
         Some(_) => Side::Constant(inside),
     }
 }
@@ -161,13 +141,14 @@ fn make_constant<'a>(inside: &'a [u8], behind: Option<&'a [u8]>) -> Side<'a>
 fn scan_side(text: &[u8]) -> Side<'_>
     ensures { side_of result ≡ side text.now }
 {
-    match text {
-        [] => Side::Missing,
-        [quote, rest @ ..] if is_quote(*quote) => {
-            let (inside, behind) = split_at_first(rest, *quote);
-            make_constant(inside, behind)
-        }
-        _ => find_variable(scan_word(text)),
+    let [first, rest @ ..] = text else {
+        return Side::Invalid(MarkerFault::MissingOperand);
+    };
+    if is_quote(*first) {
+        let (inside, behind) = split_at_first(rest, *first);
+        make_constant(inside, behind)
+    } else {
+        find_variable(scan_word(text))
     }
 }
 
@@ -274,15 +255,8 @@ fn side_fault(side: Side<'_>) -> Option<MarkerFault>
     match side {
         Side::Variable(_) => None,
         Side::Constant(_) => None,
-        Side::Unclosed => Some(MarkerFault::UnclosedString),
-        Side::Missing => Some(MarkerFault::MissingOperand),
+        Side::Invalid(fault) => Some(fault),
     }
-}
-
-fn are_constants(left: Side<'_>, right: Side<'_>) -> bool
-    ensures { result ≡ are_constants (side_of left.entry) (side_of right.entry) }
-{
-    matches!((left, right), (Side::Constant(_), Side::Constant(_)))
 }
 
 // The comparison of this side with the one that the text begins with.
@@ -290,12 +264,9 @@ fn compare_with<'a>(left: Side<'a>, operator: MarkerOperator, text: &'a [u8]) ->
     ensures { token_of result ≡ comparison_with (side_of left.entry) operator text.now }
 {
     let right = scan_side(text);
-    if let Some(fault) = side_fault(right) {
-        Token::Faulty(fault, text.len())
-    } else if are_constants(left, right) {
-        Token::Faulty(MarkerFault::NoVariable, text.len())
-    } else {
-        Token::Compares(left, operator, right)
+    match side_fault(right) {
+        Some(fault) => Token::Faulty(fault, text.len()),
+        None => Token::Compares(left, operator, right),
     }
 }
 

@@ -1,12 +1,12 @@
-//! Names of long options, which `optparse` lets abbreviate.
+//! Names of options; `optparse` lets long ones be abbreviated.
 ghost use Rattle.std.specs.Prelude.{◌≡◌, ◌≤◌, ◌==◌, bytes_eq, length, nat_eq};
 ghost use Rattle.std.specs.List.{count_by, list_any, prefix_len, starts_with};
-ghost use Rattle.pep440_version.specs.Reading.{lead};
-ghost use Rattle.pyver_requirements.specs.OptionNames.{abbreviates, count_options, is_long_option, is_option_byte, is_short_option, long_fault, option_fault, short_fault};
+ghost use Rattle.pyver_requirements.specs.OptionFaults.{takes_path};
+ghost use Rattle.pyver_requirements.specs.OptionNames.{count_options, flags, is_long_option, is_option_byte, is_short_option, long_fault, name_fault, name_options, names_one_of, names_option, path_options, short_fault};
 
 use crate::line_fault::LineFault;
 
-const LONG_OPTIONS: [&str; 18] = [
+const LONG_OPTIONS: [&str; 20] = [
     "--index-url",
     "--pypi-url",
     "--extra-index-url",
@@ -19,12 +19,31 @@ const LONG_OPTIONS: [&str; 18] = [
     "--only-binary",
     "--prefer-binary",
     "--require-hashes",
+    "--no-require-hashes",
     "--pre",
+    "--all-releases",
+    "--only-final",
     "--trusted-host",
     "--use-feature",
-    "--global-option",
     "--hash",
     "--config-settings",
+];
+
+const FLAGS: [&str; 5] = [
+    "--no-index",
+    "--prefer-binary",
+    "--require-hashes",
+    "--no-require-hashes",
+    "--pre",
+];
+
+const PATH_OPTIONS: [&str; 2] = ["--requirement", "--constraint"];
+
+const NAME_OPTIONS: [&str; 4] = [
+    "--no-binary",
+    "--only-binary",
+    "--all-releases",
+    "--only-final",
 ];
 
 fn count_beginning(options: &[&str], name: &[u8]) -> usize
@@ -43,12 +62,41 @@ fn count_options(name: &[u8]) -> usize
     count_beginning(&LONG_OPTIONS, name)
 }
 
-// This long option begins so, and no other does.
-#[tactic(auto, unfolding(crate::specs::OptionNames::abbreviates))]
-pub(crate) fn abbreviates(option: &[u8], name: &[u8]) -> bool
-    ensures { result ≡ abbreviates option.now name.now }
+// The option has this name, or begins so while no other does.
+#[tactic(auto, unfolding(crate::specs::OptionNames::names_option))]
+pub(crate) fn names_option(option: &[u8], name: &[u8]) -> bool
+    ensures { result ≡ names_option option.now name.now }
 {
-    option.starts_with(name) && count_options(name) == 1
+    option == name || (option.starts_with(name) && count_options(name) == 1)
+}
+
+fn names_one_of(options: &[&str], name: &[u8]) -> bool
+    ensures { result ≡ list_any (λ option. names_option option.now name.now) options.now }
+{
+    options
+        .iter()
+        .any(|option| names_option(option.as_bytes(), name))
+}
+
+// The option takes no value.
+pub(crate) fn is_flag(name: &[u8]) -> bool
+    ensures { result ≡ names_one_of flags name.now }
+{
+    names_one_of(&FLAGS, name)
+}
+
+// Its value is a list of names.
+pub(crate) fn takes_names(name: &[u8]) -> bool
+    ensures { result ≡ names_one_of name_options name.now }
+{
+    names_one_of(&NAME_OPTIONS, name)
+}
+
+// Its value is the path of a file.
+pub(crate) fn takes_path(name: &[u8]) -> bool
+    ensures { result ≡ takes_path name.now }
+{
+    names_one_of(&PATH_OPTIONS, name) || name == "-r".as_bytes() || name == "-c".as_bytes()
 }
 
 fn is_option_byte(byte: u8) -> bool
@@ -82,7 +130,7 @@ fn is_long_option(name: &[u8]) -> bool
 fn long_fault(name: &[u8]) -> Option<LineFault>
     ensures { result ≡ long_fault name.now }
 {
-    if is_long_option(name) || name == "--".as_bytes() {
+    if is_long_option(name) {
         return None;
     }
     match count_options(name) {
@@ -98,25 +146,23 @@ fn is_short_option(letter: u8) -> bool
     matches!(letter, b'i' | b'e' | b'r' | b'c' | b'f' | b'C')
 }
 
-fn short_fault(text: &[u8]) -> Option<LineFault>
-    ensures { result ≡ short_fault text.now }
+fn short_fault(name: &[u8]) -> Option<LineFault>
+    ensures { result ≡ short_fault name.now }
 {
-    match text {
-        [_, letter, ..] if !letter.is_ascii_whitespace() && !is_short_option(*letter) => {
-            Some(LineFault::UnknownOption)
-        }
-        _ => None,
+    match name {
+        [_, letter, ..] if is_short_option(*letter) => None,
+        _ => Some(LineFault::UnknownOption),
     }
 }
 
-// Why pip does not know the option that the line begins with.
-#[tactic(auto, unfolding(crate::specs::OptionNames::option_fault))]
-pub(crate) fn option_fault(text: &[u8]) -> Option<LineFault>
-    ensures { result ≡ option_fault text.now }
+// Why this is not the name of an option.
+#[tactic(auto, unfolding(crate::specs::OptionNames::name_fault))]
+pub(crate) fn name_fault(name: &[u8]) -> Option<LineFault>
+    ensures { result ≡ name_fault name.now }
 {
-    if text.starts_with("--".as_bytes()) {
-        long_fault(&text[..count_name_bytes(text)])
+    if name.starts_with("--".as_bytes()) {
+        long_fault(name)
     } else {
-        short_fault(text)
+        short_fault(name)
     }
 }

@@ -1,10 +1,24 @@
-//! Values of options, as a shell splits them.
-ghost use Rattle.std.specs.Prelude.{◌≡◌, ◌==◌, None, drop, option_map};
-ghost use Rattle.pyver_requirements.specs.OptionValues.{first_value, from_long_value, from_value, is_quote, long_value, next_quote, quoted_word, value_column, without_quotes};
+//! Words and values of options, as a shell splits them.
+ghost use Rattle.std.specs.Prelude.{◌≡◌, ◌≤◌, ◌==◌, drop, length, option_map};
+ghost use Rattle.pyver_requirements.specs.OptionValues.{closes, first_value, from_long_value, from_value, is_plain, is_quote, long_value, next_state, shell_word, value_column, without_quotes};
 
 use crate::comment::trim_blanks;
 use crate::line_parts::split_at_first;
 use crate::option_name::count_name_bytes;
+
+// What the bytes so far leave open.
+#[derive(Clone, Copy)]
+pub(crate) enum ShellState {
+    Plain,
+    // Behind a backslash.
+    Escaped,
+    // In single quotes.
+    Single,
+    // In double quotes.
+    Double,
+    // Behind a backslash in them.
+    EscapedInDouble,
+}
 
 pub(crate) fn is_quote(byte: u8) -> bool
     ensures { result ≡ is_quote byte }
@@ -12,32 +26,59 @@ pub(crate) fn is_quote(byte: u8) -> bool
     byte == b'"' || byte == b'\''
 }
 
-// The quote that is open after the byte, if this one was open before.
-fn pass_quote(quote: Option<u8>, byte: u8) -> Option<u8>
-    ensures { result ≡ next_quote quote byte }
+fn is_plain(state: ShellState) -> bool
+    ensures { result ≡ is_plain state }
 {
-    match quote {
-        None => is_quote(byte).then_some(byte),
-        Some(open) => (byte != open).then_some(open),
+    matches!(state, ShellState::Plain)
+}
+
+fn pass_byte(state: ShellState, byte: u8) -> ShellState
+    ensures { result ≡ next_state state byte }
+{
+    match (state, byte) {
+        (ShellState::Plain, b'\\') => ShellState::Escaped,
+        (ShellState::Plain, b'\'') => ShellState::Single,
+        (ShellState::Plain, b'"') => ShellState::Double,
+        (ShellState::Single, b'\'') => ShellState::Plain,
+        (ShellState::Single, _) => ShellState::Single,
+        (ShellState::Double, b'\\') => ShellState::EscapedInDouble,
+        (ShellState::Double, b'"') => ShellState::Plain,
+        (ShellState::Double, _) => ShellState::Double,
+        (ShellState::EscapedInDouble, _) => ShellState::Double,
+        (_, _) => ShellState::Plain,
     }
 }
 
-// Up to the first blank that stands in no quotes.
-fn take_quoted_word(text: &[u8]) -> &[u8]
-    ensures { result.now ≡ quoted_word None text.now }
+// Up to the first blank that stands in no quotes and after no backslash.
+pub(crate) fn take_word(text: &[u8]) -> &[u8]
+    ensures value { result.now ≡ shell_word ShellState.Plain text.now }
+    ensures inside { length result.now ≤ length text.now }
 {
-    let mut quote = None;
+    let mut state = ShellState::Plain;
     for (at, byte) in text.iter().enumerate() {
-        if quote.is_none() && byte.is_ascii_whitespace() {
+        if is_plain(state) && byte.is_ascii_whitespace() {
             return &text[..at];
         }
-        quote = pass_quote(quote, *byte);
+        state = pass_byte(state, *byte);
     }
     text
 }
 
+// No quote is open at the end, and no backslash stands there.
+pub(crate) fn closes(text: &[u8]) -> bool
+    ensures { result ≡ closes ShellState.Plain text.now }
+{
+    let mut state = ShellState::Plain;
+    let mut rest = text;
+    while let [byte, later @ ..] = rest {
+        state = pass_byte(state, *byte);
+        rest = later;
+    }
+    is_plain(state)
+}
+
 // Quotes elsewhere than around the whole word stay, since a part of the text has no gaps.
-fn strip_quotes(word: &[u8]) -> &[u8]
+pub(crate) fn strip_quotes(word: &[u8]) -> &[u8]
     ensures { result.now ≡ without_quotes word.now }
 {
     let [first, rest @ ..] = word else {
@@ -56,7 +97,7 @@ fn strip_quotes(word: &[u8]) -> &[u8]
 pub(crate) fn first_value(text: &[u8]) -> &[u8]
     ensures { result.now ≡ first_value text.now }
 {
-    strip_quotes(take_quoted_word(text))
+    strip_quotes(take_word(text))
 }
 
 // The value of a long option, of which the text follows the name.
@@ -81,7 +122,7 @@ fn skip_long_name(text: &[u8]) -> &[u8]
     }
 }
 
-fn skip_short_name(text: &[u8]) -> &[u8]
+pub(crate) fn skip_short_name(text: &[u8]) -> &[u8]
     ensures { result.now ≡ drop 2 text.now }
 {
     match text {

@@ -8,4 +8,4 @@ use Rattle.pyver_findings.proofs.halves.find_by_sets.Goals as goal
 pub returns : goal.returns
 returns c =
     let view = λ (x : Bor DemandValue). demand_of x.now in
-    IfOk-weaker c.find_needed.result _ _ (λ kept needed. needs_smallest c.in_ok-all.all (map view c.args.lines.now) (map view kept.items) c.in_ok-all.ensures needed) c.find_needed.ensures.kept
+    IfOk-weaker c.find_core.result _ _ (λ kept needed. needs_smallest c.in_ok-all.all (map view c.args.lines.now) (map view kept.items) c.in_ok-all.ensures needed) c.find_core.ensures.kept

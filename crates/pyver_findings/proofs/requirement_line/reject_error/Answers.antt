@@ -7,7 +7,7 @@ use Rattle.pyver_findings.specs.Columns.{column}
 use Rattle.pyver_findings.specs.Findings.{NoRequirement}
 use Rattle.pyver_findings.specs.LineMeanings.{IsNone, rejection_meaning, requirement_reason}
 use Rattle.pyver_findings.specs.Views.{file_line_of, line_meaning_of}
-use Rattle.pyver_requirements.specs.LinePartViews.{line_parts_of}
+use Rattle.pyver_requirements.specs.LineViews.{line_parts_of}
 use Rattle.pyver_findings.proofs.Reasons.{reason_is, refusal_in}
 use Rattle.pyver_findings.proofs.requirement_line.reject_error.Goals as goal
 

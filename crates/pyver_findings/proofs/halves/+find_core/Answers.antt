@@ -8,8 +8,8 @@ use Rattle.pyver_findings.specs.Views.{demand_of}
 use Rattle.pyver_findings.specs.declared.demand.Demand.{Demand as DemandValue}
 use Rattle.pyver_findings.proofs.Halving.{Narrows, first_smaller, half_smaller, needs_halves, needs_none, needs_one, nil_needed, not_nil, one_of, sound_front, sound_joined, sound_rest}
 use Rattle.pyver_findings.proofs.SmallestLists.{is_nil}
-use Rattle.pyver_findings.proofs.halves.+find_needed.Goals as goal
-use Rattle.pyver_findings.proofs.halves.+find_needed.Goals.{then-is_empty-via-then-is_empty, then-is_empty-via-else-is_empty+then-is_empty-2}
+use Rattle.pyver_findings.proofs.halves.+find_core.Goals as goal
+use Rattle.pyver_findings.proofs.halves.+find_core.Goals.{then-is_empty-via-then-is_empty, then-is_empty-via-else-is_empty+then-is_empty-2}
 
 pub returns-then-is_empty-clause-kept : goal.returns-then-is_empty-clause-kept
 returns-then-is_empty-clause-kept t c =
@@ -43,8 +43,8 @@ narrow-requires t c =
     let view = λ (x : Bor DemandValue). demand_of x.now in
     sound_front view c.args.lines.now (length c.args.lines.now / 2) c.requires
 
-pub find_needed-requires : goal.find_needed-requires
-find_needed-requires t c =
+pub find_core-requires : goal.find_core-requires
+find_core-requires t c =
     let view = λ (x : Bor DemandValue). demand_of x.now in
     let lines = c.args.lines.now in
     let some : 0 < length lines = not_nil lines _ c.is_empty-else-is_empty.ensures c.if-is_empty-2.false in
@@ -57,8 +57,8 @@ narrow-requires-2 t c =
     let view = λ (x : Bor DemandValue). demand_of x.now in
     subst (λ xs. All IsSound (map view xs)) (sym c.as_slice.ensures.value) c.in_ok-later.ensures.sound
 
-pub find_needed-requires-2 : goal.find_needed-requires-2
-find_needed-requires-2 t c =
+pub find_core-requires-2 : goal.find_core-requires-2
+find_core-requires-2 t c =
     let view = λ (x : Bor DemandValue). demand_of x.now in
     let lines = c.args.lines.now in
     let some : 0 < length lines = not_nil lines _ c.is_empty-else-is_empty.ensures c.if-is_empty-2.false in

@@ -1,0 +1,240 @@
+-- A string has the parts of a requirement if and only if the grammar derives it.
+use Rattle.std.proofs.Common.{◌≡◌, ◌⊎◌, ◌∙◌, ◌==◌, ◌||◌, ◌&&◌, ℕ, List, [], ◌∷◌, ◌++◌, Bool, true, false, not, Option, Some, None, Result, Ok, length, option_map, refl, sym, ap, subst, inl, inr, if◌then◌else◌}
+use Rattle.std.proofs.lemmas.Bool.{and_parts, eqb-true, or_cases, or_parts, true≢false}
+use Rattle.std.proofs.lemmas.List.{append-nil, append_assoc}
+use Rattle.std.specs.List.{list_all, list_any}
+use Rattle.pep440_pick.specs.RequirementGrammar.{DerivesRequirement, Needed, has_byte}
+use Rattle.pep440_version.proofs.Reading.Prefixes.{lead-all, lead-run, past-run, past-stops}
+use Rattle.pep440_version.proofs.Reading.ReadIsDerived.{split}
+use Rattle.pep440_version.specs.Grammar.{starts}
+use Rattle.pep440_version.specs.Reading.{lead, past}
+use Rattle.pyver_findings.proofs.SmallestLists.{is_nil}
+use Rattle.pyver_findings.specs.FindingLaws.{AreParts, FitsUrl, HasMarker}
+use Rattle.pyver_findings.specs.LineMeanings.{IsPlain, has_right_url}
+use Rattle.pyver_findings.specs.StringGrammar.{AreSpaces, DerivesString, IsLinked, IsMarkerPart, IsUrl, StringsHaveGrammar}
+use Rattle.pyver_requirements.proofs.MarkerDerivations.{read_markers_are_derived}
+use Rattle.pyver_requirements.proofs.MarkerReadings.{markers_are_read}
+use Rattle.pyver_requirements.specs.LineParts.{LineParts, behind_url, is_blank_byte, is_list_byte, is_url_byte, line_parts, parts_before, parts_behind, skip_blanks, url_parts}
+use Rattle.pyver_requirements.specs.MarkerGrammar.{DenotesMarker, Marker, terms}
+use Rattle.pyver_requirements.specs.MarkerReading.{marker}
+use Rattle.pyver_requirements.specs.MarkerTerms.{terms_text}
+
+-- ---- bytes
+
+not_true : (b : Bool) → not b ≡ true → b ≡ false
+not_true true e = sym e
+not_true false e = refl
+
+not_false : (b : Bool) → not b ≡ false → b ≡ true
+not_false true e = refl
+not_false false e = sym e
+
+-- what has neither `;` nor `@` goes on as a list
+list_bytes : (text : List ℕ) → has_byte 59 text ≡ false → has_byte 64 text ≡ false → list_all is_list_byte text ≡ true
+list_bytes [] a b = refl
+list_bytes (x ∷ rest) a b =
+    let s = or_parts (x == 59) (has_byte 59 rest) a in
+    let t = or_parts (x == 64) (has_byte 64 rest) b in
+    let later = list_bytes rest s.1 t.1 in
+    λ j. not (t.0 j || s.0 j) && later j
+
+derived_bytes : (front : List ℕ) (n : Needed) → DerivesRequirement front n → list_all is_list_byte front ≡ true
+derived_bytes front n d = list_bytes front d.1.plain.marker d.1.plain.url
+
+no_blank : (url : List ℕ) → list_all is_url_byte url ≡ true → list_any is_blank_byte url ≡ false
+no_blank [] all = refl
+no_blank (x ∷ url) all =
+    let both = and_parts (is_url_byte x) (list_all is_url_byte url) all in
+    let here = not_true (is_blank_byte x) both.0 in
+    let later = no_blank url both.1 in
+    λ j. here j || later j
+
+all_url : (url : List ℕ) → list_any is_blank_byte url ≡ false → list_all is_url_byte url ≡ true
+all_url [] none = refl
+all_url (x ∷ url) none =
+    let both = or_parts (is_blank_byte x) (list_any is_blank_byte url) none in
+    let later = all_url url both.1 in
+    λ j. not (both.0 j) && later j
+
+-- ---- what the grammar derives
+
+parts_of_front : (front rest : List ℕ) → list_all is_list_byte front ≡ true → starts is_list_byte rest ≡ false → line_parts (front ++ rest) ≡ parts_before (front ++ rest) front rest
+parts_of_front front rest all ends = λ j. parts_before (front ++ rest) (lead-run is_list_byte front rest all ends j) (past-run is_list_byte front rest all ends j)
+
+marker_of : (p : LineParts) (rest : List ℕ) (m : Marker) → p.marker ≡ Some rest → DenotesMarker rest m → (k : Option (List ℕ)) × HasMarker p k
+marker_of p rest m is denotes = (Some (terms_text (terms m)), ap (option_map marker) is ∙ ap Some (markers_are_read rest m denotes))
+
+listed : (front rest : List ℕ) (n : Needed) → IsPlain front → DerivesRequirement front n → IsMarkerPart rest → AreParts (line_parts (front ++ rest))
+listed front rest n plain d (inl none) =
+    subst (λ r. AreParts (line_parts (front ++ r))) (sym none)
+    (subst AreParts (sym (parts_of_front front [] (derived_bytes front n d) refl)) (plain, (n, d, ((None, refl), tt))))
+listed front rest n plain d (inr (text, m, is, denotes)) =
+    subst (λ r. AreParts (line_parts (front ++ r))) (sym is)
+    (subst AreParts (sym (parts_of_front front (59 ∷ text) (derived_bytes front n d) refl)) (plain, (n, d, (marker_of (parts_before (front ++ 59 ∷ text) front (59 ∷ text)) text m refl denotes, tt))))
+
+starts_url : (url later : List ℕ) → IsUrl url → starts is_blank_byte (url ++ later) ≡ false
+starts_url [] later (some, all) = absurd (some refl)
+starts_url (x ∷ url) later (some, all) = not_true (is_blank_byte x) (and_parts (is_url_byte x) (list_all is_url_byte url) all).0
+
+module _ (front blanks url more rest : List ℕ) (n : Needed) (plain : IsPlain front) (d : DerivesRequirement front n) (lists : n.specifiers ≡ []) (before : AreSpaces blanks) (is_url : IsUrl url) (behind : AreSpaces more) where
+  abbrev tail : List ℕ
+  tail = url ++ (more ++ rest)
+
+  abbrev text : List ℕ
+  text = front ++ 64 ∷ (blanks ++ tail)
+
+  fits : FitsUrl (Some url) n
+  fits = let none = no_blank url is_url.1 in (is_url.0, λ j. (length (lists j) == 0) && not (none j))
+
+  linked_by : starts is_url_byte (more ++ rest) ≡ false → starts is_blank_byte rest ≡ false → line_parts text ≡ parts_behind text front tail rest
+  linked_by ends_url ends_more =
+      parts_of_front front (64 ∷ (blanks ++ tail)) (derived_bytes front n d) refl
+      ∙ ap (url_parts text front) (past-run is_blank_byte blanks tail before (starts_url url (more ++ rest) is_url))
+      ∙ ap (parts_behind text front tail) (ap skip_blanks (past-run is_url_byte url (more ++ rest) is_url.1 ends_url) ∙ past-run is_blank_byte more rest behind ends_more)
+
+  url_here : starts is_url_byte (more ++ rest) ≡ false → FitsUrl (Some (lead is_url_byte tail)) n
+  url_here ends_url = subst (λ w. FitsUrl (Some w) n) (sym (lead-run is_url_byte url (more ++ rest) is_url.1 ends_url)) fits
+
+ends_blanks : (more rest : List ℕ) → AreSpaces more → ¬ (more ≡ []) → starts is_url_byte (more ++ rest) ≡ false
+ends_blanks [] rest all some = absurd (some refl)
+ends_blanks (x ∷ more) rest all some = let blank = (and_parts (is_blank_byte x) (list_all is_blank_byte more) all).0 in ap not blank
+
+linked : (text : List ℕ) → IsLinked text → AreParts (line_parts text)
+linked text (front, blanks, url, more, rest, is, (plain, (n, d, lists)), before, is_url, behind, inl (no_more, no_rest)) =
+    let ends : starts is_url_byte (more ++ rest) ≡ false = subst (λ r. starts is_url_byte (r ++ rest) ≡ false) (sym no_more) (subst (λ r. starts is_url_byte r ≡ false) (sym no_rest) refl) in
+    let ends_more : starts is_blank_byte rest ≡ false = subst (λ r. starts is_blank_byte r ≡ false) (sym no_rest) refl in
+    let tail = url ++ (more ++ rest) in
+    let whole = front ++ 64 ∷ (blanks ++ tail) in
+    let same : line_parts text ≡ parts_behind whole front tail [] =
+    ap line_parts is ∙ linked_by front blanks url more rest n plain d lists before is_url behind ends ends_more ∙ ap (parts_behind whole front tail) no_rest in
+    subst AreParts (sym same) (plain, (n, d, ((None, refl), url_here front blanks url more rest n plain d lists before is_url behind ends)))
+linked text (front, blanks, url, more, rest, is, (plain, (n, d, lists)), before, is_url, behind, inr (some, inl no_rest)) =
+    let ends = ends_blanks more rest behind some in
+    let ends_more : starts is_blank_byte rest ≡ false = subst (λ r. starts is_blank_byte r ≡ false) (sym no_rest) refl in
+    let tail = url ++ (more ++ rest) in
+    let whole = front ++ 64 ∷ (blanks ++ tail) in
+    let same : line_parts text ≡ parts_behind whole front tail [] =
+    ap line_parts is ∙ linked_by front blanks url more rest n plain d lists before is_url behind ends ends_more ∙ ap (parts_behind whole front tail) no_rest in
+    subst AreParts (sym same) (plain, (n, d, ((None, refl), url_here front blanks url more rest n plain d lists before is_url behind ends)))
+linked text (front, blanks, url, more, rest, is, (plain, (n, d, lists)), before, is_url, behind, inr (some, inr (last, m, semicolon, denotes))) =
+    let ends = ends_blanks more rest behind some in
+    let ends_more : starts is_blank_byte rest ≡ false = subst (λ r. starts is_blank_byte r ≡ false) (sym semicolon) refl in
+    let tail = url ++ (more ++ rest) in
+    let whole = front ++ 64 ∷ (blanks ++ tail) in
+    let same : line_parts text ≡ parts_behind whole front tail (59 ∷ last) =
+    ap line_parts is ∙ linked_by front blanks url more rest n plain d lists before is_url behind ends ends_more ∙ ap (parts_behind whole front tail) semicolon in
+    subst AreParts (sym same) (plain, (n, d, (marker_of (parts_behind whole front tail (59 ∷ last)) last m refl denotes, url_here front blanks url more rest n plain d lists before is_url behind ends)))
+
+-- ---- what is read
+
+denoted_by : (rest : List ℕ) (k : Option (List ℕ)) → Some (marker rest) ≡ option_map Ok k → (m : Marker) × DenotesMarker rest m
+denoted_by rest None has = cc has
+denoted_by rest (Some normal) has = let read : marker rest ≡ Ok normal = cc has in let r = read_markers_are_derived rest normal read in (r.0, r.1)
+
+-- a byte that ends a list and is no `@` is `;`
+semicolon_is : (b : ℕ) → is_list_byte b ≡ false → (b == 64) ≡ false → b ≡ 59
+semicolon_is b ends other = elim (or_cases (b == 64) (b == 59) (not_false ((b == 64) || (b == 59)) ends)) [
+  | inl is ↦ absurd (true≢false (sym is ∙ other))
+  | inr is ↦ eqb-true b 59 is
+]
+
+more_or_none : (more : List ℕ) → ((more ≡ []) × (let none : List ℕ = [] in none ≡ [])) ⊎ ((¬ (more ≡ [])) × IsMarkerPart [])
+more_or_none [] = inl (refl, refl)
+more_or_none (x ∷ more) = inr ((λ e. cc e), inl refl)
+
+module _ (text : List ℕ) where
+  abbrev front : List ℕ
+  front = lead is_list_byte text
+
+  module _ (t : List ℕ) (text_is : text ≡ front ++ 64 ∷ t) where
+    abbrev rest : List ℕ
+    rest = skip_blanks t
+
+    abbrev blanks : List ℕ
+    blanks = lead is_blank_byte t
+
+    abbrev url : List ℕ
+    url = lead is_url_byte rest
+
+    abbrev more : List ℕ
+    more = lead is_blank_byte (past is_url_byte rest)
+
+    split_text : (last : List ℕ) → behind_url rest ≡ last → text ≡ front ++ 64 ∷ (blanks ++ (url ++ (more ++ last)))
+    split_text last is =
+        text_is
+        ∙ ap (λ (r : List ℕ). front ++ 64 ∷ r) (split is_blank_byte t)
+        ∙ ap (λ (r : List ℕ). front ++ 64 ∷ (blanks ++ r)) (split is_url_byte rest)
+        ∙ ap (λ (r : List ℕ). front ++ 64 ∷ (blanks ++ (url ++ r))) (split is_blank_byte (past is_url_byte rest) ∙ ap (λ (r : List ℕ). more ++ r) is)
+
+    specifiers_none : (n : Needed) (w : List ℕ) → has_right_url w n ≡ true → n.specifiers ≡ []
+    specifiers_none n w right = is_nil n.specifiers (and_parts (length n.specifiers == 0) (not (list_any is_blank_byte w)) right).0
+
+    -- before `;` stands a blank
+    some_more : (b : ℕ) (last : List ℕ) → behind_url rest ≡ b ∷ last → is_url_byte b ≡ true → ¬ (more ≡ [])
+    some_more b last is passes none =
+        let ends : starts is_url_byte (past is_url_byte rest) ≡ false = past-stops is_url_byte rest in
+        let all : past is_url_byte rest ≡ b ∷ last = split is_blank_byte (past is_url_byte rest) ∙ ap (λ (r : List ℕ). r ++ behind_url rest) none ∙ is in
+        true≢false (sym passes ∙ sym (ap (starts is_url_byte) all) ∙ ends)
+
+    by_semicolon : (e : Bool) (b : ℕ) (last : List ℕ) → (b == 59) ≡ e → behind_url rest ≡ b ∷ last
+        → AreParts (if e then record { text = text; requirement = front; url = Some url; marker = Some last } else record { text = text; requirement = front; url = Some rest; marker = None }) → DerivesString text
+    by_semicolon true b last e is (plain, (n, d, ((k, has), (some, right)))) =
+        let semicolon : b ≡ 59 = eqb-true b 59 e in
+        let m = denoted_by last k has in
+        inr (
+          front,
+          blanks,
+          url,
+          more,
+          b ∷ last,
+          split_text (b ∷ last) is,
+          (plain, (n, d, specifiers_none n url right)),
+          lead-all is_blank_byte t,
+          (some, lead-all is_url_byte rest),
+          lead-all is_blank_byte (past is_url_byte rest),
+          inr (some_more b last is (ap is_url_byte semicolon), inr (last, m.0, ap (λ c. c ∷ last) semicolon, m.1)),
+        )
+    by_semicolon false b last e is (plain, (n, d, ((k, has), (some, right)))) =
+        let whole = not_true (list_any is_blank_byte rest) (and_parts (length n.specifiers == 0) (not (list_any is_blank_byte rest)) right).1 in
+        let none : past is_url_byte rest ≡ [] = sym (ap (past is_url_byte) (append-nil rest)) ∙ past-run is_url_byte rest [] (all_url rest whole) refl in
+        let empty : behind_url rest ≡ [] = ap skip_blanks none in
+        let same : [] ≡ b ∷ last = sym empty ∙ is in
+        cc same
+
+    by_behind : (last : List ℕ) → behind_url rest ≡ last → AreParts (parts_behind text front rest last) → DerivesString text
+    by_behind [] is (plain, (n, d, ((k, has), (some, right)))) =
+        inr (
+          front,
+          blanks,
+          url,
+          more,
+          [],
+          split_text [] is,
+          (plain, (n, d, specifiers_none n url right)),
+          lead-all is_blank_byte t,
+          (some, lead-all is_url_byte rest),
+          lead-all is_blank_byte (past is_url_byte rest),
+          more_or_none more,
+        )
+    by_behind (b ∷ last) is parts = by_semicolon (b == 59) b last refl is parts
+
+  by_byte : (e : Bool) (b : ℕ) (t : List ℕ) → (b == 64) ≡ e → past is_list_byte text ≡ b ∷ t
+      → AreParts (if e then url_parts text front (skip_blanks t) else record { text = text; requirement = front; url = None; marker = Some t }) → DerivesString text
+  by_byte true b t e is parts =
+      let at : b ≡ 64 = eqb-true b 64 e in
+      by_behind t (split is_list_byte text ∙ ap (λ (r : List ℕ). front ++ r) (is ∙ ap (λ c. c ∷ t) at)) (behind_url (skip_blanks t)) refl parts
+  by_byte false b t e is (plain, (n, d, ((k, has), fits))) =
+      let ends : is_list_byte b ≡ false = sym (ap (starts is_list_byte) is) ∙ past-stops is_list_byte text in
+      let m = denoted_by t k has in
+      inl (front, b ∷ t, split is_list_byte text ∙ ap (λ (r : List ℕ). front ++ r) is, plain, (n, d), inr (t, m.0, ap (λ c. c ∷ t) (semicolon_is b ends e), m.1))
+
+  by_rest : (rest : List ℕ) → past is_list_byte text ≡ rest → AreParts (parts_before text front rest) → DerivesString text
+  by_rest [] is (plain, (n, d, more)) = inl (front, [], split is_list_byte text ∙ ap (λ (r : List ℕ). front ++ r) is, plain, (n, d), inl refl)
+  by_rest (b ∷ t) is parts = by_byte (b == 64) b t refl is parts
+
+derived : (text : List ℕ) → DerivesString text → AreParts (line_parts text)
+derived text (inl (front, rest, is, plain, (n, d), part)) = subst (λ s. AreParts (line_parts s)) (sym is) (listed front rest n plain d part)
+derived text (inr is) = linked text is
+
+pub strings_have_grammar : StringsHaveGrammar
+strings_have_grammar text = (derived text, by_rest text (past is_list_byte text) refl)

@@ -1,9 +1,0 @@
-use Rattle.std.proofs.Common.{arith}
-use Rattle.std.proofs.lemmas.Grind.{common_steps}
-use Rattle.pep440_rs.proofs.Blanks.{start_trimmed}
-use Rattle.pyver_findings.proofs.column.skip_to_marker.Goals as goal
-
-pub returns : goal.returns
-returns c =
-    let e = start_trimmed c.skip_bytes.result.now c.trim_ascii_start.result.now c.trim_ascii_start.ensures.value in
-    grind (arith, common_steps)
