@@ -129,8 +129,11 @@ static void ask_in_place(const Bytes *form)
     for (uint8_t prereleases = 0; prereleases <= PEP440_ASKED_PRERELEASES; prereleases++) {
         status = pep440_allows(list, sizeof list, OF(form), prereleases, &is);
         hold(status == PEP440_INVALID_VERSION || (status == PEP440_OK && is <= 1), "allows, a version");
+        int asks_set = form->length > 0 && form->bytes[0] == 7 && prereleases == PEP440_ASKED_PRERELEASES;
         status = pep440_allows(OF(form), early_version, sizeof early_version, prereleases, &is);
-        hold(status == PEP440_INVALID_LIST || (status == PEP440_OK && is <= 1), "allows, a list");
+        hold(asks_set ? status == PEP440_NO_LIST : status == PEP440_INVALID_LIST || (status == PEP440_OK && is <= 1), "allows, a list");
+        status = pep440_allows(OF(form), (const uint8_t *)"1", 1, prereleases, &is);
+        hold(asks_set ? status == PEP440_NO_LIST : status == PEP440_INVALID_LIST || (status == PEP440_OK && is <= 1), "allows, a string");
     }
 }
 
@@ -195,9 +198,9 @@ static void hold_no_list(const Bytes *form)
     hold(pep440_compile_list(OF(form), TO(&found)) == PEP440_INVALID_LIST, "compile_list");
     hold(pep440_boundaries(OF(form), found.bytes, ROOM, ends, 1, &found.length, &count) == PEP440_INVALID_LIST && count == 7, "boundaries");
     hold(pep440_contains(OF(form), (const uint8_t *)"1", 1, &any, &early) == PEP440_INVALID_LIST && any == 7, "contains a string");
-    hold(pep440_allows(OF(form), (const uint8_t *)"1", 1, 1, &any) == PEP440_INVALID_LIST && any == 7, "allows a string");
-    if (form->length == 0 || form->bytes[0] != 6)
-        hold(pep440_allows(OF(form), version, sizeof version, 1, &any) == PEP440_INVALID_LIST && any == 7, "allows, a list without its set");
+    if (form->length == 0 || form->bytes[0] < 6 || form->bytes[0] > 7)
+        hold(pep440_allows(OF(form), (const uint8_t *)"1", 1, 1, &any) == PEP440_INVALID_LIST && any == 7 &&
+             pep440_allows(OF(form), version, sizeof version, 1, &any) == PEP440_INVALID_LIST && any == 7, "allows, a list without its set");
 }
 
 /* Whether no string denotes the list: a member orders by a version with a local part. */

@@ -25,7 +25,7 @@ ghost use Rattle.pep440_calls.specs.SetCalls.{IsComplement, IsIntersection, IsUn
 ghost use Rattle.pep440_calls.specs.Statuses.{IsFlagOf, SetFaults, WritesBytes, WritesBytesOr, WritesOrFails};
 
 use pep440_calls::{
-    Parts, write_allowed, write_boundaries, write_build_error, write_compiled, write_compiled_list,
+    Parts, write_allow_flag, write_boundaries, write_build_error, write_compiled, write_compiled_list,
     write_compiled_specifier, write_complement, write_edit_error, write_edited, write_error,
     write_intersection, write_marks, write_match, write_members, write_newest, write_normal_form,
     write_normal_list, write_order, write_parts, write_pattern, write_positions,
@@ -191,7 +191,7 @@ pub extern "C" fn pep440_allows(
 ) -> u8
     ensures { AllowsResult list.now text.now prereleases allowed.old allowed.new result }
 {
-    write_allowed(alloc, list, text, prereleases, allowed)
+    write_allow_flag(alloc, list, text, prereleases, allowed)
 }
 
 /// Whether a version of the list's specifiers is a pre-release or a developmental release, 1 or 0.

@@ -28,6 +28,7 @@ string_read bytes plain (Err fault.OutOfMemory) h = h
 string_read bytes plain (Err fault.NumberAtMax) h = h
 string_read bytes plain (Err fault.InvalidRight) h = h
 string_read bytes plain (Err fault.NoSet) h = h
+string_read bytes plain (Err fault.NoList) h = h
 
 pub compiled_read : (bytes : List ℕ) → HasVersionFormat bytes → (result : Result Record Fault) → HoldsOrFaults (IsNoCompiledVersion bytes) ⊥ ⊥ (DenotesVersion bytes) result → HoldsOrFaults (RejectsBytes bytes) ⊥ ⊥ (BytesDenote bytes) result
 compiled_read bytes format (Ok r) d = inr d
@@ -37,6 +38,7 @@ compiled_read bytes format (Err fault.OutOfMemory) h = h
 compiled_read bytes format (Err fault.NumberAtMax) h = h
 compiled_read bytes format (Err fault.InvalidRight) h = h
 compiled_read bytes format (Err fault.NoSet) h = h
+compiled_read bytes format (Err fault.NoList) h = h
 
 -- compiled bytes denote what they denote as a compiled form
 pub as_compiled : (bytes : List ℕ) (r : Record) → HasVersionFormat bytes → BytesDenote bytes r → DenotesVersion bytes r
@@ -56,6 +58,7 @@ list_string_read bytes plain (Err fault.OutOfMemory) h = h
 list_string_read bytes plain (Err fault.NumberAtMax) h = h
 list_string_read bytes plain (Err fault.InvalidRight) h = h
 list_string_read bytes plain (Err fault.NoSet) h = h
+list_string_read bytes plain (Err fault.NoList) h = h
 
 pub compiled_list_read : (bytes : List ℕ) → HasListFormat bytes → (result : Result (List Spec) Fault) → HoldsOrFaults ⊥ (IsNoCompiledList bytes) ⊥ (DenotesList bytes) result → HoldsOrFaults ⊥ (RejectsListBytes bytes) ⊥ (BytesDenoteList bytes) result
 compiled_list_read bytes format (Ok l) d = inr d
@@ -65,6 +68,7 @@ compiled_list_read bytes format (Err fault.OutOfMemory) h = h
 compiled_list_read bytes format (Err fault.NumberAtMax) h = h
 compiled_list_read bytes format (Err fault.InvalidRight) h = h
 compiled_list_read bytes format (Err fault.NoSet) h = h
+compiled_list_read bytes format (Err fault.NoList) h = h
 
 pub as_compiled_list : (bytes : List ℕ) (l : List Spec) → HasListFormat bytes → BytesDenoteList bytes l → DenotesList bytes l
 as_compiled_list bytes l format (inl (plain, means)) = absurd (plain format)

@@ -9,7 +9,7 @@ ghost use Rattle.pep440_calls.specs.Statuses.{HoldsOr, SetFaults, WritesBytesOr}
 use crate::buffer::{OK, flag, put_bytes};
 use crate::fault::Fault;
 use crate::one_list::compile_list;
-use pep440_compiled::{CompiledError, has_lone_set_format, has_set_format};
+use pep440_compiled::{has_lone_set_format, has_set_format};
 use std::alloc::Global;
 
 /// Writes the versions that are not in the set, as a set by itself. The set is that of a list or a set by itself. Status 12 if the list has
@@ -90,7 +90,7 @@ fn compile_set(alloc: Global, list: &[u8]) -> Result<Vec<u8>, Fault>
 }
 
 // Whether the bytes begin as a compiled form that has a set.
-fn has_form(bytes: &[u8]) -> bool
+pub(crate) fn has_form(bytes: &[u8]) -> bool
     ensures { (result ≡ true) ↔ HasFormatOfSets bytes.now }
 {
     has_set_format(bytes) || has_lone_set_format(bytes)
@@ -122,11 +122,7 @@ fn complement(alloc: Global, set: &[u8]) -> Result<Vec<u8>, Fault>
     ensures { HoldsOr (SetFault set.now) (λ bytes. IsComplement set.now bytes.items) result }
 {
     let form = to_form(alloc, set)?;
-    match pep440_compiled::complement(alloc, form.as_slice()) {
-        Ok(bytes) => Ok(bytes),
-        Err(CompiledError::NotCompiled) => Err(Fault::InvalidList),
-        Err(CompiledError::OutOfMemory) => Err(Fault::OutOfMemory),
-    }
+    Ok(pep440_compiled::complement(alloc, form.as_slice())?)
 }
 
 // What two sets share.
@@ -135,11 +131,7 @@ fn intersection(alloc: Global, left: &[u8], right: &[u8]) -> Result<Vec<u8>, Fau
 {
     let left_form = to_form(alloc, left)?;
     let right_form = to_right_form(alloc, right)?;
-    match pep440_compiled::intersection(alloc, left_form.as_slice(), right_form.as_slice()) {
-        Ok(bytes) => Ok(bytes),
-        Err(CompiledError::NotCompiled) => Err(Fault::InvalidList),
-        Err(CompiledError::OutOfMemory) => Err(Fault::OutOfMemory),
-    }
+    Ok(pep440_compiled::intersection(alloc, left_form.as_slice(), right_form.as_slice())?)
 }
 
 // What is in one of two sets.
@@ -148,11 +140,7 @@ fn union(alloc: Global, left: &[u8], right: &[u8]) -> Result<Vec<u8>, Fault>
 {
     let left_form = to_form(alloc, left)?;
     let right_form = to_right_form(alloc, right)?;
-    match pep440_compiled::union(alloc, left_form.as_slice(), right_form.as_slice()) {
-        Ok(bytes) => Ok(bytes),
-        Err(CompiledError::NotCompiled) => Err(Fault::InvalidList),
-        Err(CompiledError::OutOfMemory) => Err(Fault::OutOfMemory),
-    }
+    Ok(pep440_compiled::union(alloc, left_form.as_slice(), right_form.as_slice())?)
 }
 
 // Whether the left set is in the right one.
@@ -161,9 +149,5 @@ fn is_subset(alloc: Global, left: &[u8], right: &[u8]) -> Result<bool, Fault>
 {
     let left_form = to_form(alloc, left)?;
     let right_form = to_right_form(alloc, right)?;
-    match pep440_compiled::is_subset(alloc, left_form.as_slice(), right_form.as_slice()) {
-        Ok(inside) => Ok(inside),
-        Err(CompiledError::NotCompiled) => Err(Fault::InvalidList),
-        Err(CompiledError::OutOfMemory) => Err(Fault::OutOfMemory),
-    }
+    Ok(pep440_compiled::is_subset(alloc, left_form.as_slice(), right_form.as_slice())?)
 }

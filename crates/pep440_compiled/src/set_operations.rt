@@ -15,7 +15,7 @@ ghost use Rattle.pep440_version.specs.Record.{Record};
 
 use crate::byte_order::cmp_bytes;
 use crate::error::CompiledError;
-use crate::set_bytes::{push_sized, split_sized};
+use crate::set_bytes::{push_with_length, split_by_length};
 use std::alloc::AllocError;
 
 // The low key and the high key of the leading interval, and what follows it.
@@ -25,8 +25,8 @@ fn split_interval(set: &[u8]) -> Option<(&[u8], &[u8], &[u8])>
         → MatchOption result ⊥ (λ p. (p.0.now ≡ low_bytes (segment_interval s)) × (p.1.now ≡ high_bytes (segment_interval s)) × (p.2.now ≡ rest)) }
     ensures shorter { IfSome result (λ p. length p.2.now < length set.now) }
 {
-    let (low, rest) = split_sized(set)?;
-    let (high, rest) = split_sized(rest)?;
+    let (low, rest) = split_by_length(set)?;
+    let (high, rest) = split_by_length(rest)?;
     Some((low, high, rest))
 }
 
@@ -34,8 +34,8 @@ fn split_interval(set: &[u8]) -> Option<(&[u8], &[u8], &[u8])>
 fn push_keys(out: &mut Vec<u8>, low: &[u8], high: &[u8]) -> Result<(), AllocError>
     ensures { OnOk result (out.new.items ≡ out.old.items ++ (sized_bytes low.now ++ sized_bytes high.now)) }
 {
-    push_sized(out, low)?;
-    push_sized(out, high)
+    push_with_length(out, low)?;
+    push_with_length(out, high)
 }
 
 // Appends the gap before a start, if this has a key.

@@ -58,8 +58,8 @@ pub fn set_subset(alloc: Global, one: &str, other: &str) -> Result<String, CaseE
 pub fn set_has(alloc: Global, set: &str, version: &str) -> Result<String, CaseError> {
     let (set, version) = (bytes_argument(alloc, set)?, bytes_argument(alloc, version)?);
     let text = match set_contains(set.as_slice(), version.as_slice()) {
-        Ok(true) => "yes",
-        Ok(false) => "no",
+        Ok((true, _)) => "yes",
+        Ok((false, _)) => "no",
         Err(ContainsError::NoVersion) => "no version",
         Err(ContainsError::NoList) => "no set",
     };

@@ -90,9 +90,9 @@ fn of_library(alloc: Global, call: &str, arguments: &[String]) -> Result<String,
         | "write_sort_keys" => print_joined(alloc, call, given),
         "write_order"
         | "write_match"
-        | "write_allowed"
-        | "write_allowed_none"
-        | "write_allowed_all"
+        | "write_allow_flag"
+        | "write_allow_flag_none"
+        | "write_allow_flag_all"
         | "write_prerelease_flag"
         | "write_subset"
         | "write_word"
