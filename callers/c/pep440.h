@@ -298,18 +298,18 @@ uint8_t pep440_word(const uint8_t *version, size_t length, uint64_t *word);
 uint8_t pep440_ranges(const uint8_t *list, size_t length, uint8_t *out, size_t size,
                       size_t *written);
 
-/* Writes the set of the list, which is exactly what it matches by today's rule: sort keys, two for
-   each interval in ascending order, one after the other, at the start of `out`, and to `ends` where
-   each of them ends, counted from the start of `out`; to `written` how many bytes they are, and to
-   `count` how many keys. The list matches a version exactly if the sort key of the version is at
-   least the first and below the second key of an interval, compared as pep440_sort_key says, local
-   versions and pre-releases too: so an index over stored keys finds the versions of a list, and
-   none need be asked again. A key of no bytes is no bound: of the first each key is at least that,
-   of the second leave out the comparison. The keys are not always sort keys of versions. With
-   PEP440_NO_ROOM (`size` is less than the bytes, or `ends_size` less than the keys) `written` and
-   `count` are written, and `out` and `ends` are unchanged. PEP440_NO_SET if the list has `===`,
-   which compares how versions are written; with `==` in its place the set has what the list
-   matches, and equal versions. */
+/* Writes the set of a list, which is exactly what it matches by today's rule, or a set by itself
+   (below): sort keys, two for each interval in ascending order, one after the other, at the start
+   of `out`, and to `ends` where each of them ends, counted from the start of `out`; to `written`
+   how many bytes they are, and to `count` how many keys. The list matches a version exactly if the
+   sort key of the version is at least the first and below the second key of an interval, compared
+   as pep440_sort_key says, local versions and pre-releases too: so an index over stored keys finds
+   the versions of a list, and none need be asked again. A key of no bytes is no bound: of the
+   first each key is at least that, of the second leave out the comparison. The keys are not always
+   sort keys of versions. With PEP440_NO_ROOM (`size` is less than the bytes, or `ends_size` less
+   than the keys) `written` and `count` are written, and `out` and `ends` are unchanged.
+   PEP440_NO_SET if the list has `===`, which compares how versions are written; with `==` in its
+   place the set has what the list matches, and equal versions. */
 uint8_t pep440_boundaries(const uint8_t *list, size_t length, uint8_t *out, size_t size,
                           size_t *ends, size_t ends_size, size_t *written, size_t *count);
 

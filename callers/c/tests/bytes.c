@@ -4,7 +4,9 @@
                  versions and lists: each is rejected, or is a string, or is what its normalized form is compiled to, a list with or without its set,
                  or is a list that no string denotes, as <1+a
    bytes write   prints the 1,000 compiled forms, each behind its length
-   bytes read    holds what another process wrote so against its own */
+   bytes read    holds what another process wrote so against its own
+   bytes allows  of each line, a list, a tab and a version, prints whether the list allows it without pre-releases, with all and as it asks, as `010`, if
+                 strings and compiled forms say the same, else `differ` */
 #include <stdio.h>
 #include <stdlib.h>
 #include <string.h>
@@ -196,10 +198,11 @@ static void hold_no_list(const Bytes *form)
     uint8_t any = 7, early = 7;
     hold(pep440_any_prerelease(OF(form), &any) == PEP440_INVALID_LIST && any == 7, "any_prerelease");
     hold(pep440_compile_list(OF(form), TO(&found)) == PEP440_INVALID_LIST, "compile_list");
-    hold(pep440_boundaries(OF(form), found.bytes, ROOM, ends, 1, &found.length, &count) == PEP440_INVALID_LIST && count == 7, "boundaries");
     hold(pep440_contains(OF(form), (const uint8_t *)"1", 1, &any, &early) == PEP440_INVALID_LIST && any == 7, "contains a string");
-    if (form->length == 0 || form->bytes[0] < 6 || form->bytes[0] > 7)
-        hold(pep440_allows(OF(form), (const uint8_t *)"1", 1, 1, &any) == PEP440_INVALID_LIST && any == 7 &&
+    if (form->length > 0 && (form->bytes[0] == 6 || form->bytes[0] == 7))
+        return; /* taken as they lie */
+    hold(pep440_boundaries(OF(form), found.bytes, ROOM, ends, 1, &found.length, &count) == PEP440_INVALID_LIST && count == 7, "boundaries");
+    hold(pep440_allows(OF(form), (const uint8_t *)"1", 1, 1, &any) == PEP440_INVALID_LIST && any == 7 &&
              pep440_allows(OF(form), version, sizeof version, 1, &any) == PEP440_INVALID_LIST && any == 7, "allows, a list without its set");
 }
 
@@ -452,11 +455,45 @@ static int read_forms(void)
     return wrong ? EXIT_FAILURE : EXIT_SUCCESS;
 }
 
+/* ---- lists and versions of standard input */
+
+/* Whether the list allows the version; 8 where it is no list or no version. */
+static unsigned allows(const Bytes *of, const Bytes *version, unsigned prereleases)
+{
+    uint8_t is = 8;
+    return pep440_allows(OF(of), OF(version), (uint8_t)prereleases, &is) == PEP440_OK ? is : 8;
+}
+
+static int print_allowed(void)
+{
+    static char line[4 * ROOM];
+    Bytes lists[3], versions[2];
+    while (fgets(line, sizeof line, stdin)) {
+        char said[] = "010";
+        size_t length = strcspn(line, "\t"), end = strcspn(line, "\n");
+        if (end < length || length > ROOM || end - length > ROOM)
+            return EXIT_FAILURE;
+        memcpy(lists[0].bytes, line, lists[0].length = length);
+        memcpy(versions[0].bytes, line + length + 1, versions[0].length = end - length - 1);
+        /* With the set, and without. */
+        hold(pep440_compile_list(OF(&lists[0]), TO(&lists[1])) == PEP440_OK && pep440_compile(OF(&versions[0]), TO(&versions[1])) == PEP440_OK, line);
+        lists[2] = lists[1];
+        drop_set(&lists[2]);
+        for (unsigned prereleases = 0; prereleases < 3; prereleases++) {
+            said[prereleases] = (char)('0' + allows(&lists[0], &versions[0], prereleases));
+            for (size_t other = 1; other < 6; other++)
+                hold(allows(&lists[other / 2], &versions[other % 2], prereleases) == (unsigned)(said[prereleases] - '0'), line);
+        }
+        puts(wrong ? "differ" : said);
+    }
+    return wrong ? EXIT_FAILURE : EXIT_SUCCESS;
+}
+
 int main(int count, char **words)
 {
     Bytes form;
     if (count > 1)
-        return strcmp(words[1], "write") == 0 ? write_forms() : read_forms();
+        return strcmp(words[1], "write") == 0 ? write_forms() : strcmp(words[1], "read") == 0 ? read_forms() : print_allowed();
     hold_literals();
     for (size_t number = 0; number < VERSIONS + LISTS; number++) {
         some_form(number, &form);

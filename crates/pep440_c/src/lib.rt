@@ -21,8 +21,8 @@ ghost use Rattle.pep440_calls.specs.CallerBytes.{RejectsBytes, RejectsListBytes}
 ghost use Rattle.pep440_calls.specs.NewestString.{NewestResult};
 ghost use Rattle.pep440_calls.specs.PatternCalls.{IsCompiledSpecifier, IsSpecifier, PatternResult, RejectsOperand, RejectsOperator, RejectsSpecifierBytes};
 ghost use Rattle.pep440_calls.specs.Ranges.{IsRangeLines, LacksRange, JoinsRangeBounds};
-ghost use Rattle.pep440_calls.specs.SetCalls.{IsComplement, IsIntersection, IsUnion, JoinsBoundaries, LacksSet, SetFault, SubsetResult, TwoSetFaults};
-ghost use Rattle.pep440_calls.specs.Statuses.{IsFlagOf, SetFaults, WritesBytes, WritesBytesOr, WritesOrFails};
+ghost use Rattle.pep440_calls.specs.SetCalls.{IsComplement, IsIntersection, IsUnion, JoinsBoundaries, SetFault, SubsetResult, TwoSetFaults};
+ghost use Rattle.pep440_calls.specs.Statuses.{IsFlagOf, WritesBytes, WritesBytesOr, WritesOrFails};
 
 use pep440_calls::{
     Parts, write_allow_flag, write_boundaries, write_build_error, write_compiled, write_compiled_list,
@@ -263,20 +263,20 @@ pub extern "C" fn pep440_ranges(
     write_range(alloc, list, out, written)
 }
 
-/// Writes the set of the list as sort keys, two an interval, and where each of them ends: the set has a version if its key is at least the first of an interval and below the second.
+/// Writes the set, of a list or by itself, as sort keys, two an interval, and where each of them ends: the set has a version if its key is at least the first of an interval and below the second.
 #[unsafe(no_mangle)]
 pub extern "C" fn pep440_boundaries(
     alloc: Global,
-    list: &[u8],
+    set: &[u8],
     out: &mut [u8],
     ends: &mut [usize],
     written: &mut usize,
     count: &mut usize,
 ) -> u8
-    ensures { WritesJoinedOr (SetFaults (RejectsListBytes list.now) ⊥ (LacksSet list.now)) (JoinsBoundaries list.now)
+    ensures { WritesJoinedOr (SetFault set.now) (JoinsBoundaries set.now)
         out.old out.new ends.old ends.new written.old written.new count.old count.new result }
 {
-    write_boundaries(alloc, list, out, ends, written, count)
+    write_boundaries(alloc, set, out, ends, written, count)
 }
 
 /// Writes the versions that are not in the set, of a list or by itself, as a set by itself.

@@ -1,7 +1,7 @@
 -- A version's key lies in an interval of the set of a list exactly if the list matches the version literally.
 use Rattle.std.proofs.Common.{◌≡◌, ◌∙◌, ℕ, List, ap}
 use Rattle.std.specs.List.{All, list_any}
-use Rattle.pep440_compiled.proofs.SetKeys.{set_tells}
+use Rattle.pep440_compiled.proofs.SetKeys.{not_exact, set_tells}
 use Rattle.pep440_keys.specs.RangeKeys.{is_within, segment_interval}
 use Rattle.pep440_keys.specs.SortKeys.{key_bytes}
 use Rattle.pep440_rs.specs.Bounds.{Segments}
@@ -14,14 +14,11 @@ use Rattle.pep440_version.specs.Record.{Record}
 use Rattle.pep440_calls.proofs.Compiling.{means_parsed}
 use Rattle.pep440_calls.proofs.Once.{one_bytes_list}
 use Rattle.pep440_calls.specs.CallerBytes.{BytesDenote, BytesDenoteList}
-use Rattle.pep440_calls.specs.SetCalls.{BytesDenoteSet}
+use Rattle.pep440_calls.specs.SetCalls.{HasListSet}
 
-tells : (bytes text : List ℕ) (l : List Spec) (r : Record) → All IsDenotable l → BytesDenoteSet bytes (list_set l) → BytesDenoteList bytes l → BytesDenote text r → list_any (λ s. is_within (segment_interval s) (key_bytes r)) (list_set l) ≡ list_matches_literally l r
-tells bytes text l r all (m, means, none, is) also denotes =
+pub key_tells : (bytes text : List ℕ) (set : Segments) (l : List Spec) (r : Record) → All IsDenotable l → HasListSet bytes set → BytesDenoteList bytes l → BytesDenote text r → list_any (λ s. is_within (segment_interval s) (key_bytes r)) set ≡ list_matches_literally l r
+key_tells bytes text set l r all (m, means, given, is) also denotes =
     let parsed = means_parsed text r denotes in
-    set_tells (list_set l) r (list_is_set l all) parsed ∙ list_holds l all (rw (one_bytes_list bytes l m also means) none) r (parsed_denoted r parsed)
-
-pub key_tells : (bytes text : List ℕ) (set : Segments) (l : List Spec) (r : Record) → All IsDenotable l → BytesDenoteSet bytes set → BytesDenoteList bytes l → BytesDenote text r → list_any (λ s. is_within (segment_interval s) (key_bytes r)) set ≡ list_matches_literally l r
-key_tells bytes text set l r all (m, means, none, is) also denotes =
-    let same = is ∙ ap list_set (one_bytes_list bytes m l means also) in
-    ap (list_any (λ s. is_within (segment_interval s) (key_bytes r))) same ∙ tells bytes text l r all (m, means, none, ap list_set (one_bytes_list bytes l m also means)) also denotes
+    let same = one_bytes_list bytes m l means also in
+    ap (list_any (λ s. is_within (segment_interval s) (key_bytes r))) (is ∙ ap list_set same)
+    ∙ set_tells (list_set l) r (list_is_set l all) parsed ∙ list_holds l all (not_exact l (rw same given)) r (parsed_denoted r parsed)

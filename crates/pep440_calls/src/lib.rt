@@ -18,7 +18,7 @@
 //! written, except `at` by a batch that stops.
 //!
 //! In reading order: `fault` and `buffer`, how each call ends; `read`, with which each begins; `one_version`, `two_versions`, `one_list`,
-//! `membership`, `sets` and `set_calls`, `patterns` and `edits`; `joined_strings`, which `list_ranges` and `batch` write; `newest_string`; `messages`, why bytes
+//! `membership`, `set_calls`, `patterns` and `edits`; `joined_strings`, which `list_ranges` and `batch` write; `newest_string`; `messages`, why bytes
 //! are invalid; and `laws`.
 #![tactic(auto)]
 
@@ -37,7 +37,6 @@ mod one_version;
 mod patterns;
 mod read;
 mod set_calls;
-mod sets;
 mod two_versions;
 
 pub use batch::{write_marks, write_positions, write_sort_keys};
@@ -53,6 +52,7 @@ pub use one_version::{
     Parts, write_compiled, write_normal_form, write_parts, write_sort_key, write_word,
 };
 pub use patterns::{write_compiled_specifier, write_pattern, write_specifier};
-pub use set_calls::{write_complement, write_intersection, write_subset, write_union};
-pub use sets::write_boundaries;
+pub use set_calls::{
+    write_boundaries, write_complement, write_intersection, write_subset, write_union,
+};
 pub use two_versions::write_order;

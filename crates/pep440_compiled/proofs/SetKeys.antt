@@ -187,12 +187,14 @@ each_denotable (s ∷ list) all h =
 pub denotable : (list : List Spec) → All IsParsedMember list → has_set list ≡ true → All IsDenotable list
 denotable list all given = All-from_recursion IsDenotable list (each_denotable list (recursion_from_All IsParsedMember list all) (right_true (not (has_exact list)) (list_all stands list) given))
 
+pub not_exact : (list : List Spec) → has_set list ≡ true → has_exact list ≡ false
+not_exact list given = turned (has_exact list) (left_true (not (has_exact list)) (list_all stands list) given)
+
 -- the set of a list has what the list matches literally
 pub set_matches : (list : List Spec) (r : Record) → All IsParsedMember list → has_set list ≡ true → IsParsed r → contains record_cmp (list_set list) r ≡ list_matches_literally list r
 set_matches list r parsed given p =
     let all = denotable list parsed given in
-    let none = turned (has_exact list) (left_true (not (has_exact list)) (list_all stands list) given) in
-    list_holds list all none r (parsed_denoted r p)
+    list_holds list all (not_exact list given) r (parsed_denoted r p)
 
 -- ---- whether a list has a set
 

@@ -1,5 +1,6 @@
 //! Sets of versions as compiled forms: what is made of one and of two, and what they hold.
-ghost use Rattle.std.specs.Prelude.{◌≡◌, ◌↔◌, ◌∷◌, [], Ok, IfErr, IfOk, IfSome, IsTrue, MatchOption, false, true};
+ghost use Rattle.std.specs.Prelude.{◌≡◌, ◌↔◌, ◌∷◌, [], Ok, IfErr, IfOk, IfSome, IsTrue, MatchOption, false, map, true};
+ghost use Rattle.pep440_compiled.specs.SetBytes.{set_keys};
 ghost use Rattle.pep440_compiled.specs.SetForms.{DenotesSet, HasFormatOfSets, HasLoneSetFormat, HasSet, IsBytesOf};
 ghost use Rattle.pep440_compiled.specs.Version.{DenotesVersion, HasVersionFormat};
 ghost use Rattle.pep440_compiled.specs.declared.error.CompiledError.TheVariants as unread;
@@ -16,7 +17,7 @@ ghost use Rattle.pep440_version.specs.Record.{Record};
 use crate::error::{CompiledError, ContainsError};
 use crate::list::split_set;
 use crate::set_bytes::holds_key;
-use crate::set_operations::{push_gaps, push_overlaps};
+use crate::set_operations::{collect_keys, push_gaps, push_overlaps};
 use crate::views::{strip_format, view_key, view_version_parts};
 use std::alloc::{AllocError, Global};
 
@@ -99,6 +100,22 @@ pub fn set_contains(set: &[u8], version: &[u8]) -> Result<(bool, bool), Contains
         // taken apart, or what is soon found has a place in memory, too
         None => Ok(contains_any(set, version)?),
     }
+}
+
+/// The sort keys between which the versions of a set lie, of a list or by itself: the low key and the high key of each interval, in order, no
+/// bytes for none. They are taken from the bytes as they lie. Bytes of another format are `NotCompiled`; of others that have no set,
+/// `NotCompiled` or any keys.
+///
+/// Allocates, and may return `OutOfMemory`.
+pub fn set_keys(alloc: Global, set: &[u8]) -> Result<Vec<&[u8]>, CompiledError>
+    ensures ok { (s : Segments) → HasSet set.now s → IfOk result (λ keys. map (λ k. k.now) keys.items ≡ set_keys s) }
+    ensures format { IfOk result (λ _. HasFormatOfSets set.now) }
+    ensures err { (s : Segments) → HasSet set.now s → IfErr result (λ e. e ≡ unread.NotCompiled → ⊥) }
+{
+    let Some(keys) = view_set(set) else {
+        return Err(CompiledError::NotCompiled);
+    };
+    collect_keys(alloc, keys)
 }
 
 // The format byte, with room for so many bytes.

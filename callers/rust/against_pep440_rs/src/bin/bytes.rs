@@ -1,10 +1,11 @@
 //! Compares random pairs of versions by their compiled bytes, by their strings and by the ported crate; batches of them, by their sort keys
-//! and as sorted; and edited ones with what the ported crate makes. Then gives random and changed byte strings to `pep440_normalize`: it
+//! and as sorted; edited ones with what the ported crate makes; and whether lists contain versions, as strings, with their sets and
+//! without. Then gives random and changed byte strings to `pep440_normalize`: it
 //! rejects them, or they are what the printed version is compiled to.
 //!
-//! Usage: bytes [COUNT [SEED]]    (1,000,000 of each, seed 440)
+//! Usage: bytes [COUNT [SEED]]    (1,000,000 of each, of lists twice as many, seed 440)
 use against_pep440_rs::chance::Chance;
-use against_pep440_rs::departures::is_misordered;
+use against_pep440_rs::departures::{self, is_misordered};
 use against_pep440_rs::views::{ours, theirs};
 use std::cmp::Ordering;
 
@@ -22,6 +23,15 @@ unsafe extern "C" {
     fn pep440_compile(version: *const u8, length: usize, out: *mut u8, size: usize, written: *mut usize) -> u8;
     fn pep440_normalize(version: *const u8, length: usize, out: *mut u8, size: usize, written: *mut usize) -> u8;
     fn pep440_compare(left: *const u8, left_length: usize, right: *const u8, right_length: usize, order: *mut i8) -> u8;
+    fn pep440_compile_list(list: *const u8, length: usize, out: *mut u8, size: usize, written: *mut usize) -> u8;
+    fn pep440_contains(
+        list: *const u8,
+        list_length: usize,
+        version: *const u8,
+        length: usize,
+        contained: *mut u8,
+        prerelease: *mut u8,
+    ) -> u8;
     fn pep440_sort(strings: *const Borrowed, count: usize, indices: *mut usize, size: usize, index: *mut usize) -> u8;
     fn pep440_sort_keys(
         strings: *const Borrowed,
@@ -48,6 +58,8 @@ const OK: u8 = 0;
 const INVALID_VERSION: u8 = 1;
 /// What a compiled version begins with.
 const VERSION: u8 = 4;
+/// What the members of a compiled list begin with.
+const MEMBERS: u8 = 5;
 
 /// What the call writes of the bytes, or its status.
 fn write(call: Writer, bytes: &[u8]) -> Result<Vec<u8>, u8> {
@@ -151,6 +163,49 @@ fn edit_version(chance: &mut Chance) {
     assert_eq!((status, std::str::from_utf8(&out[..written])), (OK, Ok(wanted.to_string().as_str())), "{text:?} {change}");
 }
 
+/// Whether the list contains the version, and whether this is a pre-release.
+fn contains(list: &[u8], version: &[u8]) -> (bool, bool) {
+    let (mut contained, mut early) = (7, 7);
+    let (list_start, start) = (list.as_ptr(), version.as_ptr());
+    // SAFETY: as in `write`.
+    let status = unsafe { pep440_contains(list_start, list.len(), start, version.len(), &mut contained, &mut early) };
+    assert_eq!(status, OK, "{list:?} {version:?}");
+    (contained == 1, early == 1)
+}
+
+/// The members of a compiled list, with their format byte: after the set and how many bytes it has, if it has one.
+fn members(compiled: &[u8]) -> &[u8] {
+    if compiled[0] == MEMBERS {
+        return compiled;
+    }
+    let (count, rest) = compiled[2..].split_at(usize::from(compiled[1]));
+    &rest[count.iter().fold(0, |size, byte| size * 256 + usize::from(*byte))..]
+}
+
+/// How many of the lists contain their version, and how many pairs the ported crate orders wrongly.
+fn ask_lists(chance: &mut Chance, count: u64) -> (u64, u64) {
+    let (mut all_contained, mut misordered) = (0, 0);
+    for _ in 0..count {
+        let text = chance.list();
+        let Ok(list) = text.parse::<theirs::VersionSpecifiers>() else { continue };
+        let (version, bytes, version_theirs) = some_version(chance);
+        let compiled = write(pep440_compile_list, text.as_bytes()).unwrap_or_else(|status| panic!("{text:?}: {status}"));
+        let found = contains(text.as_bytes(), version.as_bytes());
+        for form in [text.as_bytes(), &compiled, members(&compiled)] {
+            assert_eq!(contains(form, &bytes), found, "{text:?} {version:?} {form:?}");
+            assert_eq!(contains(form, version.as_bytes()), found, "{text:?} {version:?} {form:?}");
+        }
+        all_contained += u64::from(found.0);
+        if list.iter().any(|member| is_misordered(member.version(), &version_theirs)) {
+            misordered += 1;
+        } else {
+            let wanted = list.iter().all(|member| departures::contains(member, &version_theirs));
+            assert_eq!(found, (wanted, version_theirs.any_prerelease()), "{text:?} {version:?}");
+        }
+    }
+    (all_contained, misordered)
+}
+
 /// Compiled bytes with some bytes replaced, put in, left out, or cut; now and then bytes by chance.
 fn some_bytes(chance: &mut Chance) -> Vec<u8> {
     if chance.one_in(4) {
@@ -199,10 +254,13 @@ fn main() {
     let (equal, misordered) = compare_pairs(&mut chance, count);
     (0..count / 100).for_each(|_| sort_batch(&mut chance, 100));
     (0..count).for_each(|_| edit_version(&mut chance));
+    let (contained, unordered) = ask_lists(&mut chance, 2 * count);
     let printed = read_bytes(&mut chance, count);
     println!(
         "{count} pairs have one order by bytes, by strings and by the ported crate ({equal} equal; {misordered} that it orders wrongly); \
-         as many are sorted by their keys, and edited as it edits them; of {count} byte strings {printed} are what they print as, the others are rejected"
+         as many are sorted by their keys, and edited as it edits them; of {} lists {contained} contain a version by all, {unordered} have \
+         versions that it orders wrongly; of {count} byte strings {printed} are what they print as, the others are rejected",
+        2 * count
     );
     assert!(printed > count / 100 && printed < count, "each result is met");
 }
