@@ -68,15 +68,15 @@ module _ (set : List ℕ) (n : ℕ) (format : HasFormatOfSets set) (asked : ¬ A
   pub listed : HasSetFormat set
   listed = with_list set format (λ lone. asked (lone, two_or_more n some more))
 
-  pub takes_requests : (requests : Bool) → ((l : List Spec) → DenotesList set l → Ok {Bool} {Fault} requests ≡ Ok (requests_prereleases l)) → Takes set n requests
+  pub takes_requests : (requests : Bool) → ((l : List Spec) → DenotesList set l → requests ≡ requests_prereleases l) → Takes set n requests
   takes_requests requests found = record {
-    of_list = λ l lone means. let same : requests ≡ requests_prereleases l = (let is = found l (as_compiled_list set l (inr listed) means) in cc) in same ∙ takes_asked n l some more;
+    of_list = λ l lone means. found l (as_compiled_list set l (inr listed) means) ∙ takes_asked n l some more;
     of_set = λ lone. absurd (never_lone set listed lone);
   }
 
 -- ---- what is found in the set of a form
 
-found_in_set : (set version : List ℕ) (found : Bool × Bool) → HasFormatOfSets set → HasVersionFormat version
+pub found_in_set : (set version : List ℕ) (found : Bool × Bool) → HasFormatOfSets set → HasVersionFormat version
     → ((s : Segments) (r : Record) → HasSet set s → DenotesVersion version r → found ≡ (contains record_cmp s r, any_prerelease r)) → IsFoundInSet set version found
 found_in_set set version found format is_version told = record {
   of_list = λ l r lone means also.
@@ -85,10 +85,6 @@ found_in_set set version found format is_version told = record {
       told (list_set l) r (inr (l, d, refl)) e ∙ ap (λ b. (b, any_prerelease r)) (set_matches l r d.members.members d.given e.parsed);
   of_set = λ s r d also. told s r (inl d) (as_compiled version r is_version also);
 }
-
-pub of_contains : (set version : List ℕ) (found : Bool × Bool) → HasFormatOfSets set → HasVersionFormat version
-    → ((s : Segments) (r : Record) → HasSet set s → DenotesVersion version r → Ok {Bool × Bool} {Fault} found ≡ Ok (contains record_cmp s r, any_prerelease r)) → IsFoundInSet set version found
-of_contains set version found format is_version told = found_in_set set version found format is_version (λ s r h d. let is = told s r h d in cc)
 
 -- a form that has no set is rejected
 pub no_set : (set : List ℕ) → HasFormatOfSets set → ((s : Segments) → HasSet set s → ⊥) → RejectsSet set
