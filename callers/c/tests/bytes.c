@@ -13,7 +13,7 @@
 
 #include "pep440.h"
 
-enum { RANDOM = 200000, VERSIONS = 850, LISTS = 150, ROOM = 512 };
+enum { RANDOM = 200000, VERSIONS = 850, LISTS = 150, ROOM = 1024 };
 
 /* A string, or the bytes of a compiled form. */
 typedef struct {
