@@ -8,8 +8,8 @@ use Rattle.pep440_rs.specs.Matching.{any_prerelease, list_matches}
 use Rattle.pep440_rs.specs.Specifiers.{Spec}
 use Rattle.pep440_version.specs.Key.{record_cmp}
 use Rattle.pep440_version.specs.Record.{Record}
-use Rattle.pep440_calls.proofs.Once.{one_bytes_list, one_version}
-use Rattle.pep440_calls.specs.CallResults.{Contains, IsOrder, IsPrerelease, order_number}
+use Rattle.pep440_calls.proofs.Once.{never_both, one_bytes_list, one_version}
+use Rattle.pep440_calls.specs.CallResults.{Contains, IsOrder, IsPrerelease, RejectsSecond, order_number}
 use Rattle.pep440_calls.specs.CallerBytes.{IsNoCompiledList, IsNoCompiledVersion, BytesDenote, BytesDenoteList, StringDenotesList, StringDenotes, RejectsBytes, RejectsListBytes, RejectsListString, RejectsString}
 use Rattle.pep440_calls.specs.Statuses.{HoldsOrFaults}
 use Rattle.pep440_calls.specs.declared.fault.Fault.{Fault}
@@ -93,6 +93,24 @@ order_read left right r q o means also is = (
   inr ((r, means), (q, also)),
   λ x y first second. ap order_number (is ∙ (λ i. record_cmp (one_version left r x means first i) (one_version right q y also second i))),
 )
+
+-- matching of a compiled list and the compiled form of a string
+module _ (list text form : List ℕ) (format : HasListFormat list) (r : Record) (means : BytesDenote text r) (compiled : DenotesVersion form r) where
+  abbrev Found : List ℕ → Bool × Bool → Type 0
+  Found bytes found = Contains list bytes found.0 × IsPrerelease bytes found.1
+
+  pub contains_of_form : (result : Result (Bool × Bool) Fault) → HoldsOrFaults (RejectsSecond list form) (RejectsListBytes list) ⊥ (Found form) result → HoldsOrFaults (RejectsSecond list text) (RejectsListBytes list) ⊥ (Found text) result
+  contains_of_form (Ok found) h = (
+    (inl (format, inr (r, means)), λ l q lone also. h.0.1 l r lone (inr compiled) ∙ ap (list_matches l) (one_version text r q means also)),
+    λ q also. h.1 r (inr compiled) ∙ ap any_prerelease (one_version text r q means also),
+  )
+  contains_of_form (Err fault.InvalidVersion) h = absurd (never_both form r (inr compiled) h.1)
+  contains_of_form (Err fault.InvalidList) h = h
+  contains_of_form (Err fault.OutOfMemory) h = h
+  contains_of_form (Err fault.NumberAtMax) h = h
+  contains_of_form (Err fault.InvalidRight) h = h
+  contains_of_form (Err fault.NoSet) h = h
+  contains_of_form (Err fault.NoList) h = h
 
 -- matching of a list and a version that were read
 pub contains_read : (list text : List ℕ) (l : List Spec) (r : Record) (contained : Bool) → BytesDenoteList list l → BytesDenote text r → contained ≡ list_matches l r → Contains list text contained

@@ -107,9 +107,13 @@ module _ (left right : List ℕ) where
   abbrev pub OrderResult : ℤ → ℤ → ℕ → Type 0
   OrderResult old new status = ((order : Ordering) × (status ≡ 0) × (new ≡ order_number order) × IsOrder left right new) ⊎ ((new ≡ old) × (f : Fault) × OrderFaults f × (status ≡ fault_status f))
 
--- both begin as compiled forms, which are matched as they lie; or both denote something
+-- the bytes begin as a compiled version, which is taken as it lies, or denote a version
+abbrev pub IsTakenAsVersion : List ℕ → Type 0
+IsTakenAsVersion text = HasVersionFormat text ⊎ ((r : Record) × BytesDenote text r)
+
+-- the first bytes begin as a compiled list, which is taken as it lies; or they denote a list, and the others a version
 abbrev pub AreMatchable : List ℕ → List ℕ → Type 0
-AreMatchable list_text text = (HasListFormat list_text × HasVersionFormat text) ⊎ (((list : List Spec) × BytesDenoteList list_text list) × ((r : Record) × BytesDenote text r))
+AreMatchable list_text text = (HasListFormat list_text × IsTakenAsVersion text) ⊎ (((list : List Spec) × BytesDenoteList list_text list) × ((r : Record) × BytesDenote text r))
 
 -- whether the list contains the version, if the bytes denote them
 abbrev pub Contains : List ℕ → List ℕ → Bool → Type 0
@@ -119,9 +123,9 @@ Contains list_text text contained = AreMatchable list_text text × ((list : List
 abbrev pub IsPrerelease : List ℕ → Bool → Type 0
 IsPrerelease text early = (r : Record) → BytesDenote text r → early ≡ any_prerelease r
 
--- the version is invalid, and the list is not, or both begin as compiled forms: else the list is read first
+-- the version is invalid, and the list is not, or begins as a compiled one: else the list is read first
 abbrev pub RejectsSecond : List ℕ → List ℕ → Type 0
-RejectsSecond list_text text = ((HasListFormat list_text × HasVersionFormat text) ⊎ ((list : List Spec) × BytesDenoteList list_text list)) × RejectsBytes text
+RejectsSecond list_text text = (HasListFormat list_text ⊎ ((list : List Spec) × BytesDenoteList list_text list)) × RejectsBytes text
 
 -- both flags are written with status 0; otherwise both are unchanged, and the status is that of the failure
 abbrev pub ContainsResult : List ℕ → List ℕ → ℕ → ℕ → ℕ → ℕ → ℕ → Type 0
@@ -174,10 +178,6 @@ takes (suc zero) list = true
 takes (suc (suc n)) list = requests_prereleases list
 
 -- ---- what is allowed
-
--- the bytes begin as a compiled version, which is taken as it lies, or denote a version
-abbrev pub IsTakenAsVersion : List ℕ → Type 0
-IsTakenAsVersion text = HasVersionFormat text ⊎ ((r : Record) × BytesDenote text r)
 
 -- the first bytes begin as a compiled form that has a set, which is taken as it lies; or they denote a list, and the others a version
 abbrev pub AreAskable : List ℕ → List ℕ → Type 0

@@ -51,7 +51,21 @@ fn contains_compiled(list: &[u8], version: &[u8]) -> Result<(bool, bool), Fault>
     }
 }
 
-// Whether the list contains the version, and whether this is a pre-release or a developmental release; of any bytes.
+// The same of the version of a string, which is compiled first: in a normal spelling without allocating.
+fn contains_string(alloc: Global, list: &[u8], text: &[u8]) -> Result<(bool, bool), Fault>
+    requires { HasListFormat list.now }
+    ensures { HoldsOrFaults (RejectsSecond list.now text.now) (RejectsListBytes list.now) ⊥
+        (λ found. Contains list.now text.now found.0 × IsPrerelease text.now found.1) result }
+{
+    let mut form = ArrayVec::new();
+    if compile_normal(&mut form, text) {
+        return contains_compiled(list, form.as_slice());
+    }
+    let compiled = compile(alloc, text)?;
+    contains_compiled(list, compiled.as_slice())
+}
+
+// The same of a list that is read.
 fn contains(alloc: Global, list: &[u8], bytes: &[u8]) -> Result<(bool, bool), Fault>
     ensures { HoldsOrFaults (RejectsSecond list.now bytes.now) (RejectsListBytes list.now) ⊥
         (λ found. Contains list.now bytes.now found.0 × IsPrerelease bytes.now found.1) result }
@@ -62,7 +76,7 @@ fn contains(alloc: Global, list: &[u8], bytes: &[u8]) -> Result<(bool, bool), Fa
     Ok((contained, version.any_prerelease()))
 }
 
-// As `write_match`, of any bytes. A call of its own, so that two compiled forms pay nothing for strings.
+// As `write_match`, of a string at least. A call of its own, so that two compiled forms pay nothing for strings.
 #[inline(never)]
 fn write_parsed_match(
     alloc: Global,
@@ -73,12 +87,15 @@ fn write_parsed_match(
 ) -> u8
     ensures { ContainsResult list.now text.now contained.old contained.new prerelease.old prerelease.new result }
 {
+    if has_list_format(list) && !has_version_format(text) {
+        return put_match(contains_string(alloc, list, text), contained, prerelease);
+    }
     put_match(contains(alloc, list, text), contained, prerelease)
 }
 
 /// Whether the list contains the version, 1 or 0 (PEP 440, "Version specifiers"); and whether the version is a pre-release or
-/// a developmental release, 1 or 0 (PEP 440, "Handling of pre-releases"). The list is read first, unless both
-/// are compiled: then nothing is allocated.
+/// a developmental release, 1 or 0 (PEP 440, "Handling of pre-releases"). The list is read first, unless it is compiled: then
+/// nothing is allocated for a compiled version, or for a string in a normal spelling.
 pub fn write_match(
     alloc: Global,
     list: &[u8],

@@ -9,7 +9,7 @@ returns-in-Ok c =
     let version = c.args.version.now in
     let early = rw c.in-Ok.is at c.contains.ensures.prerelease in (
       (
-        inl (c.requires.list, c.requires.version),
+        inl (c.requires.list, inl c.requires.version),
         λ l r means also.
             let whole = c.contains.ensures.found l r (as_compiled_list list l c.requires.list means) (as_compiled version r c.requires.version also) in
             let same : c.in-Ok.found ≡ (list_matches l r, any_prerelease r) = cc in
@@ -21,7 +21,7 @@ returns-in-Ok c =
 pub returns-in-Err-NoVersion : goal.returns-in-Err-NoVersion
 returns-in-Err-NoVersion c =
     let none = rw c.in-Err-NoVersion.is at c.contains.ensures.version in
-    (inl (c.requires.list, c.requires.version), no_compiled c.args.version.now c.requires.version (none c.in-Err-NoVersion.field-0-is))
+    (inl c.requires.list, no_compiled c.args.version.now c.requires.version (none c.in-Err-NoVersion.field-0-is))
 
 pub returns-in-Err-NoList : goal.returns-in-Err-NoList
 returns-in-Err-NoList c =
