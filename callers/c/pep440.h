@@ -210,7 +210,7 @@ uint8_t pep440_compare(const uint8_t *left, size_t left_length, const uint8_t *r
    specifiers does; and to `prerelease` whether the version is a pre-release or a developmental
    release, 1 or 0, contained or not. Pre-releases are versions like others here: `>=1.0` contains
    `2.0rc1`.
-   If both are invalid PEP440_INVALID_LIST is returned; of two compiled forms, either. */
+   If both are invalid PEP440_INVALID_LIST is returned; of a compiled list, either. */
 uint8_t pep440_contains(const uint8_t *list, size_t list_length, const uint8_t *version,
                         size_t length, uint8_t *contained, uint8_t *prerelease);
 
