@@ -210,7 +210,7 @@ uint8_t pep440_compare(const uint8_t *left, size_t left_length, const uint8_t *r
    specifiers does; and to `prerelease` whether the version is a pre-release or a developmental
    release, 1 or 0, contained or not. Pre-releases are versions like others here: `>=1.0` contains
    `2.0rc1`.
-   If both are invalid PEP440_INVALID_LIST is returned; of a compiled list, either. */
+   If both are invalid PEP440_INVALID_LIST is returned; of two compiled forms, either. */
 uint8_t pep440_contains(const uint8_t *list, size_t list_length, const uint8_t *version,
                         size_t length, uint8_t *contained, uint8_t *prerelease);
 
@@ -225,7 +225,7 @@ enum { PEP440_NO_PRERELEASES = 0, PEP440_ALL_PRERELEASES = 1, PEP440_ASKED_PRERE
    `>=1.0rc1` does. SpecifierSet.contains of `packaging` allows all by default from 26.0 on, and
    before those that are asked for. A set by itself (below) allows versions in it in the same way, but
    has no list that asks: PEP440_NO_LIST if `prereleases` is neither of the first two. If both are
-   invalid PEP440_INVALID_LIST is returned; of a compiled list with its set, either. */
+   invalid PEP440_INVALID_LIST is returned; of a set by itself or of two compiled forms, either. */
 uint8_t pep440_allows(const uint8_t *list, size_t list_length, const uint8_t *version,
                       size_t length, uint8_t prereleases, uint8_t *allowed);
 

@@ -25,14 +25,14 @@ use Rattle.pep440_calls.specs.declared.fault.Fault.TheVariants as fault
 
 -- ---- of a list and a version that were read
 
-pub allows_read : (list text : List ℕ) (prereleases : ℕ) (l : List Spec) (r : Record) (taken allowed : Bool) → (¬ HasFormatOfSets list) → BytesDenoteList list l → BytesDenote text r → taken ≡ takes prereleases l → allowed ≡ list_allows_literally taken l r → Allows list text prereleases allowed
+pub allows_read : (list text : List ℕ) (prereleases : ℕ) (l : List Spec) (r : Record) (taken allowed : Bool) → (¬ HasLoneSetFormat list) → BytesDenoteList list l → BytesDenote text r → taken ≡ takes prereleases l → allowed ≡ list_allows_literally taken l r → Allows list text prereleases allowed
 allows_read list text prereleases l r taken allowed plain means also asks is = record {
   askable = inr ((l, means), (r, also));
-  asks = λ h. plain (inr h.0);
+  asks = λ h. plain h.0;
   of_list = λ m q lone first second.
       is ∙ ap (λ t. list_allows_literally t l r) asks
       ∙ (λ i. list_allows_literally (takes prereleases (one_bytes_list list l m means first i)) (one_bytes_list list l m means first i) (one_version text r q also second i));
-  of_set = λ s q d second. absurd (plain (inr (set_format list s d)));
+  of_set = λ s q d second. absurd (plain (set_format list s d));
 }
 
 -- ---- which format a form with a set has

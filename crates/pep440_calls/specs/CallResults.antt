@@ -123,9 +123,9 @@ Contains list_text text contained = AreMatchable list_text text × ((list : List
 abbrev pub IsPrerelease : List ℕ → Bool → Type 0
 IsPrerelease text early = (r : Record) → BytesDenote text r → early ≡ any_prerelease r
 
--- the version is invalid, and the list is not, or begins as a compiled one: else the list is read first
+-- the version is invalid, and the list is not, or both begin as compiled forms: else the list is read first
 abbrev pub RejectsSecond : List ℕ → List ℕ → Type 0
-RejectsSecond list_text text = (HasListFormat list_text ⊎ ((list : List Spec) × BytesDenoteList list_text list)) × RejectsBytes text
+RejectsSecond list_text text = ((HasListFormat list_text × HasVersionFormat text) ⊎ ((list : List Spec) × BytesDenoteList list_text list)) × RejectsBytes text
 
 -- both flags are written with status 0; otherwise both are unchanged, and the status is that of the failure
 abbrev pub ContainsResult : List ℕ → List ℕ → ℕ → ℕ → ℕ → ℕ → ℕ → Type 0
@@ -209,9 +209,9 @@ pub record Allows (list_text text : List ℕ) (prereleases : ℕ) (allowed : Boo
   pub of_list : (list : List Spec) (r : Record) → (¬ HasLoneSetFormat list_text) → BytesDenoteList list_text list → BytesDenote text r → allowed ≡ list_allows_literally (takes prereleases list) list r
   pub of_set : (set : Segments) (r : Record) → DenotesSet list_text set → BytesDenote text r → allowed ≡ set_allows (takes prereleases []) set r
 
--- the version is invalid, and the list is not, or begins as a compiled form that has a set: else the list is read first
+-- the version is invalid, and the list is not, or begins as a set by itself, or both begin as compiled forms: else the list is read first
 abbrev pub RejectsVersion : List ℕ → List ℕ → Type 0
-RejectsVersion list_text text = (HasFormatOfSets list_text ⊎ ((list : List Spec) × BytesDenoteList list_text list)) × RejectsBytes text
+RejectsVersion list_text text = ((HasFormatOfSets list_text × HasVersionFormat text) ⊎ HasLoneSetFormat list_text ⊎ ((list : List Spec) × BytesDenoteList list_text list)) × RejectsBytes text
 
 -- the bytes are no list, or begin as a set by itself and are none
 abbrev pub RejectsSet : List ℕ → Type 0

@@ -1,7 +1,7 @@
 //! Whether a list contains or allows a version.
 ghost use Rattle.std.specs.Prelude.{List, ℕ, true, ◌↔◌, ◌≡◌};
 ghost use Rattle.pep440_compiled.specs.Lists.{HasListFormat};
-ghost use Rattle.pep440_compiled.specs.SetForms.{HasFormatOfSets};
+ghost use Rattle.pep440_compiled.specs.SetForms.{HasFormatOfSets, HasLoneSetFormat};
 ghost use Rattle.pep440_compiled.specs.Version.{HasVersionFormat};
 ghost use Rattle.pep440_calls.specs.CallResults.{AllowFaults, Allows, AllowsResult, AsksSet, Contains, ContainsResult, IsFoundInSet, IsPrerelease, RejectsSecond, RejectsSet, RejectsVersion, Takes, takes};
 ghost use Rattle.pep440_calls.specs.CallerBytes.{RejectsListBytes};
@@ -51,7 +51,8 @@ fn contains_compiled(list: &[u8], version: &[u8]) -> Result<(bool, bool), Fault>
     }
 }
 
-// The same of the version of a string, which is compiled first: in a normal spelling without allocating.
+// The same of the version of a string, which is compiled first: in a normal spelling without allocating. If both are invalid, the list's
+// error is named.
 fn contains_string(alloc: Global, list: &[u8], text: &[u8]) -> Result<(bool, bool), Fault>
     requires { HasListFormat list.now }
     ensures { HoldsOrFaults (RejectsSecond list.now text.now) (RejectsListBytes list.now) ⊥
@@ -61,8 +62,10 @@ fn contains_string(alloc: Global, list: &[u8], text: &[u8]) -> Result<(bool, boo
     if compile_normal(&mut form, text) {
         return contains_compiled(list, form.as_slice());
     }
-    let compiled = compile(alloc, text)?;
-    contains_compiled(list, compiled.as_slice())
+    match compile(alloc, text) {
+        Ok(compiled) => contains_compiled(list, compiled.as_slice()),
+        Err(_) => contains(alloc, list, text),
+    }
 }
 
 // The same of a list that is read.
@@ -182,7 +185,24 @@ fn allows_version(set: &[u8], version: &[u8], prereleases: u8) -> Result<bool, F
     takes(set, prereleases)
 }
 
-// Whether a compiled form with a set allows the version of a string, which is compiled first: in a normal spelling without allocating.
+// The same of the version of a string in any spelling, which is compiled first. If both are invalid, the list's error is named.
+fn allows_spelling(alloc: Global, set: &[u8], text: &[u8], prereleases: u8) -> Result<bool, Fault>
+    requires set { HasFormatOfSets set.now }
+    requires asked { ¬ AsksSet set.now prereleases }
+    ensures { HoldsOr (AllowFaults set.now text.now prereleases) (Allows set.now text.now prereleases) result }
+{
+    match compile(alloc, text) {
+        Ok(compiled) => allows_version(set, compiled.as_slice(), prereleases),
+        Err(fault) => {
+            if has_lone_set_format(set) {
+                return Err(fault);
+            }
+            allows_parsed(alloc, set, text, prereleases)
+        }
+    }
+}
+
+// The same, in a normal spelling without allocating.
 #[inline(never)]
 fn allows_string(alloc: Global, set: &[u8], text: &[u8], prereleases: u8) -> Result<bool, Fault>
     requires set { HasFormatOfSets set.now }
@@ -193,8 +213,7 @@ fn allows_string(alloc: Global, set: &[u8], text: &[u8], prereleases: u8) -> Res
     if compile_normal(&mut form, text) {
         return allows_version(set, form.as_slice(), prereleases);
     }
-    let compiled = compile(alloc, text)?;
-    allows_version(set, compiled.as_slice(), prereleases)
+    allows_spelling(alloc, set, text, prereleases)
 }
 
 // Whether pre-releases are taken of a list that was read.
@@ -211,7 +230,7 @@ fn are_taken(list: &VersionSpecifiers, prereleases: u8) -> bool
 // Whether a list that is read allows the version that the bytes denote.
 #[inline(never)]
 fn allows_parsed(alloc: Global, list: &[u8], bytes: &[u8], prereleases: u8) -> Result<bool, Fault>
-    requires { ¬ HasFormatOfSets list.now }
+    requires { ¬ HasLoneSetFormat list.now }
     ensures { HoldsOr (AllowFaults list.now bytes.now prereleases) (Allows list.now bytes.now prereleases) result }
 {
     let specifiers = read_list(alloc, list)?;

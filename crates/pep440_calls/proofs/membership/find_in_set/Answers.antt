@@ -16,7 +16,7 @@ returns-in-Ok c =
 pub returns-in-Err-NoVersion : goal.returns-in-Err-NoVersion
 returns-in-Err-NoVersion c =
     let none = rw c.in-Err-NoVersion.is at c.set_contains.ensures.version in
-    (inl c.requires.set, no_compiled c.args.version.now c.requires.version (none c.in-Err-NoVersion.field-0-is))
+    (inl (c.requires.set, c.requires.version), no_compiled c.args.version.now c.requires.version (none c.in-Err-NoVersion.field-0-is))
 
 pub returns-in-Err-NoList : goal.returns-in-Err-NoList
 returns-in-Err-NoList c =
