@@ -1,6 +1,6 @@
 -- What a list allows, and what a set by itself does, of bytes that were read and of compiled bytes as they lie.
 use Rattle.std.proofs.Common.{◌≡◌, ◌∙◌, ◌&&◌, ◌||◌, ◌≤◌, ℕ, zero, suc, List, [], Bool, true, false, ap, arith, inl, inr, refl, sym}
-use Rattle.std.specs.Prelude.{Err, Ok, Result, not, unwrap_or}
+use Rattle.std.specs.Prelude.{◌==◌, Err, Ok, Result, not, unwrap_or}
 use Rattle.pep440_compiled.proofs.SetKeys.{set_matches}
 use Rattle.pep440_compiled.specs.Lists.{DenotesList, DenotesWithSet, HasSetFormat}
 use Rattle.pep440_compiled.specs.SetForms.{DenotesSet, HasFormatOfSets, HasLoneSetFormat, HasSet}
@@ -45,32 +45,26 @@ with_list : (bytes : List ℕ) → HasFormatOfSets bytes → (¬ HasLoneSetForma
 with_list bytes (inl six) lone = six
 with_list bytes (inr seven) lone = absurd (lone seven)
 
-two_or_more : (n : ℕ) → (n ≡ 0 → ⊥) → (n ≡ 1 → ⊥) → 2 ≤ n
-two_or_more zero some more = absurd (some refl)
-two_or_more (suc zero) some more = absurd (more refl)
-two_or_more (suc (suc n)) some more = omega arith
-
 -- ---- whether pre-releases are taken
 
-takes_asked : (n : ℕ) (l : List Spec) → (n ≡ 0 → ⊥) → (n ≡ 1 → ⊥) → requests_prereleases l ≡ takes n l
-takes_asked zero l some more = absurd (some refl)
-takes_asked (suc zero) l some more = absurd (more refl)
-takes_asked (suc (suc n)) l some more = refl
+takes_asked : (n : ℕ) (l : List Spec) → 2 ≤ n → requests_prereleases l ≡ takes n l
+takes_asked zero l two = absurd (omega (arith, two))
+takes_asked (suc zero) l two = absurd (omega (arith, two))
+takes_asked (suc (suc n)) l two = refl
 
-pub takes_none : (set : List ℕ) (n : ℕ) → n ≡ 0 → Takes set n false
-takes_none set n e = record { of_list = λ l lone means. ap (λ k. takes k l) (sym e); of_set = λ lone. ap (λ k. takes k []) (sym e) }
-
-pub takes_all : (set : List ℕ) (n : ℕ) → n ≡ 1 → Takes set n true
-takes_all set n e = record { of_list = λ l lone means. ap (λ k. takes k l) (sym e); of_set = λ lone. ap (λ k. takes k []) (sym e) }
+pub takes_plain : (set : List ℕ) (n : ℕ) → (2 ≤ n → ⊥) → Takes set n (n == 1)
+takes_plain set zero few = record { of_list = λ l lone means. refl; of_set = λ lone. refl }
+takes_plain set (suc zero) few = record { of_list = λ l lone means. refl; of_set = λ lone. refl }
+takes_plain set (suc (suc n)) few = absurd (few (omega arith))
 
 -- a list that is asked has its set before it
-module _ (set : List ℕ) (n : ℕ) (format : HasFormatOfSets set) (asked : ¬ AsksSet set n) (some : n ≡ 0 → ⊥) (more : n ≡ 1 → ⊥) where
+module _ (set : List ℕ) (n : ℕ) (format : HasFormatOfSets set) (asked : ¬ AsksSet set n) (two : 2 ≤ n) where
   pub listed : HasSetFormat set
-  listed = with_list set format (λ lone. asked (lone, two_or_more n some more))
+  listed = with_list set format (λ lone. asked (lone, two))
 
   pub takes_requests : (requests : Bool) → ((l : List Spec) → DenotesList set l → requests ≡ requests_prereleases l) → Takes set n requests
   takes_requests requests found = record {
-    of_list = λ l lone means. found l (as_compiled_list set l (inr listed) means) ∙ takes_asked n l some more;
+    of_list = λ l lone means. found l (as_compiled_list set l (inr listed) means) ∙ takes_asked n l two;
     of_set = λ lone. absurd (never_lone set listed lone);
   }
 
@@ -113,10 +107,10 @@ module _ (set version : List ℕ) (n : ℕ) (held early : Bool) (format : HasFor
   askable : AreAskable set version
   askable = inl (format, inl is_version)
 
-  of_first : (b c : Bool) → (held, early) ≡ (b, c) → b ≡ held
+  of_first : (b c : Bool) → ◌≡◌ {A = Bool × Bool} (held, early) (b, c) → b ≡ held
   of_first b c e = ap (λ (p : Bool × Bool). p.0) (sym e)
 
-  of_second : (b c : Bool) → (held, early) ≡ (b, c) → c ≡ early
+  of_second : (b c : Bool) → ◌≡◌ {A = Bool × Bool} (held, early) (b, c) → c ≡ early
   of_second b c e = ap (λ (p : Bool × Bool). p.1) (sym e)
 
   pub allows_none : held ≡ false → Allows set version n false

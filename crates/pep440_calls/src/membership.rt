@@ -1,5 +1,5 @@
 //! Whether a list contains or allows a version.
-ghost use Rattle.std.specs.Prelude.{List, ℕ, true, ◌↔◌, ◌≡◌};
+ghost use Rattle.std.specs.Prelude.{List, ℕ, true, ◌↔◌, ◌≡◌, ◌≤◌};
 ghost use Rattle.pep440_compiled.specs.Lists.{HasListFormat};
 ghost use Rattle.pep440_compiled.specs.SetForms.{HasFormatOfSets, HasLoneSetFormat};
 ghost use Rattle.pep440_compiled.specs.Version.{HasVersionFormat};
@@ -151,19 +151,26 @@ fn find_in_set(set: &[u8], version: &[u8]) -> Result<(bool, bool), Fault>
     }
 }
 
+// Whether the list tells whether pre-releases are taken.
+#[inline(always)]
+fn asks_list(prereleases: u8) -> bool
+    ensures { (result ≡ true) ↔ (2 ≤ prereleases) }
+{
+    prereleases > 1
+}
+
 // Whether pre-releases are taken of a compiled form with a set.
 fn takes(set: &[u8], prereleases: u8) -> Result<bool, Fault>
     requires set { HasFormatOfSets set.now }
     requires asked { ¬ AsksSet set.now prereleases }
     ensures { HoldsOrFaults ⊥ (RejectsSet set.now) ⊥ (Takes set.now prereleases) result }
 {
-    match prereleases {
-        0 => Ok(false),
-        1 => Ok(true),
-        _ => match pep440_compiled::requests_prereleases(set) {
-            Ok(requests) => Ok(requests),
-            Err(_) => Err(Fault::InvalidList),
-        },
+    if !asks_list(prereleases) {
+        return Ok(prereleases == 1);
+    }
+    match pep440_compiled::requests_prereleases(set) {
+        Ok(requests) => Ok(requests),
+        Err(_) => Err(Fault::InvalidList),
     }
 }
 

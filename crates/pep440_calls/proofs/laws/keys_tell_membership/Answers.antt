@@ -22,7 +22,7 @@ key_tells bytes text set l r all (m, means, given, is) also denotes =
     let parsed = means_parsed text r denotes in
     let same = one_bytes_list bytes m l means also in
     ap (list_any (λ s. is_within (segment_interval s) (key_bytes r))) (is ∙ ap list_set same)
-    ∙ set_tells (list_set l) r (list_is_set l all) parsed ∙ list_holds l all (not_exact l (rw same given)) r (parsed_denoted r parsed)
+    ∙ set_tells (list_set l) r (list_is_set l all) parsed ∙ list_holds l all (not_exact l (rw (one_bytes_list bytes l m also means) given)) r (parsed_denoted r parsed)
 
 pub returns : goal.returns
 returns c = key_tells
