@@ -16,5 +16,5 @@ returns c = (
   λ s given.
       let has = slice_gives c.args.set.now c.as_slice.result.now c.in_ok-form.form s c.in_ok-form.ensures c.as_slice.ensures given in
       subst (λ l. Joins l c.in_ok-join_keys.field-0.bytes.items c.in_ok-join_keys.field-0.ends.items)
-      (ap (map (λ k. k.now)) c.as_slice-2.ensures.value ∙ c.in_ok-keys.ensures.ok s has) c.in_ok-join_keys.ensures.value,
+      (ap (map (λ k. k.now)) c.as_slice-2.ensures.value ∙ c.in_ok-keys.ensures.ok s has) c.in_ok-join_keys.ensures,
 )
