@@ -151,7 +151,7 @@ fn find_in_set(set: &[u8], version: &[u8]) -> Result<(bool, bool), Fault>
     }
 }
 
-// Whether the list tells whether pre-releases are taken.
+// Whether pre-releases are taken as the list asks.
 #[inline(always)]
 fn asks_list(prereleases: u8) -> bool
     ensures { (result ≡ true) ↔ (2 ≤ prereleases) }
