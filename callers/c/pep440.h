@@ -74,7 +74,8 @@ enum {
     PEP440_INVALID_CHANGE = 8, /* only of pep440_edit: a change is none, or cannot be made */
     PEP440_INVALID_KIND = 9,   /* only of pep440_error: `kind` is none of PEP440_A_VERSION.. */
     PEP440_NONE_FOUND = 10,    /* only of pep440_newest: the list matches no string of the batch */
-    PEP440_NO_SET = 12         /* only of calls on sets: a list has `===`, or no string denotes it */
+    PEP440_NO_SET = 12,        /* only of calls on sets: a list has `===`, or no string denotes it */
+    PEP440_NO_LIST = 13        /* only of pep440_allows: a set by itself asks for nothing */
 };
 
 /* A version of a batch, or a change of pep440_edit. */
@@ -222,7 +223,9 @@ enum { PEP440_NO_PRERELEASES = 0, PEP440_ALL_PRERELEASES = 1, PEP440_ASKED_PRERE
    allows these (PEP 440, "Handling of pre-releases"); any other number is as
    PEP440_ASKED_PRERELEASES. By that `>=1.0` does not allow `2.0rc1`, `>=1.0,!=1.5rc1` neither, and
    `>=1.0rc1` does. SpecifierSet.contains of `packaging` allows all by default from 26.0 on, and
-   before those that are asked for. Errors as of pep440_contains. */
+   before those that are asked for. A set by itself (below) allows versions in it in the same way, but
+   has no list that asks: PEP440_NO_LIST if `prereleases` is neither of the first two. If both are
+   invalid PEP440_INVALID_LIST is returned; of a set by itself or of two compiled forms, either. */
 uint8_t pep440_allows(const uint8_t *list, size_t list_length, const uint8_t *version,
                       size_t length, uint8_t prereleases, uint8_t *allowed);
 
@@ -295,18 +298,18 @@ uint8_t pep440_word(const uint8_t *version, size_t length, uint64_t *word);
 uint8_t pep440_ranges(const uint8_t *list, size_t length, uint8_t *out, size_t size,
                       size_t *written);
 
-/* Writes the set of the list, which is exactly what it matches by today's rule: sort keys, two for
-   each interval in ascending order, one after the other, at the start of `out`, and to `ends` where
-   each of them ends, counted from the start of `out`; to `written` how many bytes they are, and to
-   `count` how many keys. The list matches a version exactly if the sort key of the version is at
-   least the first and below the second key of an interval, compared as pep440_sort_key says, local
-   versions and pre-releases too: so an index over stored keys finds the versions of a list, and
-   none need be asked again. A key of no bytes is no bound: of the first each key is at least that,
-   of the second leave out the comparison. The keys are not always sort keys of versions. With
-   PEP440_NO_ROOM (`size` is less than the bytes, or `ends_size` less than the keys) `written` and
-   `count` are written, and `out` and `ends` are unchanged. PEP440_NO_SET if the list has `===`,
-   which compares how versions are written; with `==` in its place the set has what the list
-   matches, and equal versions. */
+/* Writes the set of a list, which is exactly what it matches by today's rule, or a set by itself
+   (below): sort keys, two for each interval in ascending order, one after the other, at the start
+   of `out`, and to `ends` where each of them ends, counted from the start of `out`; to `written`
+   how many bytes they are, and to `count` how many keys. The list matches a version exactly if the
+   sort key of the version is at least the first and below the second key of an interval, compared
+   as pep440_sort_key says, local versions and pre-releases too: so an index over stored keys finds
+   the versions of a list, and none need be asked again. A key of no bytes is no bound: of the
+   first each key is at least that, of the second leave out the comparison. The keys are not always
+   sort keys of versions. With PEP440_NO_ROOM (`size` is less than the bytes, or `ends_size` less
+   than the keys) `written` and `count` are written, and `out` and `ends` are unchanged.
+   PEP440_NO_SET if the list has `===`, which compares how versions are written; with `==` in its
+   place the set has what the list matches, and equal versions. */
 uint8_t pep440_boundaries(const uint8_t *list, size_t length, uint8_t *out, size_t size,
                           size_t *ends, size_t ends_size, size_t *written, size_t *count);
 
@@ -372,7 +375,8 @@ uint8_t pep440_release_range_bounds(const uint8_t *list, size_t length, uint8_t 
    for it, with null and a size of 0. `>=1.0, <2.0` takes 44 bytes.
 
    A set by itself has format 7: the byte 7, and its keys as in a list of format 6. The calls on sets
-   write and take it; all others, which need the members of a list, return PEP440_INVALID_LIST.
+   write and take it, and pep440_allows takes it; all others, which need the members of a list, return
+   PEP440_INVALID_LIST.
 
    Lists without `===` that an earlier library wrote have format 5, too. Every call takes them, but
    pep440_allows then costs what it does of a string; pep440_compile_list writes format 6 of them.
@@ -384,11 +388,12 @@ uint8_t pep440_release_range_bounds(const uint8_t *list, size_t length, uint8_t 
    string.
 
    Bytes are never read beyond their length, whether they are compiled, cut, changed or chosen by an
-   attacker. pep440_compare of two compiled versions, pep440_contains of a compiled list and a
-   compiled version, and pep440_allows of these in format 6 read them as they lie, and allocate
-   nothing: of bytes that begin as a compiled form and are none they write any result, or return the
-   status of an invalid one. So do the calls on sets of formats 6 and 7. All other calls reject such
-   bytes. So give bytes of unknown origin to pep440_normalize or pep440_normalize_list once. */
+   attacker. pep440_compare of two compiled versions, pep440_contains of a compiled list, and
+   pep440_allows and the calls on sets of formats 6 and 7 read them as they lie: of bytes that begin
+   as a compiled form and are none they write any result, or return the status of an invalid one. The
+   first three allocate nothing for compiled versions, nor the last two of these for a string in a
+   normal spelling. All other calls reject such bytes. So give bytes of unknown origin to
+   pep440_normalize or pep440_normalize_list once. */
 
 /* How many bytes suffice, by the length of a string: for the normal form of a version, for its sort
    key, and for its compiled form. */
@@ -504,6 +509,8 @@ PEP440_INLINE const char *pep440_status_text(uint8_t status)
         return "no version is matched";
     case PEP440_NO_SET:
         return "a list with === has no set";
+    case PEP440_NO_LIST:
+        return "a set by itself has no list";
     default:
         return "unknown status";
     }

@@ -1,6 +1,6 @@
 // The module of WebAssembly: strings in, answers out. An answer is null where a string is no version or no list.
 
-const OUT_OF_MEMORY = 3, NO_ROOM = 4;
+const OUT_OF_MEMORY = 3, NO_ROOM = 4, INVALID_RIGHT = 6, NO_LIST = 13;
 const CODES = { 1: 'INVALID_VERSION', 2: 'INVALID_LIST', 3: 'OUT_OF_MEMORY', 5: 'NUMBER_AT_MAX', 12: 'NO_SET' };
 const MESSAGES = {
   INVALID_VERSION: 'not a version',
@@ -68,7 +68,7 @@ function end(returned) {
   if (bytes.length === 0) look();
   unfinished = false;
   const status = returned & 255;
-  if (status === OUT_OF_MEMORY || (status > NO_ROOM && status !== 6)) throw new Pep440Error(CODES[status]);
+  if (status === OUT_OF_MEMORY || (status > NO_ROOM && status !== INVALID_RIGHT && status !== NO_LIST)) throw new Pep440Error(CODES[status]);
   return status;
 }
 

@@ -126,13 +126,18 @@ static void ask_in_place(const Bytes *form)
     hold(status == PEP440_INVALID_VERSION || (status == PEP440_OK && is <= 1 && early <= 1), "contains, a version");
     status = pep440_contains(OF(form), version, sizeof version, &is, &early);
     hold(status == PEP440_INVALID_LIST || (status == PEP440_OK && is <= 1 && early <= 1), "contains, a list");
+    status = pep440_contains(OF(form), (const uint8_t *)"1", 1, &is, &early);
+    hold(status == PEP440_INVALID_LIST || (status == PEP440_OK && is <= 1 && early <= 1), "contains, a list and a string");
     status = pep440_contains(members, sizeof members, OF(form), &is, &early);
     hold(status == PEP440_INVALID_VERSION || (status == PEP440_OK && is <= 1 && early <= 1), "contains, a version, without the set");
     for (uint8_t prereleases = 0; prereleases <= PEP440_ASKED_PRERELEASES; prereleases++) {
         status = pep440_allows(list, sizeof list, OF(form), prereleases, &is);
         hold(status == PEP440_INVALID_VERSION || (status == PEP440_OK && is <= 1), "allows, a version");
+        int asks_set = form->length > 0 && form->bytes[0] == 7 && prereleases == PEP440_ASKED_PRERELEASES;
         status = pep440_allows(OF(form), early_version, sizeof early_version, prereleases, &is);
-        hold(status == PEP440_INVALID_LIST || (status == PEP440_OK && is <= 1), "allows, a list");
+        hold(asks_set ? status == PEP440_NO_LIST : status == PEP440_INVALID_LIST || (status == PEP440_OK && is <= 1), "allows, a list");
+        status = pep440_allows(OF(form), (const uint8_t *)"1", 1, prereleases, &is);
+        hold(asks_set ? status == PEP440_NO_LIST : status == PEP440_INVALID_LIST || (status == PEP440_OK && is <= 1), "allows, a string");
     }
 }
 
@@ -195,11 +200,13 @@ static void hold_no_list(const Bytes *form)
     uint8_t any = 7, early = 7;
     hold(pep440_any_prerelease(OF(form), &any) == PEP440_INVALID_LIST && any == 7, "any_prerelease");
     hold(pep440_compile_list(OF(form), TO(&found)) == PEP440_INVALID_LIST, "compile_list");
+    hold((form->length > 0 && (form->bytes[0] == 5 || form->bytes[0] == 6)) ||
+             (pep440_contains(OF(form), (const uint8_t *)"1", 1, &any, &early) == PEP440_INVALID_LIST && any == 7), "contains a string");
+    if (form->length > 0 && (form->bytes[0] == 6 || form->bytes[0] == 7))
+        return; /* taken as they lie */
     hold(pep440_boundaries(OF(form), found.bytes, ROOM, ends, 1, &found.length, &count) == PEP440_INVALID_LIST && count == 7, "boundaries");
-    hold(pep440_contains(OF(form), (const uint8_t *)"1", 1, &any, &early) == PEP440_INVALID_LIST && any == 7, "contains a string");
-    hold(pep440_allows(OF(form), (const uint8_t *)"1", 1, 1, &any) == PEP440_INVALID_LIST && any == 7, "allows a string");
-    if (form->length == 0 || form->bytes[0] != 6)
-        hold(pep440_allows(OF(form), version, sizeof version, 1, &any) == PEP440_INVALID_LIST && any == 7, "allows, a list without its set");
+    hold(pep440_allows(OF(form), (const uint8_t *)"1", 1, 1, &any) == PEP440_INVALID_LIST && any == 7 &&
+             pep440_allows(OF(form), version, sizeof version, 1, &any) == PEP440_INVALID_LIST && any == 7, "allows, a list without its set");
 }
 
 /* Whether no string denotes the list: a member orders by a version with a local part. */

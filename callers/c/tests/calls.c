@@ -346,6 +346,14 @@ static void ask_sets(void)
     hold(pep440_union(LIST("=1.0"), LIST(">1"), again, sizeof again, &more) == PEP440_INVALID_LIST && more == 77, "the left one");
     hold(pep440_union(LIST(">1"), LIST("=1.0"), again, sizeof again, &more) == PEP440_INVALID_RIGHT && more == 77, "the right one");
     hold(pep440_is_subset(LIST(">1"), LIST("===1.0"), &is) == PEP440_NO_SET && is == 7, "no set");
+    hold(pep440_allows(set, length, VERSION("2.0"), PEP440_NO_PRERELEASES, &is) == PEP440_OK && is == 1, "allowed by a set by itself");
+    hold(pep440_allows(set, length, VERSION("1.5"), PEP440_ALL_PRERELEASES, &is) == PEP440_OK && is == 0, "not in it");
+    hold(pep440_allows(set, length, VERSION("2.0.dev0"), PEP440_ALL_PRERELEASES, &is) == PEP440_OK && is == 1, "a pre-release in it");
+    hold(pep440_allows(set, length, VERSION("2.0.dev0"), PEP440_NO_PRERELEASES, &is) == PEP440_OK && is == 0, "which is not allowed");
+    is = 7;
+    hold(pep440_allows(set, length, VERSION("1.5"), PEP440_ASKED_PRERELEASES, &is) == PEP440_NO_LIST && is == 7, "no list that asks");
+    hold(pep440_allows(set, length, VERSION("latest"), PEP440_ALL_PRERELEASES, &is) == PEP440_INVALID_VERSION && is == 7, "no version for a set");
+    hold(pep440_allows(set, length - 1, VERSION("3"), PEP440_ALL_PRERELEASES, &is) == PEP440_INVALID_LIST && is == 7, "a set that is cut");
     hold(pep440_normalize_list(set, length, again, sizeof again, &more) == PEP440_INVALID_LIST, "a set has no members");
 }
 
@@ -414,7 +422,7 @@ static void with_a_zero(void)
     hold(pep440_compile_list_string("==1", bytes, sizeof bytes, &length) == PEP440_OK && bytes[0] == 6, "compile_list_string");
     hold(pep440_compile_list_string("===1", bytes, sizeof bytes, &length) == PEP440_OK && bytes[0] == 5, "compile_list_string, no set");
     hold(pep440_string_of("1.0").length == 3 && memcmp(pep440_string_of("1.0").bytes, "1.0", 3) == 0, "string_of");
-    for (uint8_t status = 0; status <= PEP440_NO_SET; status++)
+    for (uint8_t status = 0; status <= PEP440_NO_LIST; status++)
         hold(strcmp(pep440_status_text(status), pep440_status_text(255)) != 0 || status == 11, "status_text");
 }
 

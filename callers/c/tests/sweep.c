@@ -158,6 +158,12 @@ static uint8_t allows_same_set(Answer *answer) { return pep440_allows(FIRST(same
 static uint8_t allows_not(Answer *answer) { return pep440_allows(FIRST(with_set), SECOND(longer), PEP440_NO_PRERELEASES, &answer->is); }
 static uint8_t allows_no_list(Answer *answer) { return pep440_allows(FIRST(no_list), SECOND(invalid), PEP440_ALL_PRERELEASES, &answer->is); }
 static uint8_t allows_invalid(Answer *answer) { return pep440_allows(FIRST(with_set), SECOND(invalid), PEP440_ALL_PRERELEASES, &answer->is); }
+/* A compiled list with its set beside a string in a normal spelling, whatever the kinds of the arguments. */
+static uint8_t allows_string(Answer *answer)
+{
+    return pep440_allows(with_set.bytes, with_set.length, (const uint8_t *)"1.17rc1", 7, PEP440_ASKED_PRERELEASES, &answer->is);
+}
+
 static pep440_string batch[5], stopped[2];
 static uint8_t filter(Answer *answer) { return pep440_filter(FIRST(members), batch, 5, answer->marks, 8); }
 static uint8_t newest(Answer *answer) { return pep440_newest(FIRST(members), batch, 5, &answer->count); }
@@ -280,7 +286,7 @@ static const Call CUT[] = {CALL(normalize_cut, PEP440_INVALID_VERSION, 1), CALL(
 /* Calls of compiled forms alone that allocate nothing. */
 static const Call WITHOUT[] = {CALL(compare, PEP440_OK, 2),      CALL(contains, PEP440_OK, 2),          CALL(contains_not, PEP440_OK, 2),
                                 CALL(contains_set, PEP440_OK, 2), CALL(contains_same_set, PEP440_OK, 2), CALL(allows_set, PEP440_OK, 2),
-                                CALL(allows_not, PEP440_OK, 2)};
+                                CALL(allows_not, PEP440_OK, 2),   CALL(allows_string, PEP440_OK, 2)};
 
 /* Wrong results of this call; `failed` counts the allocations that failed. */
 static int sweep(uint8_t (*call)(Answer *), uint8_t wanted, int may_guess, int *failed)

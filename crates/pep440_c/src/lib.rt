@@ -21,17 +21,17 @@ ghost use Rattle.pep440_calls.specs.CallerBytes.{RejectsBytes, RejectsListBytes}
 ghost use Rattle.pep440_calls.specs.NewestString.{NewestResult};
 ghost use Rattle.pep440_calls.specs.PatternCalls.{IsCompiledSpecifier, IsSpecifier, PatternResult, RejectsOperand, RejectsOperator, RejectsSpecifierBytes};
 ghost use Rattle.pep440_calls.specs.Ranges.{IsRangeLines, LacksRange, JoinsRangeBounds};
-ghost use Rattle.pep440_calls.specs.SetCalls.{IsComplement, IsIntersection, IsUnion, JoinsBoundaries, LacksSet, SetFault, SubsetResult, TwoSetFaults};
-ghost use Rattle.pep440_calls.specs.Statuses.{IsFlagOf, SetFaults, WritesBytes, WritesBytesOr, WritesOrFails};
+ghost use Rattle.pep440_calls.specs.SetCalls.{IsComplement, IsIntersection, IsUnion, JoinsBoundaries, SetFault, SubsetResult, TwoSetFaults};
+ghost use Rattle.pep440_calls.specs.Statuses.{IsFlagOf, WritesBytes, WritesBytesOr, WritesOrFails};
 
 use pep440_calls::{
-    Parts, write_allowed, write_boundaries, write_build_error, write_compiled, write_compiled_list,
-    write_compiled_specifier, write_complement, write_edit_error, write_edited, write_error,
-    write_intersection, write_marks, write_match, write_members, write_newest, write_normal_form,
-    write_normal_list, write_order, write_parts, write_pattern, write_positions,
-    write_prerelease_flag, write_range, write_range_bounds, write_release_range_bounds,
-    write_sort_key, write_sort_keys, write_specifier, write_subset, write_union, write_version_in,
-    write_word,
+    Parts, write_allow_flag, write_boundaries, write_build_error, write_compiled,
+    write_compiled_list, write_compiled_specifier, write_complement, write_edit_error,
+    write_edited, write_error, write_intersection, write_marks, write_match, write_members,
+    write_newest, write_normal_form, write_normal_list, write_order, write_parts, write_pattern,
+    write_positions, write_prerelease_flag, write_range, write_range_bounds,
+    write_release_range_bounds, write_sort_key, write_sort_keys, write_specifier, write_subset,
+    write_union, write_version_in, write_word,
 };
 use std::alloc::Global;
 
@@ -191,7 +191,7 @@ pub extern "C" fn pep440_allows(
 ) -> u8
     ensures { AllowsResult list.now text.now prereleases allowed.old allowed.new result }
 {
-    write_allowed(alloc, list, text, prereleases, allowed)
+    write_allow_flag(alloc, list, text, prereleases, allowed)
 }
 
 /// Whether a version of the list's specifiers is a pre-release or a developmental release, 1 or 0.
@@ -263,20 +263,20 @@ pub extern "C" fn pep440_ranges(
     write_range(alloc, list, out, written)
 }
 
-/// Writes the set of the list as sort keys, two an interval, and where each of them ends: the set has a version if its key is at least the first of an interval and below the second.
+/// Writes the set, of a list or by itself, as sort keys, two an interval, and where each of them ends: the set has a version if its key is at least the first of an interval and below the second.
 #[unsafe(no_mangle)]
 pub extern "C" fn pep440_boundaries(
     alloc: Global,
-    list: &[u8],
+    set: &[u8],
     out: &mut [u8],
     ends: &mut [usize],
     written: &mut usize,
     count: &mut usize,
 ) -> u8
-    ensures { WritesJoinedOr (SetFaults (RejectsListBytes list.now) ⊥ (LacksSet list.now)) (JoinsBoundaries list.now)
+    ensures { WritesJoinedOr (SetFault set.now) (JoinsBoundaries set.now)
         out.old out.new ends.old ends.new written.old written.new count.old count.new result }
 {
-    write_boundaries(alloc, list, out, ends, written, count)
+    write_boundaries(alloc, set, out, ends, written, count)
 }
 
 /// Writes the versions that are not in the set, of a list or by itself, as a set by itself.

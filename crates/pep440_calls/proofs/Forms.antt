@@ -8,8 +8,8 @@ use Rattle.pep440_rs.specs.Matching.{any_prerelease, list_matches}
 use Rattle.pep440_rs.specs.Specifiers.{Spec}
 use Rattle.pep440_version.specs.Key.{record_cmp}
 use Rattle.pep440_version.specs.Record.{Record}
-use Rattle.pep440_calls.proofs.Once.{one_bytes_list, one_version}
-use Rattle.pep440_calls.specs.CallResults.{Contains, IsOrder, IsPrerelease, order_number}
+use Rattle.pep440_calls.proofs.Once.{never_both, one_bytes_list, one_version}
+use Rattle.pep440_calls.specs.CallResults.{Contains, IsOrder, IsPrerelease, RejectsSecond, order_number}
 use Rattle.pep440_calls.specs.CallerBytes.{IsNoCompiledList, IsNoCompiledVersion, BytesDenote, BytesDenoteList, StringDenotesList, StringDenotes, RejectsBytes, RejectsListBytes, RejectsListString, RejectsString}
 use Rattle.pep440_calls.specs.Statuses.{HoldsOrFaults}
 use Rattle.pep440_calls.specs.declared.fault.Fault.{Fault}
@@ -28,6 +28,7 @@ string_read bytes plain (Err fault.OutOfMemory) h = h
 string_read bytes plain (Err fault.NumberAtMax) h = h
 string_read bytes plain (Err fault.InvalidRight) h = h
 string_read bytes plain (Err fault.NoSet) h = h
+string_read bytes plain (Err fault.NoList) h = h
 
 pub compiled_read : (bytes : List ℕ) → HasVersionFormat bytes → (result : Result Record Fault) → HoldsOrFaults (IsNoCompiledVersion bytes) ⊥ ⊥ (DenotesVersion bytes) result → HoldsOrFaults (RejectsBytes bytes) ⊥ ⊥ (BytesDenote bytes) result
 compiled_read bytes format (Ok r) d = inr d
@@ -37,6 +38,7 @@ compiled_read bytes format (Err fault.OutOfMemory) h = h
 compiled_read bytes format (Err fault.NumberAtMax) h = h
 compiled_read bytes format (Err fault.InvalidRight) h = h
 compiled_read bytes format (Err fault.NoSet) h = h
+compiled_read bytes format (Err fault.NoList) h = h
 
 -- compiled bytes denote what they denote as a compiled form
 pub as_compiled : (bytes : List ℕ) (r : Record) → HasVersionFormat bytes → BytesDenote bytes r → DenotesVersion bytes r
@@ -56,6 +58,7 @@ list_string_read bytes plain (Err fault.OutOfMemory) h = h
 list_string_read bytes plain (Err fault.NumberAtMax) h = h
 list_string_read bytes plain (Err fault.InvalidRight) h = h
 list_string_read bytes plain (Err fault.NoSet) h = h
+list_string_read bytes plain (Err fault.NoList) h = h
 
 pub compiled_list_read : (bytes : List ℕ) → HasListFormat bytes → (result : Result (List Spec) Fault) → HoldsOrFaults ⊥ (IsNoCompiledList bytes) ⊥ (DenotesList bytes) result → HoldsOrFaults ⊥ (RejectsListBytes bytes) ⊥ (BytesDenoteList bytes) result
 compiled_list_read bytes format (Ok l) d = inr d
@@ -65,6 +68,7 @@ compiled_list_read bytes format (Err fault.OutOfMemory) h = h
 compiled_list_read bytes format (Err fault.NumberAtMax) h = h
 compiled_list_read bytes format (Err fault.InvalidRight) h = h
 compiled_list_read bytes format (Err fault.NoSet) h = h
+compiled_list_read bytes format (Err fault.NoList) h = h
 
 pub as_compiled_list : (bytes : List ℕ) (l : List Spec) → HasListFormat bytes → BytesDenoteList bytes l → DenotesList bytes l
 as_compiled_list bytes l format (inl (plain, means)) = absurd (plain format)
@@ -89,6 +93,24 @@ order_read left right r q o means also is = (
   inr ((r, means), (q, also)),
   λ x y first second. ap order_number (is ∙ (λ i. record_cmp (one_version left r x means first i) (one_version right q y also second i))),
 )
+
+-- matching of a compiled list and the compiled form of a string
+module _ (list text form : List ℕ) (format : HasListFormat list) (r : Record) (means : BytesDenote text r) (compiled : DenotesVersion form r) where
+  abbrev Found : List ℕ → Bool × Bool → Type 0
+  Found bytes found = Contains list bytes found.0 × IsPrerelease bytes found.1
+
+  pub contains_of_form : (result : Result (Bool × Bool) Fault) → HoldsOrFaults (RejectsSecond list form) (RejectsListBytes list) ⊥ (Found form) result → HoldsOrFaults (RejectsSecond list text) (RejectsListBytes list) ⊥ (Found text) result
+  contains_of_form (Ok found) h = (
+    (inl (format, inr (r, means)), λ l q lone also. h.0.1 l r lone (inr compiled) ∙ ap (list_matches l) (one_version text r q means also)),
+    λ q also. h.1 r (inr compiled) ∙ ap any_prerelease (one_version text r q means also),
+  )
+  contains_of_form (Err fault.InvalidVersion) h = absurd (never_both form r (inr compiled) h.1)
+  contains_of_form (Err fault.InvalidList) h = h
+  contains_of_form (Err fault.OutOfMemory) h = h
+  contains_of_form (Err fault.NumberAtMax) h = h
+  contains_of_form (Err fault.InvalidRight) h = h
+  contains_of_form (Err fault.NoSet) h = h
+  contains_of_form (Err fault.NoList) h = h
 
 -- matching of a list and a version that were read
 pub contains_read : (list text : List ℕ) (l : List Spec) (r : Record) (contained : Bool) → BytesDenoteList list l → BytesDenote text r → contained ≡ list_matches l r → Contains list text contained

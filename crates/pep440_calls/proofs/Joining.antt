@@ -1,7 +1,7 @@
 -- Strings one after the other: one more of them, and two.
-use Rattle.std.proofs.Common.{◌≡◌, ◌+◌, ◌∙◌, ℕ, List, [], ◌∷◌, ◌++◌, length, sym, ap, subst, append-nil, append_assoc, arith}
+use Rattle.std.proofs.Common.{Bor, ◌≡◌, ◌<◌, ◌+◌, ◌∙◌, ℕ, List, [], ◌∷◌, ◌++◌, length, get_or, take, map, sym, ap, subst, append-nil, append_assoc, arith}
 use Rattle.std.proofs.lemmas.List.Concat.{flat_map-append}
-use Rattle.std.proofs.lemmas.List.{length-append}
+use Rattle.std.proofs.lemmas.List.{length-append, map-append, take_more}
 use Rattle.std.specs.List.{flat_map}
 use Rattle.pep440_calls.specs.JoinedStrings.{Joins, ends_from}
 
@@ -22,6 +22,15 @@ joined_more strings s bytes new ends new_ends more ended joins =
           ∙ sym (flat_map-append (λ (t : List ℕ). t) strings (s ∷ []));
       ended = ended ∙ ap (λ (l : List ℕ). l ++ length new ∷ []) joins.ended ∙ ap (λ (n : ℕ). ends_from 0 strings ++ n ∷ []) (omega (arith, long, count, same)) ∙ sym (ends_push 0 strings s);
     }
+
+-- the next of borrowed strings
+pub next_joined : (strings : List (Bor (List ℕ))) (i : ℕ) (x : Bor (List ℕ)) (bytes new ends new_ends : List ℕ) → i < length strings → new ≡ bytes ++ (get_or strings i x).now → new_ends ≡ ends ++ length new ∷ []
+    → Joins (map (λ s. s.now) (take i strings)) bytes ends → Joins (map (λ s. s.now) (take (i + 1) strings)) new new_ends
+next_joined strings i x bytes new ends new_ends inside more ended joins =
+    let now : Bor (List ℕ) → List ℕ = λ s. s.now in
+    let seen : map now (take (i + 1) strings) ≡ map now (take i strings) ++ now (get_or strings i x) ∷ [] =
+    ap (map now) (take_more strings i x inside) ∙ map-append now (take i strings) (get_or strings i x ∷ []) in
+    subst (λ (l : List (List ℕ)). Joins l new new_ends) (sym seen) (joined_more (map now (take i strings)) (now (get_or strings i x)) bytes new ends new_ends more ended joins)
 
 -- two strings more
 pub pushed : (k l : List ℕ) (strings : List (List ℕ)) (s t b m n e f g : List ℕ) → s ≡ k → t ≡ l → m ≡ b ++ s → f ≡ e ++ length m ∷ []

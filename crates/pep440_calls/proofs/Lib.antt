@@ -6,15 +6,10 @@ pub mod Once
 pub mod Forms
 pub mod Allowed
 pub mod Choosing
-pub mod Words
-pub mod KeyMembership
-pub mod Agreeing
 pub mod Compiling
 pub mod Combined
 pub mod Edited
 pub mod OneSpecifier
 pub mod Bounded
-pub mod SpecifierOnce
-pub mod VersionsIn
 pub mod Sizes
 pub mod SetForming

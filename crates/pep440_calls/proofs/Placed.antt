@@ -13,7 +13,7 @@ use Rattle.pep440_calls.specs.Batches.{ArrangesPositions, JoinsKeys, BatchFaults
 use Rattle.pep440_calls.specs.JoinedStrings.{Joins}
 use Rattle.pep440_calls.specs.Statuses.{Faults}
 use Rattle.pep440_calls.specs.declared.fault.Fault.{Fault}
-use Rattle.pep440_calls.specs.declared.fault.Fault.TheVariants.{InvalidVersion, InvalidList, InvalidRight, NoSet, NumberAtMax, OutOfMemory}
+use Rattle.pep440_calls.specs.declared.fault.Fault.TheVariants.{InvalidVersion, InvalidList, InvalidRight, NoList, NoSet, NumberAtMax, OutOfMemory}
 use Rattle.pep440_calls.specs.declared.batch.BatchError.{BatchError}
 use Rattle.pep440_calls.specs.CallerBytes.{BytesDenote, RejectsBytes}
 
@@ -94,6 +94,7 @@ stops_at texts i x InvalidList s versions inside is why all = absurd why
 stops_at texts i x NumberAtMax s versions inside is why all = absurd why
 stops_at texts i x InvalidRight s versions inside is why all = absurd why
 stops_at texts i x NoSet s versions inside is why all = absurd why
+stops_at texts i x NoList s versions inside is why all = absurd why
 stops_at texts i x OutOfMemory s versions inside is why all = subst (λ (t : BatchError). BatchFaults (map (λ (y : Bor (List ℕ)). y.now) texts) t) (sym is) tt
 
 -- one more mark

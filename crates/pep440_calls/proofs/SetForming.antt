@@ -3,6 +3,8 @@ use Rattle.std.proofs.Common.{◌≡◌, ◌∙◌, ◌&&◌, ◌||◌, ℕ, Boo
 use Rattle.std.specs.Prelude.{slice_get}
 use Rattle.pep440_compiled.proofs.SetAlone.{valid_set}
 use Rattle.pep440_compiled.specs.Lists.{HasSetFormat, IsFormBy, has_set}
+use Rattle.pep440_compiled.specs.declared.error.CompiledError.{CompiledError}
+use Rattle.pep440_compiled.specs.declared.error.CompiledError.TheVariants.{NotCompiled, OutOfMemory}
 use Rattle.pep440_compiled.specs.SetForms.{DenotesSet, HasFormatOfSets, HasLoneSetFormat, HasSet}
 use Rattle.pep440_ranges.proofs.Laws.{gaps_hold_the_rest, overlaps_hold_both}
 use Rattle.pep440_ranges.specs.Complement.{gaps}
@@ -16,6 +18,9 @@ use Rattle.pep440_version.specs.Key.KeyLaws.{record_total}
 use Rattle.pep440_calls.proofs.Once.{one_bytes_list}
 use Rattle.pep440_calls.specs.CallResults.{IsCompiledList}
 use Rattle.pep440_calls.specs.SetCalls.{DenotesVersionsOf, HasListSet, HasOwnSet, IsFormOf, IsTakenAsSet, form_bytes}
+use Rattle.pep440_calls.specs.Statuses.{fault_of_read}
+use Rattle.pep440_calls.specs.declared.fault.Fault.{Fault}
+use Rattle.pep440_calls.specs.declared.fault.Fault.TheVariants as fault
 use Rattle.pep440_calls.specs.declared.set_calls.SetForm.{SetForm}
 
 -- ---- the form of a list
@@ -32,7 +37,7 @@ with_set bytes form (l, denotes, is) format = go (has_set l) refl is
 one_list_set : (bytes : List ℕ) (s t : Segments) → HasListSet bytes s → HasListSet bytes t → s ≡ t
 one_list_set bytes s t (l, d, given, is) (m, e, also, other) = is ∙ ap list_set (one_bytes_list bytes l m d e) ∙ sym other
 
-set_format : (bytes : List ℕ) (s : Segments) → DenotesSet bytes s → HasLoneSetFormat bytes
+pub set_format : (bytes : List ℕ) (s : Segments) → DenotesSet bytes s → HasLoneSetFormat bytes
 set_format bytes s (keys, h, is) = ap (λ l. slice_get l 0) is
 
 as_it_lies : (bytes : List ℕ) (s : Segments) → HasFormatOfSets bytes → HasOwnSet bytes s → HasSet bytes s
@@ -54,6 +59,12 @@ is_taken bytes form (inr (other, t, list, has)) = inr (t, inl (other, list))
 -- the bytes of a form have the set
 pub slice_gives : (bytes slice : List ℕ) (form : SetForm) (s : Segments) → IsFormOf bytes form → slice ≡ form_bytes form → HasOwnSet bytes s → HasSet slice s
 slice_gives bytes slice form s is same given = subst (λ b. HasSet b s) (sym same) (form_gives bytes form s is given)
+
+-- ---- why nothing is made
+
+pub invalid_or_memory : (Cause : Fault → Type 0) (f : Fault) (e : CompiledError) → f ≡ fault_of_read e → (e ≡ NotCompiled → Cause fault.InvalidList) → Cause fault.OutOfMemory → Cause f
+invalid_or_memory Cause f NotCompiled is why memory = subst Cause (sym is) (why refl)
+invalid_or_memory Cause f OutOfMemory is why memory = subst Cause (sym is) memory
 
 -- ---- what is made holds
 

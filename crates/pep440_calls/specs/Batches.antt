@@ -87,6 +87,7 @@ batch_error_at position fault.InvalidList = stop.InvalidAt position
 batch_error_at position fault.NumberAtMax = stop.InvalidAt position
 batch_error_at position fault.InvalidRight = stop.InvalidAt position
 batch_error_at position fault.NoSet = stop.InvalidAt position
+batch_error_at position fault.NoList = stop.InvalidAt position
 batch_error_at position fault.OutOfMemory = stop.OutOfMemory
 
 -- the versions that the strings denote, with their positions

@@ -1,15 +1,18 @@
 -- What each call on one version or one list, or on one of each, returns.
 use Rattle.std.specs.List.{flat_map, list_any}
 use Rattle.std.specs.Option.{option_map_or}
-use Rattle.std.specs.Prelude.{◌≡◌, ◌⊎◌, ℕ, zero, suc, false, true, ℤ, pos, negsuc, List, [], ◌∷◌, ◌++◌, codes, Bool, Option, Some, None, length, is_some, if◌then◌else◌, Result, Ok, Err}
+use Rattle.std.specs.Prelude.{◌≡◌, ◌⊎◌, ℕ, zero, suc, false, true, ◌&&◌, ◌||◌, ◌≤◌, ℤ, pos, negsuc, List, [], ◌∷◌, ◌++◌, codes, Bool, Option, Some, None, length, is_some, not, if◌then◌else◌, Result, Ok, Err}
 use Rattle.std.specs.declared.cmp.Ordering.{Ordering}
 use Rattle.std.specs.declared.cmp.Ordering.TheVariants.{Less, Equal, Greater}
 use Rattle.pep440_compiled.specs.Lists.{HasListFormat, IsListForm}
+use Rattle.pep440_compiled.specs.SetForms.{DenotesSet, HasFormatOfSets, HasLoneSetFormat}
 use Rattle.pep440_compiled.specs.Version.{HasVersionFormat, DenotesVersion}
 use Rattle.pep440_keys.specs.SortKeys.{key_bytes}
 use Rattle.pep440_rs.specs.Lists.{print_list}
 use Rattle.pep440_rs.specs.Matching.{any_prerelease, has_local, list_matches}
 use Rattle.pep440_rs.specs.Operators.{is_star, operator_text}
+use Rattle.pep440_ranges.specs.RangeSegments.{contains}
+use Rattle.pep440_rs.specs.Bounds.{Segments}
 use Rattle.pep440_rs.specs.LiteralMatching.{list_allows_literally, list_matches_literally}
 use Rattle.pep440_rs.specs.Prereleases.{requests_prereleases}
 use Rattle.pep440_rs.specs.Specifiers.{Spec}
@@ -23,7 +26,7 @@ use Rattle.pep440_version.specs.declared.prerelease.PrereleaseKind.TheVariants.{
 use Rattle.pep440_sets.specs.Common.{common_version}
 use Rattle.pep440_calls.specs.JoinedStrings.{Joins}
 use Rattle.pep440_calls.specs.CallerBytes.{BytesDenote, BytesDenoteList, RejectsBytes, RejectsListBytes}
-use Rattle.pep440_calls.specs.Statuses.{Fails, IsFlagOf, WritesAtStart, fault_status, flag, WritesOrFails}
+use Rattle.pep440_calls.specs.Statuses.{Fails, FailsBy, Faults, IsFlagOf, WritesAtStart, fault_status, flag}
 use Rattle.pep440_calls.specs.declared.fault.Fault.{Fault}
 use Rattle.pep440_calls.specs.declared.one_version.Parts.{Parts}
 use Rattle.pep440_calls.specs.declared.fault.Fault.TheVariants as fault
@@ -92,6 +95,7 @@ module _ (left right : List ℕ) where
   OrderFaults fault.OutOfMemory = Unit {0}
   OrderFaults fault.NumberAtMax = ⊥
   OrderFaults fault.NoSet = ⊥
+  OrderFaults fault.NoList = ⊥
   OrderFaults fault.InvalidRight = ((HasVersionFormat left × HasVersionFormat right) ⊎ ((r : Record) × BytesDenote left r)) × RejectsBytes right
 
   -- the order, or why there is none
@@ -103,9 +107,13 @@ module _ (left right : List ℕ) where
   abbrev pub OrderResult : ℤ → ℤ → ℕ → Type 0
   OrderResult old new status = ((order : Ordering) × (status ≡ 0) × (new ≡ order_number order) × IsOrder left right new) ⊎ ((new ≡ old) × (f : Fault) × OrderFaults f × (status ≡ fault_status f))
 
--- both begin as compiled forms, which are matched as they lie; or both denote something
+-- the bytes begin as a compiled version, which is taken as it lies, or denote a version
+abbrev pub IsTakenAsVersion : List ℕ → Type 0
+IsTakenAsVersion text = HasVersionFormat text ⊎ ((r : Record) × BytesDenote text r)
+
+-- the first bytes begin as a compiled list, which is taken as it lies; or they denote a list, and the others a version
 abbrev pub AreMatchable : List ℕ → List ℕ → Type 0
-AreMatchable list_text text = (HasListFormat list_text × HasVersionFormat text) ⊎ (((list : List Spec) × BytesDenoteList list_text list) × ((r : Record) × BytesDenote text r))
+AreMatchable list_text text = (HasListFormat list_text × IsTakenAsVersion text) ⊎ (((list : List Spec) × BytesDenoteList list_text list) × ((r : Record) × BytesDenote text r))
 
 -- whether the list contains the version, if the bytes denote them
 abbrev pub Contains : List ℕ → List ℕ → Bool → Type 0
@@ -169,23 +177,55 @@ takes zero list = false
 takes (suc zero) list = true
 takes (suc (suc n)) list = requests_prereleases list
 
--- whether the list matches the version literally, if the bytes denote them
-abbrev pub MatchesLiterally : List ℕ → List ℕ → Bool → Type 0
-MatchesLiterally list_text text matched = AreMatchable list_text text × ((list : List Spec) (r : Record) → BytesDenoteList list_text list → BytesDenote text r → matched ≡ list_matches_literally list r)
+-- ---- what is allowed
 
--- whether they are taken, if the bytes denote a list
-abbrev pub Takes : List ℕ → ℕ → Bool → Type 0
-Takes list_text prereleases taken = (list : List Spec) → BytesDenoteList list_text list → taken ≡ takes prereleases list
+-- the first bytes begin as a compiled form that has a set, which is taken as it lies; or they denote a list, and the others a version
+abbrev pub AreAskable : List ℕ → List ℕ → Type 0
+AreAskable list_text text = (HasFormatOfSets list_text × IsTakenAsVersion text) ⊎ (((list : List Spec) × BytesDenoteList list_text list) × ((r : Record) × BytesDenote text r))
 
--- whether the list allows the version, if the bytes denote them
-abbrev pub Allows : List ℕ → List ℕ → ℕ → Bool → Type 0
-Allows list_text text prereleases allowed =
-    AreMatchable list_text text
-    × ((list : List Spec) (r : Record) → BytesDenoteList list_text list → BytesDenote text r → allowed ≡ list_allows_literally (takes prereleases list) list r)
+-- of the versions in a set all, or those that are no pre-releases
+abbrev pub set_allows : Bool → Segments → Record → Bool
+set_allows taken set r = (taken || not (any_prerelease r)) && contains record_cmp set r
 
--- the flag is written with status 0; otherwise it is unchanged, and the status is that of the failure, as of matching
+-- pre-releases are to be taken as the list asks, of a set by itself, which has no list
+abbrev pub AsksSet : List ℕ → ℕ → Type 0
+AsksSet bytes prereleases = HasLoneSetFormat bytes × (2 ≤ prereleases)
+
+-- whether pre-releases are taken; a set by itself has no member that asks for them
+pub record Takes (list_text : List ℕ) (prereleases : ℕ) (taken : Bool) : Type 0 where
+  pub of_list : (list : List Spec) → (¬ HasLoneSetFormat list_text) → BytesDenoteList list_text list → taken ≡ takes prereleases list
+  pub of_set : HasLoneSetFormat list_text → taken ≡ takes prereleases []
+
+-- whether the list matches the version literally, or the set by itself has it, and whether the version is a pre-release or a
+-- developmental release; if the bytes denote them
+pub record IsFoundInSet (list_text text : List ℕ) (found : Bool × Bool) : Type 0 where
+  pub of_list : (list : List Spec) (r : Record) → (¬ HasLoneSetFormat list_text) → BytesDenoteList list_text list → BytesDenote text r → found ≡ (list_matches_literally list r, any_prerelease r)
+  pub of_set : (set : Segments) (r : Record) → DenotesSet list_text set → BytesDenote text r → found ≡ (contains record_cmp set r, any_prerelease r)
+
+-- whether the list allows the version, or the set by itself does, if the bytes denote them
+pub record Allows (list_text text : List ℕ) (prereleases : ℕ) (allowed : Bool) : Type 0 where
+  pub askable : AreAskable list_text text
+  pub asks : ¬ AsksSet list_text prereleases
+  pub of_list : (list : List Spec) (r : Record) → (¬ HasLoneSetFormat list_text) → BytesDenoteList list_text list → BytesDenote text r → allowed ≡ list_allows_literally (takes prereleases list) list r
+  pub of_set : (set : Segments) (r : Record) → DenotesSet list_text set → BytesDenote text r → allowed ≡ set_allows (takes prereleases []) set r
+
+-- the version is invalid, and the list is not, or begins as a set by itself, or both begin as compiled forms: else the list is read first
+abbrev pub RejectsVersion : List ℕ → List ℕ → Type 0
+RejectsVersion list_text text = ((HasFormatOfSets list_text × HasVersionFormat text) ⊎ HasLoneSetFormat list_text ⊎ ((list : List Spec) × BytesDenoteList list_text list)) × RejectsBytes text
+
+-- the bytes are no list, or begin as a set by itself and are none
+abbrev pub RejectsSet : List ℕ → Type 0
+RejectsSet bytes = RejectsListBytes bytes ⊎ (HasLoneSetFormat bytes × ((set : Segments) → DenotesSet bytes set → ⊥))
+
+-- why nothing is said
+abbrev pub AllowFaults : List ℕ → List ℕ → ℕ → Fault → Type 0
+AllowFaults list_text text prereleases fault.NoList = AsksSet list_text prereleases
+AllowFaults list_text text prereleases f = Faults (RejectsVersion list_text text) (RejectsSet list_text) ⊥ f
+
+-- the flag is written with status 0; otherwise it is unchanged, and the status is that of the failure
 abbrev pub AllowsResult : List ℕ → List ℕ → ℕ → ℕ → ℕ → ℕ → Type 0
-AllowsResult list_text text prereleases = WritesOrFails (RejectsSecond list_text text) (RejectsListBytes list_text) ⊥ (IsFlagOf (Allows list_text text prereleases))
+AllowsResult list_text text prereleases old new status =
+    ((status ≡ 0) × IsFlagOf (Allows list_text text prereleases) new) ⊎ ((new ≡ old) × FailsBy (AllowFaults list_text text prereleases) status)
 
 -- the normal form of a version that the list matches literally; no bytes if it matches none
 abbrev pub IsVersionIn : List ℕ → List ℕ → Type 0

@@ -1,13 +1,12 @@
--- Sets of versions, which bytes denote that denote a list without `===`, their keys, and what is made of sets.
-use Rattle.std.specs.List.{flat_map}
-use Rattle.std.specs.Prelude.{◌≡◌, ◌⊎◌, ◌↔◌, ◌&&◌, ◌||◌, ℕ, List, [], ◌∷◌, Bool, IsTrue, false, not, true, unwrap_or}
+-- Sets of versions, of a list without `===` or by themselves, their keys, and what is made of sets.
+use Rattle.std.specs.Prelude.{◌≡◌, ◌⊎◌, ◌↔◌, ◌&&◌, ◌||◌, ℕ, List, Bool, IsTrue, false, not, true}
 use Rattle.pep440_compiled.specs.Lists.{has_set}
+use Rattle.pep440_compiled.specs.SetBytes.{set_keys}
 use Rattle.pep440_compiled.specs.SetForms.{DenotesSet, HasFormatOfSets, HasLoneSetFormat, HasSet}
-use Rattle.pep440_keys.specs.RangeKeys.{Interval, segment_interval}
 use Rattle.pep440_ranges.specs.RangeSegments.{contains}
 use Rattle.pep440_rs.specs.Bounds.{Segments}
 use Rattle.pep440_rs.specs.Specifiers.{Spec}
-use Rattle.pep440_sets.specs.Sets.{has_exact, list_set}
+use Rattle.pep440_sets.specs.Sets.{list_set}
 use Rattle.pep440_sets.specs.Emptiness.{IsSubset}
 use Rattle.pep440_version.specs.Key.{record_cmp}
 use Rattle.pep440_version.specs.Record.{Record}
@@ -17,24 +16,6 @@ use Rattle.pep440_calls.specs.Statuses.{FailsBy, IsFlagOf, SetFaults}
 use Rattle.pep440_calls.specs.declared.fault.Fault.{Fault}
 use Rattle.pep440_calls.specs.declared.set_calls.SetForm.{SetForm}
 use Rattle.pep440_calls.specs.declared.set_calls.SetForm.TheVariants.{Given, Made}
-
--- the bytes denote a list, whose set this is
-abbrev pub BytesDenoteSet : List ℕ → Segments → Type 0
-BytesDenoteSet bytes set = (list : List Spec) × BytesDenoteList bytes list × (has_exact list ≡ false) × (set ≡ list_set list)
-
--- the bytes denote a list that has no set, since it has `===`
-abbrev pub LacksSet : List ℕ → Type 0
-LacksSet bytes = (list : List Spec) × BytesDenoteList bytes list × (has_exact list ≡ true)
-
--- the low and the high key of an interval; no bytes for a missing one, since no sort key is empty
-abbrev pub interval_keys : Interval → List (List ℕ)
-interval_keys interval = unwrap_or interval.0 [] ∷ unwrap_or interval.1 [] ∷ []
-
--- the keys of the intervals of the set, joined in order, and where each key ends
-abbrev pub JoinsBoundaries : List ℕ → List ℕ → List ℕ → Type 0
-JoinsBoundaries list bytes ends = (set : Segments) × BytesDenoteSet list set × Joins (flat_map (λ s. interval_keys (segment_interval s)) set) bytes ends
-
--- ---- operations
 
 -- the bytes denote a list that compiles with this set: it has no `===`, and strings can have its members
 abbrev pub HasListSet : List ℕ → Segments → Type 0
@@ -69,6 +50,10 @@ SetFault bytes = SetFaults (RejectsListBytes bytes ⊎ ((s : Segments) → HasOw
 abbrev pub TwoSetFaults : List ℕ → List ℕ → Fault → Type 0
 TwoSetFaults left right =
     SetFaults (RejectsListBytes left ⊎ ((s t : Segments) → HasOwnSet left s → HasOwnSet right t → ⊥)) (RejectsListBytes right) (LacksListSet left ⊎ LacksListSet right)
+
+-- the keys of the set, two an interval, joined in order, and where each key ends; no bytes for a missing one, since no sort key is empty
+abbrev pub JoinsBoundaries : List ℕ → List ℕ → List ℕ → Type 0
+JoinsBoundaries set bytes ends = IsTakenAsSet set × ((s : Segments) → HasOwnSet set s → Joins (set_keys s) bytes ends)
 
 -- the bytes are a set by itself, of the versions of which this holds
 abbrev pub DenotesVersionsOf : (Record → Bool) → List ℕ → Type 0

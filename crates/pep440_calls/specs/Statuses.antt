@@ -1,12 +1,14 @@
 -- How a call ends: its status, and what it leaves in the caller's memory. 0 ok, 1 a version is invalid, 2 a list is invalid, 3 out of
 -- memory, 4 too little room, 5 a bound lies above the greatest number, 6 the right one of two versions is invalid, 7 a version is not
--- packed, 8 it cannot be changed so, 9 bytes are to be nothing known, 10 none is found, 12 a list has no set.
+-- packed, 8 it cannot be changed so, 9 bytes are to be nothing known, 10 none is found, 12 a list has no set, 13 a set has no list.
 use Rattle.std.specs.Prelude.{◌≡◌, ◌⊎◌, ◌≤◌, ◌<◌, ℕ, Bool, List, ◌++◌, drop, length, Result, Ok, Err, if◌then◌else◌}
 use Rattle.pep440_compiled.specs.declared.error.CompileError.{CompileError}
+use Rattle.pep440_compiled.specs.declared.error.CompiledError.{CompiledError}
 use Rattle.pep440_rs.specs.declared.range.error.RangeError.{RangeError}
 use Rattle.pep440_sets.specs.declared.error.SetError.{SetError}
 use Rattle.pep440_calls.specs.declared.fault.Fault.{Fault}
 use Rattle.pep440_compiled.specs.declared.error.CompileError.TheVariants as compile
+use Rattle.pep440_compiled.specs.declared.error.CompiledError.TheVariants as read
 use Rattle.pep440_rs.specs.declared.range.error.RangeError.TheVariants as range_error
 use Rattle.pep440_sets.specs.declared.error.SetError.TheVariants as set_error
 use Rattle.pep440_calls.specs.declared.fault.Fault.TheVariants as fault
@@ -19,11 +21,17 @@ fault_status fault.OutOfMemory = 3
 fault_status fault.NumberAtMax = 5
 fault_status fault.InvalidRight = 6
 fault_status fault.NoSet = 12
+fault_status fault.NoList = 13
 
 -- why there is no compiled form
 abbrev pub fault_of_compile : CompileError → Fault
 fault_of_compile compile.NotParsed = fault.InvalidVersion
 fault_of_compile compile.OutOfMemory = fault.OutOfMemory
+
+-- why a compiled form of a list or of a set is not read
+abbrev pub fault_of_read : CompiledError → Fault
+fault_of_read read.NotCompiled = fault.InvalidList
+fault_of_read read.OutOfMemory = fault.OutOfMemory
 
 -- why there is no range
 abbrev pub fault_of_range : RangeError → Fault
@@ -62,6 +70,7 @@ module _ (version list range : Type 0) where
   Faults fault.NumberAtMax = range
   Faults fault.InvalidRight = ⊥
   Faults fault.NoSet = ⊥
+  Faults fault.NoList = ⊥
 
   abbrev pub HoldsOrFaults : {X : Type 0} → (X → Type 0) → Result X Fault → Type 0
   HoldsOrFaults P result = HoldsOr Faults P result
@@ -82,6 +91,7 @@ SetFaults left right set fault.OutOfMemory = Unit {0}
 SetFaults left right set fault.NumberAtMax = ⊥
 SetFaults left right set fault.InvalidRight = right
 SetFaults left right set fault.NoSet = set
+SetFaults left right set fault.NoList = ⊥
 
 -- the items are written at the start of the caller's buffer, whose rest is unchanged; or it is too small, and unchanged
 abbrev pub WritesAtStart : {X : Type 0} → List X → List X → List X → ℕ → Type 0

@@ -58,7 +58,8 @@ impl BatchError {
             | Fault::InvalidList
             | Fault::NumberAtMax
             | Fault::InvalidRight
-            | Fault::NoSet => BatchError::InvalidAt(position),
+            | Fault::NoSet
+            | Fault::NoList => BatchError::InvalidAt(position),
             Fault::OutOfMemory => BatchError::OutOfMemory,
         }
     }

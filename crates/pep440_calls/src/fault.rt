@@ -1,9 +1,9 @@
 //! Why a call gives nothing.
 ghost use Rattle.std.specs.Prelude.{◌≡◌};
-ghost use Rattle.pep440_calls.specs.Statuses.{fault_of_compile, fault_of_range, fault_of_set, fault_status};
+ghost use Rattle.pep440_calls.specs.Statuses.{fault_of_compile, fault_of_range, fault_of_read, fault_of_set, fault_status};
 ghost use Rattle.pep440_calls.specs.declared.fault.Fault.TheVariants.{OutOfMemory};
 
-use pep440_compiled::CompileError;
+use pep440_compiled::{CompileError, CompiledError};
 use pep440_rs::RangeError;
 use pep440_sets::SetError;
 use std::alloc::{AllocError, AllocFailed};
@@ -23,6 +23,8 @@ pub(crate) enum Fault {
     InvalidRight,
     // A list with `===` has no set.
     NoSet,
+    // A set by itself has no list, which asks for pre-releases or not.
+    NoList,
 }
 
 impl Fault {
@@ -37,6 +39,7 @@ impl Fault {
             Fault::NumberAtMax => 5,
             Fault::InvalidRight => 6,
             Fault::NoSet => 12,
+            Fault::NoList => 13,
         }
     }
 }
@@ -76,6 +79,18 @@ impl From<CompileError> for Fault {
         match error {
             CompileError::NotParsed => Fault::InvalidVersion,
             CompileError::OutOfMemory => Fault::OutOfMemory,
+        }
+    }
+}
+
+impl From<CompiledError> for Fault {
+    ghost from_gives = { λ error fault. fault ≡ fault_of_read error };
+
+    // Of the compiled form of a list or of a set.
+    fn from(error: CompiledError) -> Fault {
+        match error {
+            CompiledError::NotCompiled => Fault::InvalidList,
+            CompiledError::OutOfMemory => Fault::OutOfMemory,
         }
     }
 }

@@ -16,7 +16,7 @@ ghost use Rattle.pep440_version.specs.Print.{print};
 ghost use Rattle.pep440_version.specs.Record.{Record};
 ghost use Rattle.pep440_sets.specs.Common.{common_version};
 ghost use Rattle.pep440_sets.specs.Emptiness.{IsUnsatisfiable};
-ghost use Rattle.pep440_calls.specs.SetCalls.{BytesDenoteSet};
+ghost use Rattle.pep440_calls.specs.SetCalls.{HasListSet};
 ghost use Rattle.pep440_calls.specs.CallResults.{IsCompiled, IsCompiledList, IsVersionIn, IsPackedWord};
 ghost use Rattle.pep440_calls.specs.CallerBytes.{BytesDenote, BytesDenoteList, StringDenotes, RejectsBytes, RejectsListBytes, ExplainsBytes, ExplainsListBytes};
 ghost use Rattle.pep440_calls.specs.PatternCalls.{IsSpecifier, StringDenotesPattern, BytesDenoteSpecifier, RejectsOperand, RejectsOperator, RejectsPatternBytes, RejectsSpecifierBytes, ExplainsSpecifier};
@@ -76,7 +76,7 @@ pub fn words_are_ordered()
 
 /// The sort key of a version lies in an interval of a list's set exactly if the list, which some string denotes, matches the version literally.
 pub fn keys_tell_membership()
-    ensures { (bytes text : List ℕ) (set : Segments) (list : List Spec) (r : Record) → All IsDenotable list → BytesDenoteSet bytes set → BytesDenoteList bytes list
+    ensures { (bytes text : List ℕ) (set : Segments) (list : List Spec) (r : Record) → All IsDenotable list → HasListSet bytes set → BytesDenoteList bytes list
         → BytesDenote text r → list_any (λ s. is_within (segment_interval s) (key_bytes r)) set ≡ list_matches_literally list r }
 {}
 

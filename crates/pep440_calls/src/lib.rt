@@ -6,19 +6,18 @@
 //! condition beyond its types. Each returns a status: 0 ok, 1 a version is invalid, 2 a list is invalid, or an operator or a
 //! specifier, 3 out of memory, 4 too little room, 5 a bound of a range lies above the greatest number, 6 the right one of two
 //! versions is invalid, 7 a version is not packed, 8 a version cannot be changed so, 9 bytes are to be nothing known, 10 none is
-//! found, 12 a list has no set.
+//! found, 12 a list has no set, 13 a set by itself has no list.
 //!
-//! `write_order` of two compiled versions, and `write_match` and `write_allowed` of a compiled list and a compiled version, read them
-//! as they lie, without allocating. They do not test the whole of them: of bytes that begin as a compiled form and are none they
-//! return an error or any result, and never read outside them. So do the calls on sets, of a compiled list with its set and of a set by
-//! itself.
+//! `write_order` of two compiled versions, and `write_match` of a compiled list, read them as they lie. They do not test the whole of
+//! them: of bytes that begin as a compiled form and are none they return an error or any result, and never read outside them. So do
+//! `write_allow_flag` and the calls on sets, of a compiled list with its set and of a set by itself.
 //!
 //! With 0 the result is at the start of the buffer, whose rest is unchanged. With 4 all is valid, but the result does not fit: the
 //! buffer is unchanged, and the sizes are reported. 3 may take the place of any other status. With any other nothing is
 //! written, except `at` by a batch that stops.
 //!
 //! In reading order: `fault` and `buffer`, how each call ends; `read`, with which each begins; `one_version`, `two_versions`, `one_list`,
-//! `membership`, `sets` and `set_calls`, `patterns` and `edits`; `joined_strings`, which `list_ranges` and `batch` write; `newest_string`; `messages`, why bytes
+//! `membership`, `set_calls`, `patterns` and `edits`; `joined_strings`, which `list_ranges` and `batch` write; `newest_string`; `messages`, why bytes
 //! are invalid; and `laws`.
 #![tactic(auto)]
 
@@ -37,13 +36,12 @@ mod one_version;
 mod patterns;
 mod read;
 mod set_calls;
-mod sets;
 mod two_versions;
 
 pub use batch::{write_marks, write_positions, write_sort_keys};
 pub use edits::{write_edit_error, write_edited};
 pub use list_ranges::{write_range, write_range_bounds, write_release_range_bounds};
-pub use membership::{write_allowed, write_match};
+pub use membership::{write_allow_flag, write_match};
 pub use messages::{write_build_error, write_error};
 pub use newest_string::write_newest;
 pub use one_list::{
@@ -53,6 +51,7 @@ pub use one_version::{
     Parts, write_compiled, write_normal_form, write_parts, write_sort_key, write_word,
 };
 pub use patterns::{write_compiled_specifier, write_pattern, write_specifier};
-pub use set_calls::{write_complement, write_intersection, write_subset, write_union};
-pub use sets::write_boundaries;
+pub use set_calls::{
+    write_boundaries, write_complement, write_intersection, write_subset, write_union,
+};
 pub use two_versions::write_order;

@@ -1,15 +1,21 @@
 //! Whether a list contains or allows a version.
-ghost use Rattle.std.specs.Prelude.{List, ℕ, ◌≡◌};
-ghost use Rattle.pep440_compiled.specs.Lists.{HasListFormat, HasSetFormat};
+ghost use Rattle.std.specs.Prelude.{List, ℕ, true, ◌↔◌, ◌≡◌, ◌≤◌};
+ghost use Rattle.pep440_compiled.specs.Lists.{HasListFormat};
+ghost use Rattle.pep440_compiled.specs.SetForms.{HasFormatOfSets, HasLoneSetFormat};
 ghost use Rattle.pep440_compiled.specs.Version.{HasVersionFormat};
-ghost use Rattle.pep440_calls.specs.CallResults.{Allows, AllowsResult, Contains, ContainsResult, IsPrerelease, MatchesLiterally, RejectsSecond, Takes, takes};
+ghost use Rattle.pep440_calls.specs.CallResults.{AllowFaults, Allows, AllowsResult, AsksSet, Contains, ContainsResult, IsFoundInSet, IsPrerelease, RejectsSecond, RejectsSet, RejectsVersion, Takes, takes};
 ghost use Rattle.pep440_calls.specs.CallerBytes.{RejectsListBytes};
-ghost use Rattle.pep440_calls.specs.Statuses.{HoldsOrFaults};
+ghost use Rattle.pep440_calls.specs.Statuses.{HoldsOr, HoldsOrFaults};
 
 use crate::buffer::{OK, flag};
 use crate::fault::Fault;
+use crate::one_version::compile;
 use crate::read::{read, read_list};
-use pep440_compiled::{ContainsError, has_list_format, has_set_format, has_version_format};
+use crate::set_calls::has_form;
+use arrayvec::ArrayVec;
+use pep440_compiled::{
+    ContainsError, compile_normal, has_list_format, has_lone_set_format, has_version_format,
+};
 use pep440_rs::VersionSpecifiers;
 use std::alloc::Global;
 
@@ -45,7 +51,24 @@ fn contains_compiled(list: &[u8], version: &[u8]) -> Result<(bool, bool), Fault>
     }
 }
 
-// Whether the list contains the version, and whether this is a pre-release or a developmental release; of any bytes.
+// The same of the version of a string, which is compiled first: in a normal spelling without allocating. If both are invalid, the list's
+// error is named.
+fn contains_string(alloc: Global, list: &[u8], text: &[u8]) -> Result<(bool, bool), Fault>
+    requires { HasListFormat list.now }
+    ensures { HoldsOrFaults (RejectsSecond list.now text.now) (RejectsListBytes list.now) ⊥
+        (λ found. Contains list.now text.now found.0 × IsPrerelease text.now found.1) result }
+{
+    let mut form = ArrayVec::new();
+    if compile_normal(&mut form, text) {
+        return contains_compiled(list, form.as_slice());
+    }
+    match compile(alloc, text) {
+        Ok(compiled) => contains_compiled(list, compiled.as_slice()),
+        Err(_) => contains(alloc, list, text),
+    }
+}
+
+// The same of a list that is read.
 fn contains(alloc: Global, list: &[u8], bytes: &[u8]) -> Result<(bool, bool), Fault>
     ensures { HoldsOrFaults (RejectsSecond list.now bytes.now) (RejectsListBytes list.now) ⊥
         (λ found. Contains list.now bytes.now found.0 × IsPrerelease bytes.now found.1) result }
@@ -56,7 +79,7 @@ fn contains(alloc: Global, list: &[u8], bytes: &[u8]) -> Result<(bool, bool), Fa
     Ok((contained, version.any_prerelease()))
 }
 
-// As `write_match`, of any bytes. A call of its own, so that two compiled forms pay nothing for strings.
+// As `write_match`, of a string at least. A call of its own, so that two compiled forms pay nothing for strings.
 #[inline(never)]
 fn write_parsed_match(
     alloc: Global,
@@ -67,12 +90,15 @@ fn write_parsed_match(
 ) -> u8
     ensures { ContainsResult list.now text.now contained.old contained.new prerelease.old prerelease.new result }
 {
+    if has_list_format(list) && !has_version_format(text) {
+        return put_match(contains_string(alloc, list, text), contained, prerelease);
+    }
     put_match(contains(alloc, list, text), contained, prerelease)
 }
 
 /// Whether the list contains the version, 1 or 0 (PEP 440, "Version specifiers"); and whether the version is a pre-release or
-/// a developmental release, 1 or 0 (PEP 440, "Handling of pre-releases"). The list is read first, unless both
-/// are compiled: then nothing is allocated.
+/// a developmental release, 1 or 0 (PEP 440, "Handling of pre-releases"). The list is read first, unless it is compiled: then
+/// nothing is allocated for a compiled version, or for a string in a normal spelling.
 pub fn write_match(
     alloc: Global,
     list: &[u8],
@@ -90,9 +116,10 @@ pub fn write_match(
 
 /// Whether the list allows the version, 1 or 0 (PEP 440, "Handling of pre-releases"): it matches the version literally, and this is no
 /// pre-release and no developmental release unless these are taken. `prereleases` is 0 if they are not, 1 if they are, and else they are
-/// if a specifier with another operator than `!=` names one. The list is read first, unless it is compiled with its set and the
-/// version is compiled: then nothing is allocated.
-pub fn write_allowed(
+/// if a specifier with another operator than `!=` names one. A set by itself allows versions in it in the same way, but has no list that
+/// names one: status 13 if `prereleases` is above 1. The list is read first, unless it is compiled and has its set: then nothing is
+/// allocated for a compiled version, or for a string in a normal spelling.
+pub fn write_allow_flag(
     alloc: Global,
     list: &[u8],
     text: &[u8],
@@ -110,59 +137,90 @@ pub fn write_allowed(
     }
 }
 
-// Whether a compiled list with its set matches a compiled version.
-fn matches_compiled(list: &[u8], version: &[u8]) -> Result<bool, Fault>
-    requires list { HasSetFormat list.now }
+// Whether a compiled form has a compiled version in its set, and whether this is a pre-release or a developmental release.
+#[inline(always)]
+fn find_in_set(set: &[u8], version: &[u8]) -> Result<(bool, bool), Fault>
+    requires set { HasFormatOfSets set.now }
     requires version { HasVersionFormat version.now }
-    ensures { HoldsOrFaults (RejectsSecond list.now version.now) (RejectsListBytes list.now) ⊥ (MatchesLiterally list.now version.now) result }
+    ensures { HoldsOrFaults (RejectsVersion set.now version.now) (RejectsSet set.now) ⊥ (IsFoundInSet set.now version.now) result }
 {
-    match pep440_compiled::matches_literally(list, version) {
+    match pep440_compiled::set_contains(set, version) {
         Ok(found) => Ok(found),
         Err(ContainsError::NoVersion) => Err(Fault::InvalidVersion),
         Err(ContainsError::NoList) => Err(Fault::InvalidList),
     }
 }
 
-// Whether a compiled version is a pre-release or a developmental release.
-fn is_early(list: &[u8], version: &[u8]) -> Result<bool, Fault>
-    requires list { HasSetFormat list.now }
-    requires version { HasVersionFormat version.now }
-    ensures { HoldsOrFaults (RejectsSecond list.now version.now) (RejectsListBytes list.now) ⊥ (IsPrerelease version.now) result }
+// Whether pre-releases are taken as the list asks.
+#[inline(always)]
+fn asks_list(prereleases: u8) -> bool
+    ensures { (result ≡ true) ↔ (2 ≤ prereleases) }
 {
-    match pep440_compiled::any_prerelease(version) {
-        Ok(found) => Ok(found),
-        Err(_) => Err(Fault::InvalidVersion),
+    prereleases > 1
+}
+
+// Whether pre-releases are taken of a compiled form with a set.
+fn takes(set: &[u8], prereleases: u8) -> Result<bool, Fault>
+    requires set { HasFormatOfSets set.now }
+    requires asked { ¬ AsksSet set.now prereleases }
+    ensures { HoldsOrFaults ⊥ (RejectsSet set.now) ⊥ (Takes set.now prereleases) result }
+{
+    if !asks_list(prereleases) {
+        return Ok(prereleases == 1);
+    }
+    match pep440_compiled::requests_prereleases(set) {
+        Ok(requests) => Ok(requests),
+        Err(_) => Err(Fault::InvalidList),
     }
 }
 
-// Whether pre-releases are taken of a compiled list with its set.
-fn takes(list: &[u8], prereleases: u8) -> Result<bool, Fault>
-    requires { HasSetFormat list.now }
-    ensures { (version : List ℕ) → HoldsOrFaults (RejectsSecond list.now version) (RejectsListBytes list.now) ⊥ (Takes list.now prereleases) result }
-{
-    match prereleases {
-        0 => Ok(false),
-        1 => Ok(true),
-        _ => match pep440_compiled::requests_prereleases(list) {
-            Ok(asks) => Ok(asks),
-            Err(_) => Err(Fault::InvalidList),
-        },
-    }
-}
-
-// Whether a compiled list with its set allows a compiled version. What matches is a pre-release seldom.
-fn allows_compiled(list: &[u8], version: &[u8], prereleases: u8) -> Result<bool, Fault>
-    requires list { HasSetFormat list.now }
+// Whether a compiled form with a set allows a compiled version. A version in the set is a pre-release seldom.
+#[inline(always)]
+fn allows_version(set: &[u8], version: &[u8], prereleases: u8) -> Result<bool, Fault>
+    requires set { HasFormatOfSets set.now }
+    requires asked { ¬ AsksSet set.now prereleases }
     requires version { HasVersionFormat version.now }
-    ensures { HoldsOrFaults (RejectsSecond list.now version.now) (RejectsListBytes list.now) ⊥ (Allows list.now version.now prereleases) result }
+    ensures { HoldsOr (AllowFaults set.now version.now prereleases) (Allows set.now version.now prereleases) result }
 {
-    if !matches_compiled(list, version)? {
+    let (held, is_prerelease) = find_in_set(set, version)?;
+    if !held {
         return Ok(false);
     }
-    if !is_early(list, version)? {
+    if !is_prerelease {
         return Ok(true);
     }
-    takes(list, prereleases)
+    takes(set, prereleases)
+}
+
+// The same of the version of a string in any spelling, which is compiled first. If both are invalid, the list's error is named.
+fn allows_spelling(alloc: Global, set: &[u8], text: &[u8], prereleases: u8) -> Result<bool, Fault>
+    requires set { HasFormatOfSets set.now }
+    requires asked { ¬ AsksSet set.now prereleases }
+    ensures { HoldsOr (AllowFaults set.now text.now prereleases) (Allows set.now text.now prereleases) result }
+{
+    match compile(alloc, text) {
+        Ok(compiled) => allows_version(set, compiled.as_slice(), prereleases),
+        Err(fault) => {
+            if has_lone_set_format(set) {
+                return Err(fault);
+            }
+            allows_parsed(alloc, set, text, prereleases)
+        }
+    }
+}
+
+// The same, in a normal spelling without allocating.
+#[inline(never)]
+fn allows_string(alloc: Global, set: &[u8], text: &[u8], prereleases: u8) -> Result<bool, Fault>
+    requires set { HasFormatOfSets set.now }
+    requires asked { ¬ AsksSet set.now prereleases }
+    ensures { HoldsOr (AllowFaults set.now text.now prereleases) (Allows set.now text.now prereleases) result }
+{
+    let mut form = ArrayVec::new();
+    if compile_normal(&mut form, text) {
+        return allows_version(set, form.as_slice(), prereleases);
+    }
+    allows_spelling(alloc, set, text, prereleases)
 }
 
 // Whether pre-releases are taken of a list that was read.
@@ -176,15 +234,39 @@ fn are_taken(list: &VersionSpecifiers, prereleases: u8) -> bool
     }
 }
 
-// Whether the list allows the version that the bytes denote.
-fn allows(alloc: Global, list: &[u8], bytes: &[u8], prereleases: u8) -> Result<bool, Fault>
-    ensures { HoldsOrFaults (RejectsSecond list.now bytes.now) (RejectsListBytes list.now) ⊥ (Allows list.now bytes.now prereleases) result }
+// Whether a list that is read allows the version that the bytes denote.
+#[inline(never)]
+fn allows_parsed(alloc: Global, list: &[u8], bytes: &[u8], prereleases: u8) -> Result<bool, Fault>
+    requires { ¬ HasLoneSetFormat list.now }
+    ensures { HoldsOr (AllowFaults list.now bytes.now prereleases) (Allows list.now bytes.now prereleases) result }
 {
-    if has_set_format(list) && has_version_format(bytes) {
-        return allows_compiled(list, bytes, prereleases);
-    }
     let specifiers = read_list(alloc, list)?;
     let version = read(alloc, bytes)?;
     let taken = are_taken(&specifiers, prereleases);
     Ok(specifiers.allows_literally(alloc, taken, &version)?)
+}
+
+// Whether a set by itself is to be asked as its list asks.
+#[inline(always)]
+fn asks_set(list: &[u8], prereleases: u8) -> bool
+    ensures { (result ≡ true) ↔ AsksSet list.now prereleases }
+{
+    prereleases > 1 && has_lone_set_format(list)
+}
+
+// Whether the list allows the version that the bytes denote.
+#[inline(always)]
+fn allows(alloc: Global, list: &[u8], bytes: &[u8], prereleases: u8) -> Result<bool, Fault>
+    ensures { HoldsOr (AllowFaults list.now bytes.now prereleases) (Allows list.now bytes.now prereleases) result }
+{
+    if asks_set(list, prereleases) {
+        return Err(Fault::NoList);
+    }
+    if !has_form(list) {
+        return allows_parsed(alloc, list, bytes, prereleases);
+    }
+    if has_version_format(bytes) {
+        return allows_version(list, bytes, prereleases);
+    }
+    allows_string(alloc, list, bytes, prereleases)
 }

@@ -43,7 +43,8 @@ pub fn write_compiled(alloc: Global, text: &[u8], out: &mut [u8], written: &mut 
     put_bytes(compile(alloc, text), out, written)
 }
 
-fn compile(alloc: Global, text: &[u8]) -> Result<Vec<u8>, Fault>
+// The compiled form of a version.
+pub(crate) fn compile(alloc: Global, text: &[u8]) -> Result<Vec<u8>, Fault>
     ensures { HoldsOrFaults (RejectsBytes text.now) ⊥ ⊥ (λ compiled. IsCompiled text.now compiled.items) result }
 {
     let version = read(alloc, text)?;

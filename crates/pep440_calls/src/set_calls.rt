@@ -1,19 +1,37 @@
-//! What is made of one set or of two, each of a list or a set by itself.
-ghost use Rattle.std.specs.Prelude.{◌≡◌, ◌↔◌, true};
+//! The keys of a set, and what is made of one set or of two, each of a list or a set by itself.
+ghost use Rattle.std.specs.Prelude.{◌≡◌, ◌↔◌, IfOk, map, true};
 ghost use Rattle.pep440_compiled.specs.SetForms.{HasFormatOfSets, HasSet};
 ghost use Rattle.pep440_rs.specs.Bounds.{Segments};
 ghost use Rattle.pep440_calls.specs.CallerBytes.{RejectsListBytes};
-ghost use Rattle.pep440_calls.specs.SetCalls.{HasListSet, LacksListSet, IsComplement, IsFormOf, IsInside, IsIntersection, IsUnion, SetFault, SubsetResult, TwoSetFaults, form_bytes};
+ghost use Rattle.pep440_calls.specs.JoinedStrings.{Joins, WritesJoinedOr};
+ghost use Rattle.pep440_calls.specs.SetCalls.{HasListSet, LacksListSet, IsComplement, IsFormOf, IsInside, IsIntersection, IsUnion, JoinsBoundaries, SetFault, SubsetResult, TwoSetFaults, form_bytes};
 ghost use Rattle.pep440_calls.specs.Statuses.{HoldsOr, SetFaults, WritesBytesOr};
 
-use crate::buffer::{OK, flag, put_bytes};
+use crate::buffer::{OK, flag, put_bytes, put_joined};
 use crate::fault::Fault;
+use crate::joined_strings::JoinedStrings;
 use crate::one_list::compile_list;
-use pep440_compiled::{CompiledError, has_lone_set_format, has_set_format};
-use std::alloc::Global;
+use pep440_compiled::{has_lone_set_format, has_set_format};
+use std::alloc::{AllocError, Global};
 
-/// Writes the versions that are not in the set, as a set by itself. The set is that of a list or a set by itself. Status 12 if the list has
-/// no set.
+/// Writes the set as sort keys, two an interval, and where each of them ends: the set has a version exactly if its key is at least the first
+/// and below the second of some interval (PEP 440, "Version specifiers"). No bytes stand for no bound. Reports how many bytes and how many
+/// keys there are. The set is that of a list or a set by itself. Status 12 if the list has no set.
+pub fn write_boundaries(
+    alloc: Global,
+    set: &[u8],
+    out: &mut [u8],
+    ends: &mut [usize],
+    written: &mut usize,
+    count: &mut usize,
+) -> u8
+    ensures { WritesJoinedOr (SetFault set.now) (JoinsBoundaries set.now)
+        out.old out.new ends.old ends.new written.old written.new count.old count.new result }
+{
+    put_joined(to_boundaries(alloc, set), out, ends, written, count)
+}
+
+/// Writes the versions that are not in the set, as a set by itself. The set is as of `write_boundaries`.
 pub fn write_complement(alloc: Global, set: &[u8], out: &mut [u8], written: &mut usize) -> u8
     ensures { WritesBytesOr (SetFault set.now) (IsComplement set.now) out.old out.new written.old written.new result }
 {
@@ -90,7 +108,7 @@ fn compile_set(alloc: Global, list: &[u8]) -> Result<Vec<u8>, Fault>
 }
 
 // Whether the bytes begin as a compiled form that has a set.
-fn has_form(bytes: &[u8]) -> bool
+pub(crate) fn has_form(bytes: &[u8]) -> bool
     ensures { (result ≡ true) ↔ HasFormatOfSets bytes.now }
 {
     has_set_format(bytes) || has_lone_set_format(bytes)
@@ -117,16 +135,32 @@ fn to_right_form(alloc: Global, bytes: &[u8]) -> Result<SetForm<'_>, Fault>
     }
 }
 
+// The keys, in their order.
+fn join_keys(alloc: Global, keys: &[&[u8]]) -> Result<JoinedStrings, AllocError>
+    ensures { IfOk result (λ found. Joins (map (λ k. k.now) keys.now) found.bytes.items found.ends.items) }
+{
+    let mut found = JoinedStrings::with_capacity(alloc, keys.len())?;
+    for key in keys {
+        found.push(key)?;
+    }
+    Ok(found)
+}
+
+// The keys of the intervals of a set, in their order.
+fn to_boundaries(alloc: Global, set: &[u8]) -> Result<JoinedStrings, Fault>
+    ensures { HoldsOr (SetFault set.now) (λ found. JoinsBoundaries set.now found.bytes.items found.ends.items) result }
+{
+    let form = to_form(alloc, set)?;
+    let keys = pep440_compiled::set_keys(alloc, form.as_slice())?;
+    Ok(join_keys(alloc, keys.as_slice())?)
+}
+
 // The complement of a set.
 fn complement(alloc: Global, set: &[u8]) -> Result<Vec<u8>, Fault>
     ensures { HoldsOr (SetFault set.now) (λ bytes. IsComplement set.now bytes.items) result }
 {
     let form = to_form(alloc, set)?;
-    match pep440_compiled::complement(alloc, form.as_slice()) {
-        Ok(bytes) => Ok(bytes),
-        Err(CompiledError::NotCompiled) => Err(Fault::InvalidList),
-        Err(CompiledError::OutOfMemory) => Err(Fault::OutOfMemory),
-    }
+    Ok(pep440_compiled::complement(alloc, form.as_slice())?)
 }
 
 // What two sets share.
@@ -135,11 +169,7 @@ fn intersection(alloc: Global, left: &[u8], right: &[u8]) -> Result<Vec<u8>, Fau
 {
     let left_form = to_form(alloc, left)?;
     let right_form = to_right_form(alloc, right)?;
-    match pep440_compiled::intersection(alloc, left_form.as_slice(), right_form.as_slice()) {
-        Ok(bytes) => Ok(bytes),
-        Err(CompiledError::NotCompiled) => Err(Fault::InvalidList),
-        Err(CompiledError::OutOfMemory) => Err(Fault::OutOfMemory),
-    }
+    Ok(pep440_compiled::intersection(alloc, left_form.as_slice(), right_form.as_slice())?)
 }
 
 // What is in one of two sets.
@@ -148,11 +178,7 @@ fn union(alloc: Global, left: &[u8], right: &[u8]) -> Result<Vec<u8>, Fault>
 {
     let left_form = to_form(alloc, left)?;
     let right_form = to_right_form(alloc, right)?;
-    match pep440_compiled::union(alloc, left_form.as_slice(), right_form.as_slice()) {
-        Ok(bytes) => Ok(bytes),
-        Err(CompiledError::NotCompiled) => Err(Fault::InvalidList),
-        Err(CompiledError::OutOfMemory) => Err(Fault::OutOfMemory),
-    }
+    Ok(pep440_compiled::union(alloc, left_form.as_slice(), right_form.as_slice())?)
 }
 
 // Whether the left set is in the right one.
@@ -161,9 +187,5 @@ fn is_subset(alloc: Global, left: &[u8], right: &[u8]) -> Result<bool, Fault>
 {
     let left_form = to_form(alloc, left)?;
     let right_form = to_right_form(alloc, right)?;
-    match pep440_compiled::is_subset(alloc, left_form.as_slice(), right_form.as_slice()) {
-        Ok(inside) => Ok(inside),
-        Err(CompiledError::NotCompiled) => Err(Fault::InvalidList),
-        Err(CompiledError::OutOfMemory) => Err(Fault::OutOfMemory),
-    }
+    Ok(pep440_compiled::is_subset(alloc, left_form.as_slice(), right_form.as_slice())?)
 }

@@ -16,7 +16,6 @@ pub mod SetAlone
 pub mod SetKeys
 pub mod SetMerging
 pub mod Shared
-pub mod Sized
 pub mod Suffixes
 pub mod WrittenForm
 pub mod WrittenLocal

@@ -22,7 +22,7 @@ use Rattle.pep440_rs.specs.Matching.{has_local}
 use Rattle.pep440_rs.specs.Specifiers.{Spec}
 use Rattle.pep440_rs.specs.declared.specifier.operator.Operator.{Operator}
 use Rattle.pep440_rs.specs.declared.specifier.operator.Operator.TheVariants.{Equal, EqualStar, ExactEqual, NotEqual, NotEqualStar, TildeEqual, LessThan, LessThanEqual, GreaterThan, GreaterThanEqual}
-use Rattle.pep440_sets.proofs.Lists.{list_holds, list_is_set, parsed_denoted}
+use Rattle.pep440_sets.proofs.Lists.{list_holds, parsed_denoted}
 use Rattle.pep440_sets.specs.Boundaries.{IsAbovePosts, IsBelowVersion, IsEnd, IsInterval, IsStart, IsVersionSet}
 use Rattle.pep440_sets.specs.Sets.{has_exact, list_set}
 use Rattle.pep440_version.specs.Key.{record_cmp}
@@ -187,12 +187,14 @@ each_denotable (s ∷ list) all h =
 pub denotable : (list : List Spec) → All IsParsedMember list → has_set list ≡ true → All IsDenotable list
 denotable list all given = All-from_recursion IsDenotable list (each_denotable list (recursion_from_All IsParsedMember list all) (right_true (not (has_exact list)) (list_all stands list) given))
 
--- and of the set of a list exactly if the list matches the version literally
-pub list_tells : (list : List Spec) (r : Record) → All IsParsedMember list → has_set list ≡ true → IsParsed r → list_any (λ s. is_within (segment_interval s) (key_bytes r)) (list_set list) ≡ list_matches_literally list r
-list_tells list r parsed given p =
+pub not_exact : (list : List Spec) → has_set list ≡ true → has_exact list ≡ false
+not_exact list given = turned (has_exact list) (left_true (not (has_exact list)) (list_all stands list) given)
+
+-- the set of a list has what the list matches literally
+pub set_matches : (list : List Spec) (r : Record) → All IsParsedMember list → has_set list ≡ true → IsParsed r → contains record_cmp (list_set list) r ≡ list_matches_literally list r
+set_matches list r parsed given p =
     let all = denotable list parsed given in
-    let none = turned (has_exact list) (left_true (not (has_exact list)) (list_all stands list) given) in
-    set_tells (list_set list) r (list_is_set list all) p ∙ list_holds list all none r (parsed_denoted r p)
+    list_holds list all (not_exact list given) r (parsed_denoted r p)
 
 -- ---- whether a list has a set
 

@@ -1,7 +1,7 @@
 -- Complement and intersection of sets, as bytes: their keys are in the order of the boundaries that they are of.
-use Rattle.std.proofs.Common.{◌≡◌, ◌∙◌, ◌==◌, ◌||◌, ℕ, ◌<◌, Bool, true, false, cond, if◌then◌else◌, List, [], ◌∷◌, ◌++◌, ◌⊎◌, inl, inr, append_assoc, arith, length, refl, sym, ap, subst}
+use Rattle.std.proofs.Common.{Bor, ◌≡◌, ◌∙◌, ◌==◌, ◌||◌, ℕ, ◌<◌, Bool, true, false, cond, if◌then◌else◌, List, [], ◌∷◌, ◌++◌, ◌⊎◌, inl, inr, append_assoc, arith, length, map, refl, sym, ap, subst}
 use Rattle.std.proofs.Math.Dec.{eqb-suc-zero}
-use Rattle.std.proofs.lemmas.List.{append-nil}
+use Rattle.std.proofs.lemmas.List.{append-nil, map-append}
 use Rattle.std.proofs.lemmas.List.Concat.{flat_map-append}
 use Rattle.std.proofs.lemmas.List.Elements.{All-from_recursion, recursion_from_All}
 use Rattle.std.specs.Cmp.Lexicographic.{slice_cmp}
@@ -13,7 +13,7 @@ use Rattle.std.specs.declared.cmp.Ordering.TheVariants.{Less, Equal, Greater}
 use Rattle.std.specs.declared.ops.Bound.{Bound}
 use Rattle.std.specs.declared.ops.Bound.TheVariants.{Included, Excluded, Unbounded}
 use Rattle.pep440_compiled.proofs.SetKeys.{set_has_keys}
-use Rattle.pep440_compiled.specs.SetBytes.{IsSized, interval_bytes, set_bytes, sized_bytes}
+use Rattle.pep440_compiled.specs.SetBytes.{IsSized, interval_bytes, set_bytes, set_keys, sized_bytes}
 use Rattle.pep440_compiled.specs.SetForms.{IsBytesOf}
 use Rattle.pep440_keys.proofs.Order.{followed_in_order, keys_in_order}
 use Rattle.pep440_keys.specs.RangeKeys.{IsKeyedBound, IsKeyedSegment, high_key, is_below_key, low_key, segment_interval}
@@ -359,6 +359,39 @@ pub first_gap : (left : List ℕ) (set : Segments) → 0 < length left → AllBy
 first_gap left [] some all e = absurd (omega (arith, some, ap length e))
 first_gap left (s ∷ set) some all e = record { first = s; more = set; split = refl; sized = all.0; all = all.1; bytes_are = e }
 
+no_more : (left : List ℕ) (more : Segments) → length left ≡ 0 → left ≡ set_bytes more → more ≡ []
+no_more left [] none e = refl
+no_more left (s ∷ more) none e = absurd (omega (arith, none, ap length e))
+
+-- the keys that were found so far, and what is left
+pub record Collecting (s : Segments) (keys : List (Bor (List ℕ))) (left : List ℕ) : Type 0 where
+  pub more : Segments
+  pub sized : AllByRecursion IsSized more
+  pub left_is : left ≡ set_bytes more
+  pub found : map (λ k. k.now) keys ++ set_keys more ≡ set_keys s
+
+pub collect_begun : (s : Segments) (left : List ℕ) → All IsSized s → left ≡ set_bytes s → Collecting s [] left
+collect_begun s left all e = record { more = s; sized = recursion_from_All IsSized s all; left_is = e; found = refl }
+
+pub two_more : (s : Segments) (keys one two : List (Bor (List ℕ))) (low high : Bor (List ℕ)) (left later : List ℕ) (at : Collecting s keys left) (f : FirstGap left at.more) →
+    low.now ≡ start_bytes f.first.0 → high.now ≡ end_bytes f.first.1 → later ≡ set_bytes f.more → one ≡ keys ++ low ∷ [] → two ≡ one ++ high ∷ [] → Collecting s two later
+two_more s keys one two low high left later at f l h r p q =
+    let now : Bor (List ℕ) → List ℕ = λ k. k.now in
+    let both : two ≡ keys ++ low ∷ high ∷ [] = q ∙ ap (λ k. k ++ high ∷ []) p ∙ append_assoc keys (low ∷ []) (high ∷ []) in record {
+      more = f.more;
+      sized = f.all;
+      left_is = r;
+      found =
+          ap (λ k. map now k ++ set_keys f.more) both ∙ ap (λ k. k ++ set_keys f.more) (map-append now keys (low ∷ high ∷ []))
+          ∙ append_assoc (map now keys) (low.now ∷ high.now ∷ []) (set_keys f.more)
+          ∙ (λ i. map now keys ++ (l i ∷ (h i ∷ set_keys f.more)))
+          ∙ ap (λ k. map now keys ++ set_keys k) (sym f.split)
+          ∙ at.found;
+    }
+
+pub collect_done : (s : Segments) (keys : List (Bor (List ℕ))) (left : List ℕ) → length left ≡ 0 → Collecting s keys left → map (λ k. k.now) keys ≡ set_keys s
+collect_done s keys left none at = sym (append-nil (map (λ k. k.now) keys)) ∙ ap (λ m. map (λ k. k.now) keys ++ set_keys m) (sym (no_more left at.more none at.left_is)) ∙ at.found
+
 gap_written : (last start : Bound Record) (low next : List ℕ) → low ≡ end_bytes last → next ≡ start_bytes start →
     interval_bytes (segment_interval (flipped_bound last, flipped_bound start)) ≡ sized_bytes low ++ sized_bytes next
 gap_written last start low next l n = sym (λ i. sized_bytes ((l ∙ sym (turned_end_bytes last)) i) ++ sized_bytes ((n ∙ sym (turned_start_bytes start)) i))
@@ -383,10 +416,6 @@ end_written : (last : Bound Record) (low : List ℕ) → low ≡ end_bytes last 
 end_written Unbounded low l = sym (ap (λ l. cond (length l == 0) [] (sized_bytes l ++ sized_bytes [])) l)
 end_written (Included v) low l = append-nil _ ∙ sym (ap (λ l. cond (length l == 0) [] (sized_bytes l ++ sized_bytes [])) l ∙ ap (λ b. cond b [] (sized_bytes (end_bytes (Included v)) ++ sized_bytes [])) (eqb-suc-zero _))
 end_written (Excluded v) low l = append-nil _ ∙ sym (ap (λ l. cond (length l == 0) [] (sized_bytes l ++ sized_bytes [])) l ∙ ap (λ b. cond b [] (sized_bytes (end_bytes (Excluded v)) ++ sized_bytes [])) (eqb-suc-zero _))
-
-no_more : (left : List ℕ) (more : Segments) → length left ≡ 0 → left ≡ set_bytes more → more ≡ []
-no_more left [] none e = refl
-no_more left (s ∷ more) none e = absurd (omega (arith, none, ap length e))
 
 -- the last gap is written, where there is one
 pub gaps_done : (end : Bound Record) (s : Segments) (old out new low left : List ℕ) (at : Gapping end s old out low left) → length left ≡ 0 →

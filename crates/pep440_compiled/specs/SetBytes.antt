@@ -1,5 +1,5 @@
 -- Sets of versions as bytes: the sort keys between which the versions of each interval lie.
-use Rattle.std.specs.Prelude.{ℕ, List, [], ◌++◌, length, unwrap_or}
+use Rattle.std.specs.Prelude.{ℕ, List, [], ◌∷◌, ◌++◌, length, unwrap_or}
 use Rattle.std.specs.List.{flat_map}
 use Rattle.pep440_keys.specs.RangeKeys.{Interval, segment_interval}
 use Rattle.pep440_keys.specs.SortKeys.{number_bytes}
@@ -26,6 +26,10 @@ interval_bytes interval = sized_bytes (low_bytes interval) ++ sized_bytes (high_
 -- the intervals of a set, in order
 abbrev pub set_bytes : Segments → List ℕ
 set_bytes set = flat_map (λ s. interval_bytes (segment_interval s)) set
+
+-- the keys of the intervals of a set, two each, in order
+abbrev pub set_keys : Segments → List (List ℕ)
+set_keys set = flat_map (λ s. low_bytes (segment_interval s) ∷ high_bytes (segment_interval s) ∷ []) set
 
 -- the keys of an interval fit in memory
 abbrev pub IsSizedInterval : Interval → Type 0

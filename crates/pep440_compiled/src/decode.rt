@@ -20,6 +20,7 @@ use smallvec::SmallVec;
 use std::alloc::{AllocError, Global};
 
 // The number of these bytes, the most significant first.
+#[inline(never)]
 fn to_long_number(bytes: &[u8]) -> Option<u64>
     ensures found { (n : ℕ) → Fits n → bytes.now ≡ needed_bytes n → result ≡ Some n }
     ensures exact { BeginsOtherwise 0 bytes.now → IfSome result (λ n. bytes.now ≡ needed_bytes n) }
@@ -32,6 +33,7 @@ fn to_long_number(bytes: &[u8]) -> Option<u64>
 
 // The number of these bytes, the most significant first; `None` if they are not just those that a number needs. Most numbers need
 // one or none.
+#[inline(always)]
 fn to_number(bytes: &[u8]) -> Option<u64>
     ensures found { (n : ℕ) → Fits n → bytes.now ≡ needed_bytes n → result ≡ Some n }
     ensures exact { IfSome result (λ n. bytes.now ≡ needed_bytes n) }
@@ -49,6 +51,7 @@ fn to_number(bytes: &[u8]) -> Option<u64>
 }
 
 // A number of so many bytes, and the rest.
+#[inline(always)]
 pub(crate) fn read_number(count: u8, bytes: &[u8]) -> Option<(u64, &[u8])>
     ensures found { (n : ℕ) (rest : List ℕ) → Fits n → count ≡ length (needed_bytes n)
         → bytes.now ≡ needed_bytes n ++ rest → MatchOption result ⊥ (λ p. (p.0 ≡ n) × (p.1.now ≡ rest)) }
@@ -60,6 +63,7 @@ pub(crate) fn read_number(count: u8, bytes: &[u8]) -> Option<(u64, &[u8])>
 }
 
 // A number with the byte that counts its bytes, as an epoch is written, and the rest.
+#[inline(always)]
 pub(crate) fn read_whole_number(bytes: &[u8]) -> Option<(u64, &[u8])>
     ensures found { (n : ℕ) (rest : List ℕ) → Fits n → bytes.now ≡ number_bytes 0 n ++ rest
         → MatchOption result ⊥ (λ p. (p.0 ≡ n) × (p.1.now ≡ rest)) }

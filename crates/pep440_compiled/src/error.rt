@@ -55,6 +55,16 @@ impl From<AllocError> for CompiledError {
     }
 }
 
+impl<T: Drop> From<AllocFailed<T>> for CompiledError {
+    ghost use Rattle.pep440_compiled.specs.declared.error.CompiledError.TheVariants.{OutOfMemory};
+
+    ghost from_gives = { λ _ error. error ≡ OutOfMemory };
+
+    fn from(_refused: AllocFailed<T>) -> CompiledError {
+        CompiledError::OutOfMemory
+    }
+}
+
 /// Bytes that denote nothing.
 #[derive(Clone, Copy, Debug, PartialEq, Eq, thiserror::Error)]
 #[error("not compiled")]

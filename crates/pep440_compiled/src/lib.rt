@@ -39,11 +39,11 @@ mod views;
 
 pub use error::{CompileError, CompiledError, ContainsError, NotCompiled};
 pub use list::{
-    compile_list, contains, has_list_format, has_set_format, matches_literally, normalize_list,
-    read_list, requests_prereleases,
+    compile_list, contains, has_list_format, has_set_format, normalize_list, read_list,
+    requests_prereleases,
 };
 pub use set_forms::{
-    complement, has_lone_set_format, intersection, is_subset, set_contains, union,
+    complement, has_lone_set_format, intersection, is_subset, set_contains, set_keys, union,
 };
 pub use stack_form::compile_normal;
 pub use version::{

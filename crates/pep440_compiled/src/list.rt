@@ -8,7 +8,6 @@ ghost use Rattle.pep440_compiled.specs.declared.error.CompileError.TheVariants.{
 ghost use Rattle.pep440_compiled.specs.declared.error.CompiledError.TheVariants as unread;
 ghost use Rattle.pep440_compiled.specs.declared.error.ContainsError.TheVariants.{NoList, NoVersion};
 ghost use Rattle.pep440_rs.specs.Lists.{print_list};
-ghost use Rattle.pep440_rs.specs.LiteralMatching.{list_matches_literally};
 ghost use Rattle.pep440_rs.specs.Matching.{any_prerelease, list_matches};
 ghost use Rattle.pep440_rs.specs.Prereleases.{requests_prereleases};
 ghost use Rattle.pep440_rs.specs.Specifiers.{Spec};
@@ -19,8 +18,7 @@ ghost use Rattle.pep440_version.specs.RoundTrip.{IsParsed};
 use crate::error::{CompileError, CompiledError, ContainsError, NotCompiled};
 use crate::list_members::{self, compile_members, has_members_format, read_members};
 use crate::operand::have_operands;
-use crate::set_bytes::{holds_key, push_sized, set_bytes, split_sized};
-use crate::views::view_version;
+use crate::set_bytes::{push_with_length, set_bytes, split_by_length};
 use pep440_rs::{Ranges, Version, VersionSpecifiers};
 use pep440_sets::{SetError, specifiers_to_set};
 use std::alloc::{AllocError, Global};
@@ -50,7 +48,7 @@ fn prepend_set(alloc: Global, set: &Ranges<Version>, members: &[u8]) -> Result<V
     let set = set_bytes(alloc, set)?;
     let mut bytes = Vec::with_capacity(alloc, set.len().saturating_add(members.len()))?;
     bytes.push(WITH_SET)?;
-    push_sized(&mut bytes, set.as_slice())?;
+    push_with_length(&mut bytes, set.as_slice())?;
     bytes.extend_from_slice(members)?;
     Ok(bytes)
 }
@@ -82,7 +80,7 @@ pub(crate) fn split_set(bytes: &[u8]) -> Option<(&[u8], &[u8])>
     ensures exact { IfSome result (λ p. bytes.now ≡ 6 ∷ sized_bytes p.0.now ++ p.1.now) }
 {
     match bytes.split_first() {
-        Some((&WITH_SET, rest)) => split_sized(rest),
+        Some((&WITH_SET, rest)) => split_by_length(rest),
         _ => None,
     }
 }
@@ -114,30 +112,6 @@ pub fn contains(list: &[u8], version: &[u8]) -> Result<(bool, bool), ContainsErr
     ensures list { IfErr result (λ e. e ≡ NoList → (l : List Spec) → DenotesList list.now l → ⊥) }
 {
     list_members::contains(skip_set(list), version)
-}
-
-/// Whether the list matches the version literally, as `VersionSpecifiers::matches_literally` (PEP 440, "Version specifiers"): whether the
-/// key of the version lies in the set of the list. Of a list without its set, `NoList`; if one denotes nothing, an error or any result.
-///
-/// Does not allocate.
-#[inline(always)]
-pub fn matches_literally(list: &[u8], version: &[u8]) -> Result<bool, ContainsError>
-    ensures found { (l : List Spec) (r : Record) → DenotesWithSet list.now l → DenotesVersion version.now r
-        → result ≡ Ok (list_matches_literally l r) }
-    ensures format { IfOk result (λ _. HasSetFormat list.now × HasVersionFormat version.now) }
-    ensures version { IfErr result (λ e. e ≡ NoVersion → (r : Record) → DenotesVersion version.now r → ⊥) }
-    ensures list { IfErr result (λ e. e ≡ NoList → (l : List Spec) → DenotesWithSet list.now l → ⊥) }
-{
-    let Some(version) = view_version(version) else {
-        return Err(ContainsError::NoVersion);
-    };
-    let Some((set, _)) = split_set(list) else {
-        return Err(ContainsError::NoList);
-    };
-    match holds_key(set, version.key) {
-        Some(held) => Ok(held),
-        None => Err(ContainsError::NoList),
-    }
 }
 
 /// Whether the list that the bytes denote asks for pre-releases: some specifier with another operator than `!=` names a

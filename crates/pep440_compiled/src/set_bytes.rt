@@ -6,13 +6,14 @@ ghost use Rattle.pep440_keys.specs.RangeKeys.{is_below_key, is_within, segment_i
 ghost use Rattle.pep440_rs.specs.Bounds.{Segments};
 ghost use Rattle.pep440_version.specs.Record.{Fits};
 
+use crate::byte_order::cmp_bytes;
 use crate::decode::read_whole_number;
 use pep440_keys::{KeyInterval, push_number, range_keys};
 use pep440_rs::{Ranges, Version};
 use std::alloc::{AllocError, Global};
 
 // How many bytes there are, and these.
-pub(crate) fn push_sized(bytes: &mut Vec<u8>, item: &[u8]) -> Result<(), AllocError>
+pub(crate) fn push_with_length(bytes: &mut Vec<u8>, item: &[u8]) -> Result<(), AllocError>
     ensures bytes { OnOk result (bytes.new.items ≡ bytes.old.items ++ sized_bytes item.now) }
     ensures size { Fits (length item.now) }
 {
@@ -24,8 +25,8 @@ fn push_interval(bytes: &mut Vec<u8>, interval: &KeyInterval) -> Result<(), Allo
     ensures bytes { OnOk result (bytes.new.items ≡ bytes.old.items ++ interval_bytes interval.now) }
     ensures sizes { OnOk result (IsSizedInterval interval.now) }
 {
-    push_sized(bytes, interval.low().unwrap_or(&[]))?;
-    push_sized(bytes, interval.high().unwrap_or(&[]))
+    push_with_length(bytes, interval.low().unwrap_or(&[]))?;
+    push_with_length(bytes, interval.high().unwrap_or(&[]))
 }
 
 /// The sort keys of the intervals, in order, each after how many bytes it has.
@@ -43,7 +44,7 @@ pub(crate) fn set_bytes(alloc: Global, set: &Ranges<Version>) -> Result<Vec<u8>,
 
 // The leading bytes before which their count stands, and the rest.
 #[inline(always)]
-pub(crate) fn split_sized(bytes: &[u8]) -> Option<(&[u8], &[u8])>
+pub(crate) fn split_by_length(bytes: &[u8]) -> Option<(&[u8], &[u8])>
     ensures found { (item rest : List ℕ) → Fits (length item) → bytes.now ≡ sized_bytes item ++ rest
         → MatchOption result ⊥ (λ p. (p.0.now ≡ item) × (p.1.now ≡ rest)) }
     ensures exact { IfSome result (λ p. bytes.now ≡ sized_bytes p.0.now ++ p.1.now) }
@@ -58,18 +59,19 @@ pub(crate) fn split_sized(bytes: &[u8]) -> Option<(&[u8], &[u8])>
 fn is_between(low: &[u8], high: &[u8], key: &[u8]) -> bool
     ensures { result ≡ not (is_below_key key.now low.now) && ((length high.now == 0) || is_below_key key.now high.now) }
 {
-    !key.cmp(low).is_lt() && (high.is_empty() || key.cmp(high).is_lt())
+    !cmp_bytes(key, low).is_lt() && (high.is_empty() || cmp_bytes(key, high).is_lt())
 }
 
 // Whether the key lies in an interval of the set.
+#[inline(always)]
 pub(crate) fn holds_key(set: &[u8], key: &[u8]) -> Option<bool>
     ensures { (segments : Segments) → All IsSized segments → set.now ≡ set_bytes segments
         → result ≡ Some (list_any (λ s. is_within (segment_interval s) key.now) segments) }
 {
     let mut left = set;
     while !left.is_empty() {
-        let (low, rest) = split_sized(left)?;
-        let (high, rest) = split_sized(rest)?;
+        let (low, rest) = split_by_length(left)?;
+        let (high, rest) = split_by_length(rest)?;
         if is_between(low, high, key) {
             return Some(true);
         }

@@ -1,5 +1,6 @@
 //! Sets of versions as compiled forms: what is made of one and of two, and what they hold.
-ghost use Rattle.std.specs.Prelude.{◌≡◌, ◌↔◌, ◌∷◌, [], Ok, IfErr, IfOk, IfSome, IsTrue, MatchOption, true};
+ghost use Rattle.std.specs.Prelude.{◌≡◌, ◌↔◌, ◌∷◌, [], Ok, IfErr, IfOk, IfSome, IsTrue, MatchOption, false, map, true};
+ghost use Rattle.pep440_compiled.specs.SetBytes.{set_keys};
 ghost use Rattle.pep440_compiled.specs.SetForms.{DenotesSet, HasFormatOfSets, HasLoneSetFormat, HasSet, IsBytesOf};
 ghost use Rattle.pep440_compiled.specs.Version.{DenotesVersion, HasVersionFormat};
 ghost use Rattle.pep440_compiled.specs.declared.error.CompiledError.TheVariants as unread;
@@ -8,6 +9,7 @@ ghost use Rattle.pep440_ranges.specs.Complement.{gaps};
 ghost use Rattle.pep440_ranges.specs.Intersection.{overlaps};
 ghost use Rattle.pep440_ranges.specs.RangeSegments.{contains};
 ghost use Rattle.pep440_rs.specs.Bounds.{Segments};
+ghost use Rattle.pep440_rs.specs.Matching.{any_prerelease};
 ghost use Rattle.pep440_sets.specs.Emptiness.{IsSubset};
 ghost use Rattle.pep440_version.specs.Key.{record_cmp};
 ghost use Rattle.pep440_version.specs.Record.{Record};
@@ -15,8 +17,8 @@ ghost use Rattle.pep440_version.specs.Record.{Record};
 use crate::error::{CompiledError, ContainsError};
 use crate::list::split_set;
 use crate::set_bytes::holds_key;
-use crate::set_operations::{push_gaps, push_overlaps};
-use crate::views::view_version;
+use crate::set_operations::{collect_keys, push_gaps, push_overlaps};
+use crate::views::{strip_format, view_key, view_version_parts};
 use std::alloc::{AllocError, Global};
 
 // The format of sets by themselves.
@@ -42,27 +44,78 @@ fn view_set(bytes: &[u8]) -> Option<&[u8]>
     Some(keys)
 }
 
-/// Whether the version is in the set of a list, or in a set by itself. If one is of another format, the error names it; if one denotes
-/// nothing, an error or any result.
-///
-/// Does not allocate.
+// Whether the version is in the set, as `contains_any` and in fewer instructions, if that is soon found; never of a pre-release or a
+// developmental release.
 #[inline(always)]
-pub fn set_contains(set: &[u8], version: &[u8]) -> Result<bool, ContainsError>
-    ensures found { (s : Segments) (r : Record) → HasSet set.now s → DenotesVersion version.now r → result ≡ Ok (contains record_cmp s r) }
+fn contains_final(set: &[u8], version: &[u8]) -> Option<bool>
+    ensures found { (s : Segments) (r : Record) → HasSet set.now s → DenotesVersion version.now r
+        → IfSome result (λ b. b ≡ contains record_cmp s r) }
+    ensures prerelease { (r : Record) → DenotesVersion version.now r → IfSome result (λ _. any_prerelease r ≡ false) }
+    ensures format { IfSome result (λ _. HasFormatOfSets set.now × HasVersionFormat version.now) }
+{
+    let version = view_key(strip_format(version)?)?;
+    let keys = view_set(set)?;
+    let held = holds_key(keys, version.key)?;
+    Some(held)
+}
+
+// As `set_contains`, by the parts of the version. A call of its own, so that what is soon found pays nothing for it.
+#[inline(never)]
+fn contains_any(set: &[u8], version: &[u8]) -> Result<(bool, bool), ContainsError>
+    ensures found { (s : Segments) (r : Record) → HasSet set.now s → DenotesVersion version.now r
+        → result ≡ Ok (contains record_cmp s r, any_prerelease r) }
+    ensures prerelease { (r : Record) → DenotesVersion version.now r → IfOk result (λ found. found.1 ≡ any_prerelease r) }
     ensures format { IfOk result (λ _. HasFormatOfSets set.now × HasVersionFormat version.now) }
     ensures version { IfErr result (λ e. e ≡ NoVersion → (r : Record) → DenotesVersion version.now r → ⊥) }
     ensures list { IfErr result (λ e. e ≡ NoList → (s : Segments) → HasSet set.now s → ⊥) }
 {
-    let Some(version) = view_version(version) else {
+    let Some(version) = view_version_parts(version) else {
         return Err(ContainsError::NoVersion);
     };
     let Some(keys) = view_set(set) else {
         return Err(ContainsError::NoList);
     };
-    match holds_key(keys, version.key) {
-        Some(held) => Ok(held),
+    match holds_key(keys, version.version.key) {
+        Some(held) => Ok((held, version.suffix.is_prerelease)),
         None => Err(ContainsError::NoList),
     }
+}
+
+/// Whether the version is in the set of a list, or in a set by itself; and whether it is a pre-release or a developmental release. A list
+/// matches the versions of its set literally, as `VersionSpecifiers::matches_literally` (PEP 440, "Version specifiers"). If one is of
+/// another format, the error names it; if one denotes nothing, an error or any result.
+///
+/// Does not allocate.
+#[inline(always)]
+pub fn set_contains(set: &[u8], version: &[u8]) -> Result<(bool, bool), ContainsError>
+    ensures found { (s : Segments) (r : Record) → HasSet set.now s → DenotesVersion version.now r
+        → result ≡ Ok (contains record_cmp s r, any_prerelease r) }
+    ensures prerelease { (r : Record) → DenotesVersion version.now r → IfOk result (λ found. found.1 ≡ any_prerelease r) }
+    ensures format { IfOk result (λ _. HasFormatOfSets set.now × HasVersionFormat version.now) }
+    ensures version { IfErr result (λ e. e ≡ NoVersion → (r : Record) → DenotesVersion version.now r → ⊥) }
+    ensures list { IfErr result (λ e. e ≡ NoList → (s : Segments) → HasSet set.now s → ⊥) }
+{
+    match contains_final(set, version) {
+        Some(found) => Ok((found, false)),
+        // taken apart, or what is soon found has a place in memory, too
+        None => Ok(contains_any(set, version)?),
+    }
+}
+
+/// The sort keys between which the versions of a set lie, of a list or by itself: the low key and the high key of each interval, in order, no
+/// bytes for none. They are taken from the bytes as they lie. Bytes of another format are `NotCompiled`; of others that have no set,
+/// `NotCompiled` or any keys.
+///
+/// Allocates, and may return `OutOfMemory`.
+pub fn set_keys(alloc: Global, set: &[u8]) -> Result<Vec<&[u8]>, CompiledError>
+    ensures ok { (s : Segments) → HasSet set.now s → IfOk result (λ keys. map (λ k. k.now) keys.items ≡ set_keys s) }
+    ensures format { IfOk result (λ _. HasFormatOfSets set.now) }
+    ensures err { (s : Segments) → HasSet set.now s → IfErr result (λ e. e ≡ unread.NotCompiled → ⊥) }
+{
+    let Some(keys) = view_set(set) else {
+        return Err(CompiledError::NotCompiled);
+    };
+    collect_keys(alloc, keys)
 }
 
 // The format byte, with room for so many bytes.

@@ -1,8 +1,8 @@
-//! The intervals of sets as bytes: complement and intersection, in one pass over them.
-ghost use Rattle.std.specs.Prelude.{◌≡◌, ◌<◌, ◌++◌, ◌||◌, ◌==◌, [], List, ℕ, IfErr, IfOk, IfSome, MatchOption, OnOk, false, if◌then◌else◌, length, unwrap_or};
+//! The intervals of sets as bytes: their keys, complement and intersection, in one pass over them.
+ghost use Rattle.std.specs.Prelude.{◌≡◌, ◌<◌, ◌++◌, ◌||◌, ◌==◌, [], List, ℕ, IfErr, IfOk, IfSome, MatchOption, OnOk, false, if◌then◌else◌, length, map, unwrap_or};
 ghost use Rattle.std.specs.List.{All};
 ghost use Rattle.std.specs.declared.ops.Bound.{Bound};
-ghost use Rattle.pep440_compiled.specs.SetBytes.{IsSized, high_bytes, interval_bytes, low_bytes, set_bytes, sized_bytes};
+ghost use Rattle.pep440_compiled.specs.SetBytes.{IsSized, high_bytes, interval_bytes, low_bytes, set_bytes, set_keys, sized_bytes};
 ghost use Rattle.pep440_compiled.specs.SetForms.{IsBytesOf};
 ghost use Rattle.pep440_compiled.specs.declared.error.CompiledError.TheVariants as unread;
 ghost use Rattle.pep440_keys.specs.RangeKeys.{high_key, is_below_key, segment_interval};
@@ -15,8 +15,8 @@ ghost use Rattle.pep440_version.specs.Record.{Record};
 
 use crate::byte_order::cmp_bytes;
 use crate::error::CompiledError;
-use crate::set_bytes::{push_sized, split_sized};
-use std::alloc::AllocError;
+use crate::set_bytes::{push_with_length, split_by_length};
+use std::alloc::{AllocError, Global};
 
 // The low key and the high key of the leading interval, and what follows it.
 #[inline(always)]
@@ -25,17 +25,36 @@ fn split_interval(set: &[u8]) -> Option<(&[u8], &[u8], &[u8])>
         → MatchOption result ⊥ (λ p. (p.0.now ≡ low_bytes (segment_interval s)) × (p.1.now ≡ high_bytes (segment_interval s)) × (p.2.now ≡ rest)) }
     ensures shorter { IfSome result (λ p. length p.2.now < length set.now) }
 {
-    let (low, rest) = split_sized(set)?;
-    let (high, rest) = split_sized(rest)?;
+    let (low, rest) = split_by_length(set)?;
+    let (high, rest) = split_by_length(rest)?;
     Some((low, high, rest))
+}
+
+// The low key and the high key of each interval, as they lie; `NotCompiled` if these are none.
+pub(crate) fn collect_keys(alloc: Global, set: &[u8]) -> Result<Vec<&[u8]>, CompiledError>
+    ensures ok { (s : Segments) → All IsSized s → set.now ≡ set_bytes s
+        → IfOk result (λ keys. map (λ k. k.now) keys.items ≡ set_keys s) }
+    ensures err { (s : Segments) → All IsSized s → set.now ≡ set_bytes s → IfErr result (λ e. e ≡ unread.NotCompiled → ⊥) }
+{
+    let mut keys = Vec::new(alloc);
+    let mut left = set;
+    while !left.is_empty() {
+        let Some((low, high, rest)) = split_interval(left) else {
+            return Err(CompiledError::NotCompiled);
+        };
+        keys.push(low)?;
+        keys.push(high)?;
+        left = rest;
+    }
+    Ok(keys)
 }
 
 // Appends an interval.
 fn push_keys(out: &mut Vec<u8>, low: &[u8], high: &[u8]) -> Result<(), AllocError>
     ensures { OnOk result (out.new.items ≡ out.old.items ++ (sized_bytes low.now ++ sized_bytes high.now)) }
 {
-    push_sized(out, low)?;
-    push_sized(out, high)
+    push_with_length(out, low)?;
+    push_with_length(out, high)
 }
 
 // Appends the gap before a start, if this has a key.

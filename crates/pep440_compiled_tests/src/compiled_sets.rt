@@ -2,7 +2,7 @@
 use crate::bytes::{bytes_argument, print_bytes};
 use pep440_compiled::{
     CompiledError, ContainsError, complement, has_lone_set_format, intersection, is_subset,
-    set_contains, union,
+    set_contains, set_keys, union,
 };
 use std::alloc::Global;
 use testing::CaseError;
@@ -54,12 +54,28 @@ pub fn set_subset(alloc: Global, one: &str, other: &str) -> Result<String, CaseE
     Ok(String::from_str(alloc, text)?)
 }
 
+/// The keys of the set, with a bar after each.
+pub fn keys_of_set(alloc: Global, text: &str) -> Result<String, CaseError> {
+    let set = bytes_argument(alloc, text)?;
+    let keys = match set_keys(alloc, set.as_slice()) {
+        Ok(keys) => keys,
+        Err(CompiledError::NotCompiled) => return Ok(String::from_str(alloc, "not compiled")?),
+        Err(CompiledError::OutOfMemory) => return Err(CaseError::OutOfMemory),
+    };
+    let mut text = String::new(alloc);
+    for key in &keys {
+        text.push_str(print_bytes(alloc, key)?.as_str())?;
+        text.push('|')?;
+    }
+    Ok(text)
+}
+
 /// Whether the compiled version is in the set.
 pub fn set_has(alloc: Global, set: &str, version: &str) -> Result<String, CaseError> {
     let (set, version) = (bytes_argument(alloc, set)?, bytes_argument(alloc, version)?);
     let text = match set_contains(set.as_slice(), version.as_slice()) {
-        Ok(true) => "yes",
-        Ok(false) => "no",
+        Ok((true, _)) => "yes",
+        Ok((false, _)) => "no",
         Err(ContainsError::NoVersion) => "no version",
         Err(ContainsError::NoList) => "no set",
     };

@@ -19,7 +19,9 @@ mod written_strings;
 use compiled_lists::{
     compile_list_of, compile_unchecked, contains_bytes, denotes_list, list_contains, requests,
 };
-use compiled_sets::{set_complement, set_has, set_intersection, set_subset, set_union};
+use compiled_sets::{
+    keys_of_set, set_complement, set_has, set_intersection, set_subset, set_union,
+};
 use compiled_versions::{compile, compile_local, compile_text, denotes};
 use given::given_arguments;
 use intervals::{is_outside, range_intervals, segment_interval};
@@ -49,6 +51,7 @@ fn of_one(alloc: Global, call: &str, text: &str) -> Result<String, CaseError> {
         "denotes-list" => denotes_list(alloc, text),
         "requests" => requests(alloc, text),
         "set-complement" => set_complement(alloc, text),
+        "set-keys" => keys_of_set(alloc, text),
         _ => Err(CaseError::Unreadable),
     }
 }
@@ -90,9 +93,9 @@ fn of_library(alloc: Global, call: &str, arguments: &[String]) -> Result<String,
         | "write_sort_keys" => print_joined(alloc, call, given),
         "write_order"
         | "write_match"
-        | "write_allowed"
-        | "write_allowed_none"
-        | "write_allowed_all"
+        | "write_allow_flag"
+        | "write_allow_flag_none"
+        | "write_allow_flag_all"
         | "write_prerelease_flag"
         | "write_subset"
         | "write_word"

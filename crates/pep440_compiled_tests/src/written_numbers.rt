@@ -1,7 +1,7 @@
 //! The calls that write numbers.
 use crate::given::print_failure;
 use pep440_calls::{
-    Parts, write_allowed, write_compiled, write_compiled_list, write_marks, write_match,
+    Parts, write_allow_flag, write_compiled, write_compiled_list, write_marks, write_match,
     write_newest, write_order, write_parts, write_positions, write_prerelease_flag, write_subset,
     write_word,
 };
@@ -69,14 +69,14 @@ fn print_match(alloc: Global, list: &[u8], version: &[u8]) -> Result<String, Cas
     print_failure(alloc, status, contained == 7 && prerelease == 7)
 }
 
-fn print_allowed(
+fn print_allow_flag(
     alloc: Global,
     list: &[u8],
     version: &[u8],
     prereleases: u8,
 ) -> Result<String, CaseError> {
     let mut allowed = 9;
-    let status = write_allowed(alloc, list, version, prereleases, &mut allowed);
+    let status = write_allow_flag(alloc, list, version, prereleases, &mut allowed);
     print_number(alloc, status, 9, allowed)
 }
 
@@ -84,9 +84,9 @@ fn print_pair(alloc: Global, call: &str, left: &[u8], right: &[u8]) -> Result<St
     match call {
         "write_order" => print_order(alloc, left, right),
         "write_match" => print_match(alloc, left, right),
-        "write_allowed_none" => print_allowed(alloc, left, right, 0),
-        "write_allowed_all" => print_allowed(alloc, left, right, 1),
-        _ => print_allowed(alloc, left, right, 2),
+        "write_allow_flag_none" => print_allow_flag(alloc, left, right, 0),
+        "write_allow_flag_all" => print_allow_flag(alloc, left, right, 1),
+        _ => print_allow_flag(alloc, left, right, 2),
     }
 }
 
@@ -234,9 +234,9 @@ pub fn print_call(alloc: Global, call: &str, given: &[&[u8]]) -> Result<String, 
         (
             "write_order"
             | "write_match"
-            | "write_allowed"
-            | "write_allowed_none"
-            | "write_allowed_all",
+            | "write_allow_flag"
+            | "write_allow_flag_none"
+            | "write_allow_flag_all",
             [left, right],
         ) => print_forms(alloc, call, left, right),
         ("write_prerelease_flag", [list]) => print_prerelease_flag(alloc, list),

@@ -9,7 +9,7 @@ returns-in-Ok c =
     let version = c.args.version.now in
     let early = rw c.in-Ok.is at c.contains.ensures.prerelease in (
       (
-        inl (c.requires.list, c.requires.version),
+        inl (c.requires.list, inl c.requires.version),
         λ l r means also.
             let whole = c.contains.ensures.found l r (as_compiled_list list l c.requires.list means) (as_compiled version r c.requires.version also) in
             let same : c.in-Ok.found ≡ (list_matches l r, any_prerelease r) = cc in

@@ -1,20 +1,23 @@
 use Rattle.std.proofs.Common.{inr}
-use Rattle.pep440_calls.proofs.SetForming.{is_taken, slice_gives}
+use Rattle.std.proofs.lemmas.Result.{err_from_is_err_and}
+use Rattle.pep440_calls.proofs.SetForming.{invalid_or_memory, is_taken, slice_gives}
 use Rattle.pep440_calls.proofs.set_calls.is_subset.Goals as goal
+use Rattle.pep440_calls.specs.SetCalls.{TwoSetFaults}
 
-pub returns-in-Ok : goal.returns-in-Ok
-returns-in-Ok c = (
+pub returns-in_err-is_subset : goal.returns-in_err-is_subset
+returns-in_err-is_subset c =
+    let p = err_from_is_err_and c.from_residual-in_err-is_subset.result c.from_residual-in_err-is_subset.ensures.1 in
+    rw p.1 (invalid_or_memory (TwoSetFaults c.args.left.now c.args.right.now) p.0 _ p.2 (λ is. inr (λ s t given also.
+    let has = slice_gives c.args.left.now c.as_slice.result.now c.in_ok-left_form.left_form s c.in_ok-left_form.ensures c.as_slice.ensures given in
+    let other = slice_gives c.args.right.now c.as_slice-2.result.now c.in_ok-right_form.right_form t c.in_ok-right_form.ensures c.as_slice-2.ensures also in
+    c.in_err-is_subset.ensures.err s t has other is)) tt)
+
+pub returns : goal.returns
+returns c = (
   is_taken c.args.left.now c.in_ok-left_form.left_form c.in_ok-left_form.ensures,
   is_taken c.args.right.now c.in_ok-right_form.right_form c.in_ok-right_form.ensures,
   λ s t given also.
       let has = slice_gives c.args.left.now c.as_slice.result.now c.in_ok-left_form.left_form s c.in_ok-left_form.ensures c.as_slice.ensures given in
       let other = slice_gives c.args.right.now c.as_slice-2.result.now c.in_ok-right_form.right_form t c.in_ok-right_form.ensures c.as_slice-2.ensures also in
-      c.in-Ok.ensures.ok s t has other,
+      c.in_ok-is_subset.ensures.ok s t has other,
 )
-
-pub returns-in-Err-NotCompiled : goal.returns-in-Err-NotCompiled
-returns-in-Err-NotCompiled c =
-    inr (λ s t given also.
-    let has = slice_gives c.args.left.now c.as_slice.result.now c.in_ok-left_form.left_form s c.in_ok-left_form.ensures c.as_slice.ensures given in
-    let other = slice_gives c.args.right.now c.as_slice-2.result.now c.in_ok-right_form.right_form t c.in_ok-right_form.ensures c.as_slice-2.ensures also in
-    c.in-Err-NotCompiled.ensures.err s t has other c.in-Err-NotCompiled.field-0-is)
