@@ -284,7 +284,7 @@ def check_english():
 
 # The most words of a page, blocks of code aside, and of all.
 MOST_WORDS = {
-    "README.md": 800, "CONTRIBUTING.md": 1_010, "CHANGELOG.md": 500, "docs/CALLING.md": 1_100, "docs/DECISIONS.md": 1_050, "docs/DEFINITIONS.md": 350,
+    "README.md": 800, "CONTRIBUTING.md": 1_040, "CHANGELOG.md": 500, "docs/CALLING.md": 1_100, "docs/DECISIONS.md": 1_050, "docs/DEFINITIONS.md": 350,
     "docs/DIFFERENCES.md": 800, "docs/PROMISES.md": 1_160, "docs/SPEED.md": 1_350, "docs/pyver.1": 1_900, "docs/pyver-check.1": 1_850,
     "docs/pep440.1": 1_300, "callers/README.md": 250, "callers/c/pep440.3": 1_600, "callers/js/README.md": 400, "callers/postgresql/README.md": 800,
     "callers/python/README.md": 1_000, "callers/rust/pep440_rattle/README.md": 700, "callers/sqlite/README.md": 500,
