@@ -5,7 +5,7 @@ use pyver_findings::{
     push_named_files,
 };
 use std::alloc::{AllocError, Global};
-use testing::{CaseError, copy};
+use testing::CaseError;
 
 /// What is printed of a report.
 #[derive(Clone, Copy)]
@@ -77,7 +77,7 @@ fn push_finding(printed: &mut String, finding: &Finding) -> Result<(), CaseError
         Finding::Conflicting(kind, lines) => {
             printed.push_str(kind_word(*kind))?;
             for line in lines {
-                let copy = copy(line)?;
+                let copy = line.clone()?;
                 write!(printed, " {}", copy.number)?;
             }
             printed.push_str("\n")?;
@@ -121,7 +121,7 @@ pub fn print_spans(alloc: Global, texts: &str) -> Result<String, CaseError> {
 }
 
 fn push_named_file(printed: &mut String, file: &NamedFile) -> Result<(), CaseError> {
-    let file = copy(file)?;
+    let file = file.clone()?;
     if let Some(position) = &file.position {
         write!(
             printed,
