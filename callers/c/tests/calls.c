@@ -40,7 +40,7 @@ static struct {
     char kind;
     int turn;
     pep440_string bytes;
-} kept[512];
+} kept[1024];
 static size_t how_many;
 
 /* Leaves of a compiled list its members, which are format 5: without the byte 6, how many bytes the set has, and these. */
