@@ -4,7 +4,7 @@ use crate::ranges::range_text;
 use pep440_pick::{Requirement, RequirementError, allowed, newest};
 use pep440_rs::{Version, VersionSpecifiers};
 use std::alloc::Global;
-use testing::{CaseError, print_or_none, version_argument};
+use testing::{CaseError, version_argument};
 
 // The lists, each with a semicolon after it.
 fn lists(alloc: Global, text: &str) -> Result<Vec<VersionSpecifiers>, CaseError> {
@@ -28,8 +28,10 @@ fn candidates(alloc: Global, text: &str) -> Result<Vec<Version>, CaseError> {
 pub fn newest_candidate(alloc: Global, texts: &str, versions: &str) -> Result<String, CaseError> {
     let lists = lists(alloc, texts)?;
     let candidates = candidates(alloc, versions)?;
-    let index = newest(alloc, lists.as_slice(), candidates.as_slice())?;
-    print_or_none(alloc, index)
+    match newest(alloc, lists.as_slice(), candidates.as_slice())? {
+        Some(index) => Ok(format!(in alloc; "{index}")?),
+        None => Ok(String::from_str(alloc, "none")?),
+    }
 }
 
 fn requirement(alloc: Global, text: &str) -> Result<Requirement, CaseError> {
