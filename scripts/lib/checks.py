@@ -4,13 +4,12 @@ import functools
 import itertools
 import math
 import os
-import pathlib
 import re
-import shutil
 import subprocess
 import tempfile
 import textwrap
 
+from lib.mutants import copy
 from lib.sources import TOP, code_of, crates, exports, files, libraries, modules, name_of, pages, prose, sources, text_of, trusted
 
 QUOTED = re.compile(r"`([^`]+)`")
@@ -22,8 +21,7 @@ QUOTED = re.compile(r"`([^`]+)`")
 def check_formats():
     """`rt fmt` leaves each file of each crate as it is."""
     with tempfile.TemporaryDirectory() as room:
-        shutil.copy(TOP / "crates.txt", room)
-        shutil.copytree(TOP / "crates", f"{room}/crates", ignore=shutil.ignore_patterns("out"))
+        copy(crates(), room, "out")
         for crate in sorted(os.listdir(f"{room}/crates")):
             ran = subprocess.run(["rt", "fmt"], cwd=f"{room}/crates/{crate}", stdout=subprocess.PIPE, stderr=subprocess.STDOUT, text=True, check=False)
             if ran.stdout or ran.returncode:
