@@ -299,6 +299,15 @@ def check_lengths():
         yield f"the pages have {sum(counts.values()):,} words, at most {ALL_WORDS:,}"
 
 
+def check_counts():
+    """The repository has not more files, and scripts/ not more files and lines, than one can look through."""
+    scripts = [it for it in (TOP / "scripts").rglob("*") if it.is_file() and it.suffix != ".pyc"]
+    # (the copy in which scripts_test plants its faults is no repository of git)
+    tracked = subprocess.run(["git", "ls-files"], cwd=TOP, capture_output=True, text=True, check=(TOP / ".git").exists()).stdout.splitlines()
+    counts = [("files", len(tracked), 2_000), ("scripts", len(scripts), 24), ("lines of scripts", sum(len(text_of(it).splitlines()) for it in scripts), 5_000)]
+    yield from (f"there are {count:,} {what}, at most {most:,}" for what, count, most in counts if count > most)
+
+
 # ---- swept calls
 
 
