@@ -4,13 +4,12 @@ import functools
 import itertools
 import math
 import os
-import pathlib
 import re
-import shutil
 import subprocess
 import tempfile
 import textwrap
 
+from lib.mutants import copy
 from lib.sources import TOP, code_of, crates, exports, files, libraries, modules, name_of, pages, prose, sources, text_of, trusted
 
 QUOTED = re.compile(r"`([^`]+)`")
@@ -22,8 +21,7 @@ QUOTED = re.compile(r"`([^`]+)`")
 def check_formats():
     """`rt fmt` leaves each file of each crate as it is."""
     with tempfile.TemporaryDirectory() as room:
-        shutil.copy(TOP / "crates.txt", room)
-        shutil.copytree(TOP / "crates", f"{room}/crates", ignore=shutil.ignore_patterns("out"))
+        copy(crates(), room, "out")
         for crate in sorted(os.listdir(f"{room}/crates")):
             ran = subprocess.run(["rt", "fmt"], cwd=f"{room}/crates/{crate}", stdout=subprocess.PIPE, stderr=subprocess.STDOUT, text=True, check=False)
             if ran.stdout or ran.returncode:
@@ -300,6 +298,15 @@ def check_lengths():
     yield from (f"{name} has {count:,} words, at most {MOST_WORDS[name]:,}" for name, count in counts.items() if count > MOST_WORDS[name])
     if sum(counts.values()) > ALL_WORDS:
         yield f"the pages have {sum(counts.values()):,} words, at most {ALL_WORDS:,}"
+
+
+def check_counts():
+    """The repository has not more files, and scripts/ not more files and lines, than one can look through."""
+    scripts = [it for it in (TOP / "scripts").rglob("*") if it.is_file() and it.suffix != ".pyc"]
+    # (the copy in which scripts_test plants its faults is no repository of git)
+    tracked = subprocess.run(["git", "ls-files"], cwd=TOP, capture_output=True, text=True, check=(TOP / ".git").exists()).stdout.splitlines()
+    counts = [("files", len(tracked), 2_000), ("scripts", len(scripts), 24), ("lines of scripts", sum(len(text_of(it).splitlines()) for it in scripts), 5_000)]
+    yield from (f"there are {count:,} {what}, at most {most:,}" for what, count, most in counts if count > most)
 
 
 # ---- swept calls

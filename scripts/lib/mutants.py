@@ -1,8 +1,8 @@
 """Mutants, wrong code that the prover must reject: how they are read, and put into the sources of a crate.
 
-A file more-edits/MODULE.edits has the mutants of src/MODULE.rt, and of the modules in it, in the order of the source: a line `file: src/MODULE.rt` and
-an empty one, then for each a line `mutant: NAME`, lines `old: TEXT` and `new: TEXT`, and a comment, `# differs: INPUT` or `# no input: WHY`. A line
-`file: FILE` in a mutant holds to its end. A file NAME.edit is one mutant, as `rt must-fail` reads those of must-fail/.
+A file more-edits/*.edits has mutants by their sources: a line `file: src/MODULE.rt` and an empty one, then in the order of the source for each a line
+`mutant: NAME`, lines `old: TEXT` and `new: TEXT`, and a comment, `# differs: INPUT` or `# no input: WHY`. A line `file: FILE` in a mutant holds to its
+end. A file NAME.edit is one mutant, as `rt must-fail` reads those of must-fail/.
 """
 import glob
 import os

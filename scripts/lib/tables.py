@@ -1,22 +1,65 @@
-#!/usr/bin/env -S python3 -B
-"""Writes out/docs/promises/CRATE.md: each public function of a library, what its comment says first, and the clauses of its contract.
-
-Usage: scripts/promises
-
-A library is a crate with `src/lib.rt` that is not of tests. A row has the call, its result, the first sentence of its comment with those on conditions and
-allocation, and each clause: its name and the definitions that no clause before it cites, or itself if it is short and cites none. The functions of a public
-module stand below its name, those of a type below the type. Exit status: 0 if each `pub fn` has a row, else 1, with each that has none.
-"""
+"""The pages of out/docs: the definitions of specs/ that have to be trusted, and the promises of public functions, one table of each a crate."""
 import collections
 import itertools
 import re
-import sys
 
-from lib.sources import code_of, crates, exports, libraries, row, sources, text_of, trusted, without_sections, write_pages
+from lib.sources import AGREEING, SECTIONS, code_of, crates, exports, libraries, modules, row, sources, text_of, trusted, without_sections, write_pages
+
+# ---- definitions
+
+
+def comment_of(module):
+    """The comment at the start of a file."""
+    return " ".join(line.lstrip("-").strip() for line in itertools.takewhile(lambda it: it.startswith("--"), text_of(module.path).splitlines()))
+
+
+def sections_of(comment):
+    """The sections of PEP 440 that a comment names."""
+    return [name for text in re.findall(SECTIONS, comment) for names in re.findall(r'"([^"]+)"|(Appendix B)', text) for name in names if name]
+
+
+def meaning_of(definition):
+    """The comment without what the column of sections has; where there is none, the parts or the equation."""
+    text = without_sections(definition.comment)
+    if not text and definition.kind in ("data", "record"):
+        names = re.findall(r"^ +(?:pub )?(\S+) :", "\n".join(definition.lines), re.M)
+        return ("fields " if definition.kind == "record" else "one of ") + ", ".join(f"`{name}`" for name in names)
+    equation = "; ".join(" ".join(line.split()) for line in definition.lines[1:])
+    return text or (f"`{equation}`" if equation and len(equation) <= 160 and "`" not in equation else "see the file")
+
+
+def definitions_of(crate):
+    """The page of a crate, or None where no public clause cites a definition of it."""
+    rows = []
+    for name, module in ((name, it) for (of, name), it in modules().items() if of == crate):
+        here = [it for it in module.definitions if it in trusted().values()]
+        if here:
+            link = f"**[{name}](../../../crates/{crate}/specs/{name.replace('.', '/')}.antt)**"
+            rows.append(row(link, without_sections(comment_of(module)) or "see the file", ", ".join(sections_of(comment_of(module)))))
+            rows.extend(row(f"`{it.name.replace('◌', '')}`", meaning_of(it), ", ".join(sections_of(it.comment))) for it in here)
+    if not rows:
+        return None
+    links = f"[promises](../promises/{crate}.md) has the calls whose clauses cite them; [DEFINITIONS](../../../docs/DEFINITIONS.md) says what to read first."
+    start = [f"# Definitions of `{crate}`", "", f"Written by `scripts/check definitions` from the comments in `specs/`; {links}", ""]
+    return "\n".join([*start, row("Definition", "What it says", "PEP 440"), "|---|---|---|", *rows, ""])
+
+
+def check_definitions():
+    """Writes the definitions that public clauses of libraries cite and what those cite in turn; each name of `AGREEING` is there.
+
+    A row says what the comment above the definition says, or has its parts or its equation if there is none. A public clause is a `requires` or `ensures` of
+    a `pub fn` or of a function in an impl of a public type, a ghost member of such an impl, or the value of its model. Definitions are each `abbrev`,
+    `unfoldable`, `data` and `record`. A reading that is proved to agree with definitions (`AGREEING`) needs no trust, nor does what it cites alone.
+    """
+    write_pages("definitions", {crate: page for crate in crates() if (page := definitions_of(crate))})
+    yield from (f"no definition: {' '.join(it)}" for it in sorted(AGREEING) if it[:2] not in modules() or it[2] not in modules()[it[:2]].names)
+
+
+# ---- promises
 
 HEAD = """# Promises of `{0}`
 
-Written by `scripts/promises` from the public functions in `src/`, their comments and their contracts. [PROMISES](../../../docs/PROMISES.md) has what holds of every
+Written by `scripts/check promises` from the public functions in `src/`, their comments and their contracts. [PROMISES](../../../docs/PROMISES.md) has what holds of every
 call and how to read a row; the clauses cite [definitions](../definitions/{1}.md).
 """
 LONGEST = 90  # of a clause that is shown itself
@@ -90,7 +133,7 @@ def rows_of(crate, modules):
     return sum([own.pop("", []), *sorted(types.values(), key=len, reverse=True), *own.values()], [])
 
 
-def page_of(crate):
+def promises_of(crate):
     lib = text_of(f"crates/{crate}/src/lib.rt")
     # a crate without definitions cites those of the one that it exports
     defining = crate if any(it[0] == crate for it in trusted()) else crates()[crate].uses[0]
@@ -114,17 +157,15 @@ def conditions():
     return "\n".join([*lines, ""])
 
 
-def main():
-    pages = {crate: page_of(crate) for crate in libraries()}
+def check_promises():
+    """Writes the public functions of each library, `src/lib.rt` of no tests: what their comments say first, and their contracts; each `pub fn` has a row.
+
+    A row has the call, its result, the first sentence of its comment with those on conditions and allocation, and each clause: its name and the definitions
+    that no clause before it cites, or itself if it is short and cites none. The functions of a public module stand below its name, those of a type below it.
+    """
+    pages = {crate: promises_of(crate) for crate in libraries()}
     write_pages("promises", {**pages, "conditions": conditions()})
-    count, missing = 0, []
     for crate, page in pages.items():
         # found without what the rows are made of
         names = collections.Counter(name for path in code_of(crate) for name in EACH.findall(text_of(path)))
-        count += names.total()
-        missing += [f"{crate}: `{it}` has no row" for it in (names - collections.Counter(NAMED.findall(page))).elements()]
-    print(*missing, f"{count - len(missing)} of {count} public functions of {len(pages)} libraries have a row in out/docs/promises", sep="\n")
-    return 1 if missing else 0
-
-
-sys.exit(main())
+        yield from (f"{crate}: `{it}` has no row" for it in (names - collections.Counter(NAMED.findall(page))).elements())
