@@ -14,7 +14,8 @@ use Rattle.pyver_findings.specs.declared.cause.Cause.TheVariants as cause
 use Rattle.pyver_requirements.specs.LineKinds.{ConstraintsFile, Editable, Invalid, LineKind, Location, PipOption, Requirement, RequirementsFile, Variable, has_variable, line_kind}
 use Rattle.pyver_requirements.specs.declared.line_fault.LineFault.{LineFault}
 use Rattle.pyver_requirements.specs.LineParts.{pip_parts}
-use Rattle.pyver_requirements.specs.MarkerReading.{Misfit, marker}
+use Rattle.pyver_requirements.specs.MarkerReading.{marker}
+use Rattle.pyver_requirements.specs.MarkerSteps.{Misfit}
 
 -- ---- why a line is no requirement
 

@@ -8,7 +8,8 @@ use Rattle.pep440_rs.specs.Lists.ListGrammar.{DerivesList, PieceRejection, Rejec
 use Rattle.pep440_rs.specs.Specifiers.{Spec}
 use Rattle.pyver_requirements.specs.LineKinds.{ConstraintsFile, Editable, Invalid, LineKind, Location, PipOption, Requirement, RequirementsFile, Variable, has_variable, line_kind}
 use Rattle.pyver_requirements.specs.LineParts.{LineParts, is_blank_byte, pip_parts}
-use Rattle.pyver_requirements.specs.MarkerReading.{Misfit, marker}
+use Rattle.pyver_requirements.specs.MarkerReading.{marker}
+use Rattle.pyver_requirements.specs.MarkerSteps.{Misfit}
 use Rattle.pyver_requirements.specs.declared.line_fault.LineFault.{LineFault}
 use Rattle.pyver_requirements.specs.declared.line_fault.LineFault.TheVariants as fault
 use Rattle.pyver_requirements.specs.declared.marker_fault.MarkerFault.{MarkerFault}

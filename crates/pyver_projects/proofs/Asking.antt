@@ -9,7 +9,8 @@ use Rattle.pyver_findings.specs.Findings.{NoRequirement}
 use Rattle.pyver_findings.specs.LineMeanings.{Asks, AsksNothing, IsNone, IsPartsMeaning, IsPlain, LeftOut, LineMeaning, has_right_url, requirement_meaning, under_marker, with_marker, with_url}
 use Rattle.pyver_findings.specs.declared.cause.Cause.TheVariants as cause
 use Rattle.pyver_requirements.specs.LineParts.{LineParts, line_parts}
-use Rattle.pyver_requirements.specs.MarkerReading.{Misfit, marker as read_marker}
+use Rattle.pyver_requirements.specs.MarkerReading.{marker as read_marker}
+use Rattle.pyver_requirements.specs.MarkerSteps.{Misfit}
 use Rattle.pyver_projects.specs.Comparing.{is_locked}
 use Rattle.pyver_projects.specs.Groups.{Groups, no_group}
 use Rattle.pyver_projects.specs.Meanings.{IsSectionMeaning}

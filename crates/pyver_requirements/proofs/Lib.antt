@@ -1,7 +1,7 @@
 pub mod Lines
 pub mod Joining
-pub mod MarkerLoop
 pub mod MarkerReadings
+pub mod TermSets
 pub mod MarkerDerivations
 pub mod MarkerStepReadings
 pub mod MarkerStepLoop

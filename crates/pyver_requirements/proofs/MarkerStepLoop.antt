@@ -1,15 +1,30 @@
 -- A step of the reader of steps.
-use Rattle.std.proofs.Common.{◌≡◌, ◌-◌, ◌≤◌, ℕ, List, [], ◌∷◌, Ok, Err, drop, false, length, refl, sub-one, sym}
+use Rattle.std.proofs.Common.{◌≡◌, ◌-◌, ◌<◌, ◌≤◌, ℕ, zero, suc, List, [], ◌∷◌, Ok, Err, true, false, arith, drop, length, refl, sub-one, sym}
 use Rattle.std.proofs.lemmas.List.{drop_all}
 use Rattle.std.specs.Prelude.{Result}
-use Rattle.pyver_requirements.proofs.MarkerLoop.{first_lexeme}
-use Rattle.pyver_requirements.specs.MarkerReading.{Misfit}
-use Rattle.pyver_requirements.specs.MarkerSteps.{OpenGroups, Step, end_steps, read_tokens, take_token}
+use Rattle.pyver_requirements.specs.MarkerSteps.{Misfit, OpenGroups, Step, end_steps, read_tokens, take_token}
 use Rattle.pyver_requirements.specs.LineParts.{is_blank_byte}
 use Rattle.pyver_requirements.specs.MarkerTokens.{Token, behind_token, lexemes, token}
 use Rattle.pyver_requirements.specs.MarkerViews.{IsMarkerFault}
 use Rattle.pyver_requirements.specs.declared.marker_fault.MarkerError.{MarkerError}
 use Rattle.pyver_requirements.specs.declared.marker_fault.MarkerError.TheVariants as error
+
+-- a byte of a token that was read
+pub skipped_byte : (k b : ℕ) (rest : List ℕ) → 0 < k → lexemes k (b ∷ rest) ≡ lexemes (k - 1) rest
+unfolding lexemes
+skipped_byte zero b rest h = absurd (omega arith)
+skipped_byte (suc j) b rest h = rw sub-one refl
+
+-- a blank
+pub blank_byte : (b : ℕ) (rest : List ℕ) → true ≡ is_blank_byte b → lexemes 0 (b ∷ rest) ≡ lexemes 0 rest
+unfolding lexemes
+blank_byte b rest h = rw (← h) refl
+
+-- the first token
+first_lexeme : (b : ℕ) (rest : List ℕ) → false ≡ is_blank_byte b
+    → lexemes 0 (b ∷ rest) ≡ record { token = token (b ∷ rest); left = length (b ∷ rest) } ∷ lexemes (length rest - length (behind_token (b ∷ rest))) rest
+unfolding lexemes
+first_lexeme b rest h = rw (← h) refl
 
 -- the groups after a token
 pub token_taken : (s t : OpenGroups) (r : List ℕ) (b : ℕ) (rest : List ℕ) (k : ℕ) (x : Token) (whole : Result (List Step) Misfit) → r ≡ b ∷ rest → false ≡ is_blank_byte b → x ≡ token r

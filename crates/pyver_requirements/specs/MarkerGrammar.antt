@@ -1,7 +1,7 @@
 -- The grammar of environment markers (PEP 508, "Grammar"), without the order in which tokens are read.
-use Rattle.std.specs.Prelude.{◌≡◌, ℕ, suc, List, [], ◌∷◌, ◌++◌, Ok}
-use Rattle.pyver_requirements.specs.MarkerReading.{marker}
-use Rattle.pyver_requirements.specs.MarkerTerms.{All, Any, Terms, comparison_text, terms_text, under_and, under_or, union}
+use Rattle.std.specs.Prelude.{ℕ, suc, List, [], ◌∷◌, ◌++◌}
+use Rattle.pyver_requirements.specs.MarkerTerms.{All, Terms, comparison_text}
+use Rattle.pyver_requirements.specs.MarkerTerms as terms_of
 use Rattle.pyver_requirements.specs.MarkerTokens.{And, Close, Compares, Lexeme, Open, Or, Side, Token, lexemes}
 use Rattle.pyver_requirements.specs.declared.marker_operator.MarkerOperator.{MarkerOperator}
 
@@ -14,8 +14,8 @@ pub data Marker : Type 0 where
 -- its terms
 abbrev pub terms : Marker → Terms
 terms (Comparison left o right) = All (comparison_text left o right ∷ [])
-terms (Both a b) = All (union (under_and (terms a)) (under_and (terms b)))
-terms (Either a b) = Any (union (under_or (terms a)) (under_or (terms b)))
+terms (Both a b) = terms_of.both (terms a) (terms b)
+terms (Either a b) = terms_of.either (terms a) (terms b)
 
 -- what an expression may be: an operand, what `and` joins, or what `or` joins
 pub data Rank : Type 0 where
@@ -39,11 +39,3 @@ pub data Denotes : Rank → ℕ → List Lexeme → Marker → Type 0 where
 -- the text denotes the marker: at most 100 parentheses stand in one another
 abbrev pub DenotesMarker : List ℕ → Marker → Type 0
 DenotesMarker text m = Denotes Disjunction 100 (lexemes 0 text) m
-
--- what the grammar derives is read, as its normal form
-abbrev pub MarkersAreRead : Type 0
-MarkersAreRead = (text : List ℕ) (m : Marker) → DenotesMarker text m → marker text ≡ Ok (terms_text (terms m))
-
--- what is read the grammar derives, and it is read as its normal form
-abbrev pub ReadMarkersAreDerived : Type 0
-ReadMarkersAreDerived = (text normal : List ℕ) → marker text ≡ Ok normal → (m : Marker) × DenotesMarker text m × (normal ≡ terms_text (terms m))

@@ -1,7 +1,6 @@
 -- An environment marker as steps: what `and` and `or` join stands before them, so that no parenthesis is needed; and how the steps are read.
 use Rattle.std.specs.Prelude.{◌≡◌, ℕ, ◌-◌, List, [], ◌∷◌, ◌++◌, Bool, true, false, Result, Ok, Err, length, nat_lt, if◌then◌else◌}
 use Rattle.pyver_requirements.specs.MarkerGrammar.{Both, Comparison, DenotesMarker, Either, Marker}
-use Rattle.pyver_requirements.specs.MarkerReading.{Misfit}
 use Rattle.pyver_requirements.specs.MarkerTokens.{And, Close, Compares, Faulty, Lexeme, Open, Or, Side, Token, lexemes}
 use Rattle.pyver_requirements.specs.declared.marker_fault.MarkerFault.{MarkerFault}
 use Rattle.pyver_requirements.specs.declared.marker_fault.MarkerFault.TheVariants as fault
@@ -49,6 +48,11 @@ pub record OpenGroups : Type 0 where
 -- before the first token of a string of this length
 abbrev pub no_groups : ℕ → OpenGroups
 no_groups n = record { length = n; outer = []; inner = empty_group; steps = []; wants_operand = true }
+
+-- a fault, and its position
+pub record Misfit : Type 0 where
+  pub fault : MarkerFault
+  pub position : ℕ
 
 -- the fault, with so many bytes of the string from it on
 abbrev pub stray : {A : Type 0} → OpenGroups → MarkerFault → ℕ → Result A Misfit

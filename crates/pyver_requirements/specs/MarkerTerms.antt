@@ -88,3 +88,10 @@ under_and (Any terms) = (codes "(" ++ (terms_text (Any terms) ++ codes ")")) ∷
 abbrev pub under_or : Terms → List (List ℕ)
 under_or (All terms) = terms_text (All terms) ∷ []
 under_or (Any terms) = terms
+
+-- both by `and`, and both by `or`
+abbrev pub both : Terms → Terms → Terms
+both a b = All (union (under_and a) (under_and b))
+
+abbrev pub either : Terms → Terms → Terms
+either a b = Any (union (under_or a) (under_or b))

@@ -2,12 +2,10 @@
 use Rattle.std.specs.Prelude.{◌≡◌, ⊤, ℕ, List, Result, Err, map}
 use Rattle.std.specs.BTreeSet.{BTreeSet}
 use Rattle.std.specs.Global.{Vec}
-use Rattle.pyver_requirements.specs.MarkerReading.{Level, Levels, Misfit}
+use Rattle.pyver_requirements.specs.MarkerSteps.{Misfit}
 use Rattle.pyver_requirements.specs.MarkerTerms as terms
 use Rattle.pyver_requirements.specs.MarkerTokens as tokens
 use Rattle.pyver_requirements.specs.MarkerTokens.{Constant, Invalid, Variable}
-use Rattle.pyver_requirements.specs.declared.marker_reading.Level.{Level as LevelValue}
-use Rattle.pyver_requirements.specs.declared.marker_reading.Levels.{Levels as LevelsValue}
 use Rattle.pyver_requirements.specs.declared.marker_fault.MarkerError.{MarkerError}
 use Rattle.pyver_requirements.specs.declared.marker_fault.MarkerError.TheVariants as error
 use Rattle.pyver_requirements.specs.declared.marker_terms.Terms.{Terms}
@@ -37,12 +35,6 @@ set_of s = map (λ t. t.items) s.keys
 abbrev pub terms_of : Terms → terms.Terms
 terms_of (code.All s) = terms.All (set_of s)
 terms_of (code.Any s) = terms.Any (set_of s)
-
-abbrev pub level_of : LevelValue → Level
-level_of l = record { alternatives = set_of l.alternatives; chain = terms_of l.chain }
-
-abbrev pub levels_of : LevelsValue → Levels
-levels_of s = record { length = s.length; outer = map level_of s.outer.items; inner = level_of s.inner; wants_operand = s.wants_operand }
 
 -- the error is the fault that was to be found, or an allocation failed
 abbrev pub IsMarkerFault : {A : Type 0} → Result A Misfit → MarkerError → Type 0

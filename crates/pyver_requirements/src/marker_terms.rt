@@ -1,8 +1,7 @@
 //! Environment markers in their normal form.
 ghost use Rattle.std.specs.Prelude.{◌≡◌, ◌==◌, ◌++◌, ◌∷◌, [], IfOk, codes, length};
 ghost use Rattle.std.specs.List.{flat_map, list_any};
-ghost use Rattle.pyver_requirements.specs.MarkerTerms.{All, Any, as_written, comparison_text, exchanged, joined_terms, mirrored, marker_operator_text, quote_around, side_text, terms_text, under_and, under_or, union};
-ghost use Rattle.pyver_requirements.specs.MarkerReading.{both, closed_with, has_none};
+ghost use Rattle.pyver_requirements.specs.MarkerTerms.{All, Any, as_written, both, comparison_text, either, exchanged, joined_terms, mirrored, marker_operator_text, quote_around, side_text, terms_text, under_and, under_or, union};
 ghost use Rattle.pyver_requirements.specs.MarkerViews.{set_of, side_of, terms_of};
 
 use crate::marker_operator::MarkerOperator;
@@ -159,6 +158,12 @@ fn in_parentheses(alloc: Global, inside: &[u8]) -> Result<Vec<u8>, AllocError>
 }
 
 impl Terms {
+    pub(crate) fn none(alloc: Global) -> Terms
+        ensures { terms_of result ≡ All [] }
+    {
+        Terms::All(BTreeSet::new(alloc))
+    }
+
     // The only one.
     pub(crate) fn one(alloc: Global, term: Vec<u8>) -> Result<Terms, AllocError>
         ensures { IfOk result (λ t. terms_of t ≡ All (term.items ∷ [])) }
@@ -190,7 +195,7 @@ impl Terms {
     }
 
     // As `or` joins it with others.
-    pub(crate) fn under_or(self, alloc: Global) -> Result<BTreeSet<Vec<u8>>, AllocError>
+    fn under_or(self, alloc: Global) -> Result<BTreeSet<Vec<u8>>, AllocError>
         ensures { IfOk result (λ terms. set_of terms ≡ under_or (terms_of self)) }
     {
         match self {
@@ -199,41 +204,21 @@ impl Terms {
         }
     }
 
-    // No terms yet.
-    fn has_none(&self) -> bool
-        ensures { result ≡ has_none (terms_of self.now) }
-    {
-        match self {
-            Terms::All(terms) => terms.is_empty(),
-            Terms::Any(_) => false,
-        }
-    }
-
-    // Both, by `and`; the second alone where there is no first.
+    // Both, by `and`.
     pub(crate) fn and(self, alloc: Global, operand: Terms) -> Result<Terms, AllocError>
         ensures { IfOk result (λ terms. terms_of terms ≡ both (terms_of self) (terms_of operand)) }
     {
-        if self.has_none() {
-            return Ok(operand);
-        }
         let mut terms = self.under_and(alloc)?;
         insert_all(&mut terms, operand.under_and(alloc)?)?;
         Ok(Terms::All(terms))
     }
 
-    // Behind the alternatives; alone where there are none.
-    pub(crate) fn or_after(
-        self,
-        alloc: Global,
-        alternatives: BTreeSet<Vec<u8>>,
-    ) -> Result<Terms, AllocError>
-        ensures { IfOk result (λ terms. terms_of terms ≡ closed_with (set_of alternatives) (terms_of self)) }
+    // Both, by `or`.
+    pub(crate) fn or(self, alloc: Global, operand: Terms) -> Result<Terms, AllocError>
+        ensures { IfOk result (λ terms. terms_of terms ≡ either (terms_of self) (terms_of operand)) }
     {
-        if alternatives.is_empty() {
-            return Ok(self);
-        }
-        let mut terms = alternatives;
-        insert_all(&mut terms, self.under_or(alloc)?)?;
+        let mut terms = self.under_or(alloc)?;
+        insert_all(&mut terms, operand.under_or(alloc)?)?;
         Ok(Terms::Any(terms))
     }
 }

@@ -1,5 +1,4 @@
-use Rattle.pyver_requirements.proofs.MarkerDerivations.{read_markers_are_derived}
-use Rattle.pyver_requirements.proofs.MarkerReadings.{markers_are_read}
+use Rattle.pyver_requirements.proofs.MarkerReadings.{markers_are_read, read_markers_are_derived}
 use Rattle.pyver_requirements.proofs.laws.markers_have_grammar.Goals as goal
 
 pub returns-clause-read : goal.returns-clause-read

@@ -1,4 +1,5 @@
-use Rattle.pyver_requirements.proofs.MarkerStepReadings.{read_steps_are_derived, steps_are_read}
+use Rattle.pyver_requirements.proofs.MarkerDerivations.{read_steps_are_derived}
+use Rattle.pyver_requirements.proofs.MarkerStepReadings.{steps_are_read}
 use Rattle.pyver_requirements.proofs.laws.markers_have_steps.Goals as goal
 
 pub returns-clause-read : goal.returns-clause-read

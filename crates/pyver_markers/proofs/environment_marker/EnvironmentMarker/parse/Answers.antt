@@ -1,6 +1,6 @@
 use Rattle.std.specs.Prelude.{IfErr}
 use Rattle.pep440_rs.proofs.Reading.Passed.{passed}
-use Rattle.pyver_requirements.proofs.MarkerStepReadings.{read_steps_are_derived}
+use Rattle.pyver_requirements.proofs.MarkerDerivations.{read_steps_are_derived}
 use Rattle.pyver_requirements.specs.MarkerSteps.{marker_steps}
 use Rattle.pyver_requirements.specs.MarkerViews.{IsMarkerFault}
 use Rattle.pyver_markers.proofs.Steps.{one_marker}
