@@ -8,7 +8,8 @@ import shutil
 TOP = pathlib.Path(__file__).resolve().parent.parent.parent
 WORD = re.compile(r"[^\s(){}\[\],;:.λ∷]+")
 # Readings that are proved to agree with definitions: they need no trust, nor does what they cite alone.
-AGREEING = {("pep440_version", "Whole", "read_version"), ("pep440_version", "Whole", "read_pattern"), ("pyver_requirements", "MarkerReading", "read")}
+AGREEING = {("pep440_version", "Whole", "read_version"), ("pep440_version", "Whole", "read_pattern"), ("pyver_requirements", "MarkerReading", "terms_after_steps"),
+            ("pyver_requirements", "MarkerSteps", "read_tokens")}
 LEFT_OUT = re.compile(r"//[^\n]*|\"(?:\\.|[^\"\\])*\"|'(?:\\.|[^'\\\n])'")
 BLOCK = re.compile(r"^(pub trait|impl)\b(?:<[^>]*>)?([^{]*)\{", re.M)
 HEAD = re.compile(r"^ *(pub(?:\([a-z]+\))? )?(?:const )?(?:extern +)?fn (\w+)", re.M)

@@ -4,7 +4,7 @@ use Rattle.std.proofs.lemmas.List.{append-nil}
 use Rattle.pyver_requirements.proofs.MarkerDerivations.{read_steps_are_derived}
 use Rattle.pyver_requirements.proofs.MarkerStepReadings.{steps_are_read}
 use Rattle.pyver_requirements.specs.MarkerGrammar.{Both, Comparison, Either, Marker, terms}
-use Rattle.pyver_requirements.specs.MarkerReading.{MarkersAreRead, ReadMarkersAreDerived, after_steps, last_terms, marker, normal_form}
+use Rattle.pyver_requirements.specs.MarkerReading.{MarkersAreRead, ReadMarkersAreDerived, last_terms, marker, normal_form, terms_after_steps}
 use Rattle.pyver_requirements.specs.MarkerSteps.{JoinBoth, JoinEither, Misfit, Step, marker_steps, steps}
 use Rattle.pyver_requirements.specs.MarkerTerms.{Terms, terms_text}
 use Rattle.pyver_requirements.specs.MarkerViews.{IsMarkerFault}
@@ -14,15 +14,15 @@ use Rattle.pyver_requirements.specs.declared.marker_fault.MarkerError.TheVariant
 joined : (xs ys : List Step) (s : Step) (rest : List Step) → (xs ++ (ys ++ s ∷ [])) ++ rest ≡ xs ++ (ys ++ s ∷ rest)
 joined xs ys s rest = append_assoc xs (ys ++ s ∷ []) rest ∙ ap (λ z. xs ++ z) (append_assoc ys (s ∷ []) rest)
 
-taken : (m : Marker) (rest : List Step) (ts : List Terms) → after_steps (steps m ++ rest) ts ≡ after_steps rest (terms m ∷ ts)
+taken : (m : Marker) (rest : List Step) (ts : List Terms) → terms_after_steps (steps m ++ rest) ts ≡ terms_after_steps rest (terms m ∷ ts)
 taken (Comparison left o right) rest ts = refl
 taken (Both a b) rest ts =
-    ap (λ s. after_steps s ts) (joined (steps a) (steps b) JoinBoth rest) ∙ taken a (steps b ++ JoinBoth ∷ rest) ts ∙ taken b (JoinBoth ∷ rest) (terms a ∷ ts)
+    ap (λ s. terms_after_steps s ts) (joined (steps a) (steps b) JoinBoth rest) ∙ taken a (steps b ++ JoinBoth ∷ rest) ts ∙ taken b (JoinBoth ∷ rest) (terms a ∷ ts)
 taken (Either a b) rest ts =
-    ap (λ s. after_steps s ts) (joined (steps a) (steps b) JoinEither rest) ∙ taken a (steps b ++ JoinEither ∷ rest) ts ∙ taken b (JoinEither ∷ rest) (terms a ∷ ts)
+    ap (λ s. terms_after_steps s ts) (joined (steps a) (steps b) JoinEither rest) ∙ taken a (steps b ++ JoinEither ∷ rest) ts ∙ taken b (JoinEither ∷ rest) (terms a ∷ ts)
 
-normal_of : (m : Marker) → last_terms (after_steps (steps m) []) ≡ terms m
-normal_of m = ap (λ s. last_terms (after_steps s [])) (sym (append-nil (steps m))) ∙ ap last_terms (taken m [] [])
+normal_of : (m : Marker) → last_terms (terms_after_steps (steps m) []) ≡ terms m
+normal_of m = ap (λ s. last_terms (terms_after_steps s [])) (sym (append-nil (steps m))) ∙ ap last_terms (taken m [] [])
 
 pub markers_are_read : MarkersAreRead
 unfolding marker
@@ -46,7 +46,7 @@ read_markers_are_derived text normal is =
 
 -- ---- from the steps
 
-pub normal_steps : (text : List ℕ) (all : List Step) → marker_steps text ≡ Ok all → marker text ≡ Ok (terms_text (last_terms (after_steps all [])))
+pub normal_steps : (text : List ℕ) (all : List Step) → marker_steps text ≡ Ok all → marker text ≡ Ok (terms_text (last_terms (terms_after_steps all [])))
 unfolding marker
 normal_steps text all is = ap normal_form is
 

@@ -18,19 +18,19 @@ abbrev pub join_terms : (Terms → Terms → Terms) → List Terms → List Term
 join_terms join ts = join (last_terms (earlier_terms ts)) (last_terms ts) ∷ earlier_terms (earlier_terms ts)
 
 -- the terms after a step, the last first
-abbrev pub after_step : Step → List Terms → List Terms
-after_step (Compare left o right) ts = All (comparison_text left o right ∷ []) ∷ ts
-after_step JoinBoth ts = join_terms both ts
-after_step JoinEither ts = join_terms either ts
+abbrev pub terms_after_step : Step → List Terms → List Terms
+terms_after_step (Compare left o right) ts = All (comparison_text left o right ∷ []) ∷ ts
+terms_after_step JoinBoth ts = join_terms both ts
+terms_after_step JoinEither ts = join_terms either ts
 
 -- the terms after these steps
-abbrev pub after_steps : List Step → List Terms → List Terms
-after_steps [] ts = ts
-after_steps (s ∷ steps) ts = after_steps steps (after_step s ts)
+abbrev pub terms_after_steps : List Step → List Terms → List Terms
+terms_after_steps [] ts = ts
+terms_after_steps (s ∷ steps) ts = terms_after_steps steps (terms_after_step s ts)
 
 -- the normal form of what was read
 abbrev pub normal_form : Result (List Step) Misfit → Result (List ℕ) Misfit
-normal_form (Ok steps) = Ok (terms_text (last_terms (after_steps steps [])))
+normal_form (Ok steps) = Ok (terms_text (last_terms (terms_after_steps steps [])))
 normal_form (Err f) = Err f
 
 -- the marker in its normal form, or its fault

@@ -1,6 +1,6 @@
 //! Environment markers in their normal form, as in PEP 508.
 ghost use Rattle.std.specs.Prelude.{◌≡◌, [], IfErr, IfOk, map};
-ghost use Rattle.pyver_requirements.specs.MarkerReading.{after_step, after_steps, earlier_terms, last_terms, marker};
+ghost use Rattle.pyver_requirements.specs.MarkerReading.{earlier_terms, last_terms, marker, terms_after_step, terms_after_steps};
 ghost use Rattle.pyver_requirements.specs.MarkerStepViews.{step_of};
 ghost use Rattle.pyver_requirements.specs.MarkerViews.{IsMarkerFault, terms_of};
 
@@ -23,7 +23,7 @@ fn pop_terms(alloc: Global, terms: &mut VecDeque<Terms>) -> Terms
 
 // Does the step.
 fn take_step(alloc: Global, step: Step<'_>, terms: &mut VecDeque<Terms>) -> Result<(), AllocError>
-    ensures { IfOk result (λ _. map terms_of terms.new.items ≡ after_step (step_of step.entry) (map terms_of terms.old.items)) }
+    ensures { IfOk result (λ _. map terms_of terms.new.items ≡ terms_after_step (step_of step.entry) (map terms_of terms.old.items)) }
 {
     let joined = match step {
         Step::Compare(left, operator, right) => {
@@ -44,7 +44,7 @@ fn take_step(alloc: Global, step: Step<'_>, terms: &mut VecDeque<Terms>) -> Resu
 
 // The last terms after all steps.
 fn take_steps(alloc: Global, steps: &[Step<'_>]) -> Result<Terms, AllocError>
-    ensures { IfOk result (λ t. terms_of t ≡ last_terms (after_steps (map step_of steps.now) [])) }
+    ensures { IfOk result (λ t. terms_of t ≡ last_terms (terms_after_steps (map step_of steps.now) [])) }
 {
     let mut terms = VecDeque::new(alloc);
     let mut rest = steps;
