@@ -32,7 +32,7 @@ with_last : (variables : List Variable) (v : Variable) (name : List ℕ)
 with_last [] v name = refl
 with_last (x ∷ variables) v name =
     first_or (bytes_eq x.name.now name) x (find (λ w. bytes_eq w.name.now name) variables) (find (λ w. bytes_eq w.name.now name) (variables ++ v ∷ []))
-        (environment_of (v ∷ []) name) (with_last variables v name)
+    (environment_of (v ∷ []) name) (with_last variables v name)
 
 one_or : (b : Bool) (v : FoundVariable) (rest : Option FoundVariable)
     → or_else (cond b (Some (Text v.text.items)) None) (option_map (λ (w : FoundVariable). Text w.text.items) rest) ≡ option_map (λ (w : FoundVariable). Text w.text.items) (cond b (Some v) rest)
@@ -53,10 +53,10 @@ one_more variables w v rest all same is so_far name =
     ap (λ s. or_else s (found_environment rest name)) (with_last variables w name)
     ∙ or_else_either (environment_of variables name) (environment_of (w ∷ []) name) (found_environment rest name)
     ∙ ap (or_else (environment_of variables name)) (
-        ap (λ s. or_else s (found_environment rest name)) (
-            alone (bytes_eq w.name.now name) w ∙ ap (λ s. cond (bytes_eq w.name.now name) (Some s) None) is
-            ∙ ap (λ n. cond (bytes_eq n name) (Some (Text v.text.items)) None) same)
-        ∙ one_or (bytes_eq v.name.now name) v (find (λ u. bytes_eq u.name.now name) rest))
+    ap (λ s. or_else s (found_environment rest name)) (
+    alone (bytes_eq w.name.now name) w ∙ ap (λ s. cond (bytes_eq w.name.now name) (Some s) None) is
+    ∙ ap (λ n. cond (bytes_eq n name) (Some (Text v.text.items)) None) same)
+    ∙ one_or (bytes_eq v.name.now name) v (find (λ u. bytes_eq u.name.now name) rest))
     ∙ so_far name
 
 pub all_found : (variables : List Variable) (all : List FoundVariable) → AreFound variables [] all → environment_of variables ≡ found_environment all

@@ -61,15 +61,15 @@ first_chosen false x y is = absurd (true≢false (sym is))
 as_versions : (name left right : List ℕ) (o : MarkerOperator) → is_version_variable name ≡ true → compare_texts name left o right ≡ compare_versions left o right
 as_versions name left right o is =
     first_chosen (is_version_variable name) (compare_versions left o right)
-        (if is_name_variable name then compare_strings (normal left) o (normal right) else compare_strings left o right) is
+    (if is_name_variable name then compare_strings (normal left) o (normal right) else compare_strings left o right) is
 
 met_so : (name right : List ℕ) (c : Condition) (s : Spec) → is_version_variable name ≡ true
     → ((e : Environment) → compare e c.left c.operator c.right ≡ compare_left name c.operator right (e name)) → ComparesAs c.operator right s
     → (e : Environment) (x : List ℕ) (v : Record) → e name ≡ Some (Text x) → ascii_version x ≡ Some v → meets e c ≡ agrees c.wanted (matches_literally s.operator s.version v)
 met_so name right c s is asks as_spec e x v has reads =
     ap (is_wanted c.wanted) (
-        asks e ∙ ap (compare_left name c.operator right) has ∙ as_versions name x right c.operator is ∙ as_spec x
-        ∙ ap (λ r. Some (matches_specifier s r)) reads)
+    asks e ∙ ap (compare_left name c.operator right) has ∙ as_versions name x right c.operator is ∙ as_spec x
+    ∙ ap (λ r. Some (matches_specifier s r)) reads)
 
 wanted_so : (w a b : Bool) (set : Bool) → w ≡ true → a ≡ agrees w b → set ≡ b → a ≡ set
 wanted_so true a b set is met holds = met ∙ sym holds
@@ -84,14 +84,14 @@ pub holds_met : (name right : List ℕ) (c : Condition) (s : Spec) (set : Segmen
     → HoldsMatchesOf s set → c.wanted ≡ true → HoldsMet name c set
 holds_met name right c s set is asks as_spec holds wanted e x v has reads =
     wanted_so c.wanted (meets e c) (matches_literally s.operator s.version v) (contains record_cmp set v) wanted
-        (met_so name right c s is asks as_spec e x v has reads) (holds v (is_denoted x v reads))
+    (met_so name right c s is asks as_spec e x v has reads) (holds v (is_denoted x v reads))
 
 pub holds_unmet : (name right : List ℕ) (c : Condition) (s : Spec) (set without : Segments) → is_version_variable name ≡ true
     → ((e : Environment) → compare e c.left c.operator c.right ≡ compare_left name c.operator right (e name)) → ComparesAs c.operator right s
     → HoldsMatchesOf s set → c.wanted ≡ false → ((v : Record) → contains record_cmp without v ≡ not (contains record_cmp set v)) → HoldsMet name c without
 holds_unmet name right c s set without is asks as_spec holds wanted other e x v has reads =
     unwanted_so c.wanted (meets e c) (matches_literally s.operator s.version v) (contains record_cmp set v) (contains record_cmp without v) wanted
-        (met_so name right c s is asks as_spec e x v has reads) (holds v (is_denoted x v reads)) (other v)
+    (met_so name right c s is asks as_spec e x v has reads) (holds v (is_denoted x v reads)) (other v)
 
 -- ---- boxes
 
@@ -117,7 +117,7 @@ pub one_narrowed : {W : Type 0} (f : W → Condition) (name : List ℕ) (all : B
 one_narrowed f name all rest d set narrowed long so_far narrows_it =
     let later = take (length rest - 1) (drop 1 rest) in
     narrowed_so_far name all (f (get_or rest 0 d)) (map f later) set narrowed
-        (subst (λ r. HoldsSoFar name all r set) (ap (map f) (first_and_rest rest d long)) so_far) narrows_it
+    (subst (λ r. HoldsSoFar name all r set) (ap (map f) (first_and_rest rest d long)) so_far) narrows_it
 
 pub none_met : (name : List ℕ) (all : Box) (set : Segments) → HoldsVersionsOf name all set → HasNoVersion set → (e : Environment) → HasVersion e name → in_box e all ≡ false
 none_met name all set holds none e h =

@@ -45,7 +45,8 @@ fn excludes_any_version(alloc: Global, conditions: &[Condition<'_>]) -> Result<b
     if excludes_versions(alloc, "python_full_version".as_bytes(), conditions)? {
         return Ok(true);
     }
-    excludes_versions(alloc, "implementation_version".as_bytes(), conditions)
+    let last = excludes_versions(alloc, "implementation_version".as_bytes(), conditions)?;
+    Ok(last)
 }
 
 // Whether it is known that no environment is in the box.

@@ -7,9 +7,9 @@ use Rattle.pyver_markers.proofs.operand.find_only_text.Goals as goal
 pub returns-in-Right : goal.returns-in-Right
 returns-in-Right c =
     fixes_left c.args.name.now c.in-Right.text.now (condition_of c.args.condition.now) c.requires (sym c.wants_equal.ensures ∙ c.if-not-wants_equal.false)
-        (subst (IsOperand c.args.name.now (condition_of c.args.condition.now)) c.in-Right.is c.in_ok-text.ensures)
+    (subst (IsOperand c.args.name.now (condition_of c.args.condition.now)) c.in-Right.is c.in_ok-text.ensures)
 
 pub returns-in-Left : goal.returns-in-Left
 returns-in-Left c =
     fixes_right c.args.name.now c.in-Left.text.now (condition_of c.args.condition.now) c.requires (sym c.wants_equal.ensures ∙ c.if-not-wants_equal.false)
-        (subst (IsOperand c.args.name.now (condition_of c.args.condition.now)) c.in-Left.is c.in_ok-text.ensures)
+    (subst (IsOperand c.args.name.now (condition_of c.args.condition.now)) c.in-Left.is c.in_ok-text.ensures)

@@ -7,4 +7,4 @@ use Rattle.pyver_markers.proofs.operand.is_met_at.Goals as goal
 pub returns : goal.returns
 returns c plain unmet =
     fails_beside c.args.name.now c.args.text.now (condition_of c.args.condition.now) c.in-Some.operand plain c.in-Some.ensures
-        (ap (is_wanted c.args.condition.now.wanted) (sym c.in_ok-value.ensures) ∙ sym c.is_wanted.ensures ∙ unmet)
+    (ap (is_wanted c.args.condition.now.wanted) (sym c.in_ok-value.ensures) ∙ sym c.is_wanted.ensures ∙ unmet)

@@ -9,4 +9,4 @@ loop-rest-init c e x v has reads is = (c.in_ok-set.ensures v (is_denoted x v rea
 pub loop-rest-preserved : goal.loop-rest-preserved
 loop-rest-preserved c =
     one_narrowed condition_of c.args.name.now (map condition_of c.args.conditions.now) c.loop-rest.rest.now _ c.loop-rest.set c.in_ok-set-2.set c.in-len1-up.len_at_least
-        c.loop-rest.invariant c.in_ok-set-2.ensures
+    c.loop-rest.invariant c.in_ok-set-2.ensures
