@@ -5,7 +5,7 @@ use Rattle.std.proofs.lemmas.List.Folds.{list_all-append, list_any-append}
 use Rattle.std.specs.Prelude.{IfSome, map, nat_lt, if◌then◌else◌}
 use Rattle.pyver_requirements.specs.MarkerGrammar.{Both, Comparison, Either, Marker}
 use Rattle.pyver_markers.proofs.Lists.{first_and_rest}
-use Rattle.pyver_markers.specs.Boxes.{Box, Condition, HasValueInBoxes, agrees, both_boxes, boxes, either_boxes, in_box, in_boxes, is_wanted, join_boxes, meets, products}
+use Rattle.pyver_markers.specs.Boxes.{Box, Condition, HasValueInBoxes, agrees, both_boxes, boxes, either_boxes, in_box, in_boxes, is_met, meets, products}
 use Rattle.pyver_markers.specs.Conditions.{IsEnvironment, IsNever}
 use Rattle.pyver_markers.specs.Environments.{Environment}
 use Rattle.pyver_markers.specs.MarkerComparisons.{compare}
@@ -111,7 +111,7 @@ parts_of_either None (Some b) v is = cc
 abbrev Holds : Environment → Bool → Marker → Type 0
 Holds e wanted m = (all : List Box) (v : Bool) → boxes wanted m ≡ Some all → value e m ≡ Some v → in_boxes e all ≡ agrees wanted v
 
-one_comparison : (wanted v : Bool) (p : Option Bool) → p ≡ Some v → ((is_wanted wanted p && true) || false) ≡ agrees wanted v
+one_comparison : (wanted v : Bool) (p : Option Bool) → p ≡ Some v → ((is_met wanted p && true) || false) ≡ agrees wanted v
 one_comparison true true p is = rw is refl
 one_comparison true false p is = rw is refl
 one_comparison false true p is = rw is refl

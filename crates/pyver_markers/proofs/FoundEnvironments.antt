@@ -3,7 +3,7 @@ use Rattle.std.proofs.Common.{◌≡◌, ◌∙◌, ◌++◌, ◌-◌, ◌≤◌
 use Rattle.std.specs.List.{find}
 use Rattle.std.specs.Prelude.{bytes_eq, cond, option_map}
 use Rattle.pyver_markers.proofs.Lists.{first_and_rest}
-use Rattle.pyver_markers.specs.Environments.{Environment, Setting, Text}
+use Rattle.pyver_markers.specs.Environments.{Setting, Text}
 use Rattle.pyver_markers.specs.EnvironmentViews.{environment_of, found_environment, setting_of}
 use Rattle.pyver_markers.specs.declared.environment.Variable.{Variable}
 use Rattle.pyver_markers.specs.declared.found_environment.FoundVariable.{FoundVariable}

@@ -1,13 +1,12 @@
 -- What stands last after all steps of a marker is what is folded from it.
-use Rattle.std.proofs.Common.{◌≡◌, ◌∙◌, ℕ, List, [], ◌∷◌, ◌++◌, Bool, Option, Result, Ok, Err, ap, append_assoc, not, refl, sym}
-use Rattle.std.specs.Prelude.{IfOk}
+use Rattle.std.proofs.Common.{◌≡◌, ◌∙◌, ℕ, List, [], ◌∷◌, ◌++◌, Bool, Option, Ok, ap, append_assoc, not, refl, sym}
 use Rattle.std.proofs.lemmas.List.{append-nil}
 use Rattle.pyver_requirements.specs.MarkerGrammar.{Both, Comparison, DenotesMarker, Either, Marker}
 use Rattle.pyver_requirements.specs.MarkerSteps.{JoinBoth, JoinEither, Step, marker_steps, steps}
 use Rattle.pyver_requirements.specs.MarkerTokens.{Side}
 use Rattle.pyver_requirements.specs.declared.marker_operator.MarkerOperator.{MarkerOperator}
 use Rattle.pyver_requirements.proofs.MarkerStepReadings.{steps_are_read}
-use Rattle.pyver_markers.specs.Boxes.{Box, boxes, comparison_boxes, join_boxes}
+use Rattle.pyver_markers.specs.Boxes.{boxes, comparison_boxes, join_boxes}
 use Rattle.pyver_markers.specs.Environments.{Environment}
 use Rattle.pyver_markers.specs.MarkerComparisons.{compare}
 use Rattle.pyver_markers.specs.MarkerValues.{Join, after_steps, both_hold, either_holds, last_value, value}

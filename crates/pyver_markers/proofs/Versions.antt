@@ -19,10 +19,9 @@ use Rattle.pep440_version.specs.Whole.{read_version}
 use Rattle.pyver_requirements.specs.MarkerTerms.{marker_operator_text}
 use Rattle.pyver_requirements.specs.declared.marker_operator.MarkerOperator.{MarkerOperator}
 use Rattle.pyver_markers.proofs.Lists.{first_and_rest}
-use Rattle.pyver_markers.proofs.Texts.{AreLeft}
-use Rattle.pyver_markers.specs.Boxes.{Box, Condition, agrees, in_box, is_wanted, meets}
+use Rattle.pyver_markers.specs.Boxes.{Box, Condition, agrees, in_box, is_met, meets}
 use Rattle.pyver_markers.specs.Conditions.{ComparesAs, HasVersion, HoldsMatchesOf, HoldsMet, HoldsVersionsOf, Narrows}
-use Rattle.pyver_markers.specs.Environments.{Environment, Setting, Text}
+use Rattle.pyver_markers.specs.Environments.{Environment, Text}
 use Rattle.pyver_markers.specs.MarkerComparisons.{ascii_specifier, ascii_version, compare, compare_left, compare_spelled, compare_strings, compare_texts, compare_versions, compare_with, compare_written, if_read, is_name_variable, is_version_variable, matches_specifier, spelling_in}
 
 -- ---- readings
@@ -67,7 +66,7 @@ met_so : (name right : List ℕ) (c : Condition) (s : Spec) → is_version_varia
     → ((e : Environment) → compare e c.left c.operator c.right ≡ compare_left name c.operator right (e name)) → ComparesAs c.operator right s
     → (e : Environment) (x : List ℕ) (v : Record) → e name ≡ Some (Text x) → ascii_version x ≡ Some v → meets e c ≡ agrees c.wanted (matches_literally s.operator s.version v)
 met_so name right c s is asks as_spec e x v has reads =
-    ap (is_wanted c.wanted) (
+    ap (is_met c.wanted) (
     asks e ∙ ap (compare_left name c.operator right) has ∙ as_versions name x right c.operator is ∙ as_spec x
     ∙ ap (λ r. Some (matches_specifier s r)) reads)
 

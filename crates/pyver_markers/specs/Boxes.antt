@@ -1,4 +1,4 @@
--- Markers as sets of environments: boxes, each of which has the environments that meet all of its conditions. What one variable is says nothing of
+-- Markers as sets of environments: boxes, each with the environments that meet all of its conditions. What one variable is says nothing of
 -- what another one is.
 use Rattle.std.specs.Prelude.{◌≡◌, ◌+◌, ◌*◌, List, [], ◌∷◌, ◌++◌, Bool, true, false, not, Option, Some, None, length, map, nat_lt, if◌then◌else◌}
 use Rattle.std.specs.List.{list_all, list_any}
@@ -26,12 +26,12 @@ agrees true b = b
 agrees false b = not b
 
 -- the value is the wanted one; an undefined value is none
-abbrev pub is_wanted : Bool → Option Bool → Bool
-is_wanted wanted None = false
-is_wanted wanted (Some b) = agrees wanted b
+abbrev pub is_met : Bool → Option Bool → Bool
+is_met wanted None = false
+is_met wanted (Some b) = agrees wanted b
 
 abbrev pub meets : Environment → Condition → Bool
-meets e c = is_wanted c.wanted (compare e c.left c.operator c.right)
+meets e c = is_met c.wanted (compare e c.left c.operator c.right)
 
 abbrev pub in_box : Environment → Box → Bool
 in_box e box = list_all (meets e) box

@@ -12,11 +12,11 @@ use Rattle.pyver_requirements.specs.MarkerGrammar.{Marker}
 use Rattle.pyver_requirements.specs.declared.marker_operator.MarkerOperator.{MarkerOperator}
 use Rattle.pyver_requirements.specs.declared.marker_operator.MarkerOperator.TheVariants as operator
 use Rattle.pyver_markers.specs.Boxes.{Box, Condition, in_box, meets}
-use Rattle.pyver_markers.specs.Environments.{Environment, Setting, Text}
+use Rattle.pyver_markers.specs.Environments.{Environment, Text}
 use Rattle.pyver_markers.specs.MarkerComparisons.{ascii_version, compare, compare_left, compare_right, compare_texts, compare_versions, is_name_variable, matches_specifier}
 use Rattle.pyver_markers.specs.MarkerValues.{value}
-use Rattle.pyver_markers.specs.declared.operand.Operand.{Operand}
-use Rattle.pyver_markers.specs.declared.operand.Operand.TheVariants.{Left, Right}
+use Rattle.pyver_markers.specs.declared.text_condition.Operand.{Operand}
+use Rattle.pyver_markers.specs.declared.text_condition.Operand.TheVariants.{Left, Right}
 
 -- ---- environments
 

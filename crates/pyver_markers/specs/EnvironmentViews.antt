@@ -1,5 +1,5 @@
 -- What environments hold, apart from where it lies in memory.
-use Rattle.std.specs.Prelude.{ℕ, List, bytes_eq, map, option_map}
+use Rattle.std.specs.Prelude.{List, bytes_eq, map, option_map}
 use Rattle.std.specs.List.{find}
 use Rattle.pyver_markers.specs.Environments as environments
 use Rattle.pyver_markers.specs.Environments.{Environment}

@@ -8,7 +8,7 @@ ghost use Rattle.pyver_markers.specs.Environments.{Environment};
 use crate::condition::Condition;
 use crate::environment_box::EnvironmentBox;
 use crate::marker_comparison::is_version_variable;
-use crate::operand::excludes_texts;
+use crate::text_condition::excludes_texts;
 use crate::version_condition::excludes_versions;
 use std::alloc::{AllocError, Global};
 

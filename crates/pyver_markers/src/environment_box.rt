@@ -37,8 +37,8 @@ impl<'a> EnvironmentBox<'a> {
         self.conditions.as_slice()
     }
 
-    /// Whether it is known that no environment is in the box: a variable would have to be two strings, or a version of Python or of its
-    /// implementation would have to be in sets that have none in common. A box of which that is not known may still be empty.
+    /// Whether it is known that no environment is in the box: a variable would have to be two strings, or a version of Python or its
+    /// implementation would have to be in sets without a common version. Otherwise the box may still be empty.
     ///
     /// Allocates.
     pub fn is_empty(&self, alloc: Global) -> Result<bool, AllocError>

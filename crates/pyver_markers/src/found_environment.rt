@@ -5,7 +5,7 @@ ghost use Rattle.pyver_markers.specs.EnvironmentViews.{environment_of, found_env
 use crate::condition::Condition;
 use crate::environment::{Setting, Variable};
 use crate::marker_comparison::is_version_variable;
-use crate::operand::{Operand, find_operand, is_met_at};
+use crate::text_condition::{Operand, find_operand, is_met_at};
 use crate::version::ascii_version;
 use crate::version_condition::variable_set;
 use pyver_requirements::{MarkerOperator, Side, Step};

@@ -11,7 +11,7 @@ ghost use Rattle.pyver_markers.specs.Environments.{Environment};
 ghost use Rattle.pyver_markers.specs.MarkerComparisons.{is_version_variable};
 
 use crate::condition::Condition;
-use crate::operand::{Operand, find_operand};
+use crate::text_condition::{Operand, find_operand};
 use crate::version::find_specifier;
 use pep440_rs::VersionSpecifier;
 use pep440_sets::{SetError, VersionSet};

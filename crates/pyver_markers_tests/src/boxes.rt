@@ -15,12 +15,7 @@ fn read_wanted(word: &str) -> Result<bool, CaseError> {
 }
 
 fn print_condition(alloc: Global, condition: &Condition<'_>) -> Result<String, CaseError> {
-    let comparison = print_comparison(
-        alloc,
-        condition.left,
-        condition.operator,
-        condition.right,
-    )?;
+    let comparison = print_comparison(alloc, condition.left, condition.operator, condition.right)?;
     let sign = if condition.wanted { '+' } else { '-' };
     Ok(format!(in alloc; "{sign}{comparison}")?)
 }

@@ -1,7 +1,7 @@
 //! What conditions compare a variable with, and what they ask of a string.
 ghost use Rattle.std.specs.Prelude.{◌≡◌, IfOk, IfSome, false, map, true};
 ghost use Rattle.pyver_markers.specs.BoxViews.{condition_of};
-ghost use Rattle.pyver_markers.specs.Boxes.{in_box, is_wanted};
+ghost use Rattle.pyver_markers.specs.Boxes.{in_box, is_met};
 ghost use Rattle.pyver_markers.specs.Conditions.{AnyFailsAt, compare_operand, FailsAt, FixesText, IsOperand, wants_equal};
 ghost use Rattle.pyver_markers.specs.Environments.{Environment};
 ghost use Rattle.pyver_markers.specs.MarkerComparisons.{is_version_variable};
@@ -69,8 +69,8 @@ fn find_only_text<'a>(name: &[u8], condition: &Condition<'a>) -> Option<&'a [u8]
 }
 
 // An undefined value is not wanted.
-fn is_wanted(wanted: bool, value: Option<bool>) -> bool
-    ensures { result ≡ is_wanted wanted value }
+fn is_met(wanted: bool, value: Option<bool>) -> bool
+    ensures { result ≡ is_met wanted value }
 {
     match value {
         Some(value) => value == wanted,
@@ -107,7 +107,7 @@ pub(crate) fn is_met_at(
         return Ok(true);
     };
     let value = compare_operand(alloc, name, text, condition.operator, operand)?;
-    Ok(is_wanted(condition.wanted, value))
+    Ok(is_met(condition.wanted, value))
 }
 
 // Whether some condition is not met where the variable is this string.

@@ -2,7 +2,7 @@ use Rattle.std.proofs.Common.{◌∙◌, subst, sym}
 use Rattle.pyver_markers.proofs.Texts.{fixes_left, fixes_right}
 use Rattle.pyver_markers.specs.BoxViews.{condition_of}
 use Rattle.pyver_markers.specs.Conditions.{IsOperand}
-use Rattle.pyver_markers.proofs.operand.find_only_text.Goals as goal
+use Rattle.pyver_markers.proofs.text_condition.find_only_text.Goals as goal
 
 pub returns-in-Right : goal.returns-in-Right
 returns-in-Right c =
