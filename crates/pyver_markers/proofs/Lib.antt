@@ -1,2 +1,7 @@
+pub mod BoxLaws
+pub mod FoundEnvironments
+pub mod Lists
 pub mod Readings
 pub mod Steps
+pub mod Texts
+pub mod Versions

@@ -1,3 +1,6 @@
+pub mod Boxes
+pub mod BoxViews
+pub mod Conditions
 pub mod Environments
 pub mod EnvironmentViews
 pub mod MarkerComparisons

@@ -1,6 +1,6 @@
 -- What a comparison of an environment marker gives (PEP 508, "Environment Markers"): true, false, or undefined. Where the text is silent it is read
 -- as `packaging` 26.3 does.
-use Rattle.std.specs.Prelude.{ℕ, ◌-◌, ◌==◌, ◌&&◌, ◌||◌, List, [], ◌∷◌, ◌++◌, Bool, true, false, not, Option, Some, None, Result, Ok, Err, bytes_eq, codes, drop, eqb, length, map, take, if◌then◌else◌}
+use Rattle.std.specs.Prelude.{ℕ, ◌==◌, ◌&&◌, ◌||◌, List, [], ◌∷◌, ◌++◌, Bool, true, false, not, Option, Some, None, Result, Ok, Err, bytes_eq, codes, eqb, length, if◌then◌else◌}
 use Rattle.std.specs.Char.{is_ascii, is_ascii_whitespace}
 use Rattle.std.specs.List.{list_all, list_any, starts_with}
 use Rattle.std.specs.Str.{str_eq_ignore_ascii_case}

@@ -2,6 +2,8 @@
 use Rattle.std.specs.Prelude.{◌&&◌, ◌||◌, List, [], ◌∷◌, Bool, Option, Some, None}
 use Rattle.pyver_requirements.specs.MarkerGrammar.{Both, Comparison, Either, Marker}
 use Rattle.pyver_requirements.specs.MarkerSteps.{Compare, JoinBoth, JoinEither, Step}
+use Rattle.pyver_requirements.specs.MarkerTokens.{Side}
+use Rattle.pyver_requirements.specs.declared.marker_operator.MarkerOperator.{MarkerOperator}
 use Rattle.pyver_markers.specs.MarkerComparisons.{compare}
 use Rattle.pyver_markers.specs.Environments.{Environment}
 
@@ -22,26 +24,30 @@ value environment (Either a b) = either_holds (value environment a) (value envir
 
 -- ---- by steps
 
+-- what two become
+abbrev pub Join : Type 0 → Type 0
+Join A = Option A → Option A → Option A
+
 -- the last value, and those before it
-abbrev pub last_value : List (Option Bool) → Option Bool
+abbrev pub last_value : {A : Type 0} → List (Option A) → Option A
 last_value [] = None
 last_value (v ∷ values) = v
 
-abbrev pub earlier_values : List (Option Bool) → List (Option Bool)
+abbrev pub earlier_values : {A : Type 0} → List (Option A) → List (Option A)
 earlier_values [] = []
 earlier_values (v ∷ values) = values
 
 -- the last two values in one
-abbrev pub join_values : (Option Bool → Option Bool → Option Bool) → List (Option Bool) → List (Option Bool)
+abbrev pub join_values : {A : Type 0} → Join A → List (Option A) → List (Option A)
 join_values joined values = joined (last_value (earlier_values values)) (last_value values) ∷ earlier_values (earlier_values values)
 
--- the values after a step, the last one first
-abbrev pub after_step : Environment → Step → List (Option Bool) → List (Option Bool)
-after_step environment (Compare left o right) values = compare environment left o right ∷ values
-after_step environment JoinBoth values = join_values both_hold values
-after_step environment JoinEither values = join_values either_holds values
+-- the values after a step, the last one first, by what a comparison gives, and by `and` and `or` of two values
+abbrev pub after_step : {A : Type 0} → (Side → MarkerOperator → Side → Option A) → Join A → Join A → Step → List (Option A) → List (Option A)
+after_step compared both either (Compare left o right) values = compared left o right ∷ values
+after_step compared both either JoinBoth values = join_values both values
+after_step compared both either JoinEither values = join_values either values
 
 -- the values after these steps
-abbrev pub after_steps : Environment → List Step → List (Option Bool) → List (Option Bool)
-after_steps environment [] values = values
-after_steps environment (s ∷ steps) values = after_steps environment steps (after_step environment s values)
+abbrev pub after_steps : {A : Type 0} → (Side → MarkerOperator → Side → Option A) → Join A → Join A → List Step → List (Option A) → List (Option A)
+after_steps compared both either [] values = values
+after_steps compared both either (s ∷ steps) values = after_steps compared both either steps (after_step compared both either s values)

@@ -1,13 +1,21 @@
 //! Environment markers and their values.
-ghost use Rattle.std.specs.Prelude.{◌≡◌, [], IfErr, IfOk, map};
-ghost use Rattle.pyver_markers.specs.EnvironmentViews.{environment_of};
+ghost use Rattle.std.specs.Prelude.{◌≡◌, [], IfErr, IfOk, IfSome, map, true};
+ghost use Rattle.pyver_markers.specs.BoxViews.{boxes_of};
+ghost use Rattle.pyver_markers.specs.Boxes.{HasValueInBoxes, boxes};
+ghost use Rattle.pyver_markers.specs.Conditions.{IsNever};
+ghost use Rattle.pyver_markers.specs.EnvironmentViews.{environment_of, found_environment};
+ghost use Rattle.pyver_markers.specs.MarkerComparisons.{compare};
 ghost use Rattle.pyver_markers.specs.MarkerValues.{after_step, after_steps, both_hold, earlier_values, either_holds, join_values, last_value, value};
 ghost use Rattle.pyver_requirements.specs.MarkerGrammar.{DenotesMarker, Marker};
 ghost use Rattle.pyver_requirements.specs.MarkerSteps.{marker_steps, steps};
 ghost use Rattle.pyver_requirements.specs.MarkerStepViews.{step_of};
 ghost use Rattle.pyver_requirements.specs.MarkerViews.{IsMarkerFault};
 
+use crate::emptiness::are_empty;
 use crate::environment::Variable;
+use crate::environment_box::EnvironmentBox;
+use crate::found_environment::{FoundVariable, borrow_variables, find_variables};
+use crate::marker_boxes::take_box_steps;
 use crate::marker_comparison::compare;
 use pyver_requirements::{MarkerError, Step, parse_steps};
 use std::alloc::{AllocError, Global};
@@ -65,7 +73,8 @@ fn take_step(
     step: Step<'_>,
     values: &mut VecDeque<Option<bool>>,
 ) -> Result<(), AllocError>
-    ensures { IfOk result (λ _. values.new.items ≡ after_step (environment_of environment.now) (step_of step.entry) values.old.items) }
+    ensures { IfOk result (λ _. values.new.items ≡ after_step (compare (environment_of environment.now)) both_hold either_holds
+        (step_of step.entry) values.old.items) }
 {
     let value = match step {
         Step::Compare(left, operator, right) => {
@@ -90,7 +99,8 @@ fn take_steps(
     environment: &[Variable<'_>],
     steps: &[Step<'_>],
 ) -> Result<Option<bool>, AllocError>
-    ensures { IfOk result (λ v. v ≡ last_value (after_steps (environment_of environment.now) (map step_of steps.now) [])) }
+    ensures { IfOk result (λ v. v ≡ last_value (after_steps (compare (environment_of environment.now)) both_hold either_holds
+        (map step_of steps.now) [])) }
 {
     let mut values = VecDeque::new(alloc);
     let mut rest = steps;
@@ -128,5 +138,81 @@ impl<'a> EnvironmentMarker<'a> {
     {
         let value = take_steps(alloc, environment, self.steps.as_slice())?;
         Ok(value)
+    }
+
+    #[tactic(auto, using(crate::proofs::Steps::last_is_boxes, crate::proofs::BoxLaws::hold_in_boxes))]
+    /// The environments in which the marker has the wanted value, as boxes, of those in which it is defined. `None` if and-ing and or-ing them
+    /// comes to more than 1,000 boxes.
+    ///
+    /// Allocates.
+    pub fn to_boxes(
+        &self,
+        alloc: Global,
+        wanted: bool,
+    ) -> Result<Option<Vec<EnvironmentBox<'a>>>, AllocError>
+        ensures value { (m : Marker) → self.now ≡ steps m → IfOk result (λ found. boxes_of found ≡ boxes wanted m) }
+        ensures holds { (m : Marker) → self.now ≡ steps m → IfOk result (λ found. IfSome (boxes_of found) (HasValueInBoxes wanted m)) }
+    {
+        let found = take_box_steps(alloc, wanted, self.steps.as_slice())?;
+        Ok(found)
+    }
+
+    /// Whether it is known that the marker has the wanted value in no environment.
+    ///
+    /// Allocates.
+    pub fn is_never(&self, alloc: Global, wanted: bool) -> Result<bool, AllocError>
+        ensures { (m : Marker) → self.now ≡ steps m → IfOk result (λ b. b ≡ true → IsNever wanted m) }
+    {
+        match self.to_boxes(alloc, wanted)? {
+            Some(boxes) => are_empty(alloc, boxes.as_slice()),
+            None => Ok(false),
+        }
+    }
+
+    /// An environment in which the marker holds, with what each of its variables is there, or `None` if none was found.
+    ///
+    /// Allocates.
+    pub fn find_environment(
+        &self,
+        alloc: Global,
+    ) -> Result<Option<Vec<FoundVariable<'a>>>, AllocError>
+        ensures { (m : Marker) → self.now ≡ steps m → IfOk result (λ found. IfSome found (λ v. value (found_environment v.items) m ≡ Some true)) }
+    {
+        let Some(boxes) = self.to_boxes(alloc, true)? else {
+            return Ok(None);
+        };
+        for one in &boxes {
+            if let Some(found) = self.find_in_box(alloc, one)? {
+                return Ok(Some(found));
+            }
+        }
+        Ok(None)
+    }
+
+    // Whether the marker holds where its variables are as found.
+    fn holds_in(&self, alloc: Global, found: &[FoundVariable<'_>]) -> Result<bool, AllocError>
+        ensures { (m : Marker) → self.now ≡ steps m → IfOk result (λ b. b ≡ true → value (found_environment found.now) m ≡ Some true) }
+    {
+        let environment = borrow_variables(alloc, found)?;
+        let value = self.evaluate(alloc, environment.as_slice())?;
+        Ok(value.unwrap_or(false))
+    }
+
+    // An environment of the box in which the marker holds.
+    fn find_in_box(
+        &self,
+        alloc: Global,
+        one: &EnvironmentBox<'a>,
+    ) -> Result<Option<Vec<FoundVariable<'a>>>, AllocError>
+        ensures { (m : Marker) → self.now ≡ steps m → IfOk result (λ found. IfSome found (λ v. value (found_environment v.items) m ≡ Some true)) }
+    {
+        let found = find_variables(alloc, self.steps.as_slice(), one.conditions())?;
+        let Some(variables) = found else {
+            return Ok(None);
+        };
+        if self.holds_in(alloc, variables.as_slice())? {
+            return Ok(Some(variables));
+        }
+        Ok(None)
     }
 }

@@ -3,7 +3,9 @@ ghost use Rattle.std.specs.Prelude.{◌≡◌, ◌++◌, IfOk, IfSome, None, fal
 ghost use Rattle.std.specs.Char.{is_ascii};
 ghost use Rattle.std.specs.List.{list_all, list_any};
 ghost use Rattle.pep440_rs.specs.Blanks.{trim_blanks};
+ghost use Rattle.pep440_rs.specs.Denoted.{IsDenotable};
 ghost use Rattle.pep440_rs.specs.Errors.{IsLifted, specifier_rejection_of};
+ghost use Rattle.pyver_markers.specs.Conditions.{ComparesAs};
 ghost use Rattle.pyver_markers.specs.MarkerComparisons.{compare_spellings, compare_versions, compare_with, compare_written, ends_operand, matches_specifier, ascii_specifier, spelling_in, ascii_version};
 ghost use Rattle.pyver_requirements.specs.MarkerTerms.{marker_operator_text};
 
@@ -46,7 +48,8 @@ pub(crate) fn ascii_specifier(
     alloc: Global,
     text: &[u8],
 ) -> Result<Option<VersionSpecifier>, AllocError>
-    ensures { IfOk result (λ found. found ≡ ascii_specifier text.now) }
+    ensures value { IfOk result (λ found. found ≡ ascii_specifier text.now) }
+    ensures denotable { IfOk result (λ found. IfSome found IsDenotable) }
 {
     let Some(text) = ascii_text(text) else {
         return Ok(None);
@@ -63,7 +66,7 @@ pub(crate) fn ascii_specifier(
 }
 
 // The version that the ASCII string is.
-fn ascii_version(alloc: Global, text: &[u8]) -> Result<Option<Version>, AllocError>
+pub(crate) fn ascii_version(alloc: Global, text: &[u8]) -> Result<Option<Version>, AllocError>
     ensures { IfOk result (λ found. found ≡ ascii_version text.now) }
 {
     let Some(text) = ascii_text(text) else {
@@ -186,4 +189,21 @@ pub(crate) fn compare_versions(
 {
     let written = write_specifier(alloc, operator, right)?;
     compare_written(alloc, left, operator, right, written.as_slice())
+}
+
+// The specifier with which strings compare as versions, if the operator and the string on the right are one.
+pub(crate) fn find_specifier(
+    alloc: Global,
+    operator: MarkerOperator,
+    right: &[u8],
+) -> Result<Option<VersionSpecifier>, AllocError>
+    ensures denotable { IfOk result (λ found. IfSome found IsDenotable) }
+    ensures compares { IfOk result (λ found. IfSome found (ComparesAs operator right.now)) }
+{
+    let written = write_specifier(alloc, operator, right)?;
+    if find_spelling(written.as_slice()).is_some() {
+        return Ok(None);
+    }
+    let specifier = ascii_specifier(alloc, written.as_slice())?;
+    Ok(specifier)
 }

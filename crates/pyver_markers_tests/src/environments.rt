@@ -69,6 +69,18 @@ fn variables_of<'a, 'b>(
     Ok(variables)
 }
 
+/// The marker that the string denotes.
+pub fn parse_marker<'a>(
+    alloc: Global,
+    marker: &'a str,
+) -> Result<EnvironmentMarker<'a>, CaseError> {
+    match EnvironmentMarker::parse(alloc, marker.as_bytes()) {
+        Ok(marker) => Ok(marker),
+        Err(MarkerError::OutOfMemory) => Err(CaseError::OutOfMemory),
+        Err(MarkerError::Invalid(_, _)) => Err(CaseError::Unreadable),
+    }
+}
+
 /// The value of the marker where the variables are as the words say.
 pub fn print_value(alloc: Global, marker: &str, words: &[String]) -> Result<String, CaseError> {
     let marker = match EnvironmentMarker::parse(alloc, marker.as_bytes()) {

@@ -1,9 +1,12 @@
-//! Test cases of environment markers: their steps, and their values in environments; `stdin` beside `src/` has them.
+//! Test cases of environment markers: their steps, their values in environments, and what sets of environments they are; `stdin` beside
+//! `src/` has them.
 #![tactic(auto)]
 
+mod boxes;
 mod environments;
 mod marker_steps;
 
+use boxes::{print_boxes, print_environment, print_never};
 use environments::print_value;
 use marker_steps::print_steps;
 use std::alloc::Global;
@@ -17,6 +20,9 @@ impl Calls for MarkerCalls {
         match (call, arguments) {
             ("steps", [marker]) => print_steps(alloc, marker.as_str()),
             ("value", [marker, variables @ ..]) => print_value(alloc, marker.as_str(), variables),
+            ("boxes", [wanted, marker]) => print_boxes(alloc, wanted.as_str(), marker.as_str()),
+            ("never", [wanted, marker]) => print_never(alloc, wanted.as_str(), marker.as_str()),
+            ("environment", [marker]) => print_environment(alloc, marker.as_str()),
             _ => Err(CaseError::Unreadable),
         }
     }

@@ -13,7 +13,8 @@ fn side_text(side: Side<'_>) -> Result<&str, CaseError> {
     }
 }
 
-fn print_comparison(
+/// The comparison in brackets.
+pub fn print_comparison(
     alloc: Global,
     left: Side<'_>,
     operator: MarkerOperator,

@@ -1,0 +1,99 @@
+-- What conditions say of one variable, and boxes in which no environment is.
+use Rattle.std.specs.Prelude.{◌≡◌, ◌≢◌, ℕ, List, Bool, true, false, not, Option, Some, codes, if◌then◌else◌}
+use Rattle.pep440_pick.specs.Names.{normal}
+use Rattle.pep440_ranges.specs.RangeSegments.{contains}
+use Rattle.pep440_rs.specs.Bounds.{Segments}
+use Rattle.pep440_rs.specs.Denoted.{IsDenoted}
+use Rattle.pep440_rs.specs.LiteralMatching.{matches_literally}
+use Rattle.pep440_rs.specs.Specifiers.{Spec}
+use Rattle.pep440_version.specs.Key.{record_cmp}
+use Rattle.pep440_version.specs.Record.{Record}
+use Rattle.pyver_requirements.specs.MarkerGrammar.{Marker}
+use Rattle.pyver_requirements.specs.declared.marker_operator.MarkerOperator.{MarkerOperator}
+use Rattle.pyver_requirements.specs.declared.marker_operator.MarkerOperator.TheVariants as operator
+use Rattle.pyver_markers.specs.Boxes.{Box, Condition, in_box, meets}
+use Rattle.pyver_markers.specs.Environments.{Environment, Text}
+use Rattle.pyver_markers.specs.MarkerComparisons.{ascii_version, compare, compare_left, compare_right, compare_texts, compare_versions, is_name_variable, matches_specifier}
+use Rattle.pyver_markers.specs.MarkerValues.{value}
+use Rattle.pyver_markers.specs.declared.text_condition.Operand.{Operand}
+use Rattle.pyver_markers.specs.declared.text_condition.Operand.TheVariants.{Left, Right}
+
+-- ---- environments
+
+-- the variable is a version
+abbrev pub HasVersion : Environment → List ℕ → Type 0
+HasVersion e name = (text : List ℕ) × (v : Record) × (e name ≡ Some (Text text)) × (ascii_version text ≡ Some v)
+
+-- the versions of Python and of its implementation are versions
+pub record IsEnvironment (e : Environment) : Type 0 where
+  pub python_version : HasVersion e (codes "python_version")
+  pub python_full_version : HasVersion e (codes "python_full_version")
+  pub implementation_version : HasVersion e (codes "implementation_version")
+
+-- no environment is in the box
+abbrev pub HasNoEnvironment : Box → Type 0
+HasNoEnvironment box = (e : Environment) → IsEnvironment e → in_box e box ≡ false
+
+-- the marker has the wanted value in no environment
+abbrev pub IsNever : Bool → Marker → Type 0
+IsNever wanted m = (e : Environment) → IsEnvironment e → value e m ≢ Some wanted
+
+-- ---- one condition
+
+-- the condition compares the variable with the operand
+abbrev pub IsOperand : List ℕ → Condition → Operand → Type 0
+IsOperand name c (Right text) = (e : Environment) → compare e c.left c.operator c.right ≡ compare_left name c.operator text.now (e name)
+IsOperand name c (Left text) = (e : Environment) → compare e c.left c.operator c.right ≡ compare_right text.now c.operator name (e name)
+
+-- what the comparison with the operand gives where the variable is this string
+abbrev pub compare_operand : List ℕ → List ℕ → MarkerOperator → Operand → Option Bool
+compare_operand name text o (Right right) = compare_texts name text o right.now
+compare_operand name text o (Left left) = compare_texts name left.now o text
+
+-- strings are to be equal
+abbrev pub wants_equal : MarkerOperator → Bool → Bool
+wants_equal operator.Equal wanted = wanted
+wants_equal operator.LessOrEqual wanted = wanted
+wants_equal operator.GreaterOrEqual wanted = wanted
+wants_equal operator.NotEqual wanted = not wanted
+wants_equal _ wanted = false
+
+-- what comparisons that are not of versions see of a string
+abbrev pub comparable : List ℕ → List ℕ → List ℕ
+comparable name text = if is_name_variable name then normal text else text
+
+-- only where the variable is this string, or one that compares as it, the condition can be met
+abbrev pub FixesText : List ℕ → Condition → List ℕ → Type 0
+FixesText name c text = (e : Environment) → meets e c ≡ true → (x : List ℕ) × (e name ≡ Some (Text x)) × (comparable name x ≡ comparable name text)
+
+-- where the variable is this string, or one that compares as it, the condition is not met
+abbrev pub FailsAt : List ℕ → List ℕ → Condition → Type 0
+FailsAt name text c = (e : Environment) (x : List ℕ) → e name ≡ Some (Text x) → comparable name x ≡ comparable name text → meets e c ≡ false
+
+-- the same of all conditions of a box
+abbrev pub AnyFailsAt : List ℕ → List ℕ → Box → Type 0
+AnyFailsAt name text box = (e : Environment) (x : List ℕ) → e name ≡ Some (Text x) → comparable name x ≡ comparable name text → in_box e box ≡ false
+
+-- ---- versions
+
+-- strings compare with this one as versions with the specifier
+abbrev pub ComparesAs : MarkerOperator → List ℕ → Spec → Type 0
+ComparesAs o right s = (left : List ℕ) → compare_versions left o right ≡ Some (matches_specifier s (ascii_version left))
+
+-- the set has the versions that match
+abbrev pub HoldsMatchesOf : Spec → Segments → Type 0
+HoldsMatchesOf s set = (v : Record) → IsDenoted v → contains record_cmp set v ≡ matches_literally s.operator s.version v
+
+-- where the variable is a version, the condition is met exactly if the set has it
+abbrev pub HoldsMet : List ℕ → Condition → Segments → Type 0
+HoldsMet name c set = (e : Environment) (x : List ℕ) (v : Record) → e name ≡ Some (Text x) → ascii_version x ≡ Some v → meets e c ≡ contains record_cmp set v
+
+-- the second set has what is in the first one where the condition is met
+abbrev pub Narrows : List ℕ → Condition → Segments → Segments → Type 0
+Narrows name c set narrowed = (e : Environment) (x : List ℕ) (v : Record) → e name ≡ Some (Text x) → ascii_version x ≡ Some v → meets e c ≡ true
+    → contains record_cmp set v ≡ true → contains record_cmp narrowed v ≡ true
+
+-- the set has each version that the variable is where the box has an environment
+abbrev pub HoldsVersionsOf : List ℕ → Box → Segments → Type 0
+HoldsVersionsOf name box set = (e : Environment) (x : List ℕ) (v : Record) → e name ≡ Some (Text x) → ascii_version x ≡ Some v → in_box e box ≡ true
+    → contains record_cmp set v ≡ true
