@@ -1,8 +1,8 @@
 -- Versions without pre-release, post-release and dev part, and the exclusive comparisons.
-use Rattle.std.proofs.Common.{◌≡◌, ◌∙◌, ◌&&◌, ◌||◌, ℕ, List, [], ◌∷◌, Bool, true, false, not, Option, Some, None, ap, refl, subst, sym}
+use Rattle.std.proofs.Common.{◌≡◌, ◌∙◌, ◌&&◌, ◌||◌, ℕ, List, Bool, true, false, not, Option, Some, None, ap, refl, subst, sym}
 use Rattle.std.proofs.lemmas.Bool.{and_from, false_from_ne_true, true≢false}
 use Rattle.std.specs.Ordering.{is_ge, is_gt, is_le, is_lt}
-use Rattle.std.specs.Prelude.{IfSome, IsTrue, is_none, is_some}
+use Rattle.std.specs.Prelude.{IfSome, is_none, is_some}
 use Rattle.std.specs.declared.cmp.Ordering.{Ordering}
 use Rattle.std.specs.declared.cmp.Ordering.TheVariants as order
 use Rattle.pep440_ranges.specs.RangeSegments.{contains}
@@ -11,7 +11,7 @@ use Rattle.pep440_rs.specs.Bounds.{Segments}
 use Rattle.pep440_rs.specs.Denoted.{IsDenotable, IsDenoted}
 use Rattle.pep440_rs.specs.LiteralMatching.{has_post, is_before, is_postrelease_of, is_prerelease_of, matches_literally, same_pre}
 use Rattle.pep440_rs.specs.Matching.{any_prerelease, candidate, same_release}
-use Rattle.pep440_rs.specs.Operators.{allows_local, is_star}
+use Rattle.pep440_rs.specs.Operators.{is_star}
 use Rattle.pep440_rs.specs.Specifiers.{Spec}
 use Rattle.pep440_rs.specs.declared.specifier.operator.Operator.{Operator}
 use Rattle.pep440_rs.specs.declared.specifier.operator.Operator.TheVariants.{GreaterThan, GreaterThanEqual, LessThan, LessThanEqual}
