@@ -5,7 +5,7 @@ use Rattle.std.specs.List.{find}
 use Rattle.std.specs.Prelude.{bytes_eq, cond, is_some, option_map}
 use Rattle.pyver_markers.proofs.Lists.{first_and_rest}
 use Rattle.pep440_version.specs.Record.{Record}
-use Rattle.pyver_markers.specs.Conditions.{HasRelease, HasVersion, is_plain_release}
+use Rattle.pyver_markers.specs.Conditions.{HasPlainRelease, HasVersion, is_plain_release}
 use Rattle.pyver_markers.specs.MarkerComparisons.{ascii_version}
 use Rattle.pyver_markers.specs.Environments.{Environment, Setting, Text}
 use Rattle.pyver_markers.specs.EnvironmentViews.{environment_of, found_environment, setting_of}
@@ -80,5 +80,5 @@ pub version_there : (e : Environment) (name text : List ℕ) (v : Option Record)
 version_there e name text None has reads some = absurd (true≢false (sym some))
 version_there e name text (Some v) has reads some = (text, v, has, sym reads)
 
-pub release_there : (e : Environment) (name text : List ℕ) (v : Record) → e name ≡ Some (Text text) → Some v ≡ ascii_version text → is_plain_release v ≡ true → HasRelease e name
+pub release_there : (e : Environment) (name text : List ℕ) (v : Record) → e name ≡ Some (Text text) → Some v ≡ ascii_version text → is_plain_release v ≡ true → HasPlainRelease e name
 release_there e name text v has reads plain = (text, v, has, sym reads, plain)

@@ -20,7 +20,7 @@ use Rattle.pep440_version.specs.Key.{record_cmp}
 use Rattle.pep440_version.specs.Record.{Record}
 use Rattle.pyver_markers.proofs.Versions.{is_denoted}
 use Rattle.pyver_markers.specs.Boxes.{Box, in_box}
-use Rattle.pyver_markers.specs.Conditions.{HasRelease, HoldsEither, HoldsReleases, HoldsVersionsOf, KeepsReleases, is_plain_release}
+use Rattle.pyver_markers.specs.Conditions.{HasPlainRelease, HoldsEither, HoldsReleases, HoldsVersionsOf, KeepsReleases, is_plain_release}
 use Rattle.pyver_markers.specs.Environments.{Environment}
 
 -- ---- parts
@@ -119,7 +119,7 @@ pub keeps_more : (set kept more : Segments) → KeepsReleases set kept → Keeps
 keeps_more set kept more first second v denoted plain within = second v denoted plain (first v denoted plain within)
 
 pub no_release : (name : List ℕ) (all : Box) (set kept : Segments) → HoldsVersionsOf name all set → KeepsReleases set kept → HasNoVersion kept
-    → (e : Environment) → HasRelease e name → in_box e all ≡ false
+    → (e : Environment) → HasPlainRelease e name → in_box e all ≡ false
 no_release name all set kept holds keeps none e h =
     let denoted = is_denoted h.0 h.1 h.3 in
     false_from_ne_true (in_box e all) (λ is. true≢false (sym (keeps h.1 denoted h.4 (holds e h.0 h.1 h.2 h.3 is)) ∙ none h.1 denoted))

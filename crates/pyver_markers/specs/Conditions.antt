@@ -30,12 +30,12 @@ abbrev pub is_plain_release : Record → Bool
 is_plain_release v = not (any_prerelease v || is_some v.post)
 
 -- the variable is such a version
-abbrev pub HasRelease : Environment → List ℕ → Type 0
-HasRelease e name = (text : List ℕ) × (v : Record) × (e name ≡ Some (Text text)) × (ascii_version text ≡ Some v) × (is_plain_release v ≡ true)
+abbrev pub HasPlainRelease : Environment → List ℕ → Type 0
+HasPlainRelease e name = (text : List ℕ) × (v : Record) × (e name ≡ Some (Text text)) × (ascii_version text ≡ Some v) × (is_plain_release v ≡ true)
 
 -- the versions of Python and of its implementation are versions; that of two numbers has no other parts
 pub record IsEnvironment (e : Environment) : Type 0 where
-  pub python_version : HasRelease e (codes "python_version")
+  pub python_version : HasPlainRelease e (codes "python_version")
   pub python_full_version : HasVersion e (codes "python_full_version")
   pub implementation_version : HasVersion e (codes "implementation_version")
 

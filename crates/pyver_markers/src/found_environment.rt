@@ -1,6 +1,6 @@
 //! Environments in which all conditions are met.
 ghost use Rattle.std.specs.Prelude.{◌≡◌, IfOk, option_map, true};
-ghost use Rattle.pyver_markers.specs.Conditions.{HasRelease, HasVersion, IsEnvironment, is_plain_release};
+ghost use Rattle.pyver_markers.specs.Conditions.{HasPlainRelease, HasVersion, IsEnvironment, is_plain_release};
 ghost use Rattle.pyver_markers.specs.EnvironmentViews.{environment_of, found_environment};
 ghost use Rattle.pyver_markers.specs.Environments.{Text};
 
@@ -278,7 +278,7 @@ fn has_version(alloc: Global, found: &[FoundVariable<'_>], name: &[u8]) -> Resul
 }
 
 fn has_release(alloc: Global, found: &[FoundVariable<'_>], name: &[u8]) -> Result<bool, AllocError>
-    ensures { IfOk result (λ b. b ≡ true → HasRelease (found_environment found.now) name.now) }
+    ensures { IfOk result (λ b. b ≡ true → HasPlainRelease (found_environment found.now) name.now) }
 {
     let Some(text) = find_by_name(found, name) else {
         return Ok(false);

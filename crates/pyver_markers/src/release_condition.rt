@@ -5,7 +5,7 @@ ghost use Rattle.pep440_rs.specs.Agreement.{HasNoLocalOrSentinel};
 ghost use Rattle.pep440_rs.specs.Denoted.{IsDenotable, IsDenoted};
 ghost use Rattle.pyver_markers.specs.BoxViews.{condition_of};
 ghost use Rattle.pyver_markers.specs.Boxes.{in_box};
-ghost use Rattle.pyver_markers.specs.Conditions.{HasRelease, HoldsEither, HoldsReleases, KeepsReleases};
+ghost use Rattle.pyver_markers.specs.Conditions.{HasPlainRelease, HoldsEither, HoldsReleases, KeepsReleases};
 ghost use Rattle.pyver_markers.specs.Environments.{Environment};
 ghost use Rattle.pyver_markers.specs.MarkerComparisons.{is_version_variable};
 
@@ -121,7 +121,7 @@ pub(crate) fn excludes_releases(
     conditions: &[Condition<'_>],
 ) -> Result<bool, AllocError>
     requires { is_version_variable name.now ≡ true }
-    ensures { IfOk result (λ b. b ≡ true → (e : Environment) → HasRelease e name.now → in_box e (map condition_of conditions.now) ≡ false) }
+    ensures { IfOk result (λ b. b ≡ true → (e : Environment) → HasPlainRelease e name.now → in_box e (map condition_of conditions.now) ≡ false) }
 {
     let set = variable_set(alloc, name, conditions)?;
     let kept = keep_all_releases(alloc, name, conditions, set)?;
