@@ -1,9 +1,13 @@
 -- Environments of variables, one after the other.
 use Rattle.std.proofs.Common.{◌≡◌, ◌∙◌, ◌++◌, ◌-◌, ◌≤◌, ℕ, List, [], ◌∷◌, Bool, true, false, Option, Some, None, ap, drop, get_or, length, refl, subst, sym, take}
+use Rattle.std.proofs.lemmas.Bool.{true≢false}
 use Rattle.std.specs.List.{find}
-use Rattle.std.specs.Prelude.{bytes_eq, cond, option_map}
+use Rattle.std.specs.Prelude.{bytes_eq, cond, is_some, option_map}
 use Rattle.pyver_markers.proofs.Lists.{first_and_rest}
-use Rattle.pyver_markers.specs.Environments.{Setting, Text}
+use Rattle.pep440_version.specs.Record.{Record}
+use Rattle.pyver_markers.specs.Conditions.{HasPlainRelease, HasVersion, is_plain_release}
+use Rattle.pyver_markers.specs.MarkerComparisons.{ascii_version}
+use Rattle.pyver_markers.specs.Environments.{Environment, Setting, Text}
 use Rattle.pyver_markers.specs.EnvironmentViews.{environment_of, found_environment, setting_of}
 use Rattle.pyver_markers.specs.declared.environment.Variable.{Variable}
 use Rattle.pyver_markers.specs.declared.found_environment.FoundVariable.{FoundVariable}
@@ -69,3 +73,12 @@ one_borrowed variables more w v rest all long first is same text so_far =
     let later = take (length rest - 1) (drop 1 rest) in
     let split : rest ≡ v ∷ later = first_and_rest rest v long ∙ ap (λ (u : FoundVariable). u ∷ later) (sym first) in
     subst (λ l. AreFound l later all) (sym is) (one_more variables w v later all same text (subst (λ l. AreFound variables l all) split so_far))
+
+-- ---- versions
+
+pub version_there : (e : Environment) (name text : List ℕ) (v : Option Record) → e name ≡ Some (Text text) → v ≡ ascii_version text → is_some v ≡ true → HasVersion e name
+version_there e name text None has reads some = absurd (true≢false (sym some))
+version_there e name text (Some v) has reads some = (text, v, has, sym reads)
+
+pub release_there : (e : Environment) (name text : List ℕ) (v : Record) → e name ≡ Some (Text text) → Some v ≡ ascii_version text → is_plain_release v ≡ true → HasPlainRelease e name
+release_there e name text v has reads plain = (text, v, has, sym reads, plain)

@@ -2,6 +2,7 @@ pub mod BoxLaws
 pub mod FoundEnvironments
 pub mod Lists
 pub mod Readings
+pub mod Releases
 pub mod Steps
 pub mod Texts
 pub mod Versions

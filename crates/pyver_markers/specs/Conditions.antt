@@ -1,10 +1,11 @@
 -- What conditions say of one variable, and boxes in which no environment is.
-use Rattle.std.specs.Prelude.{◌≡◌, ◌≢◌, ℕ, List, Bool, true, false, not, Option, Some, codes, if◌then◌else◌}
+use Rattle.std.specs.Prelude.{◌≡◌, ◌≢◌, ℕ, List, Bool, true, false, not, Option, Some, ◌||◌, codes, is_some, if◌then◌else◌}
 use Rattle.pep440_pick.specs.Names.{normal}
 use Rattle.pep440_ranges.specs.RangeSegments.{contains}
 use Rattle.pep440_rs.specs.Bounds.{Segments}
 use Rattle.pep440_rs.specs.Denoted.{IsDenoted}
 use Rattle.pep440_rs.specs.LiteralMatching.{matches_literally}
+use Rattle.pep440_rs.specs.Matching.{any_prerelease}
 use Rattle.pep440_rs.specs.Specifiers.{Spec}
 use Rattle.pep440_version.specs.Key.{record_cmp}
 use Rattle.pep440_version.specs.Record.{Record}
@@ -24,9 +25,17 @@ use Rattle.pyver_markers.specs.declared.text_condition.Operand.TheVariants.{Left
 abbrev pub HasVersion : Environment → List ℕ → Type 0
 HasVersion e name = (text : List ℕ) × (v : Record) × (e name ≡ Some (Text text)) × (ascii_version text ≡ Some v)
 
--- the versions of Python and of its implementation are versions
+-- the version has no pre-release, post-release or dev part
+abbrev pub is_plain_release : Record → Bool
+is_plain_release v = not (any_prerelease v || is_some v.post)
+
+-- the variable is such a version
+abbrev pub HasPlainRelease : Environment → List ℕ → Type 0
+HasPlainRelease e name = (text : List ℕ) × (v : Record) × (e name ≡ Some (Text text)) × (ascii_version text ≡ Some v) × (is_plain_release v ≡ true)
+
+-- the versions of Python and of its implementation are versions; that of two numbers has no other parts
 pub record IsEnvironment (e : Environment) : Type 0 where
-  pub python_version : HasVersion e (codes "python_version")
+  pub python_version : HasPlainRelease e (codes "python_version")
   pub python_full_version : HasVersion e (codes "python_full_version")
   pub implementation_version : HasVersion e (codes "implementation_version")
 
@@ -97,3 +106,18 @@ Narrows name c set narrowed = (e : Environment) (x : List ℕ) (v : Record) → 
 abbrev pub HoldsVersionsOf : List ℕ → Box → Segments → Type 0
 HoldsVersionsOf name box set = (e : Environment) (x : List ℕ) (v : Record) → e name ≡ Some (Text x) → ascii_version x ≡ Some v → in_box e box ≡ true
     → contains record_cmp set v ≡ true
+
+-- ---- releases
+
+-- the set has what matches either specifier
+abbrev pub HoldsEither : Spec → Spec → Segments → Type 0
+HoldsEither one other set = (v : Record) → IsDenoted v
+    → contains record_cmp set v ≡ (matches_literally one.operator one.version v || matches_literally other.operator other.version v)
+
+-- the set has all versions without such parts
+abbrev pub HoldsReleases : Segments → Type 0
+HoldsReleases set = (v : Record) → IsDenoted v → is_plain_release v ≡ true → contains record_cmp set v ≡ true
+
+-- the second set has those of the first one
+abbrev pub KeepsReleases : Segments → Segments → Type 0
+KeepsReleases set kept = (v : Record) → IsDenoted v → is_plain_release v ≡ true → contains record_cmp set v ≡ true → contains record_cmp kept v ≡ true

@@ -8,6 +8,7 @@ ghost use Rattle.pyver_markers.specs.Environments.{Environment};
 use crate::condition::Condition;
 use crate::environment_box::EnvironmentBox;
 use crate::marker_comparison::is_version_variable;
+use crate::release_condition::excludes_releases;
 use crate::text_condition::excludes_texts;
 use crate::version_condition::excludes_versions;
 use std::alloc::{AllocError, Global};
@@ -39,7 +40,7 @@ fn excludes_any_text(alloc: Global, conditions: &[Condition<'_>]) -> Result<bool
 fn excludes_any_version(alloc: Global, conditions: &[Condition<'_>]) -> Result<bool, AllocError>
     ensures { IfOk result (λ b. b ≡ true → HasNoEnvironment (map condition_of conditions.now)) }
 {
-    if excludes_versions(alloc, "python_version".as_bytes(), conditions)? {
+    if excludes_releases(alloc, "python_version".as_bytes(), conditions)? {
         return Ok(true);
     }
     if excludes_versions(alloc, "python_full_version".as_bytes(), conditions)? {

@@ -2,7 +2,7 @@
 ghost use Rattle.std.specs.Prelude.{◌≡◌, [], IfErr, IfOk, IfSome, map, true};
 ghost use Rattle.pyver_markers.specs.BoxViews.{boxes_of};
 ghost use Rattle.pyver_markers.specs.Boxes.{HasValueInBoxes, boxes};
-ghost use Rattle.pyver_markers.specs.Conditions.{IsNever};
+ghost use Rattle.pyver_markers.specs.Conditions.{IsEnvironment, IsNever};
 ghost use Rattle.pyver_markers.specs.EnvironmentViews.{environment_of, found_environment};
 ghost use Rattle.pyver_markers.specs.MarkerComparisons.{compare};
 ghost use Rattle.pyver_markers.specs.MarkerValues.{after_step, after_steps, both_hold, earlier_values, either_holds, join_values, last_value, value};
@@ -14,7 +14,7 @@ ghost use Rattle.pyver_requirements.specs.MarkerViews.{IsMarkerFault};
 use crate::emptiness::are_empty;
 use crate::environment::Variable;
 use crate::environment_box::EnvironmentBox;
-use crate::found_environment::{FoundVariable, borrow_variables, find_variables};
+use crate::found_environment::{FoundVariable, borrow_variables, find_variables, is_environment};
 use crate::marker_boxes::take_box_steps;
 use crate::marker_comparison::compare;
 use pyver_requirements::{MarkerError, Step, parse_steps};
@@ -176,7 +176,8 @@ impl<'a> EnvironmentMarker<'a> {
         &self,
         alloc: Global,
     ) -> Result<Option<Vec<FoundVariable<'a>>>, AllocError>
-        ensures { (m : Marker) → self.now ≡ steps m → IfOk result (λ found. IfSome found (λ v. value (found_environment v.items) m ≡ Some true)) }
+        ensures known { IfOk result (λ found. IfSome found (λ v. IsEnvironment (found_environment v.items))) }
+        ensures holds { (m : Marker) → self.now ≡ steps m → IfOk result (λ found. IfSome found (λ v. value (found_environment v.items) m ≡ Some true)) }
     {
         let Some(boxes) = self.to_boxes(alloc, true)? else {
             return Ok(None);
@@ -204,12 +205,16 @@ impl<'a> EnvironmentMarker<'a> {
         alloc: Global,
         one: &EnvironmentBox<'a>,
     ) -> Result<Option<Vec<FoundVariable<'a>>>, AllocError>
-        ensures { (m : Marker) → self.now ≡ steps m → IfOk result (λ found. IfSome found (λ v. value (found_environment v.items) m ≡ Some true)) }
+        ensures known { IfOk result (λ found. IfSome found (λ v. IsEnvironment (found_environment v.items))) }
+        ensures holds { (m : Marker) → self.now ≡ steps m → IfOk result (λ found. IfSome found (λ v. value (found_environment v.items) m ≡ Some true)) }
     {
         let found = find_variables(alloc, self.steps.as_slice(), one.conditions())?;
         let Some(variables) = found else {
             return Ok(None);
         };
+        if !is_environment(alloc, variables.as_slice())? {
+            return Ok(None);
+        }
         if self.holds_in(alloc, variables.as_slice())? {
             return Ok(Some(variables));
         }

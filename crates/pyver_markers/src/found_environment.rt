@@ -1,6 +1,8 @@
 //! Environments in which all conditions are met.
-ghost use Rattle.std.specs.Prelude.{◌≡◌, IfOk};
+ghost use Rattle.std.specs.Prelude.{◌≡◌, IfOk, option_map, true};
+ghost use Rattle.pyver_markers.specs.Conditions.{HasPlainRelease, HasVersion, IsEnvironment, is_plain_release};
 ghost use Rattle.pyver_markers.specs.EnvironmentViews.{environment_of, found_environment};
+ghost use Rattle.pyver_markers.specs.Environments.{Text};
 
 use crate::condition::Condition;
 use crate::environment::{Setting, Variable};
@@ -8,7 +10,8 @@ use crate::marker_comparison::is_version_variable;
 use crate::text_condition::{Operand, find_operand, is_met_at};
 use crate::version::ascii_version;
 use crate::version_condition::variable_set;
-use pyver_requirements::{MarkerOperator, Side, Step};
+use pep440_rs::Version;
+use pyver_requirements::{Side, Step};
 use std::alloc::{AllocError, Global};
 
 /// A variable of an environment, and what it is there.
@@ -18,10 +21,28 @@ pub struct FoundVariable<'a> {
     pub text: Vec<u8>,
 }
 
+// The variables that each environment has.
+const VERSIONS: [&str; 3] = [
+    "python_version",
+    "python_full_version",
+    "implementation_version",
+];
+
 // What variables are by preference.
-const USUAL: [(&str, &str); 15] = [
+const USUAL: [(&str, &str); 27] = [
     ("python_version", "3.13"),
+    ("python_version", "3.12"),
+    ("python_version", "3.11"),
+    ("python_version", "3.10"),
+    ("python_version", "3.9"),
+    ("python_version", "3.8"),
+    ("python_version", "3.7"),
+    ("python_version", "3.6"),
+    ("python_version", "2.7"),
+    ("python_version", "0.1"),
     ("python_full_version", "3.13.0"),
+    ("python_full_version", "3.8.1"),
+    ("python_full_version", "2.7.18"),
     ("implementation_version", "3.13.0"),
     ("os_name", "posix"),
     ("os_name", "nt"),
@@ -30,12 +51,31 @@ const USUAL: [(&str, &str); 15] = [
     ("sys_platform", "darwin"),
     ("platform_system", "Linux"),
     ("platform_system", "Windows"),
+    ("platform_system", "Darwin"),
     ("platform_machine", "x86_64"),
     ("platform_python_implementation", "CPython"),
     ("platform_python_implementation", "PyPy"),
     ("implementation_name", "cpython"),
     ("implementation_name", "pypy"),
 ];
+
+// Whether the version has no pre-release, post-release or dev part.
+fn is_plain_release(version: &Version) -> bool
+    ensures { result ≡ is_plain_release version.now }
+{
+    !(version.any_prerelease() || version.is_post())
+}
+
+// Whether the variable may be this string.
+fn may_be(alloc: Global, name: &[u8], text: &[u8]) -> Result<bool, AllocError> {
+    if !is_version_variable(name) {
+        return Ok(true);
+    }
+    match ascii_version(alloc, text)? {
+        Some(version) => Ok(name != "python_version".as_bytes() || is_plain_release(&version)),
+        None => Ok(false),
+    }
+}
 
 // Whether the variable may be this string, and all conditions are met where it is.
 fn suits(
@@ -44,7 +84,7 @@ fn suits(
     text: &[u8],
     conditions: &[Condition<'_>],
 ) -> Result<bool, AllocError> {
-    if is_version_variable(name) && ascii_version(alloc, text)?.is_none() {
+    if !may_be(alloc, name, text)? {
         return Ok(false);
     }
     for condition in conditions {
@@ -180,7 +220,24 @@ fn has_variable(variables: &[FoundVariable<'_>], name: &[u8]) -> bool {
     variables.iter().any(|variable| variable.name == name)
 }
 
-// What the variables of these steps are where all conditions are met.
+// Adds the variable, unless it is there. Whether it can be something where all conditions are met.
+fn add_variable<'a>(
+    alloc: Global,
+    name: &'a [u8],
+    conditions: &[Condition<'a>],
+    variables: &mut Vec<FoundVariable<'a>>,
+) -> Result<bool, AllocError> {
+    if has_variable(variables.as_slice(), name) {
+        return Ok(true);
+    }
+    let Some(text) = find_text(alloc, name, conditions)? else {
+        return Ok(false);
+    };
+    variables.push(FoundVariable { name, text })?;
+    Ok(true)
+}
+
+// What the variables of these steps, and those that each environment has, are where all conditions are met.
 pub(crate) fn find_variables<'a>(
     alloc: Global,
     steps: &[Step<'a>],
@@ -191,15 +248,59 @@ pub(crate) fn find_variables<'a>(
         let Some(name) = step_variable(*step) else {
             continue;
         };
-        if has_variable(variables.as_slice(), name) {
-            continue;
-        }
-        let Some(text) = find_text(alloc, name, conditions)? else {
+        if !add_variable(alloc, name, conditions, &mut variables)? {
             return Ok(None);
-        };
-        variables.push(FoundVariable { name, text })?;
+        }
+    }
+    for name in VERSIONS {
+        if !add_variable(alloc, name.as_bytes(), conditions, &mut variables)? {
+            return Ok(None);
+        }
     }
     Ok(Some(variables))
+}
+
+fn find_by_name<'b>(found: &'b [FoundVariable<'_>], name: &[u8]) -> Option<&'b [u8]>
+    ensures { option_map (λ text. Text text.now) result ≡ found_environment found.now name.now }
+{
+    let variable = found.iter().find(|variable| variable.name == name)?;
+    Some(variable.text.as_slice())
+}
+
+fn has_version(alloc: Global, found: &[FoundVariable<'_>], name: &[u8]) -> Result<bool, AllocError>
+    ensures { IfOk result (λ b. b ≡ true → HasVersion (found_environment found.now) name.now) }
+{
+    let Some(text) = find_by_name(found, name) else {
+        return Ok(false);
+    };
+    let version = ascii_version(alloc, text)?;
+    Ok(version.is_some())
+}
+
+fn has_release(alloc: Global, found: &[FoundVariable<'_>], name: &[u8]) -> Result<bool, AllocError>
+    ensures { IfOk result (λ b. b ≡ true → HasPlainRelease (found_environment found.now) name.now) }
+{
+    let Some(text) = find_by_name(found, name) else {
+        return Ok(false);
+    };
+    match ascii_version(alloc, text)? {
+        Some(version) => Ok(is_plain_release(&version)),
+        None => Ok(false),
+    }
+}
+
+// Whether the versions of Python and of its implementation are versions.
+pub(crate) fn is_environment(alloc: Global, found: &[FoundVariable<'_>]) -> Result<bool, AllocError>
+    ensures { IfOk result (λ b. b ≡ true → IsEnvironment (found_environment found.now)) }
+{
+    if !has_release(alloc, found, "python_version".as_bytes())? {
+        return Ok(false);
+    }
+    if !has_version(alloc, found, "python_full_version".as_bytes())? {
+        return Ok(false);
+    }
+    let last = has_version(alloc, found, "implementation_version".as_bytes())?;
+    Ok(last)
 }
 
 // The variables as they are evaluated.

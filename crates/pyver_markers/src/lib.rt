@@ -1,7 +1,7 @@
 //! Environment markers in environments, and as sets of them.
 //!
 //! In the order in which to read it: `environment`, what variables are; `text`, `version` and `extra_name`, how two strings compare; `marker_comparison`;
-//! `condition` and `environment_box`, sets of environments, with `emptiness`, by `text_condition` and `version_condition`; `marker_boxes`, from steps;
+//! `condition` and `environment_box`, sets of environments, with `emptiness`, by `text_condition`, `version_condition` and `release_condition`; `marker_boxes`, from steps;
 //! `found_environment`; `environment_marker`, which reads markers and asks all this.
 #![tactic(auto)]
 
@@ -14,6 +14,7 @@ mod extra_name;
 mod found_environment;
 mod marker_boxes;
 mod marker_comparison;
+mod release_condition;
 mod text;
 mod text_condition;
 mod version;

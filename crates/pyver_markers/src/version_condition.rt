@@ -18,7 +18,7 @@ use pep440_sets::{SetError, VersionSet};
 use std::alloc::{AllocError, Global};
 
 // The versions that match the specifier, unless it is `===`.
-fn specifier_set(
+pub(crate) fn specifier_set(
     alloc: Global,
     specifier: VersionSpecifier,
 ) -> Result<Option<VersionSet>, AllocError>
