@@ -1,25 +1,19 @@
 -- The newest of the strings so far, and one string more.
-use Rattle.std.proofs.Common.{Bor, ◌≡◌, ◌⊎◌, ◌<◌, ◌+◌, ◌∙◌, ◌||◌, ℕ, List, [], ◌∷◌, ◌++◌, Bool, true, false, length, get_or, take, map, Option, Some, inl, inr, sym, ap, subst, arith}
+use Rattle.std.proofs.Common.{Bor, ◌≡◌, ◌⊎◌, ◌<◌, ◌+◌, ◌∙◌, ℕ, List, [], ◌∷◌, ◌++◌, Bool, true, false, length, get_or, take, map, Option, Some, inl, inr, sym, ap, subst, arith}
 use Rattle.std.proofs.lemmas.Bool.{both_ways}
 use Rattle.std.proofs.lemmas.List.{length-map, length-take-le, map-append, take_more}
-use Rattle.std.specs.Cmp.{IsTotalOrder, nat_cmp_total, on_total, then_total}
-use Rattle.std.specs.Prelude.{not}
 use Rattle.pep440_pick.proofs.Choosing as greatest
+use Rattle.pep440_pick.proofs.Once.{preference_total}
 use Rattle.pep440_pick.specs.Greatest.{Greatest, is_above}
+use Rattle.pep440_pick.specs.Newest.{preference}
 use Rattle.pep440_rs.specs.LiteralMatching.{list_matches_literally}
-use Rattle.pep440_rs.specs.Matching.{any_prerelease}
 use Rattle.pep440_rs.specs.Specifiers.{Spec}
-use Rattle.pep440_version.specs.Key.KeyLaws.{record_total}
 use Rattle.pep440_version.specs.Record.{Record}
 use Rattle.pep440_calls.specs.CallerBytes.{BytesDenote, RejectsBytes}
-use Rattle.pep440_calls.specs.NewestString.{IsContainedString, preference}
-use Rattle.pep440_calls.specs.Statuses.{flag}
+use Rattle.pep440_calls.specs.NewestString.{IsContainedString}
 use Rattle.pep440_calls.proofs.Once.{never_both, one_version}
 
 module _ (takes : Bool) (list : List Spec) where
-  total : IsTotalOrder (preference takes)
-  total = then_total (on_total (λ (r : Record). flag (takes || not (any_prerelease r))) nat_cmp_total) record_total
-
   only : (t : List ℕ) (r q : Record) → IsContainedString list t r → IsContainedString list t q → r ≡ q
   only t r q h k = one_version t r q h.0 k.0
 
@@ -42,10 +36,10 @@ module _ (takes : Bool) (list : List Spec) where
         let long : length (map now (take i texts)) ≡ i = length-map (take i texts) now ∙ length-take-le i texts (omega (arith, inside)) in
         subst (λ l. NewestOf l (Some (i, v))) (sym seen)
         (subst (λ k. NewestOf (map now (take i texts) ++ (get_or texts i x).now ∷ []) (Some (k, v))) long
-        (greatest.found_more (IsContainedString list) only (preference takes) total (map now (take i texts)) (get_or texts i x).now v newest n has above))
+        (greatest.found_more (IsContainedString list) only (preference takes) (preference_total takes) (map now (take i texts)) (get_or texts i x).now v newest n has above))
 
     pub kept_more : ((r : Record) → IsContainedString list (get_or texts i x).now r → is_above (preference takes) newest r ≡ false) → NewestOf (map now (take i texts)) newest → NewestOf (map now (take (i + 1) texts)) newest
-    kept_more out n = subst (λ l. NewestOf l newest) (sym seen) (greatest.kept_more (IsContainedString list) only (preference takes) total (map now (take i texts)) (get_or texts i x).now newest n out)
+    kept_more out n = subst (λ l. NewestOf l newest) (sym seen) (greatest.kept_more (IsContainedString list) only (preference takes) (preference_total takes) (map now (take i texts)) (get_or texts i x).now newest n out)
 
     pub below_more : (v : Record) → IsContainedString list (get_or texts i x).now v → is_above (preference takes) newest v ≡ false → NewestOf (map now (take i texts)) newest → NewestOf (map now (take (i + 1) texts)) newest
     below_more v has below = kept_more (λ r h. ap (is_above (preference takes) newest) (only (get_or texts i x).now r v h has) ∙ below)

@@ -1,6 +1,7 @@
 -- Many texts, read one after another: versions with their places, marks, sort keys.
 use Rattle.std.proofs.Common.{Bor, ◌≡◌, ◌<◌, ◌+◌, ◌∙◌, ℕ, zero, suc, Some, List, [], ◌∷◌, ◌++◌, length, get_or, take, map, refl, sym, ap, subst, arith}
 use Rattle.std.proofs.lemmas.List.{get_or_default, length-map, length-take-le, map-append, take_more}
+use Rattle.std.proofs.lemmas.Slice.Zip.{all_zipped_more}
 use Rattle.std.specs.List.{All, AllZip, enumerate_from}
 use Rattle.std.specs.List.Sorted.{IsPermutation, IsSorted, IsStable}
 use Rattle.std.specs.Ordering.{on}
@@ -17,20 +18,13 @@ use Rattle.pep440_calls.specs.declared.fault.Fault.TheVariants.{InvalidVersion, 
 use Rattle.pep440_calls.specs.declared.batch.BatchError.{BatchError}
 use Rattle.pep440_calls.specs.CallerBytes.{BytesDenote, RejectsBytes}
 
--- one text more
-all_more : {A B : Type 0} (R : A → B → Type 0) (xs : List A) (ys : List B) (x : A) (y : B) → AllZip R xs ys → R x y → AllZip R (xs ++ x ∷ []) (ys ++ y ∷ [])
-all_more R [] [] x y h r = (r, tt)
-all_more R [] (z ∷ ys) x y h r = absurd h
-all_more R (z ∷ xs) [] x y h r = absurd h
-all_more R (z ∷ xs) (u ∷ ys) x y h r = (h.0, all_more R xs ys x y h.1 r)
-
 pub each_more : {A : Type 0} (Means : List ℕ → A → Type 0) (texts : List (Bor (List ℕ))) (i : ℕ) (x : Bor (List ℕ)) (found new : List A) (a : A) → i < length texts → x ≡ get_or texts i x → Means x.now a
     → new ≡ found ++ a ∷ [] → AllZip Means (map (λ t. t.now) (take i texts)) found → AllZip Means (map (λ t. t.now) (take (i + 1) texts)) new
 each_more {A} Means texts i x found new a inside is means more all =
     let now : Bor (List ℕ) → List ℕ = λ t. t.now in
     let seen : map now (take (i + 1) texts) ≡ map now (take i texts) ++ now x ∷ [] =
     ap (map now) (take_more texts i x inside ∙ ap (λ (y : Bor (List ℕ)). take i texts ++ y ∷ []) (sym is)) ∙ map-append now (take i texts) (x ∷ []) in
-    subst (λ (l : List (List ℕ)). AllZip Means l new) (sym seen) (subst (λ (l : List A). AllZip Means (map now (take i texts) ++ now x ∷ []) l) (sym more) (all_more Means (map now (take i texts)) found (now x) a all means))
+    subst (λ (l : List (List ℕ)). AllZip Means l new) (sym seen) (subst (λ (l : List A). AllZip Means (map now (take i texts) ++ now x ∷ []) l) (sym more) (all_zipped_more Means (map now (take i texts)) found (now x) a all means))
 
 -- what stands in one of two lists has its like in the other
 each_means : {A : Type 0} (Means : List ℕ → A → Type 0) (texts : List (List ℕ)) (found : List A) → AllZip Means texts found → All (λ text. (a : A) × Means text a) texts

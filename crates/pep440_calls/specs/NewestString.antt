@@ -1,22 +1,14 @@
 -- The newest version of a batch that a list matches literally; strings that denote no version are passed over.
 use Rattle.std.specs.Option.{option_map}
-use Rattle.std.specs.Ordering.{nat_cmp, on, then_cmp}
-use Rattle.std.specs.Prelude.{◌≡◌, ◌⊎◌, ◌||◌, ℕ, List, Bool, IsTrue, Option, Some, None, not}
-use Rattle.std.specs.declared.cmp.Ordering.{Ordering}
+use Rattle.std.specs.Prelude.{◌≡◌, ◌⊎◌, ℕ, List, IsTrue, Option, Some, None}
 use Rattle.pep440_pick.specs.Greatest.{Greatest}
+use Rattle.pep440_pick.specs.Newest.{preference}
 use Rattle.pep440_rs.specs.LiteralMatching.{list_matches_literally}
-use Rattle.pep440_rs.specs.Matching.{any_prerelease}
 use Rattle.pep440_rs.specs.Prereleases.{requests_prereleases}
 use Rattle.pep440_rs.specs.Specifiers.{Spec}
-use Rattle.pep440_version.specs.Key.{record_cmp}
 use Rattle.pep440_version.specs.Record.{Record}
 use Rattle.pep440_calls.specs.CallerBytes.{BytesDenote, BytesDenoteList, RejectsListBytes}
-use Rattle.pep440_calls.specs.Statuses.{Fails, flag}
-
--- pre-releases lie below all final releases unless they are taken, so that one is the newest only if no final release is matched
--- (PEP 440, "Handling of pre-releases"); else by version
-abbrev pub preference : Bool → Record → Record → Ordering
-preference takes = then_cmp (on (λ (r : Record). flag (takes || not (any_prerelease r))) nat_cmp) record_cmp
+use Rattle.pep440_calls.specs.Statuses.{Fails}
 
 -- the string denotes this version, which the list matches
 abbrev pub IsContainedString : List Spec → List ℕ → Record → Type 0

@@ -1,19 +1,19 @@
 //! The newest version of a batch that a list matches.
-ghost use Rattle.std.specs.Prelude.{IfOk, MatchOption, false, map, not, true, ◌||◌, ◌≡◌, ◌⊎◌};
+ghost use Rattle.std.specs.Prelude.{IfOk, MatchOption, false, map, true, ◌≡◌, ◌⊎◌};
 ghost use Rattle.pep440_pick.specs.Greatest.{Greatest, is_above};
+ghost use Rattle.pep440_pick.specs.Newest.{preference};
 ghost use Rattle.pep440_rs.specs.LiteralMatching.{list_matches_literally};
-ghost use Rattle.pep440_rs.specs.Matching.{any_prerelease};
 ghost use Rattle.pep440_version.specs.Record.{Record};
 ghost use Rattle.pep440_calls.specs.CallerBytes.{BytesDenote, RejectsBytes, RejectsListBytes};
-ghost use Rattle.pep440_calls.specs.NewestString.{FindsNewestString, IsContainedString, NewestResult, preference};
-ghost use Rattle.pep440_calls.specs.Statuses.{HoldsOrFaults, flag};
+ghost use Rattle.pep440_calls.specs.NewestString.{FindsNewestString, IsContainedString, NewestResult};
+ghost use Rattle.pep440_calls.specs.Statuses.{HoldsOrFaults};
 
-use crate::buffer::{OK, flag};
+use crate::buffer::OK;
 use crate::fault::Fault;
 use crate::read::{read, read_list};
+use pep440_pick::is_preferred;
 use pep440_rs::{Version, VersionSpecifiers};
 use std::alloc::{AllocError, Global};
-use std::cmp::Ordering;
 
 const NONE_FOUND: u8 = 10;
 
@@ -43,21 +43,6 @@ fn find(alloc: Global, list: &[u8], texts: &[&[u8]]) -> Result<Option<usize>, Fa
     Ok(newest.map(|(position, _)| position))
 }
 
-// 1 for a final release and for what is taken as one, else 0.
-fn rank(takes: bool, version: &Version) -> u8
-    ensures { result ≡ flag (takes || not (any_prerelease version.now)) }
-{
-    flag(takes || !version.any_prerelease())
-}
-
-fn cmp_preference(takes: bool, left: &Version, right: &Version) -> Ordering
-    ensures { result ≡ preference takes left.now right.now }
-{
-    rank(takes, left)
-        .cmp(&rank(takes, right))
-        .then(left.cmp(right))
-}
-
 // The version that the bytes denote, if the list matches it.
 fn read_matched(
     alloc: Global,
@@ -85,7 +70,7 @@ fn is_above(takes: bool, newest: &Option<(usize, Version)>, version: &Version) -
 {
     match newest {
         None => true,
-        Some((_, newest)) => cmp_preference(takes, newest, version).is_lt(),
+        Some((_, newest)) => is_preferred(takes, newest, version),
     }
 }
 

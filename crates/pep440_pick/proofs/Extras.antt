@@ -1,10 +1,7 @@
 -- Extras, read one after another.
-use Rattle.std.proofs.Common.{◌≡◌, ◌+◌, ◌∙◌, ◌&&◌, ℕ, List, [], ◌∷◌, ◌++◌, Bool, true, false, cond, length, get_or, drop, map, Some, None, option_map, refl, sym, ap, subst, arith, append_assoc}
-use Rattle.std.proofs.lemmas.List.{drop_at, length-append}
-use Rattle.std.proofs.lemmas.Str.{IsCharBoundary-after_ascii, IsUtf8-drop}
+use Rattle.std.proofs.Common.{◌≡◌, ◌+◌, ◌∙◌, ◌&&◌, ℕ, List, [], ◌∷◌, ◌++◌, Bool, true, false, cond, drop, map, Some, None, option_map, refl, sym, ap, append_assoc}
 use Rattle.std.specs.Char.{is_ascii_whitespace}
 use Rattle.std.specs.List.{list_all}
-use Rattle.std.specs.Str.{IsUtf8}
 use Rattle.pep440_rs.specs.Lists.ListGrammar.{pieces}
 use Rattle.pep440_pick.specs.Names.{is_name}
 use Rattle.pep440_rs.specs.Blanks.{opens, trim_blanks}
@@ -77,21 +74,6 @@ extras_known inside e = rw e refl
 pub extras_unknown : (inside : List ℕ) → list_all is_name (listed_extras inside) ≡ false → extras_in inside ≡ None
 unfolding extras_in
 extras_unknown inside e = rw e refl
-
--- what follows a comma is text
-at_seam : (prefix : List ℕ) (b : ℕ) (behind : List ℕ) → get_or (prefix ++ (b ∷ behind)) (length prefix) 0 ≡ b
-at_seam [] b behind = refl
-at_seam (x ∷ prefix) b behind = at_seam prefix b behind
-
-pub after_comma : (text prefix behind : List ℕ) → IsUtf8 text → text ≡ prefix ++ (44 ∷ behind) → IsUtf8 behind
-after_comma text prefix behind u e =
-    let whole : IsUtf8 (prefix ++ (44 ∷ behind)) = subst IsUtf8 e u in
-    let long = length-append prefix (44 ∷ behind) in
-    let seam_byte = at_seam prefix 44 behind in
-    let boundary = IsCharBoundary-after_ascii (prefix ++ (44 ∷ behind)) (length prefix) whole (omega (arith, long)) (omega (arith, seam_byte)) in
-    let one_long = length-append prefix (44 ∷ []) in
-    subst IsUtf8 (ap (drop (length prefix + 1)) (sym (append_assoc prefix (44 ∷ []) behind)) ∙ drop_at (prefix ++ (44 ∷ [])) behind (length prefix + 1) (omega (arith, one_long)))
-    (IsUtf8-drop (prefix ++ (44 ∷ behind)) (length prefix + 1) whole boundary)
 
 -- ---- brackets
 

@@ -1,14 +1,16 @@
 -- A text means one requirement or is refused for one reason, and there is one newest candidate.
-use Rattle.std.proofs.Common.{◌≡◌, ◌∙◌, ◌⊎◌, ℕ, List, Option, Some, Result, Ok, Err, refl, sym, ap, inl, inr}
+use Rattle.std.proofs.Common.{◌≡◌, ◌∙◌, ◌⊎◌, ◌||◌, ℕ, List, Bool, Option, Some, Result, Ok, Err, refl, sym, ap, inl, inr}
 use Rattle.std.proofs.lemmas.Option.{IfSome_then}
-use Rattle.std.specs.Prelude.{IfErr, IfOk, IfSome}
+use Rattle.std.specs.Cmp.{IsTotalOrder, bool_cmp_total, on_total, then_total}
+use Rattle.std.specs.Prelude.{IfErr, IfOk, IfSome, not}
+use Rattle.pep440_rs.specs.Matching.{any_prerelease}
 use Rattle.pep440_rs.proofs.Reading.OneMeaning.{either_list, not_both_list, one_list, one_list_refusal}
 use Rattle.pep440_rs.specs.Lists.ListGrammar.{DerivesList, PieceRejection, RejectsList}
 use Rattle.pep440_rs.specs.Specifiers.{Spec}
 use Rattle.pep440_version.specs.Key.{record_cmp}
 use Rattle.pep440_version.specs.Key.KeyLaws.{record_total}
 use Rattle.pep440_version.specs.Record.{Record}
-use Rattle.pep440_pick.specs.Newest.{IsContained, Newest}
+use Rattle.pep440_pick.specs.Newest.{IsContained, Newest, preference}
 use Rattle.pep440_pick.proofs.Choosing.{one_greatest}
 use Rattle.std.specs.Option.{option_map}
 use Rattle.pep440_pick.specs.RequirementGrammar.{DerivesRequirement, HasRequirementPrefix, Needed, RejectsRequirement, RequirementRejection, Specifiers}
@@ -74,6 +76,9 @@ only_refusal text (Ok r) found refused f h = absurd (not_both_requirement text (
 only_refusal text (Err e) found refused f h = IfSome_then (requirement_rejection_of e) refused (λ g r. ap err_of (one_refusal text f g h r))
 
 -- ---- the newest
+
+pub preference_total : (takes : Bool) → IsTotalOrder (preference takes)
+preference_total takes = then_total (on_total (λ (r : Record). takes || not (any_prerelease r)) bool_cmp_total) record_total
 
 pub only_candidate : (lists : List (List Spec)) (candidate v w : Record) → IsContained lists candidate v → IsContained lists candidate w → v ≡ w
 only_candidate lists candidate v w h k = sym h.0 ∙ k.0

@@ -2,6 +2,7 @@
 use Rattle.std.proofs.Common.{◌≡◌, ◌==◌, ◌+◌, ◌∙◌, ◌&&◌, ℕ, suc, List, [], ◌∷◌, ◌++◌, Bool, true, false, cond, drop, map, Option, Some, None, option_map, refl, sym, ap, subst, arith, inl, inr, eqb-true, Ok, Err}
 use Rattle.std.proofs.lemmas.Bool.{and_parts, cases_Bool}
 use Rattle.std.proofs.lemmas.Bool.Decides.{nat_tests}
+use Rattle.std.proofs.lemmas.Option.{cond_some, same_Some}
 use Rattle.std.specs.Char.{is_ascii_whitespace, is_ascii_alphanumeric}
 use Rattle.std.specs.List.{list_all, prefix_len}
 use Rattle.pep440_version.specs.Reading.{past}
@@ -39,21 +40,14 @@ blanks_unnamed t e = ap (λ (ps : List (List ℕ)). list_all is_name (map trim_b
 
 -- ---- extras
 
-inside_some : {A : Type 0} (x y : A) → Some x ≡ Some y → x ≡ y
-inside_some x y e = cc
-
 none_some : {A P : Type 0} (x : A) → None ≡ Some x → P
 none_some x e = cc e
 
-chosen : {A : Type 0} (b : Bool) (x y : A) → cond b (Some x) None ≡ Some y → (b ≡ true) × (x ≡ y)
-chosen true x y e = (refl, cc e)
-chosen false x y e = cc e
-
 pub extras_sound : (inside : List ℕ) (extras : List (List ℕ)) → extras_in inside ≡ Some extras → AreExtras inside extras
 extras_sound inside extras e = elim (cases_Bool (list_all is_ascii_whitespace inside)) [
-  | inl h ↦ inl (h, sym (inside_some [] extras (sym (no_extras inside h) ∙ e)))
+  | inl h ↦ inl (h, sym (same_Some [] extras (sym (no_extras inside h) ∙ e)))
   | inr h ↦
-      let found = chosen (list_all is_name (map trim_blanks (pieces inside))) (map trim_blanks (pieces inside)) extras (sym (some_extras inside h) ∙ e) in
+      let found = cond_some (list_all is_name (map trim_blanks (pieces inside))) (map trim_blanks (pieces inside)) extras (sym (some_extras inside h) ∙ e) in
       inr (sym found.1, ap (list_all is_name) (sym found.1) ∙ found.0)
 ]
 
@@ -76,7 +70,7 @@ split_further : (b x : ℕ) (t : List ℕ) (p : List ℕ × List ℕ) → (x == 
 split_further b x t p h None found g = none_some p g
 split_further b x t p h (Some q) found g =
     let there = found q refl in
-    let same : (x ∷ q.0, q.1) ≡ p = inside_some (x ∷ q.0, q.1) p g in
+    let same : (x ∷ q.0, q.1) ≡ p = same_Some (x ∷ q.0, q.1) p g in
     let prefix : x ∷ q.0 ≡ p.0 = ap (λ (r : List ℕ × List ℕ). r.0) same in
     let back : q.1 ≡ p.1 = ap (λ (r : List ℕ × List ℕ). r.1) same in
     (ap (λ (l : List ℕ). x ∷ l) there.0 ∙ (λ i. prefix i ++ (b ∷ back i)), ap (has_byte b) (sym prefix) ∙ rw (h, there.1) refl)
@@ -86,7 +80,7 @@ unfolding split_at_byte
 split_found b [] p e = none_some p e
 split_found b (x ∷ t) p e = elim (cases_Bool (x == b)) [
   | inl h ↦
-      let is : ([], t) ≡ p = inside_some ([], t) p (ap (λ (c : Bool). cond c (Some ([], t)) (option_map (λ (q : List ℕ × List ℕ). (x ∷ q.0, q.1)) (split_at_byte b t))) (sym h) ∙ e) in
+      let is : ([], t) ≡ p = same_Some ([], t) p (ap (λ (c : Bool). cond c (Some ([], t)) (option_map (λ (q : List ℕ × List ℕ). (x ∷ q.0, q.1)) (split_at_byte b t))) (sym h) ∙ e) in
       let prefix : [] ≡ p.0 = ap (λ (q : List ℕ × List ℕ). q.0) is in
       let back : t ≡ p.1 = ap (λ (q : List ℕ × List ℕ). q.1) is in
       ((λ i. eqb-true x b h i ∷ back i) ∙ ap (λ (l : List ℕ). l ++ (b ∷ p.1)) prefix, ap (has_byte b) (sym prefix))
@@ -109,7 +103,7 @@ bracketed_found text (Some q) p begins is e = found (extras_in q.0) refl e
     found : (o : Option (List (List ℕ))) → extras_in q.0 ≡ o → option_map (λ (x : List (List ℕ)). (x, q.1)) o ≡ Some p → HasExtras text p.0 p.1
     found None read g = none_some p g
     found (Some extras) read g =
-        let same : (extras, q.1) ≡ p = inside_some (extras, q.1) p g in
+        let same : (extras, q.1) ≡ p = same_Some (extras, q.1) p g in
         let decomposition = split_found 93 (drop 1 text) q is in
         subst (λ (r : List (List ℕ) × List ℕ). HasExtras text r.0 r.1) same
         (inr (q.0, (opened 91 text begins ∙ ap (λ (l : List ℕ). 91 ∷ l) decomposition.0, decomposition.1), extras_sound q.0 extras read))
@@ -118,7 +112,7 @@ pub brackets_sound : (text : List ℕ) (p : List (List ℕ) × List ℕ) → ext
 brackets_sound text p e = elim (cases_Bool (opens 91 text)) [
   | inl h ↦ bracketed_found text (split_at_byte 93 (drop 1 text)) p h refl (sym (in_bracket text h) ∙ e)
   | inr h ↦
-      let same : ([], text) ≡ p = inside_some ([], text) p (sym (no_bracket text h) ∙ e) in
+      let same : ([], text) ≡ p = same_Some ([], text) p (sym (no_bracket text h) ∙ e) in
       inl (h, sym (ap (λ (r : List (List ℕ) × List ℕ). r.0) same), sym (ap (λ (r : List (List ℕ) × List ℕ). r.1) same))
 ]
 
@@ -133,25 +127,25 @@ brackets_complete text extras behind (inr (inside, (decomposition, whole), are))
 
 end_further : (b x : ℕ) (t prefix : List ℕ) (o : Option (List ℕ)) → ((f : List ℕ) → o ≡ Some f → t ≡ f ++ b ∷ []) → option_map (λ (l : List ℕ). x ∷ l) o ≡ Some prefix → x ∷ t ≡ prefix ++ b ∷ []
 end_further b x t prefix None found g = none_some prefix g
-end_further b x t prefix (Some f) found g = ap (λ (l : List ℕ). x ∷ l) (found f refl) ∙ ap (λ (l : List ℕ). l ++ b ∷ []) (inside_some (x ∷ f) prefix g)
+end_further b x t prefix (Some f) found g = ap (λ (l : List ℕ). x ∷ l) (found f refl) ∙ ap (λ (l : List ℕ). l ++ b ∷ []) (same_Some (x ∷ f) prefix g)
 
 end_sound : (b : ℕ) (t prefix : List ℕ) → without_end b t ≡ Some prefix → t ≡ prefix ++ b ∷ []
 unfolding without_end
 end_sound b [] prefix e = none_some prefix e
 end_sound b (x ∷ []) prefix e =
-    let found = chosen (x == b) [] prefix e in
+    let found = cond_some (x == b) [] prefix e in
     (λ i. eqb-true x b found.0 i ∷ []) ∙ ap (λ (l : List ℕ). l ++ b ∷ []) found.1
 end_sound b (x ∷ y ∷ t) prefix e = end_further b x (y ∷ t) prefix (without_end b (y ∷ t)) (λ f is. end_sound b (y ∷ t) f is) e
 
 in_parentheses : (behind list : List ℕ) (o : Option (List ℕ)) → opens 40 (trim_blanks behind) ≡ true → without_end 41 (drop 1 (trim_blanks behind)) ≡ o → option_map trim_blanks o ≡ Some list → HasList behind list
 in_parentheses behind list None begins is e = none_some list e
 in_parentheses behind list (Some inner) begins is e =
-    inr (inner, opened 40 (trim_blanks behind) begins ∙ ap (λ (l : List ℕ). 40 ∷ l) (end_sound 41 (drop 1 (trim_blanks behind)) inner is), sym (inside_some (trim_blanks inner) list e))
+    inr (inner, opened 40 (trim_blanks behind) begins ∙ ap (λ (l : List ℕ). 40 ∷ l) (end_sound 41 (drop 1 (trim_blanks behind)) inner is), sym (same_Some (trim_blanks inner) list e))
 
 pub list_sound : (behind list : List ℕ) → list_in (trim_blanks behind) ≡ Some list → HasList behind list
 list_sound behind list e = elim (cases_Bool (opens 40 (trim_blanks behind))) [
   | inl h ↦ in_parentheses behind list (without_end 41 (drop 1 (trim_blanks behind))) h refl (with_choice true h ∙ e)
-  | inr h ↦ inl (h, sym (inside_some (trim_blanks behind) list (with_choice false h ∙ e)))
+  | inr h ↦ inl (h, sym (same_Some (trim_blanks behind) list (with_choice false h ∙ e)))
 ]
   where
     with_choice : (b : Bool) → opens 40 (trim_blanks behind) ≡ b → cond b (option_map trim_blanks (without_end 41 (drop 1 (trim_blanks behind)))) (Some (trim_blanks behind)) ≡ list_in (trim_blanks behind)

@@ -13,8 +13,8 @@ use pep440_rs::{
 };
 use std::alloc::{AllocError, Global};
 
-// The members of the list, after these.
-fn add_members(
+/// Adds the members of the list.
+pub fn add_members(
     members: &mut Vec<VersionSpecifier>,
     list: &VersionSpecifiers,
 ) -> Result<(), AllocError>

@@ -1,10 +1,12 @@
 //! The newest of some candidates.
-ghost use Rattle.std.specs.Prelude.{◌≡◌, ◌≢◌, ◌<◌, length, IfOk, IfSome, IsOk};
+ghost use Rattle.std.specs.Prelude.{◌≡◌, ◌≢◌, ◌<◌, ◌||◌, length, not, IfOk, IfSome, IsOk};
 ghost use Rattle.std.specs.List.{All};
+ghost use Rattle.std.specs.Ordering.{is_lt};
 ghost use Rattle.pep440_version.specs.Key.{record_cmp};
+ghost use Rattle.pep440_rs.specs.Matching.{any_prerelease};
 ghost use Rattle.pep440_rs.specs.declared.specifier.operator.Operator.TheVariants.{ExactEqual};
 ghost use Rattle.pep440_pick.specs.Greatest.{is_above};
-ghost use Rattle.pep440_pick.specs.Newest.{Newest, all_contain, positioned};
+ghost use Rattle.pep440_pick.specs.Newest.{Newest, all_contain, positioned, preference};
 
 use pep440_rs::{Version, VersionSpecifiers};
 use std::alloc::{AllocError, Global};
@@ -33,6 +35,25 @@ fn is_above(newest: Option<(usize, &Version)>, version: &Version) -> bool
         None => true,
         Some((_, newest)) => *newest < *version,
     }
+}
+
+// Whether it is a final release, or taken as one.
+fn is_taken(takes: bool, version: &Version) -> bool
+    ensures { result ≡ (takes || not (any_prerelease version.now)) }
+{
+    takes || !version.any_prerelease()
+}
+
+/// Whether the version is preferred to the newest so far: where it is above it. Pre-releases and developmental releases lie below all
+/// final releases unless they are taken, so that one is the newest only of candidates without a final release (PEP 440, "Handling of
+/// pre-releases").
+pub fn is_preferred(takes: bool, newest: &Version, version: &Version) -> bool
+    ensures { result ≡ is_lt (preference takes newest.now version.now) }
+{
+    is_taken(takes, newest)
+        .cmp(&is_taken(takes, version))
+        .then(newest.cmp(version))
+        .is_lt()
 }
 
 /// The index of the greatest candidate that every list contains; of equal ones the first. `None` only if no candidate is

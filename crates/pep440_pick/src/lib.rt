@@ -12,8 +12,8 @@ mod requirement;
 mod requirement_parts;
 mod scan;
 
-pub use allowed_range::allowed;
-pub use candidates::newest;
+pub use allowed_range::{add_members, allowed};
+pub use candidates::{is_preferred, newest};
 pub use error::{RequirementError, RequirementParseError};
 pub use name::{is_name, same_name};
 pub use requirement::Requirement;

@@ -4,6 +4,7 @@ use Rattle.std.proofs.lemmas.List.{map-append}
 use Rattle.std.proofs.lemmas.List.Elements.{filter-append}
 use Rattle.std.proofs.lemmas.List.Folds.{flat_map-map}
 use Rattle.std.proofs.lemmas.Option.{slice_get_read}
+use Rattle.std.proofs.lemmas.Slice.Zip.{all_zipped_more}
 use Rattle.std.specs.List.{AllZip, enumerate_from, filter, flat_map}
 use Rattle.std.specs.List.Sorted.{IsPermutation, IsSorted, IsStable}
 use Rattle.std.specs.Option.{option_map_or}
@@ -23,12 +24,6 @@ use Rattle.pep440_tool.specs.Texts.{line}
 use Rattle.pep440_version.proofs.ChangeWords.Items.{rest_is}
 use Rattle.pep440_tool.specs.Answers.{RejectsFirst, ToolAnswer, shown}
 
-all_more : {A B : Type 0} (R : A → B → Type 0) (xs : List A) (ys : List B) (x : A) (y : B) → AllZip R xs ys → R x y → AllZip R (xs ++ x ∷ []) (ys ++ y ∷ [])
-all_more R [] [] x y h r = (r, tt)
-all_more R [] (z ∷ ys) x y h r = absurd h
-all_more R (z ∷ xs) [] x y h r = absurd h
-all_more R (z ∷ xs) (u ∷ ys) x y h r = (h.0, all_more R xs ys x y h.1 r)
-
 -- what was found, of which this holds, and the texts that are left
 pub record Found {A : Type 0} (Means : ℕ × List ℕ → A → Type 0) (texts left : List (ℕ × List ℕ)) (P : List A → Type 0) : Type 0 where
   pub found : List A
@@ -47,7 +42,7 @@ found_more Means texts left later P Q text x decomposition means next k = record
   found = k.found ++ x ∷ [];
   before = k.before ++ text ∷ [];
   split = k.split ∙ ap (λ (ts : List (ℕ × List ℕ)). k.before ++ ts) decomposition ∙ sym (append_assoc k.before (text ∷ []) later);
-  means = all_more Means k.before k.found text x k.means means;
+  means = all_zipped_more Means k.before k.found text x k.means means;
   holds = next k.found k.holds;
 }
 

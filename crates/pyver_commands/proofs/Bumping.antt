@@ -1,6 +1,6 @@
 -- What parts that are raised change of a version.
 use Rattle.std.proofs.Common.{◌≡◌, ◌+◌, ◌<◌, ◌≤◌, ◌==◌, ◌||◌, ◌∙◌, ◌⊎◌, ℕ, zero, suc, List, [], ◌∷◌, Bool, true, false, Option, Some, None, Result, Ok, Err, arith, get_or, if◌then◌else◌, is_some, inl, inr, length, map, nat_le, refl, sym, ap, subst, codes, ◌^◌, ◌&&◌, nat_lt}
-use Rattle.std.proofs.lemmas.Bool.{leb-false, ne_eqb, ltb-true}
+use Rattle.std.proofs.lemmas.Bool.{and_parts, leb-false, ne_eqb, ltb-true}
 use Rattle.std.proofs.lemmas.List.{length-map}
 use Rattle.std.specs.Cmp.{nat_cmp_is}
 use Rattle.std.specs.List.{list_any, list_all}
@@ -223,16 +223,12 @@ many_versions to parts (line ∷ (next ∷ rest)) many = refl
 
 -- ---- what digits write
 
-both : (a b : Bool) → (a && b) ≡ true → (a ≡ true) × (b ≡ true)
-both true b e = (refl, e)
-both false b e = cc e
-
 first_holds : {A : Type 0} (a b : Bool) (x y : A) → a ≡ true → (if a && b then x else y) ≡ (if b then x else y)
 first_holds true b x y e = refl
 first_holds false b x y e = cc e
 
 pub number_when : {E : Type 0} (text : List ℕ) (r : Result ℕ E) → are_digits text ≡ true → ParsesUnsigned 64 10 text r → result_ok r ≡ word_number text
 number_when text r run p =
-    let parts = both (nat_lt 0 (length text)) (list_all is_ascii_digit text) run in
+    let parts = and_parts (nat_lt 0 (length text)) (list_all is_ascii_digit text) run in
     value_of text r parts.1 (ltb-true 0 (length text) parts.0) p
     ∙ sym (first_holds (are_digits text) (nat_lt (digits_value 10 text) (2 ^ 64)) (Some (digits_value 10 text)) None run)

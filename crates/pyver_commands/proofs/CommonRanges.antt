@@ -40,7 +40,7 @@ use Rattle.pep440_sets.specs.Emptiness.{IsUnsatisfiable}
 use Rattle.pep440_sets.specs.SetLines.{is_closed_start}
 use Rattle.pep440_sets.specs.Sets.{has_exact, list_set}
 use Rattle.pep440_sets.specs.Witnesses.{version_between}
-use Rattle.pyver_commands.proofs.Outputs.{all_more}
+use Rattle.std.proofs.lemmas.Slice.Zip.{all_zipped_more}
 
 -- ---- one list after another
 
@@ -60,7 +60,7 @@ found_more view words i w x m n ms ns inside is reads told joined k =
     let parts = map-append view (take i words) (w ∷ []) in
     let split = take_more words i w inside ∙ ap (λ y. take i words ++ y ∷ []) (sym is) in (
       k.0 ++ x ∷ [],
-      subst (λ ws. AllZip ReadsMembers ws (k.0 ++ x ∷ [])) (sym (ap (map view) split ∙ parts)) (all_more ReadsMembers (map view (take i words)) k.0 (view w) x k.1 reads),
+      subst (λ ws. AllZip ReadsMembers ws (k.0 ++ x ∷ [])) (sym (ap (map view) split ∙ parts)) (all_zipped_more ReadsMembers (map view (take i words)) k.0 (view w) x k.1 reads),
       told_more (λ (y : ListReading). y.message) k.0 x m n told k.2,
       told_more (λ (y : ListReading). y.members) k.0 x ms ns joined k.3,
     )

@@ -23,7 +23,7 @@ use Rattle.pyver_commands.specs.Sources.VersionLines.{VersionLine, line_with, ve
 use Rattle.pyver_commands.specs.declared.filter.FilterRule.{FilterRule}
 use Rattle.pyver_commands.specs.declared.filter.FilterState.{FilterState}
 use Rattle.pyver_commands.specs.declared.filter.Selection.TheVariants as wanted
-use Rattle.pyver_commands.specs.declared.newest_lines.NewestLines.{NewestLines}
+use Rattle.pyver_commands.specs.declared.newest_lines.KeptLine.{KeptLine}
 use Rattle.pep440_version.specs.Record.{Record}
 
 -- ---- what is asked for by some lines and then by others
@@ -47,7 +47,7 @@ first-append n m xs ys e =
     ap (λ l. concat (take n l)) (faults-append xs ys) ∙ ap concat (take-append n (faults xs) (faults ys) ∙ ap (λ k. take n (faults xs) ++ take k (faults ys)) (sym e))
     ∙ concat-append (take n (faults xs)) (take m (faults ys))
 
-version_lines-append : (xs ys : List ReadLine) → version_lines (xs ++ ys) ≡ version_lines xs ++ version_lines ys
+pub version_lines-append : (xs ys : List ReadLine) → version_lines (xs ++ ys) ≡ version_lines xs ++ version_lines ys
 version_lines-append xs ys = flat_map-append (λ (x : ReadLine). line_with x.line.text x.reading) xs ys
 
 pub length-faults : (xs ys : List ReadLine) → length (faults (xs ++ ys)) ≡ length (faults xs) + length (faults ys)
@@ -55,14 +55,14 @@ length-faults xs ys = ap length (faults-append xs ys) ∙ length-append (faults 
 
 -- ---- the newest lines
 
-keeps_none : (rule : FilterRule) (a : NewestLines) → KeepsMore rule [] a a
+keeps_none : (rule : FilterRule) (a : Option KeptLine) → KeepsMore rule [] a a
 keeps_none rule a is front k = subst (λ l. Keeps rule l a) (sym (append-nil front)) k
 
-pub keeps_all : (rule : FilterRule) (xs ys : List ReadLine) (a b c : NewestLines) → KeepsMore rule xs a b → KeepsMore rule ys b c → KeepsMore rule (xs ++ ys) a c
+pub keeps_all : (rule : FilterRule) (xs ys : List ReadLine) (a b c : Option KeptLine) → KeepsMore rule xs a b → KeepsMore rule ys b c → KeepsMore rule (xs ++ ys) a c
 keeps_all rule xs ys a b c k m is front h = subst (λ l. Keeps rule l c) (append_assoc front xs ys) (m is (front ++ xs) (k is front h))
 
 -- a line with a version
-pub keeps_version : (rule : FilterRule) (line : SourceLine) (r : Record) (a b : NewestLines)
+pub keeps_version : (rule : FilterRule) (line : SourceLine) (r : Record) (a b : Option KeptLine)
     → ((lines : List VersionLine) → KeepsNewest rule.takes rule.list lines a → KeepsNewest rule.takes rule.list (lines ++ record { text = line.text; version = r } ∷ []) b) → KeepsMore rule (record { line = line; reading = Entry (Denotes r) } ∷ []) a b
 keeps_version rule line r a b more is front k = subst (λ l. KeepsNewest rule.takes rule.list l b) (sym (version_lines-append front (record { line = line; reading = Entry (Denotes r) } ∷ []))) (more (version_lines front) k)
 

@@ -5,7 +5,7 @@ use Rattle.std.proofs.lemmas.Grind.{flat_map-append}
 use Rattle.std.proofs.lemmas.List.{map-append, take_more}
 use Rattle.std.specs.List.{AllZip, concat}
 use Rattle.std.specs.Option.{option_map_or}
-use Rattle.pyver_commands.proofs.Filtering.{first-append, length-faults}
+use Rattle.pyver_commands.proofs.Filtering.{first-append, length-faults, version_lines-append}
 use Rattle.pyver_commands.proofs.InputLines.{all_append, filled_lines-last, filled_lines_from-append, filled_one}
 use Rattle.cli_io.specs.Newlines.{input_lines}
 use Rattle.pyver_commands.specs.Sources.InputLines.{Origin, SourceLine, filled_lines, filled_lines_from, is_blank, numbered, source_lines}
@@ -14,7 +14,7 @@ use Rattle.pyver_commands.specs.Sources.LineOptions.{is_header}
 use Rattle.pyver_commands.specs.Sources.ReadLines.{Entry, Header, IsEntry, IsRead, LineReading, ReadLine, faults}
 use Rattle.pyver_commands.specs.Readings.{Denotes, Fails}
 use Rattle.pyver_commands.specs.Sources.SourceTexts.{size_of, source_of}
-use Rattle.pyver_commands.specs.Sources.VersionLines.{header_text, header_with, kept_lines, kept_with, line_with, version_lines}
+use Rattle.pyver_commands.specs.Sources.VersionLines.{header_text, header_with, kept_lines, kept_with, version_lines}
 use Rattle.pyver_commands.specs.Sources.VersionLineViews.{IsOfLines, KeepsLines, KeepsOne, version_line_of}
 use Rattle.pyver_commands.specs.declared.sources.invalid_lines.InvalidLines.{InvalidLines}
 use Rattle.pyver_commands.specs.declared.sources.line_options.LineOptions.{LineOptions}
@@ -23,9 +23,6 @@ use Rattle.pyver_commands.specs.declared.sources.version_line.VersionLines.{Vers
 
 header_text-append : (xs ys : List ReadLine) → header_text (xs ++ ys) ≡ header_text xs ++ header_text ys
 header_text-append xs ys = flat_map-append (λ (x : ReadLine). header_with x.line x.reading) xs ys
-
-version_lines-append : (xs ys : List ReadLine) → version_lines (xs ++ ys) ≡ version_lines xs ++ version_lines ys
-version_lines-append xs ys = flat_map-append (λ (x : ReadLine). line_with x.line.text x.reading) xs ys
 
 kept_lines-append : (how : InvalidLines) (xs ys : List ReadLine) → kept_lines how (xs ++ ys) ≡ kept_lines how xs ++ kept_lines how ys
 kept_lines-append how xs ys = flat_map-append (λ (x : ReadLine). kept_with how x.line.text x.reading) xs ys

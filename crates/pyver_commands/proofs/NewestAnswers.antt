@@ -1,17 +1,16 @@
 -- What `newest` answers once the lines were read.
-use Rattle.std.proofs.Common.{◌≡◌, ◌∙◌, ◌<◌, ℕ, List, [], ◌++◌, Bool, Option, None, Some, true, inl, inr, ap, length, refl, subst, sym, take}
+use Rattle.std.proofs.Common.{◌≡◌, ◌∙◌, ◌<◌, ℕ, List, [], ◌++◌, Bool, Option, None, Some, option_map, inl, inr, ap, refl, subst, sym, take}
 use Rattle.std.specs.Io.KnownBytes.{Appends}
 use Rattle.std.specs.List.{concat}
 use Rattle.pyver_commands.specs.FilterSteps.{AllFinish, AllFail}
 use Rattle.pyver_commands.specs.Sources.InvalidLines.{last_message, lines_status, message_limit}
-use Rattle.pyver_commands.specs.NewestOutcomes.{FindsNewest, NewestLine, allowed_lines, newest_outcome, or_else}
-use Rattle.pyver_commands.specs.NewestViews.{KeepsNewest}
-use Rattle.cli_io.specs.Runs.{Outcome}
+use Rattle.pyver_commands.specs.NewestOutcomes.{FindsNewest, NewestLine, newest_outcome, taken}
+use Rattle.pyver_commands.specs.NewestViews.{kept_line}
 use Rattle.pyver_commands.specs.PrereleaseRules.{takes_prereleases}
 use Rattle.pyver_commands.specs.Sources.ReadLines.{faults}
 use Rattle.pyver_commands.specs.Sources.RunFailures.{IsRunFailureOf, FailsWithoutOutcome}
 use Rattle.pyver_commands.specs.Sources.{IsOutcomeOfSources, KnownFile, FailsReading, UnopenedSource, last_name}
-use Rattle.pyver_commands.specs.Sources.VersionLines.{OfVersions, VersionLine, line_messages, unopened_outcome, version_lines}
+use Rattle.pyver_commands.specs.Sources.VersionLines.{OfVersions, VersionLine, line_messages, version_lines}
 use Rattle.pyver_commands.specs.declared.filter.FilterRule.{FilterRule}
 use Rattle.pyver_commands.specs.declared.filter.FilterState.{FilterState}
 use Rattle.pyver_commands.specs.declared.filter.Selection.TheVariants as wanted
@@ -26,11 +25,6 @@ appended : (a b : Option (List ℕ)) (t xs : List ℕ) → a ≡ Some [] → b �
 appended a b t xs old new k = subst (λ y. Appends (Some []) y xs) new (subst (λ x. Appends x b xs) old k)
 
 module _ {R W E : Type 0} (files : List ℕ → KnownFile) (remaining : R → Option (List ℕ)) (contents : W → Option (List ℕ)) (error_contents : E → Option (List ℕ)) (rule : NewestRule) (takes : Bool) (names : List (List ℕ)) (b : FilterState) (reader reader' : R) (out out' : W) (err err' : E) where
-  -- a file was not opened
-  pub unopened_answers : (unopened : Option UnopenedSource) (file : UnopenedSource) (o : Outcome) → AllFinish files remaining contents error_contents (newest_filter rule takes) names unopened b reader reader' out out' err err' → unopened ≡ Some file → o ≡ unopened_outcome file
-      → IsOutcomeOfSources files remaining (OfVersions rule.lines (FindsNewest rule)) names reader reader' o
-  unopened_answers unopened file o k some is = let found = rw some at k in record { input = record { sources = found.sources; unopened = Some file }; reads = found.reads; is = is }
-
   -- an allocation failed after all was read
   pub stops_after : (unopened : Option UnopenedSource) → AllFinish files remaining contents error_contents (newest_filter rule takes) names unopened b reader reader' out out' err err' → FailsWithoutOutcome files remaining names reader reader' run_failure.OutOfMemory
   stops_after unopened k = record { input = record { sources = k.sources; unopened = unopened }; reads = inr (refl, k.reads); stops = tt }
@@ -44,20 +38,8 @@ module _ {R W E : Type 0} (files : List ℕ → KnownFile) (remaining : R → Op
         ends ∙ ap (λ t. t ++ last_message rule.lines.invalid b.fault_count) (appended (error_contents err) (error_contents err') told _ old new k.wrote.errors)
         ∙ ap (λ n. concat (take (message_limit rule.lines.invalid) (faults k.wrote.found)) ++ last_message rule.lines.invalid n) k.wrote.fault_count
 
-    -- some line was invalid, which is an error
-    pub invalid_answers : (status : ℕ) → status ≡ lines_status rule.lines.invalid b.fault_count → 0 < status
-        → IsOutcomeOfSources files remaining (OfVersions rule.lines (FindsNewest rule)) names reader reader' (record { output = []; errors = messages; status = status })
-    invalid_answers status is high =
-        let same : status ≡ lines_status rule.lines.invalid (length (faults k.wrote.found)) = is ∙ ap (lines_status rule.lines.invalid) k.wrote.fault_count in
-        record {
-          input = record { sources = k.sources; unopened = None };
-          reads = k.reads;
-          is = (k.wrote.found, k.wrote.are, inr (subst (λ n. 0 < n) same high, λ i. record { output = []; errors = told_messages i; status = same i }));
-        }
-
     -- the newest line is printed, if there is one
-    pub newest_answers : (newest : Option VersionLine) → lines_status rule.lines.invalid b.fault_count ≡ 0 → takes ≡ takes_prereleases rule.prereleases rule.list
-        → ((lines : List VersionLine) → KeepsNewest takes rule.list lines b.newest → NewestLine (or_else rule.prereleases (allowed_lines takes rule.list lines) (allowed_lines true rule.list lines)) newest)
+    pub newest_answers : (newest : Option VersionLine) → lines_status rule.lines.invalid b.fault_count ≡ 0 → takes ≡ takes_prereleases rule.prereleases rule.list → newest ≡ taken rule.prereleases (option_map kept_line b.newest)
         → IsOutcomeOfSources files remaining (OfVersions rule.lines (FindsNewest rule)) names reader reader' (newest_outcome messages newest)
     newest_answers newest zero asked is = record {
       input = record { sources = k.sources; unopened = None };
@@ -68,9 +50,9 @@ module _ {R W E : Type 0} (files : List ℕ → KnownFile) (remaining : R → Op
         inl (
           ap (lines_status rule.lines.invalid) (sym k.wrote.fault_count) ∙ zero,
           (
-            newest,
-            subst (λ t. NewestLine (or_else rule.prereleases (allowed_lines t rule.list (version_lines k.wrote.found)) (allowed_lines true rule.list (version_lines k.wrote.found))) newest) asked (is (version_lines k.wrote.found) (k.wrote.newest refl)),
-            ap (λ m. newest_outcome m newest) told_messages,
+            option_map kept_line b.newest,
+            subst (λ t. NewestLine t rule.list (version_lines k.wrote.found) (option_map kept_line b.newest)) asked (k.wrote.newest refl),
+            λ i. newest_outcome (told_messages i) (is i),
           ),
         ),
       );

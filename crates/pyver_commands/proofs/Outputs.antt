@@ -10,6 +10,7 @@ use Rattle.pep440_version.specs.ErrorTexts.{rejection_text}
 use Rattle.pep440_version.specs.Rejections.{Rejection, Rejects}
 use Rattle.std.proofs.lemmas.List.{map-append, take_more}
 use Rattle.std.proofs.lemmas.List.Sums.{fold-append}
+use Rattle.std.proofs.lemmas.Slice.Zip.{all_zipped_more}
 use Rattle.std.specs.List.{AllZip}
 use Rattle.cli_io.specs.Runs.{Outcome}
 use Rattle.pyver_commands.specs.Outcomes.{in_turn, followed_by, no_outcome}
@@ -64,12 +65,6 @@ three_appended a x y w z b c d first second same third =
 
 -- ---- words that are taken one after another, each with its outcome
 
-pub all_more : {A B : Type 0} (R : A → B → Type 0) (xs : List A) (ys : List B) (x : A) (y : B) → AllZip R xs ys → R x y → AllZip R (xs ++ x ∷ []) (ys ++ y ∷ [])
-all_more R [] [] x y h r = (r, tt)
-all_more R [] (z ∷ ys) x y h r = absurd h
-all_more R (z ∷ xs) [] x y h r = absurd h
-all_more R (z ∷ xs) (u ∷ ys) x y h r = (h.0, all_more R xs ys x y h.1 r)
-
 -- the first i words were taken, and this is what was written of them
 abbrev pub Taken : {X : Type 0} → (X → List ℕ) → (List ℕ → Outcome → Type 0) → List X → ℕ → Outcome → Type 0
 Taken view Each words i o = (os : List Outcome) × AllZip Each (map view (take i words)) os × (o ≡ in_turn os)
@@ -81,7 +76,7 @@ taken_more view Each words i x a b o inside is each more k =
     let parts = map-append view (take i words) (x ∷ []) in
     let split = take_more words i x inside ∙ ap (λ y. take i words ++ y ∷ []) (sym is) in (
       k.0 ++ o ∷ [],
-      subst (λ ws. AllZip Each ws (k.0 ++ o ∷ [])) (sym (ap (map view) split ∙ parts)) (all_more Each (map view (take i words)) k.0 (view x) o k.1 each),
+      subst (λ ws. AllZip Each ws (k.0 ++ o ∷ [])) (sym (ap (map view) split ∙ parts)) (all_zipped_more Each (map view (take i words)) k.0 (view x) o k.1 each),
       more ∙ ap (λ z. followed_by z o) k.2 ∙ sym (fold-append followed_by no_outcome k.0 (o ∷ [])),
     )
 

@@ -1,5 +1,5 @@
 -- Sources that are read and filtered one after another.
-use Rattle.std.proofs.Common.{◌≡◌, ◌∙◌, ◌+◌, ◌-◌, ◌<◌, ◌==◌, ℕ, List, [], ◌∷◌, ◌++◌, true, false, Bool, Option, None, Some, option_map, inl, inr, length, map, get_or, take, drop, refl, sym, ap, subst, arith, append_assoc, append-nil, take-append-drop, ne_eqb}
+use Rattle.std.proofs.Common.{◌≡◌, ◌∙◌, ◌+◌, ◌-◌, ◌<◌, ◌==◌, ℕ, List, [], ◌∷◌, ◌++◌, true, false, Bool, Option, None, Some, inl, inr, length, map, get_or, take, drop, refl, sym, ap, subst, arith, append_assoc, append-nil, take-append-drop, ne_eqb}
 use Rattle.std.proofs.KnownBytes.{Appends-nil, Appends-trans}
 use Rattle.std.proofs.Math.Seq.{take-nil}
 use Rattle.std.proofs.lemmas.List.{drop_more, map-append, take_more}
@@ -13,8 +13,7 @@ use Rattle.cli_io.specs.Newlines.{input_lines}
 use Rattle.pyver_commands.specs.Sources.InputLines.{Origin, Source}
 use Rattle.pyver_commands.specs.Sources.InvalidLines.{last_message, lines_status, message_limit}
 use Rattle.pyver_commands.proofs.Choosing.{no_lines}
-use Rattle.pyver_commands.specs.NewestViews.{HasNoLine, kept_line}
-use Rattle.pyver_commands.specs.NewestOutcomes.{NewestLine}
+use Rattle.pyver_commands.specs.NewestViews.{KeepsNewest}
 use Rattle.pyver_commands.specs.Sources.ReadLines.{IsRead, faults}
 use Rattle.cli_io.specs.Streams.{WroteBeginning}
 use Rattle.pyver_commands.specs.Sources.RunFailures.{IsRunFailureOf}
@@ -124,8 +123,8 @@ module _ {R : Type 0} (files : List ℕ → KnownFile) (remaining : R → Option
       (reader', source, [], subst (λ x. ReadsSource files remaining (record { is_first = true; name = next }) x reader' source) e q, (refl, refl), ap (λ l. l ++ source ∷ []) n)
   reads_last (name ∷ names) reader middle reader' sources next source k q = reads_more true name names reader middle reader' sources next source k q
 
-no_newest : (kept : Option KeptLine) → kept ≡ None → NewestLine [] (option_map kept_line kept)
-no_newest kept is = subst (λ (k : Option KeptLine). NewestLine [] (option_map kept_line k)) (sym is) no_lines
+no_newest : (rule : FilterRule) (kept : Option KeptLine) → kept ≡ None → KeepsNewest rule.takes rule.list [] kept
+no_newest rule kept is = subst (KeepsNewest rule.takes rule.list []) (sym is) (no_lines rule.takes rule.list)
 
 module _ {R W E : Type 0} (files : List ℕ → KnownFile) (remaining : R → Option (List ℕ)) (contents : W → Option (List ℕ)) (error_contents : E → Option (List ℕ)) where
   -- the sources with these names were read, and all that they ask for was written
@@ -134,7 +133,7 @@ module _ {R W E : Type 0} (files : List ℕ → KnownFile) (remaining : R → Op
     pub reads : ReadsAll files remaining true read reader reader' sources
     pub wrote : WroteAll contents error_contents rule sources b out out' err err'
 
-  pub goes_on_none : (rule : FilterRule) (b : FilterState) (reader : R) (out : W) (err : E) → b.fault_count ≡ 0 → HasNoLine b.newest → b.output.items ≡ [] → b.errors.items ≡ [] → GoesOn rule [] b reader reader out out err err
+  pub goes_on_none : (rule : FilterRule) (b : FilterState) (reader : R) (out : W) (err : E) → b.fault_count ≡ 0 → b.newest ≡ None → b.output.items ≡ [] → b.errors.items ≡ [] → GoesOn rule [] b reader reader out out err err
   goes_on_none rule b reader out err fault newest output errors = record {
     sources = [];
     reads = (refl, refl);
@@ -142,7 +141,7 @@ module _ {R W E : Type 0} (files : List ℕ → KnownFile) (remaining : R → Op
       found = [];
       are = tt;
       fault_count = fault;
-      newest = λ _. (no_newest b.newest.allowed newest.0, no_newest b.newest.any newest.1);
+      newest = λ _. no_newest rule b.newest newest;
       output = Appends-nil (contents out);
       errors = subst (Appends (error_contents err) (error_contents err)) (ap concat (sym (take-nil (message_limit rule.lines.invalid)))) (Appends-nil (error_contents err));
       no_output = output;
@@ -227,7 +226,7 @@ module _ {R W E : Type 0} (files : List ℕ → KnownFile) (remaining : R → Op
 
   -- ---- only standard input
 
-  pub alone_finishes : (rule : FilterRule) (names : List (List ℕ)) (a b : FilterState) (reader reader' : R) (out out' : W) (err err' : E) → names ≡ [] → a.fault_count ≡ 0 → HasNoLine a.newest → a.output.items ≡ [] → a.errors.items ≡ []
+  pub alone_finishes : (rule : FilterRule) (names : List (List ℕ)) (a b : FilterState) (reader reader' : R) (out out' : W) (err err' : E) → names ≡ [] → a.fault_count ≡ 0 → a.newest ≡ None → a.output.items ≡ [] → a.errors.items ≡ []
       → SourceFinishes remaining contents error_contents rule input_origin a b reader reader' out out' err err' → AllFinish files remaining contents error_contents rule (source_names names) None b reader reader' out out' err err'
   alone_finishes rule names a b reader reader' out out' err err' empty fault newest output errors k =
       subst (λ n. AllFinish files remaining contents error_contents rule (source_names n) None b reader reader' out out' err err') (sym empty)
@@ -235,7 +234,7 @@ module _ {R W E : Type 0} (files : List ℕ → KnownFile) (remaining : R → Op
       (goes_on_more rule [] a reader reader reader' out out out' err err err' (goes_on_none rule a reader out err fault newest output errors) input_name b
       (input_reads files remaining contents error_contents rule input_origin a b reader reader' out out' err err' refl k)))
 
-  pub alone_stops : (rule : FilterRule) (names : List (List ℕ)) (a : FilterState) (reader reader' : R) (out out' : W) (err err' : E) (stop : RunFailure) → names ≡ [] → a.fault_count ≡ 0 → HasNoLine a.newest → a.output.items ≡ [] → a.errors.items ≡ []
+  pub alone_stops : (rule : FilterRule) (names : List (List ℕ)) (a : FilterState) (reader reader' : R) (out out' : W) (err err' : E) (stop : RunFailure) → names ≡ [] → a.fault_count ≡ 0 → a.newest ≡ None → a.output.items ≡ [] → a.errors.items ≡ []
       → SourceFails remaining contents error_contents rule input_origin a reader reader' out out' err err' → IsRunFailureOf (Some input_name) stop
       → AllFail files remaining contents error_contents rule (source_names names) reader reader' out out' err err' stop
   alone_stops rule names a reader reader' out out' err err' stop empty fault newest output errors k stops =

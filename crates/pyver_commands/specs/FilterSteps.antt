@@ -8,7 +8,8 @@ use Rattle.pyver_commands.specs.Sources.InputLines.{Origin, Source, filled_lines
 use Rattle.pyver_commands.specs.Sources.InvalidLines.{last_message, lines_status, message_limit}
 use Rattle.pyver_commands.specs.NewestViews.{KeepsNewest}
 use Rattle.cli_io.specs.Runs.{EndsComplete, Outcome}
-use Rattle.pyver_commands.specs.Sources.ReadLines.{IsRead, ReadLine, faults}
+use Rattle.pyver_commands.specs.Sources.ReadLines.{IsRead, LineReading, ReadLine, faults}
+use Rattle.pyver_commands.specs.Sources.SourceViews.{origin_line}
 use Rattle.cli_io.specs.Streams.{WroteBeginning}
 use Rattle.pyver_commands.specs.Sources.RunFailures.{IsRunFailureOf, FailsWithin}
 use Rattle.pyver_commands.specs.Sources.{IsOutcomeOfSources, KnownFile, MayFailToOpen, ReadsInput, ReadsLines, ReadsSource, FailsReading, UnopenedSource, is_input, last_name, unopened_message, unopened_status}
@@ -16,8 +17,9 @@ use Rattle.pyver_commands.specs.Sources.VersionLines.{version_lines}
 use Rattle.pyver_commands.specs.declared.filter.FilterRule.{FilterRule}
 use Rattle.pyver_commands.specs.declared.filter.FilterState.{FilterState}
 use Rattle.pyver_commands.specs.declared.filter.Selection.TheVariants as wanted
-use Rattle.pyver_commands.specs.declared.newest_lines.NewestLines.{NewestLines}
+use Rattle.pyver_commands.specs.declared.newest_lines.KeptLine.{KeptLine}
 use Rattle.pyver_commands.specs.declared.sources.open_failure.OpenFailure.{OpenFailure}
+use Rattle.pyver_commands.specs.declared.sources.origin.Origin.{Origin as OriginView}
 use Rattle.pyver_commands.specs.declared.sources.stream.RunFailure.{RunFailure}
 use Rattle.pyver_commands.specs.declared.sources.stream.RunFailure.TheVariants as run_failure
 
@@ -29,12 +31,12 @@ pub record SplitsLines (text : List ℕ) (ended : List (List ℕ)) (line : List 
   pub all : (rest : List ℕ) → input_lines (text ++ rest) ≡ ended ++ input_lines (line ++ rest)
   pub one : HasNoNewline line
 
--- the newest of these lines were kept
-abbrev pub Keeps : FilterRule → List ReadLine → NewestLines → Type 0
+-- the newest of these lines was kept
+abbrev pub Keeps : FilterRule → List ReadLine → Option KeptLine → Type 0
 Keeps rule found kept = KeepsNewest rule.takes rule.list (version_lines found) kept
 
--- the newest of earlier lines were kept, and then those of them and of these lines
-abbrev pub KeepsMore : FilterRule → List ReadLine → NewestLines → NewestLines → Type 0
+-- the newest of earlier lines was kept, and then that of them and of these lines
+abbrev pub KeepsMore : FilterRule → List ReadLine → Option KeptLine → Option KeptLine → Type 0
 KeepsMore rule found a b = rule.wanted ≡ wanted.Newest → (earlier : List ReadLine) → Keeps rule earlier a → Keeps rule (earlier ++ found) b
 
 -- from one state to another by these lines of a source
@@ -58,6 +60,14 @@ pub record StepsBy (rule : FilterRule) (x : ReadLine) (a b : FilterState) : Type
   pub newest : KeepsMore rule (x ∷ []) a.newest b.newest
   pub output : b.output.items ≡ a.output.items ++ printed_lines rule (x ∷ [])
   pub errors : b.errors.items ≡ a.errors.items ++ concat (take (message_limit rule.lines.invalid - a.fault_count) (faults (x ∷ [])))
+
+-- by the line of this text, where the source has come to
+abbrev pub StepsAt : FilterRule → OriginView → List ℕ → LineReading → FilterState → FilterState → Type 0
+StepsAt rule origin text reading a b = StepsBy rule (record { line = origin_line origin a.line_count text; reading = reading }) a b
+
+-- nothing was read
+abbrev pub IsNewState : FilterState → Type 0
+IsNewState s = (s.read_count ≡ 0) × (s.fault_count ≡ 0) × (s.newest ≡ None) × (s.output.items ≡ []) × (s.errors.items ≡ [])
 
 -- by the end of the messages, where the last is of a file that was not opened
 pub record FinishesBy (rule : FilterRule) (unopened : Option UnopenedSource) (a b : FilterState) (status : ℕ) : Type 0 where

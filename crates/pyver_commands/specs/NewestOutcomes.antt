@@ -1,12 +1,12 @@
 -- `newest SPECS`: the line of the newest version that the list allows.
-use Rattle.std.specs.Prelude.{◌≡◌, ℕ, List, [], ◌∷◌, ◌++◌, Bool, true, codes, Option, Some, None}
-use Rattle.std.specs.List.{filter}
+use Rattle.std.specs.Prelude.{◌≡◌, ℕ, List, [], ◌++◌, Bool, IsTrue, codes, Option, Some, None, if◌then◌else◌}
 use Rattle.std.specs.Option.{option_map}
 use Rattle.std.specs.Ordering.{on}
 use Rattle.pep440_pick.specs.Greatest.{Greatest}
-use Rattle.pep440_rs.specs.LiteralMatching.{list_allows_literally}
+use Rattle.pep440_pick.specs.Newest.{preference}
+use Rattle.pep440_rs.specs.LiteralMatching.{list_matches_literally}
+use Rattle.pep440_rs.specs.Matching.{any_prerelease}
 use Rattle.pep440_rs.specs.Specifiers.{Spec}
-use Rattle.pep440_version.specs.Key.{record_cmp}
 use Rattle.pyver_commands.specs.Matches.{DenotesList, ListFails, ReadsSpecifiers, SpecifiersReading, list_fault}
 use Rattle.cli_io.specs.Runs.{Outcome}
 use Rattle.pyver_commands.specs.PrereleaseRules.{takes_prereleases}
@@ -17,26 +17,26 @@ use Rattle.pyver_commands.specs.declared.newest.NewestRule.{NewestRule}
 use Rattle.pyver_commands.specs.declared.prerelease_rule.Prereleases.{Prereleases}
 use Rattle.pyver_commands.specs.declared.prerelease_rule.Prereleases.TheVariants as prereleases
 
--- the lines whose version the list allows
-abbrev pub allowed_lines : Bool → List Spec → List VersionLine → List VersionLine
-allowed_lines takes list lines = filter (λ (x : VersionLine). list_allows_literally takes list x.version) lines
+-- the line itself, whose version the list matches
+abbrev pub IsMatchedLine : List Spec → VersionLine → VersionLine → Type 0
+IsMatchedLine list line x = (line ≡ x) × IsTrue (list_matches_literally list x.version)
 
--- these lines; or, where there are none and no option says which pre-releases are taken, the others
-abbrev pub or_else : Prereleases → List VersionLine → List VersionLine → List VersionLine
-or_else prereleases.Listed [] others = others
-or_else prereleases.Listed (x ∷ lines) others = x ∷ lines
-or_else prereleases.Always lines others = lines
-or_else prereleases.Never lines others = lines
-
--- the lines of which one is the newest: those that the list allows; where it allows none, those that it allows with pre-releases
-abbrev pub candidates : NewestRule → List VersionLine → List VersionLine
-candidates rule lines = or_else rule.prereleases (allowed_lines (takes_prereleases rule.prereleases rule.list) rule.list lines) (allowed_lines true rule.list lines)
-
--- the newest of the lines, and of equal ones the first; None where there are no lines
-pub record NewestLine (lines : List VersionLine) (newest : Option VersionLine) : Type 0 where
+-- the newest of the lines that the list matches, and of equal ones the first; None where it matches none. A pre-release that is not taken
+-- is the newest only where no final release is matched
+pub record NewestLine (takes : Bool) (list : List Spec) (lines : List VersionLine) (newest : Option VersionLine) : Type 0 where
   pub greatest : Option (ℕ × VersionLine)
-  pub is : Greatest (λ (x y : VersionLine). x ≡ y) (on (λ (x : VersionLine). x.version) record_cmp) lines greatest
+  pub is : Greatest (IsMatchedLine list) (on (λ (x : VersionLine). x.version) (preference takes)) lines greatest
   pub line : newest ≡ option_map (λ (p : ℕ × VersionLine). p.1) greatest
+
+abbrev pub without_prerelease : Option VersionLine → Option VersionLine
+without_prerelease None = None
+without_prerelease (Some x) = if any_prerelease x.version then None else Some x
+
+-- the newest line, unless it is a pre-release and an option says that none is taken
+abbrev pub taken : Prereleases → Option VersionLine → Option VersionLine
+taken prereleases.Listed newest = newest
+taken prereleases.Always newest = newest
+taken prereleases.Never newest = without_prerelease newest
 
 -- the line as it was written, or nothing and status 1; and the messages of invalid lines
 abbrev pub newest_outcome : List ℕ → Option VersionLine → Outcome
@@ -45,7 +45,9 @@ newest_outcome messages (Some x) = record { output = x.text ++ codes "\n"; error
 
 -- what is written of lines that were read; the header and invalid lines are left out
 abbrev pub FindsNewest : NewestRule → InputParts → Outcome → Type 0
-FindsNewest rule parts o = (newest : Option VersionLine) × NewestLine (candidates rule parts.versions) newest × (o ≡ newest_outcome parts.messages newest)
+FindsNewest rule parts o =
+    (newest : Option VersionLine) × NewestLine (takes_prereleases rule.prereleases rule.list) rule.list parts.versions newest
+    × (o ≡ newest_outcome parts.messages (taken rule.prereleases newest))
 
 -- the rule of the options and the list
 abbrev pub newest_rule : NewestOptions → List Spec → NewestRule

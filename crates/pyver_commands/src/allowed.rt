@@ -47,7 +47,8 @@ fn push_reading(
     word: &str,
     reading: &Reading,
 ) -> Result<(), AllocError>
-    ensures { IfOk result (λ _. outcome_of answer.new ≡ followed_by (outcome_of answer.old) (word_outcome quiet takes list.now word.now (reading_of reading.now))) }
+    ensures { IfOk result (λ _. outcome_of answer.new ≡ followed_by (outcome_of answer.old)
+        (word_outcome quiet takes list.now word.now (reading_of reading.now))) }
 {
     match reading {
         Reading::Version(version) => {

@@ -65,7 +65,8 @@ impl Answer {
         word: &str,
         reading: &Reading,
     ) -> Result<(), AllocError>
-        ensures { IfOk result (λ _. outcome_of self.new ≡ followed_by (outcome_of self.old) (reading_fault word.now (reading_of reading.now))) }
+        ensures { IfOk result (λ _. outcome_of self.new ≡ followed_by (outcome_of self.old)
+            (reading_fault word.now (reading_of reading.now))) }
     {
         match reading {
             Reading::Version(_) => Ok(()),

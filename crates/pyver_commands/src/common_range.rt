@@ -9,6 +9,7 @@ use crate::answer::Answer;
 use crate::range_json::push_segments;
 use crate::specifiers::{SpecifiersReading, parse_specifiers, push_list_message};
 use crate::version_json::push_text;
+use pep440_pick::add_members;
 use pep440_rs::{Ranges, Version, VersionSpecifier, VersionSpecifiers};
 use pep440_sets::{SetError, SetLines, find_version, specifiers_to_set};
 use std::alloc::{AllocError, Global};
@@ -23,28 +24,17 @@ struct CommonLists {
     members: Vec<VersionSpecifier>,
 }
 
-// Pushes the members of the list.
-fn push_members(
-    members: &mut Vec<VersionSpecifier>,
-    list: &VersionSpecifiers,
-) -> Result<(), AllocError>
-    ensures { IfOk result (λ _. members.new.items ≡ members.old.items ++ list.now) }
-{
-    for member in list.as_slice() {
-        members.push(member.clone()?)?;
-    }
-    Ok(())
-}
-
 impl CommonLists {
     ghost use Rattle.pyver_commands.specs.CommonRanges.{ListReading, ReadsMembers};
 
     // What is known after one word more.
     fn push_word(&mut self, alloc: Global, word: &str) -> Result<(), AllocError>
-        ensures { IfOk result (λ _. (x : ListReading) × ReadsMembers word.now x × (self.new.errors.items ≡ self.old.errors.items ++ x.message) × (self.new.members.items ≡ self.old.members.items ++ x.members)) }
+        ensures { IfOk result (λ _. (x : ListReading) × ReadsMembers word.now x
+            × (self.new.errors.items ≡ self.old.errors.items ++ x.message)
+            × (self.new.members.items ≡ self.old.members.items ++ x.members)) }
     {
         match parse_specifiers(alloc, word)? {
-            SpecifiersReading::Specifiers(list) => push_members(&mut self.members, &list)?,
+            SpecifiersReading::Specifiers(list) => add_members(&mut self.members, &list)?,
             SpecifiersReading::Invalid(message) => {
                 push_list_message(&mut self.errors, word, message.as_str())?;
             }

@@ -4,7 +4,7 @@ ghost use Rattle.std.specs.Option.{option_map};
 ghost use Rattle.pyver_commands.specs.Sources.{unopened_message, unopened_status};
 ghost use Rattle.pyver_commands.specs.Sources.SourceViews.{unopened_of};
 
-use crate::newest_lines::NewestLines;
+use crate::newest_lines::{KeptLine, keep_newer};
 use crate::prerelease_rule::Prereleases;
 use crate::reading::Reading;
 use crate::sources::line_options::LineOptions;
@@ -125,31 +125,30 @@ pub(crate) struct FilterState {
     pub(crate) line_count: u64,
     // How many lines of all sources were invalid.
     pub(crate) fault_count: u64,
-    // The newest lines, where the newest is wanted.
-    pub(crate) newest: NewestLines,
+    // The newest line, where it is wanted.
+    pub(crate) newest: Option<KeptLine>,
     pub(crate) output: Vec<u8>,
     pub(crate) errors: Vec<u8>,
 }
 
 impl FilterState {
-    ghost use Rattle.std.specs.Prelude.{◌+◌, ◌*◌, ◌<◌, ◌^◌, ◌∷◌, [], List, ℕ, length};
+    ghost use Rattle.std.specs.Prelude.{◌+◌, ◌*◌, ◌<◌, ◌^◌, ◌∷◌, [], List, None, ℕ, length};
     ghost use Rattle.pyver_commands.specs.AnswerViews.{reading_of};
-    ghost use Rattle.pyver_commands.specs.NewestViews.{HasNoLine};
-    ghost use Rattle.pyver_commands.specs.FilterSteps.{SplitsLines, FinishesBy, HasNoNewline, Steps, StepsBy};
-    ghost use Rattle.pyver_commands.specs.Sources.ReadLines.{Entry, Header, ReadLine};
+    ghost use Rattle.pyver_commands.specs.FilterSteps.{SplitsLines, FinishesBy, HasNoNewline, Steps, StepsAt};
+    ghost use Rattle.pyver_commands.specs.Sources.ReadLines.{Entry, Header};
     ghost use Rattle.pyver_commands.specs.Readings.{Denotes, Fails};
-    ghost use Rattle.pyver_commands.specs.Sources.SourceViews.{origin_line, origin_of};
+    ghost use Rattle.pyver_commands.specs.Sources.SourceViews.{origin_of};
 
     pub(crate) fn new(alloc: Global) -> FilterState
         ensures counts { (result.read_count ≡ 0) × (result.fault_count ≡ 0) }
-        ensures no_line { HasNoLine result.newest }
+        ensures no_line { result.newest ≡ None }
         ensures nothing { (result.output.items ≡ []) × (result.errors.items ≡ []) }
     {
         FilterState {
             read_count: 0,
             line_count: 0,
             fault_count: 0,
-            newest: NewestLines::none(),
+            newest: None,
             output: Vec::new(alloc),
             errors: Vec::new(alloc),
         }
@@ -162,7 +161,7 @@ impl FilterState {
         origin: Origin<'_>,
         text: &[u8],
     ) -> Result<(), AllocError>
-        ensures { IfOk result (λ _. StepsBy rule.now (record { line = origin_line origin.entry self.old.line_count text.now; reading = Header }) self.old self.new) }
+        ensures { IfOk result (λ _. StepsAt rule.now origin.entry text.now Header self.old self.new) }
     {
         if !rule.wanted.shows_header(origin.is_first) {
             return Ok(());
@@ -180,11 +179,10 @@ impl FilterState {
         text: &[u8],
         version: &Version,
     ) -> Result<(), AllocError>
-        ensures { IfOk result (λ _. StepsBy rule.now (record { line = origin_line origin.entry self.old.line_count text.now; reading = Entry (Denotes version.now) }) self.old self.new) }
+        ensures { IfOk result (λ _. StepsAt rule.now origin.entry text.now (Entry (Denotes version.now)) self.old self.new) }
     {
         if let Selection::Newest = rule.wanted {
-            self.newest
-                .push(alloc, rule.takes, &rule.list, text, version)?;
+            keep_newer(alloc, rule.takes, &rule.list, &mut self.newest, text, version)?;
             return Ok(());
         }
         if rule.shows(alloc, version)? {
@@ -203,7 +201,7 @@ impl FilterState {
         reason: &str,
     ) -> Result<(), AllocError>
         requires { self.old.fault_count + 1 < 2 ^ 63 }
-        ensures { IfOk result (λ _. StepsBy rule.now (record { line = origin_line origin.entry self.old.line_count text.now; reading = Entry (Fails reason.now) }) self.old self.new) }
+        ensures { IfOk result (λ _. StepsAt rule.now origin.entry text.now (Entry (Fails reason.now)) self.old self.new) }
     {
         rule.lines.invalid.push_fault(
             alloc,
@@ -227,7 +225,7 @@ impl FilterState {
         reading: &Reading,
     ) -> Result<(), AllocError>
         requires { self.old.fault_count + 1 < 2 ^ 63 }
-        ensures { IfOk result (λ _. StepsBy rule.now (record { line = origin_line origin.entry self.old.line_count text.now; reading = Entry (reading_of reading.now) }) self.old self.new) }
+        ensures { IfOk result (λ _. StepsAt rule.now origin.entry text.now (Entry (reading_of reading.now)) self.old self.new) }
     {
         match reading {
             Reading::Version(version) => self.push_version(alloc, rule, origin, text, version),
@@ -273,8 +271,10 @@ impl FilterState {
     ) -> Result<(), AllocError>
         requires line { HasNoNewline line.old.items }
         requires limits { (self.old.line_count + length bytes.now < 2 ^ 63) × (self.old.fault_count + length bytes.now < 2 ^ 63) }
-        ensures steps { IfOk result (λ _. (ended : List (List ℕ)) × SplitsLines (line.old.items ++ bytes.now) ended line.new.items × Steps rule.now (origin_of origin.entry) ended self.old self.new) }
-        ensures count { IfOk result (λ _. (self.new.line_count ≤ self.old.line_count + length bytes.now) × (self.new.fault_count ≤ self.old.fault_count + length bytes.now)) }
+        ensures steps { IfOk result (λ _. (ended : List (List ℕ)) × SplitsLines (line.old.items ++ bytes.now) ended line.new.items
+            × Steps rule.now (origin_of origin.entry) ended self.old self.new) }
+        ensures count { IfOk result (λ _. (self.new.line_count ≤ self.old.line_count + length bytes.now)
+            × (self.new.fault_count ≤ self.old.fault_count + length bytes.now)) }
     {
         for byte in bytes {
             if *byte == b'\n' {
@@ -304,7 +304,8 @@ impl FilterState {
 
     // What was to be written was written.
     pub(crate) fn clear(&mut self)
-        ensures counts { (self.new.read_count ≡ self.old.read_count) × (self.new.line_count ≡ self.old.line_count) × (self.new.fault_count ≡ self.old.fault_count) }
+        ensures counts { (self.new.read_count ≡ self.old.read_count) × (self.new.line_count ≡ self.old.line_count)
+            × (self.new.fault_count ≡ self.old.fault_count) }
         ensures kept { self.new.newest ≡ self.old.newest }
         ensures nothing { (self.new.output.items ≡ []) × (self.new.errors.items ≡ []) }
     {

@@ -23,9 +23,11 @@ pub(crate) fn filter_input<R: Read, W: Write, E: Write>(
 ) -> Result<(), RunFailure>
     requires nothing { (state.old.output.items ≡ []) × (state.old.errors.items ≡ []) }
     requires limits { state.old.fault_count ≤ 8192 * state.old.read_count }
-    ensures finished { IfOk result (λ _. SourceFinishes R.remaining W.contents E.contents rule.now (origin_of origin.entry) state.old state.new input.old input.new out.old out.new err.old err.new) }
+    ensures finished { IfOk result (λ _. SourceFinishes R.remaining W.contents E.contents rule.now (origin_of origin.entry)
+        state.old state.new input.old input.new out.old out.new err.old err.new) }
     ensures limits { IfOk result (λ _. state.new.fault_count ≤ 8192 * state.new.read_count) }
-    ensures stopped { IfErr result (λ _. SourceFails R.remaining W.contents E.contents rule.now (origin_of origin.entry) state.old input.old input.new out.old out.new err.old err.new) }
+    ensures stopped { IfErr result (λ _. SourceFails R.remaining W.contents E.contents rule.now (origin_of origin.entry)
+        state.old input.old input.new out.old out.new err.old err.new) }
     ensures failure { IfErr result (IsRunFailureOf (Some (origin_of origin.entry).name)) }
 {
     let mut buffer = [0u8; READ_SIZE];

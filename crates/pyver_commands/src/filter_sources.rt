@@ -1,8 +1,7 @@
 //! The sources of `filter` and `newest`, one after another.
 ghost use Rattle.std.specs.Prelude.{◌≡◌, ◌≤◌, ◌*◌, [], IfErr, IfOk, map, string_bytes};
 ghost use Rattle.std.specs.Option.{option_map};
-ghost use Rattle.pyver_commands.specs.FilterSteps.{AllFinish, AllFail, FilterFinishes, FilterFails, OneFinishes, OneFails};
-ghost use Rattle.pyver_commands.specs.NewestViews.{HasNoLine};
+ghost use Rattle.pyver_commands.specs.FilterSteps.{AllFinish, AllFail, FilterFinishes, FilterFails, IsNewState, OneFinishes, OneFails};
 ghost use Rattle.pyver_commands.specs.Sources.{source_names};
 ghost use Rattle.pyver_commands.specs.Sources.SourceViews.{origin_of, unopened_of};
 
@@ -28,9 +27,11 @@ fn open_and_filter<F: Files, R: Read, W: Write, E: Write>(
 ) -> Result<Option<OpenFailure>, RunFailure>
     requires nothing { (state.old.output.items ≡ []) × (state.old.errors.items ≡ []) }
     requires limits { state.old.fault_count ≤ 8192 * state.old.read_count }
-    ensures finished { IfOk result (OneFinishes (F.known files.old) R.remaining W.contents E.contents rule.now (origin_of origin.entry) state.old state.new input.old input.new out.old out.new err.old err.new) }
+    ensures finished { IfOk result (OneFinishes (F.known files.old) R.remaining W.contents E.contents rule.now (origin_of origin.entry)
+        state.old state.new input.old input.new out.old out.new err.old err.new) }
     ensures limits { IfOk result (λ _. state.new.fault_count ≤ 8192 * state.new.read_count) }
-    ensures stopped { IfErr result (OneFails (F.known files.old) R.remaining W.contents E.contents rule.now (origin_of origin.entry) state.old input.old input.new out.old out.new err.old err.new) }
+    ensures stopped { IfErr result (OneFails (F.known files.old) R.remaining W.contents E.contents rule.now (origin_of origin.entry)
+        state.old input.old input.new out.old out.new err.old err.new) }
     ensures kept { F.known files.new ≡ F.known files.old }
 {
     if is_input(origin.name) {
@@ -58,9 +59,11 @@ fn filter_all<'a, F: Files, R: Read, W: Write, E: Write>(
     out: &mut W,
     err: &mut E,
 ) -> Result<Option<UnopenedSource<'a>>, RunFailure>
-    requires new { (state.old.read_count ≡ 0) × (state.old.fault_count ≡ 0) × HasNoLine state.old.newest × (state.old.output.items ≡ []) × (state.old.errors.items ≡ []) }
-    ensures finished { IfOk result (λ unopened. AllFinish (F.known files.old) R.remaining W.contents E.contents rule.now (map string_bytes names.now) (option_map unopened_of unopened) state.new input.old input.new out.old out.new err.old err.new) }
-    ensures stopped { IfErr result (AllFail (F.known files.old) R.remaining W.contents E.contents rule.now (map string_bytes names.now) input.old input.new out.old out.new err.old err.new) }
+    requires new { IsNewState state.old }
+    ensures finished { IfOk result (λ unopened. AllFinish (F.known files.old) R.remaining W.contents E.contents rule.now
+        (map string_bytes names.now) (option_map unopened_of unopened) state.new input.old input.new out.old out.new err.old err.new) }
+    ensures stopped { IfErr result (AllFail (F.known files.old) R.remaining W.contents E.contents rule.now (map string_bytes names.now)
+        input.old input.new out.old out.new err.old err.new) }
     ensures kept { F.known files.new ≡ F.known files.old }
 {
     let mut is_first = true;
@@ -86,9 +89,12 @@ pub(crate) fn filter_all_sources<'a, F: Files, R: Read, W: Write, E: Write>(
     out: &mut W,
     err: &mut E,
 ) -> Result<Option<UnopenedSource<'a>>, RunFailure>
-    requires new { (state.old.read_count ≡ 0) × (state.old.fault_count ≡ 0) × HasNoLine state.old.newest × (state.old.output.items ≡ []) × (state.old.errors.items ≡ []) }
-    ensures finished { IfOk result (λ unopened. AllFinish (F.known files.old) R.remaining W.contents E.contents rule.now (source_names (map string_bytes names.now)) (option_map unopened_of unopened) state.new input.old input.new out.old out.new err.old err.new) }
-    ensures stopped { IfErr result (AllFail (F.known files.old) R.remaining W.contents E.contents rule.now (source_names (map string_bytes names.now)) input.old input.new out.old out.new err.old err.new) }
+    requires new { IsNewState state.old }
+    ensures finished { IfOk result (λ unopened. AllFinish (F.known files.old) R.remaining W.contents E.contents rule.now
+        (source_names (map string_bytes names.now)) (option_map unopened_of unopened)
+        state.new input.old input.new out.old out.new err.old err.new) }
+    ensures stopped { IfErr result (AllFail (F.known files.old) R.remaining W.contents E.contents rule.now
+        (source_names (map string_bytes names.now)) input.old input.new out.old out.new err.old err.new) }
     ensures kept { F.known files.new ≡ F.known files.old }
 {
     if !names.is_empty() {
@@ -112,8 +118,10 @@ pub fn filter_sources<F: Files, R: Read, W: Write, E: Write>(
     out: &mut W,
     err: &mut E,
 ) -> Result<u8, RunFailure>
-    ensures finished { IfOk result (FilterFinishes (F.known files.old) R.remaining W.contents E.contents rule.now (source_names (map string_bytes names.now)) input.old input.new out.old out.new err.old err.new) }
-    ensures stopped { IfErr result (FilterFails (F.known files.old) R.remaining W.contents E.contents rule.now (source_names (map string_bytes names.now)) input.old input.new out.old out.new err.old err.new) }
+    ensures finished { IfOk result (FilterFinishes (F.known files.old) R.remaining W.contents E.contents rule.now
+        (source_names (map string_bytes names.now)) input.old input.new out.old out.new err.old err.new) }
+    ensures stopped { IfErr result (FilterFails (F.known files.old) R.remaining W.contents E.contents rule.now
+        (source_names (map string_bytes names.now)) input.old input.new out.old out.new err.old err.new) }
     ensures kept { F.known files.new ≡ F.known files.old }
 {
     let mut state = FilterState::new(alloc);

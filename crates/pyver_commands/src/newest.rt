@@ -12,7 +12,7 @@ ghost use Rattle.pyver_commands.specs.declared.sources.stream.RunFailure.TheVari
 use crate::answer::Answer;
 use crate::filter::{FilterRule, FilterState, Selection};
 use crate::filter_sources::filter_all_sources;
-use crate::newest_lines::KeptLine;
+use crate::newest_lines::{KeptLine, take_line};
 use crate::prerelease_rule::{Prereleases, takes_prereleases};
 use crate::sources::files::Files;
 use crate::sources::line_options::LineOptions;
@@ -83,8 +83,10 @@ pub(crate) fn find_newest<F: Files, R: Read>(
     files: &mut F,
     input: &mut R,
 ) -> Result<Answer, RunFailure>
-    ensures finished { IfOk result (λ a. IsOutcomeOfSources (F.known files.old) R.remaining (OfVersions rule.lines (FindsNewest rule)) (source_names (map string_bytes names.now)) input.old input.new (outcome_of a)) }
-    ensures stopped { IfErr result (FailsWithoutOutcome (F.known files.old) R.remaining (source_names (map string_bytes names.now)) input.old input.new) }
+    ensures finished { IfOk result (λ a. IsOutcomeOfSources (F.known files.old) R.remaining (OfVersions rule.lines (FindsNewest rule))
+        (source_names (map string_bytes names.now)) input.old input.new (outcome_of a)) }
+    ensures stopped { IfErr result (FailsWithoutOutcome (F.known files.old) R.remaining (source_names (map string_bytes names.now))
+        input.old input.new) }
     ensures kept { F.known files.new ≡ F.known files.old }
 {
     let invalid = rule.lines.invalid;
@@ -122,5 +124,5 @@ pub(crate) fn find_newest<F: Files, R: Read>(
             status,
         });
     }
-    Ok(print_newest(alloc, state.newest.choose(rule.prereleases), errors)?)
+    Ok(print_newest(alloc, take_line(rule.prereleases, state.newest), errors)?)
 }

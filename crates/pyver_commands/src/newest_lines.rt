@@ -2,12 +2,13 @@
 ghost use Rattle.std.specs.Prelude.{◌≡◌, ◌∷◌, ◌++◌, [], IfOk, List, true};
 ghost use Rattle.std.specs.Option.{option_map, option_map_or};
 ghost use Rattle.std.specs.Ordering.{is_lt};
-ghost use Rattle.pep440_version.specs.Key.{record_cmp};
-ghost use Rattle.pyver_commands.specs.NewestOutcomes.{NewestLine, allowed_lines};
-ghost use Rattle.pyver_commands.specs.NewestViews.{kept_line};
+ghost use Rattle.pep440_pick.specs.Newest.{preference};
+ghost use Rattle.pyver_commands.specs.NewestOutcomes.{taken, without_prerelease};
+ghost use Rattle.pyver_commands.specs.NewestViews.{KeepsNewest, kept_line};
 ghost use Rattle.pyver_commands.specs.Sources.VersionLines.{VersionLine};
 
 use crate::prerelease_rule::Prereleases;
+use pep440_pick::is_preferred;
 use pep440_rs::{Version, VersionSpecifiers};
 use std::alloc::{AllocError, Global};
 
@@ -18,17 +19,17 @@ pub(crate) struct KeptLine {
     pub(crate) version: Version,
 }
 
-fn is_newer(newest: &Option<KeptLine>, version: &Version) -> bool
-    ensures { result ≡ option_map_or (λ x. is_lt (record_cmp x.version version.now)) newest.now true }
+fn is_newer(takes: bool, newest: &Option<KeptLine>, version: &Version) -> bool
+    ensures { result ≡ option_map_or (λ x. is_lt (preference takes x.version version.now)) newest.now true }
 {
     match newest {
-        Some(newest) => newest.version < *version,
+        Some(newest) => is_preferred(takes, &newest.version, version),
         None => true,
     }
 }
 
-// Keeps the line in place of the other, where the list allows it and it is newer.
-fn keep_newer(
+// Keeps one more line in place of the newest so far, where the list matches its version and it is newer.
+pub(crate) fn keep_newer(
     alloc: Global,
     takes: bool,
     list: &VersionSpecifiers,
@@ -36,9 +37,10 @@ fn keep_newer(
     text: &[u8],
     version: &Version,
 ) -> Result<(), AllocError>
-    ensures { IfOk result (λ _. (lines : List VersionLine) → NewestLine (allowed_lines takes list.now lines) (option_map kept_line newest.old) → NewestLine (allowed_lines takes list.now (lines ++ record { text = text.now; version = version.now } ∷ [])) (option_map kept_line newest.new)) }
+    ensures { IfOk result (λ _. (lines : List VersionLine) → KeepsNewest takes list.now lines newest.old
+        → KeepsNewest takes list.now (lines ++ record { text = text.now; version = version.now } ∷ []) newest.new) }
 {
-    if is_newer(newest, version) && list.allows_literally(alloc, takes, version)? {
+    if is_newer(takes, newest, version) && list.matches_literally(alloc, version)? {
         let version = version.clone()?;
         let mut kept = Vec::new(alloc);
         kept.extend_from_slice(text)?;
@@ -50,58 +52,28 @@ fn keep_newer(
     Ok(())
 }
 
-// The newest lines, of equal ones the first.
-#[derive(Drop)]
-pub(crate) struct NewestLines {
-    // Of those that the list allows.
-    pub(crate) allowed: Option<KeptLine>,
-    // Of those that it allows with pre-releases.
-    pub(crate) any: Option<KeptLine>,
+fn without_prerelease(newest: Option<KeptLine>) -> Option<KeptLine>
+    ensures { option_map kept_line result ≡ without_prerelease (option_map kept_line newest) }
+{
+    match newest {
+        Some(newest) => {
+            if newest.version.any_prerelease() {
+                None
+            } else {
+                Some(newest)
+            }
+        }
+        None => None,
+    }
 }
 
-impl NewestLines {
-    ghost use Rattle.std.specs.Prelude.{Bool};
-    ghost use Rattle.pep440_rs.specs.Specifiers.{Spec};
-    ghost use Rattle.pyver_commands.specs.NewestOutcomes.{or_else};
-    ghost use Rattle.pyver_commands.specs.NewestViews.{HasNoLine, KeepsNewest};
-
-    pub(crate) fn none() -> NewestLines
-        ensures { HasNoLine result }
-    {
-        NewestLines {
-            allowed: None,
-            any: None,
-        }
-    }
-
-    // One more line with its version.
-    pub(crate) fn push(
-        &mut self,
-        alloc: Global,
-        takes: bool,
-        list: &VersionSpecifiers,
-        text: &[u8],
-        version: &Version,
-    ) -> Result<(), AllocError>
-        ensures { IfOk result (λ _. (lines : List VersionLine) → KeepsNewest takes list.now lines self.old → KeepsNewest takes list.now (lines ++ record { text = text.now; version = version.now } ∷ []) self.new) }
-    {
-        keep_newer(alloc, takes, list, &mut self.allowed, text, version)?;
-        keep_newer(alloc, true, list, &mut self.any, text, version)?;
-        Ok(())
-    }
-
-    // The newest line, with pre-releases where nothing else is allowed and no option says which are taken.
-    pub(crate) fn choose(self, prereleases: Prereleases) -> Option<KeptLine>
-        ensures { (takes : Bool) (list : List Spec) (lines : List VersionLine) → KeepsNewest takes list lines self → NewestLine (or_else prereleases (allowed_lines takes list lines) (allowed_lines true list lines)) (option_map kept_line result) }
-    {
-        let NewestLines { allowed, any } = self;
-        match prereleases {
-            Prereleases::Listed => match allowed {
-                None => any,
-                Some(line) => Some(line),
-            },
-            Prereleases::Always => allowed,
-            Prereleases::Never => allowed,
-        }
+// The line, unless it is a pre-release and none is taken.
+pub(crate) fn take_line(prereleases: Prereleases, newest: Option<KeptLine>) -> Option<KeptLine>
+    ensures { option_map kept_line result ≡ taken prereleases (option_map kept_line newest) }
+{
+    match prereleases {
+        Prereleases::Listed => newest,
+        Prereleases::Always => newest,
+        Prereleases::Never => without_prerelease(newest),
     }
 }

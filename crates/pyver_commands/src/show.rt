@@ -53,7 +53,8 @@ fn push_shown(
     word: &str,
     reading: &Reading,
 ) -> Result<(), AllocError>
-    ensures { IfOk result (λ _. outcome_of answer.new ≡ followed_by (outcome_of answer.old) (show_outcome format word.now (reading_of reading.now))) }
+    ensures { IfOk result (λ _. outcome_of answer.new ≡ followed_by (outcome_of answer.old)
+        (show_outcome format word.now (reading_of reading.now))) }
 {
     match reading {
         Reading::Version(version) => push_line(alloc, &mut answer.output, format, version),

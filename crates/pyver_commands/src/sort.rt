@@ -66,7 +66,8 @@ fn kept_texts<'a>(
     unique: bool,
     lines: &[VersionLine<'a>],
 ) -> Result<Vec<&'a [u8]>, AllocError>
-    ensures { IfOk result (λ texts. map (λ t. t.now) texts.items ≡ map (λ x. x.text) (without_repeats unique (map version_line_of lines.now))) }
+    ensures { IfOk result (λ texts. map (λ t. t.now) texts.items ≡ map (λ x. x.text)
+        (without_repeats unique (map version_line_of lines.now))) }
 {
     let mut texts = Vec::with_capacity(alloc, lines.len())?;
     let mut before: Option<&Version> = None;

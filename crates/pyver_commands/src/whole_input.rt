@@ -69,7 +69,8 @@ fn answer_lines(
     question: &LinesQuestion,
     lines: VersionLines<'_>,
 ) -> Result<Answer, AllocError>
-    ensures { IfOk result (λ a. (sources : List Source) → IsOfLines (question_lines question.now) (filled_lines sources) lines.entry → IsOutcomeOfLines question.now (record { sources = sources; unopened = None }) (outcome_of a)) }
+    ensures { IfOk result (λ a. (sources : List Source) → IsOfLines (question_lines question.now) (filled_lines sources) lines.entry
+        → IsOutcomeOfLines question.now (record { sources = sources; unopened = None }) (outcome_of a)) }
 {
     let status = lines.status(question_lines(question));
     if status > 0 {
@@ -90,7 +91,8 @@ fn answer_texts(
     unopened: Option<UnopenedSource<'_>>,
 ) -> Result<Answer, AllocError>
     requires { size_of sources.now < 2 ^ 63 }
-    ensures { IfOk result (λ a. IsOutcomeOfLines question.now (record { sources = map source_of sources.now; unopened = option_map unopened_of unopened.entry }) (outcome_of a)) }
+    ensures { IfOk result (λ a. IsOutcomeOfLines question.now
+        (record { sources = map source_of sources.now; unopened = option_map unopened_of unopened.entry }) (outcome_of a)) }
 {
     if let Some(file) = unopened {
         return report_open_failure(alloc, file.name.as_bytes(), file.failure);
@@ -107,8 +109,10 @@ fn answer_sources<F: Files, R: Read>(
     files: &mut F,
     input: &mut R,
 ) -> Result<Answer, RunFailure>
-    ensures finished { IfOk result (λ a. IsOutcomeOfSources (F.known files.old) R.remaining (IsOutcomeOfLines question.now) (source_names (map string_bytes names.now)) input.old input.new (outcome_of a)) }
-    ensures stopped { IfErr result (FailsWithoutOutcome (F.known files.old) R.remaining (source_names (map string_bytes names.now)) input.old input.new) }
+    ensures finished { IfOk result (λ a. IsOutcomeOfSources (F.known files.old) R.remaining (IsOutcomeOfLines question.now)
+        (source_names (map string_bytes names.now)) input.old input.new (outcome_of a)) }
+    ensures stopped { IfErr result (FailsWithoutOutcome (F.known files.old) R.remaining (source_names (map string_bytes names.now))
+        input.old input.new) }
     ensures kept { F.known files.new ≡ F.known files.old }
 {
     let mut state = SourceTexts {
@@ -127,8 +131,10 @@ pub fn answer_input<F: Files, R: Read>(
     files: &mut F,
     input: &mut R,
 ) -> Result<Answer, RunFailure>
-    ensures finished { IfOk result (λ a. IsOutcomeOfSources (F.known files.old) R.remaining (IsOutcomeOfInput question) (source_names (map string_bytes names.now)) input.old input.new (outcome_of a)) }
-    ensures stopped { IfErr result (FailsWithoutOutcome (F.known files.old) R.remaining (source_names (map string_bytes names.now)) input.old input.new) }
+    ensures finished { IfOk result (λ a. IsOutcomeOfSources (F.known files.old) R.remaining (IsOutcomeOfInput question)
+        (source_names (map string_bytes names.now)) input.old input.new (outcome_of a)) }
+    ensures stopped { IfErr result (FailsWithoutOutcome (F.known files.old) R.remaining (source_names (map string_bytes names.now))
+        input.old input.new) }
     ensures kept { F.known files.new ≡ F.known files.old }
 {
     match question {

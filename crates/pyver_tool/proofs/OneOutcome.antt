@@ -20,7 +20,8 @@ use Rattle.pyver_commands.specs.Filters.{Filters, FiltersBy, FiltersLines, filte
 use Rattle.pyver_commands.specs.Sources.InputLines.{SourceLine, Source, filled_lines}
 use Rattle.pyver_commands.specs.Sources.LineOptions.{bare_line_options, is_header}
 use Rattle.pyver_commands.specs.Matches.{Matches, MatchesBy, MatchesWord, MatchesWords, ReadsSpecifiers, SpecifiersReading, DenotesList, ListFails, word_outcome}
-use Rattle.pyver_commands.specs.NewestOutcomes.{FindsNewest, FindsNewestBy, FindsNewestLine, candidates, newest_outcome, newest_rule}
+use Rattle.pyver_commands.specs.PrereleaseRules.{takes_prereleases}
+use Rattle.pyver_commands.specs.NewestOutcomes.{FindsNewest, FindsNewestBy, FindsNewestLine, newest_outcome, newest_rule, taken}
 use Rattle.pyver_tool.specs.CheckLaws.{ChecksOnce}
 use Rattle.pyver_tool.specs.Checks.{with_report}
 use Rattle.pyver_findings.proofs.Once.{reports_once}
@@ -145,7 +146,8 @@ sort_once : (options : SortOptions) (parts : InputParts) (a b : Outcome) → Sor
 sort_once options parts a b (xs, h, is) (ys, k, so) = is ∙ ap (sort_outcome options parts) (one_sorted options.reversed parts.versions xs ys h k) ∙ sym so
 
 finds_once : (rule : NewestRule) (parts : InputParts) (a b : Outcome) → FindsNewest rule parts a → FindsNewest rule parts b → a ≡ b
-finds_once rule parts a b (x, h, is) (y, k, so) = is ∙ ap (newest_outcome parts.messages) (one_newest (candidates rule parts.versions) x y h k) ∙ sym so
+finds_once rule parts a b (x, h, is) (y, k, so) =
+    is ∙ ap (λ newest. newest_outcome parts.messages (taken rule.prereleases newest)) (one_newest (takes_prereleases rule.prereleases rule.list) rule.list parts.versions x y h k) ∙ sym so
 
 newest_by_once : (usage : List ℕ) (options : NewestOptions) (specifiers : List ℕ) (x : SpecifiersReading) (input : Input) (a b : Outcome) → FindsNewestBy usage options specifiers x input a → FindsNewestBy usage options specifiers x input b → a ≡ b
 newest_by_once usage options specifiers (DenotesList list) input a b h k = let rule = newest_rule options list in of_versions_once options.lines (FindsNewest rule) (finds_once rule) input a b h k

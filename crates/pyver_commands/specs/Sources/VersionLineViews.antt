@@ -1,14 +1,16 @@
 -- What lines that were read say, apart from where they lie in memory.
-use Rattle.std.specs.Prelude.{◌≡◌, ◌+◌, ◌-◌, List, [], ◌∷◌, ◌++◌, Bool, length, map, take}
+use Rattle.std.specs.Prelude.{◌≡◌, ◌+◌, ◌-◌, ℕ, List, [], ◌∷◌, ◌++◌, Bool, length, map, take}
 use Rattle.std.specs.List.{AllZip, concat}
 use Rattle.std.specs.declared.cmp.Ordering.{Ordering}
 use Rattle.pyver_commands.specs.Sources.InputLines.{SourceLine}
 use Rattle.pyver_commands.specs.Sources.InvalidLines.{message_limit}
-use Rattle.pyver_commands.specs.Sources.ReadLines.{IsRead, ReadLine, faults}
+use Rattle.pyver_commands.specs.Sources.ReadLines.{IsRead, LineReading, ReadLine, faults}
+use Rattle.pyver_commands.specs.Sources.SourceViews.{origin_line}
 use Rattle.pyver_commands.specs.Sorts.{version_order}
 use Rattle.pyver_commands.specs.Sources.VersionLines.{InputParts, header_text, kept_lines, input_parts, version_lines}
 use Rattle.pyver_commands.specs.Sources.VersionLines.{VersionLine as VersionLineValue}
 use Rattle.pyver_commands.specs.declared.sources.line_options.LineOptions.{LineOptions}
+use Rattle.pyver_commands.specs.declared.sources.origin.Origin.{Origin}
 use Rattle.pyver_commands.specs.declared.sources.version_line.VersionLine.{VersionLine}
 use Rattle.pyver_commands.specs.declared.sources.version_line.VersionLines.{VersionLines}
 
@@ -34,6 +36,10 @@ pub record KeepsOne (options : LineOptions) (x : ReadLine) (a b : VersionLines) 
   pub invalid : map (λ t. t.now) b.invalid.items ≡ map (λ t. t.now) a.invalid.items ++ kept_lines options.invalid (x ∷ [])
   pub fault_count : b.fault_count ≡ a.fault_count + length (faults (x ∷ []))
   pub errors : b.errors.items ≡ a.errors.items ++ concat (take (message_limit options.invalid - a.fault_count) (faults (x ∷ [])))
+
+-- by the line of this text, where the source has come to
+abbrev pub KeepsAt : LineOptions → Origin → List ℕ → LineReading → VersionLines → VersionLines → Type 0
+KeepsAt options origin text reading a b = KeepsOne options (record { line = origin_line origin a.line_count text; reading = reading }) a b
 
 -- these lines were read
 pub record KeepsLines (options : LineOptions) (lines : List SourceLine) (s : VersionLines) : Type 0 where

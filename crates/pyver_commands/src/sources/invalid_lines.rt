@@ -59,7 +59,8 @@ impl InvalidLines {
         text: &[u8],
         reason: &str,
     ) -> Result<(), AllocError>
-        ensures { IfOk result (λ _. errors.new.items ≡ errors.old.items ++ concat (take (message_limit self - count) (line_fault_message name.now number text.now reason.now ∷ []))) }
+        ensures { IfOk result (λ _. errors.new.items ≡ errors.old.items
+            ++ concat (take (message_limit self - count) (line_fault_message name.now number text.now reason.now ∷ []))) }
     {
         if count < self.message_limit() {
             push_line_fault(alloc, errors, name, number, text, reason)?;

@@ -36,8 +36,10 @@ fn read_text<R: Read>(
     read_count: &mut u64,
     input: &mut R,
 ) -> Result<Vec<u8>, RunFailure>
-    ensures whole { IfOk result (λ text. Consumes (R.remaining input.old) (R.remaining input.new) text.items × IsAtEnd (R.remaining input.new)) }
-    ensures limits { IfOk result (λ text. (length text.items + 8192 * read_count.old < 8192 * read_count.new) × (read_count.new ≤ 562949953421312)) }
+    ensures whole { IfOk result (λ text. Consumes (R.remaining input.old) (R.remaining input.new) text.items
+        × IsAtEnd (R.remaining input.new)) }
+    ensures limits { IfOk result (λ text. (length text.items + 8192 * read_count.old < 8192 * read_count.new)
+        × (read_count.new ≤ 562949953421312)) }
     ensures part { IfErr result (λ _. (read : List ℕ) × Consumes (R.remaining input.old) (R.remaining input.new) read) }
     ensures failure { IfErr result (IsReadingFailure name.now) }
 {
@@ -56,8 +58,12 @@ pub fn read_by_name<F: Files, R: Read>(
     files: &mut F,
     input: &mut R,
 ) -> Result<Result<Vec<u8>, OpenFailure>, RunFailure>
-    ensures read { IfOk result (λ read. MatchResult read (λ text. ReadsWhole (F.known files.old) R.remaining name.now input.old input.new text.items) (IsUnopened (F.known files.old) R.remaining name.now input.old input.new)) }
-    ensures limits { IfOk result (λ read. MatchResult read (λ text. (length text.items + 8192 * read_count.old < 8192 * read_count.new) × (read_count.new ≤ 562949953421312)) (λ _. read_count.new ≡ read_count.old)) }
+    ensures read { IfOk result (λ read. MatchResult read
+        (λ text. ReadsWhole (F.known files.old) R.remaining name.now input.old input.new text.items)
+        (IsUnopened (F.known files.old) R.remaining name.now input.old input.new)) }
+    ensures limits { IfOk result (λ read. MatchResult read
+        (λ text. (length text.items + 8192 * read_count.old < 8192 * read_count.new) × (read_count.new ≤ 562949953421312))
+        (λ _. read_count.new ≡ read_count.old)) }
     ensures stopped { IfErr result (FailsInText (F.known files.old) R.remaining name.now input.old input.new) }
     ensures kept { F.known files.new ≡ F.known files.old }
     ensures kept_paths { F.path files.new ≡ F.path files.old }
@@ -81,7 +87,8 @@ fn open_and_read<'a, F: Files, R: Read>(
     input: &mut R,
 ) -> Result<Option<OpenFailure>, RunFailure>
     requires { HasBoundedSize state.old }
-    ensures read { IfOk result (GainsSource (F.known files.old) R.remaining (origin_of origin.entry) (sources_of state.old) (sources_of state.new) input.old input.new) }
+    ensures read { IfOk result (GainsSource (F.known files.old) R.remaining (origin_of origin.entry) (sources_of state.old)
+        (sources_of state.new) input.old input.new) }
     ensures limits { IfOk result (λ _. HasBoundedSize state.new) }
     ensures stopped { IfErr result (FailsInSource (F.known files.old) R.remaining (origin_of origin.entry) input.old input.new) }
     ensures kept { F.known files.new ≡ F.known files.old }
@@ -104,7 +111,8 @@ fn read_all<'a, F: Files, R: Read>(
     input: &mut R,
 ) -> Result<Option<UnopenedSource<'a>>, RunFailure>
     requires new { (state.old.texts.items ≡ []) × (state.old.read_count ≡ 0) }
-    ensures read { IfOk result (λ unopened. ReadsInput (F.known files.old) R.remaining (map string_bytes names.now) input.old input.new (record { sources = sources_of state.new; unopened = option_map unopened_of unopened })) }
+    ensures read { IfOk result (λ unopened. ReadsInput (F.known files.old) R.remaining (map string_bytes names.now) input.old input.new
+        (record { sources = sources_of state.new; unopened = option_map unopened_of unopened })) }
     ensures limits { IfOk result (λ _. HasBoundedSize state.new) }
     ensures stopped { IfErr result (FailsInSources (F.known files.old) R.remaining (map string_bytes names.now) input.old input.new) }
     ensures kept { F.known files.new ≡ F.known files.old }
@@ -130,9 +138,11 @@ pub(crate) fn read_sources<'a, F: Files, R: Read>(
     input: &mut R,
 ) -> Result<Option<UnopenedSource<'a>>, RunFailure>
     requires new { (state.old.texts.items ≡ []) × (state.old.read_count ≡ 0) }
-    ensures read { IfOk result (λ unopened. ReadsInput (F.known files.old) R.remaining (source_names (map string_bytes names.now)) input.old input.new (record { sources = sources_of state.new; unopened = option_map unopened_of unopened })) }
+    ensures read { IfOk result (λ unopened. ReadsInput (F.known files.old) R.remaining (source_names (map string_bytes names.now))
+        input.old input.new (record { sources = sources_of state.new; unopened = option_map unopened_of unopened })) }
     ensures limits { IfOk result (λ _. HasBoundedSize state.new) }
-    ensures stopped { IfErr result (FailsInSources (F.known files.old) R.remaining (source_names (map string_bytes names.now)) input.old input.new) }
+    ensures stopped { IfErr result (FailsInSources (F.known files.old) R.remaining (source_names (map string_bytes names.now))
+        input.old input.new) }
     ensures kept { F.known files.new ≡ F.known files.old }
 {
     if !names.is_empty() {

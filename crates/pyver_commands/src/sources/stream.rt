@@ -66,7 +66,8 @@ pub(crate) fn write_both<W: Write, E: Write>(
     output: &[u8],
     errors: &[u8],
 ) -> Result<(), RunFailure>
-    ensures whole { OnOk result (Appends (W.contents out.old) (W.contents out.new) output.now × Appends (E.contents err.old) (E.contents err.new) errors.now) }
+    ensures whole { OnOk result (Appends (W.contents out.old) (W.contents out.new) output.now
+        × Appends (E.contents err.old) (E.contents err.new) errors.now) }
     ensures output { WroteBeginning (W.contents out.old) (W.contents out.new) output.now }
     ensures errors { WroteBeginning (E.contents err.old) (E.contents err.new) errors.now }
     ensures failure { IfErr result (λ failure. (last : Option (List ℕ)) → IsRunFailureOf last failure) }

@@ -62,8 +62,8 @@ impl<'a> VersionLines<'a> {
     ghost use Rattle.pyver_commands.specs.Readings.{Denotes, Fails};
     ghost use Rattle.pyver_commands.specs.Sources.InputLines.{SourceLine, filled_lines, filled_lines_from, source_lines};
     ghost use Rattle.pyver_commands.specs.Sources.SourceTexts.{size_of, source_of};
-    ghost use Rattle.pyver_commands.specs.Sources.SourceViews.{origin_line, origin_of};
-    ghost use Rattle.pyver_commands.specs.Sources.VersionLineViews.{IsOfLines, KeepsLines, KeepsOne};
+    ghost use Rattle.pyver_commands.specs.Sources.SourceViews.{origin_of};
+    ghost use Rattle.pyver_commands.specs.Sources.VersionLineViews.{IsOfLines, KeepsAt, KeepsLines};
 
     fn new(alloc: Global) -> VersionLines<'a>
         ensures { (options : LineOptions) → KeepsLines options [] result }
@@ -84,7 +84,7 @@ impl<'a> VersionLines<'a> {
         origin: Origin<'_>,
         text: &'a [u8],
     ) -> Result<(), AllocError>
-        ensures { IfOk result (λ _. KeepsOne options (record { line = origin_line origin.entry self.old.line_count text.now; reading = Header }) self.old self.new) }
+        ensures { IfOk result (λ _. KeepsAt options origin.entry text.now Header self.old self.new) }
     {
         if origin.is_first {
             self.header.extend_from_slice(text)?;
@@ -100,7 +100,7 @@ impl<'a> VersionLines<'a> {
         text: &'a [u8],
         version: Version,
     ) -> Result<(), AllocError>
-        ensures { IfOk result (λ _. KeepsOne options (record { line = origin_line origin.entry self.old.line_count text.now; reading = Entry (Denotes version) }) self.old self.new) }
+        ensures { IfOk result (λ _. KeepsAt options origin.entry text.now (Entry (Denotes version)) self.old self.new) }
     {
         self.versions.push(VersionLine { text, version })?;
         Ok(())
@@ -115,7 +115,7 @@ impl<'a> VersionLines<'a> {
         reason: &str,
     ) -> Result<(), AllocError>
         requires { self.old.fault_count < 2 ^ 63 }
-        ensures { IfOk result (λ _. KeepsOne options (record { line = origin_line origin.entry self.old.line_count text.now; reading = Entry (Fails reason.now) }) self.old self.new) }
+        ensures { IfOk result (λ _. KeepsAt options origin.entry text.now (Entry (Fails reason.now)) self.old self.new) }
     {
         options.invalid.push_fault(
             alloc,
@@ -140,7 +140,7 @@ impl<'a> VersionLines<'a> {
         reading: Reading,
     ) -> Result<(), AllocError>
         requires { self.old.fault_count < 2 ^ 63 }
-        ensures { IfOk result (λ _. KeepsOne options (record { line = origin_line origin.entry self.old.line_count text.now; reading = Entry (reading_of reading) }) self.old self.new) }
+        ensures { IfOk result (λ _. KeepsAt options origin.entry text.now (Entry (reading_of reading)) self.old self.new) }
     {
         match reading {
             Reading::Version(version) => self.push_version(options, origin, text, version),
@@ -159,7 +159,8 @@ impl<'a> VersionLines<'a> {
         line: &'a [u8],
     ) -> Result<(), AllocError>
         requires { (self.old.fault_count < 2 ^ 63) × (self.old.line_count < 2 ^ 63) }
-        ensures lines { IfOk result (λ _. (lines : List SourceLine) → KeepsLines options lines self.old → KeepsLines options (lines ++ filled_lines_from (origin_of origin.entry) (self.old.line_count + 1) (line.now ∷ [])) self.new) }
+        ensures lines { IfOk result (λ _. (lines : List SourceLine) → KeepsLines options lines self.old
+            → KeepsLines options (lines ++ filled_lines_from (origin_of origin.entry) (self.old.line_count + 1) (line.now ∷ [])) self.new) }
         ensures count { IfOk result (λ _. self.new.line_count ≡ self.old.line_count + 1) }
         ensures faults { IfOk result (λ _. self.new.fault_count ≤ self.old.fault_count + 1) }
     {
@@ -186,7 +187,8 @@ impl<'a> VersionLines<'a> {
         text: &'a [u8],
     ) -> Result<(), AllocError>
         requires { self.old.fault_count + length text.now < 2 ^ 63 }
-        ensures lines { IfOk result (λ _. (lines : List SourceLine) → KeepsLines options lines self.old → KeepsLines options (lines ++ source_lines (record { origin = origin_of origin.entry; lines = input_lines text.now })) self.new) }
+        ensures lines { IfOk result (λ _. (lines : List SourceLine) → KeepsLines options lines self.old
+            → KeepsLines options (lines ++ source_lines (record { origin = origin_of origin.entry; lines = input_lines text.now })) self.new) }
         ensures faults { IfOk result (λ _. self.new.fault_count ≤ self.old.fault_count + length text.now + 1) }
     {
         self.line_count = 0;

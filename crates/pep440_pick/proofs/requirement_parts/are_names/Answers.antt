@@ -1,7 +1,8 @@
 use Rattle.std.proofs.Common.{◌∙◌, ap, arith, sym, Some, None}
 use Rattle.std.proofs.lemmas.Str.Pattern.{split_parts}
 use Rattle.pep440_pick.specs.Names.{is_name}
-use Rattle.pep440_pick.proofs.Extras.{after_comma, last_name, names_after, no_name_before}
+use Rattle.pep440_rs.proofs.Reading.Pieces.{after_comma}
+use Rattle.pep440_pick.proofs.Extras.{last_name, names_after, no_name_before}
 use Rattle.pep440_pick.proofs.requirement_parts.are_names.Goals as goal
 
 pub returns-then-not-is_name : goal.returns-then-not-is_name

@@ -1,6 +1,7 @@
 use Rattle.std.proofs.Common.{◌∙◌, arith, map, string_bytes, sym, Some, None}
 use Rattle.std.proofs.lemmas.Str.Pattern.{split_parts}
-use Rattle.pep440_pick.proofs.Extras.{after_comma, copied_last, copied_more, listed}
+use Rattle.pep440_rs.proofs.Reading.Pieces.{after_comma}
+use Rattle.pep440_pick.proofs.Extras.{copied_last, copied_more, listed}
 use Rattle.pep440_pick.proofs.requirement_parts.copy_extras.Goals as goal
 
 pub loop-part-preserved : goal.loop-part-preserved

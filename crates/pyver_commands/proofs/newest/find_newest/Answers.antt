@@ -26,4 +26,4 @@ returns-in_err-print_newest-clause-stopped g c =
 pub returns-clause-finished : goal.returns-clause-finished
 returns-clause-finished g c =
     rw c.in_ok-print_newest.ensures (newest_answers _ _ _ _ c.args.rule c.takes_prereleases.result _ c.filter_all_sources.new.state c.args.input.now c.filter_all_sources.new.input _ _ _ _ _ c.in-Ok.ensures.finished (search rules) c.filter_all_sources.new.err.items c.push_last.new.errors.items
-    (ap Some c.new-errors.ensures.items) refl c.in_ok-push_last.ensures (option_map kept_line c.choose.result) (search rules) c.takes_prereleases.ensures (c.choose.ensures c.takes_prereleases.result c.args.rule.list))
+    (ap Some c.new-errors.ensures.items) refl c.in_ok-push_last.ensures (option_map kept_line c.take_line.result) (search rules) c.takes_prereleases.ensures c.take_line.ensures)
