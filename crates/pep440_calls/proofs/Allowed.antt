@@ -1,5 +1,5 @@
 -- What a list allows, and what a set by itself does, of bytes that were read and of compiled bytes as they lie.
-use Rattle.std.proofs.Common.{◌≡◌, ◌∙◌, ◌&&◌, ◌||◌, ◌≤◌, ℕ, zero, suc, List, [], Bool, true, false, ap, arith, inl, inr, refl, sym}
+use Rattle.std.proofs.Common.{◌≡◌, ◌∙◌, ◌&&◌, ◌||◌, ◌≤◌, ℕ, zero, suc, List, [], Bool, true, true≢false, false, ap, arith, inl, inr, refl, sym}
 use Rattle.std.specs.Prelude.{◌==◌, Err, Ok, Result, not, unwrap_or}
 use Rattle.pep440_compiled.proofs.SetKeys.{set_matches}
 use Rattle.pep440_compiled.specs.Lists.{DenotesList, DenotesWithSet, HasSetFormat}
@@ -94,6 +94,11 @@ no_set set (inr seven) none = inr (seven, λ s d. none s (inl d))
 
 -- ---- of a compiled version
 
+final_is : (taken matched early held : Bool) → matched ≡ held → early ≡ false → (taken || not early) && matched ≡ held
+final_is true matched early held e f = e
+final_is false matched true held e f = absurd (true≢false f)
+final_is false matched false held e f = e
+
 no_match : (taken matched early : Bool) → matched ≡ false → (taken || not early) && matched ≡ false
 no_match true true early e = e
 no_match true false early e = refl
@@ -144,6 +149,13 @@ module _ (set version : List ℕ) (n : ℕ) (held early : Bool) (format : HasFor
   allows_taken all pre (Err fault.InvalidRight) h = h
   allows_taken all pre (Err fault.NoSet) h = h
   allows_taken all pre (Err fault.NoList) h = absurd h
+
+-- of a version that is no pre-release
+pub allows_soon : (set version : List ℕ) (n : ℕ) (held : Bool) → HasSetFormat set → HasVersionFormat version
+    → ((s : Segments) (r : Record) → HasSet set s → DenotesVersion version r → held ≡ contains record_cmp s r) → ((r : Record) → DenotesVersion version r → any_prerelease r ≡ false) → Allows set version n held
+allows_soon set version n held six is_version told final =
+    let found = found_in_set set version (held, false) (inl six) is_version (λ s r h d. (λ i. (told s r h d i, sym (final r d) i))) in
+    allows_by set version n held false (inl six) (λ h. never_lone set (inr six) h.0) is_version found held (λ members selects r chosen h e. final_is (takes n members) (selects r) (any_prerelease r) held h e)
 
 -- ---- of a string, whose compiled form is asked
 

@@ -20,6 +20,7 @@ use crate::set_calls::has_form;
 use arrayvec::ArrayVec;
 use pep440_compiled::{
     ContainsError, compile_normal, has_list_format, has_lone_set_format, has_version_format,
+    set_contains_soon,
 };
 use pep440_rs::VersionSpecifiers;
 use std::alloc::Global;
@@ -155,6 +156,26 @@ pub fn write_allow_flag(
     ensures found { AllowsResult list.now text.now prereleases allowed.old allowed.new result }
     ensures memory { AsksInPlace list.now text.now → result ≢ 3 }
 {
+    // Before all else, so that what is soon found pays nothing for the rest.
+    if let Some(held) = set_contains_soon(list, text) {
+        *allowed = flag(held);
+        return OK;
+    }
+    write_any_allow_flag(alloc, list, text, prereleases, allowed)
+}
+
+// As `write_allow_flag`, if more has to be looked at.
+#[inline(never)]
+fn write_any_allow_flag(
+    alloc: Global,
+    list: &[u8],
+    text: &[u8],
+    prereleases: u8,
+    allowed: &mut u8,
+) -> u8
+    ensures found { AllowsResult list.now text.now prereleases allowed.old allowed.new result }
+    ensures memory { AsksInPlace list.now text.now → result ≢ 3 }
+{
     match allows(alloc, list, text, prereleases) {
         Ok(found) => {
             *allowed = flag(found);
@@ -225,6 +246,21 @@ fn allows_version(set: &[u8], version: &[u8], prereleases: u8) -> Result<bool, F
     takes(set, prereleases)
 }
 
+// The same, in fewer instructions if it is soon found.
+#[inline(always)]
+fn allows_form(set: &[u8], version: &[u8], prereleases: u8) -> Result<bool, Fault>
+    requires set { HasFormatOfSets set.now }
+    requires asked { ¬ AsksSet set.now prereleases }
+    requires version { HasVersionFormat version.now }
+    ensures found { HoldsOr (AllowFaults set.now version.now prereleases) (Allows set.now version.now prereleases) result }
+    ensures memory { IfErr result (λ f. f ≢ OutOfMemory) }
+{
+    match set_contains_soon(set, version) {
+        Some(found) => Ok(found),
+        None => allows_version(set, version, prereleases),
+    }
+}
+
 // The same of the version of a string in any spelling, which is compiled first.
 fn allows_spelling(alloc: Global, set: &[u8], text: &[u8], prereleases: u8) -> Result<bool, Fault>
     requires set { HasFormatOfSets set.now }
@@ -232,7 +268,7 @@ fn allows_spelling(alloc: Global, set: &[u8], text: &[u8], prereleases: u8) -> R
     ensures { HoldsOr (AllowFaults set.now text.now prereleases) (Allows set.now text.now prereleases) result }
 {
     match compile(alloc, text) {
-        Ok(compiled) => allows_version(set, compiled.as_slice(), prereleases),
+        Ok(compiled) => allows_form(set, compiled.as_slice(), prereleases),
         Err(fault) => {
             if has_lone_set_format(set) {
                 return Err(fault);
@@ -252,7 +288,7 @@ fn allows_string(alloc: Global, set: &[u8], text: &[u8], prereleases: u8) -> Res
 {
     let mut form = ArrayVec::new();
     if compile_normal(&mut form, text) {
-        return allows_version(set, form.as_slice(), prereleases);
+        return allows_form(set, form.as_slice(), prereleases);
     }
     allows_spelling(alloc, set, text, prereleases)
 }
