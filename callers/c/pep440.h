@@ -75,7 +75,7 @@ enum {
     PEP440_INVALID_KIND = 9,   /* only of pep440_error: `kind` is none of PEP440_A_VERSION.. */
     PEP440_NONE_FOUND = 10,    /* only of pep440_newest: the list matches no string of the batch */
     PEP440_NO_SET = 12,        /* only of calls on sets: a list has `===`, or no string denotes it */
-    PEP440_NO_LIST = 13        /* only of pep440_allows: a set by itself asks for nothing */
+    PEP440_NO_LIST = 13        /* bytes are a set by itself, and the call needs members */
 };
 
 /* A version of a batch, or a change of pep440_edit. */
@@ -376,7 +376,7 @@ uint8_t pep440_release_range_bounds(const uint8_t *list, size_t length, uint8_t 
 
    A set by itself has format 7: the byte 7, and its keys as in a list of format 6. The calls on sets
    write and take it, and pep440_allows takes it; all others, which need the members of a list, return
-   PEP440_INVALID_LIST.
+   PEP440_NO_LIST, but pep440_newest, of which it is an invalid list.
 
    Lists without `===` that an earlier library wrote have format 5, too. Every call takes them, but
    pep440_allows then costs what it does of a string; pep440_compile_list writes format 6 of them.

@@ -25,7 +25,7 @@ static uint8_t compile_list(Bytes text, Bytes *compiled)
 bool read_list(Bytes text, const char *type, Node *context, Bytes *compiled)
 {
     uint8_t status = compile_list(text, compiled);
-    if (status == PEP440_INVALID_LIST)
+    if (status == PEP440_INVALID_LIST || status == PEP440_NO_LIST)
         return fail_text(text, type, pep440_list_error, context) != NULL;
     if (status == PEP440_NO_ROOM)
         ereturn(context, false, TOO_LONG(type));

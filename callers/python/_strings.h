@@ -228,7 +228,7 @@ static PyObject *raise_by(uint8_t status, PyObject *version, PyObject *list)
         return NULL;
     if (status == PEP440_INVALID_VERSION && version)
         return raise_invalid(InvalidVersion, INVALID_VERSION, version, version, pep440_version_error);
-    if (status == PEP440_INVALID_LIST && list)
+    if ((status == PEP440_INVALID_LIST || status == PEP440_NO_LIST) && list)
         return raise_invalid(InvalidSpecifier, INVALID_SPECIFIER, list, list, pep440_list_error);
     if (status == PEP440_NUMBER_AT_MAX && list)
         return PyErr_Format(PyExc_OverflowError, "no ranges of %R: a bound lies above 18446744073709551615", str_of(list));

@@ -459,7 +459,7 @@ static const Compiled *compiled_list(sqlite3_context *context, sqlite3_value *va
     uint8_t status = write_all(pep440_compile_list, list, &out);
     if (status == PEP440_OK)
         *made = sqlite3_malloc64(sizeof **made + out.length);
-    if (status == PEP440_INVALID_LIST)
+    if (status == PEP440_INVALID_LIST || status == PEP440_NO_LIST)
         fail_list(context, list);
     else if (*made == NULL)
         sqlite3_result_error_nomem(context);

@@ -114,6 +114,9 @@ static int have_same_parts(const Bytes *form, const Bytes *text)
 static const uint8_t list[] = {6, 1, 11, 1, 8, 0, 2, 1, 0, 80, 0, 16, 0, 0, 5, 25, 0, 2, 1, 0, 80, 0, 16, 0}, members[] = {5, 25, 0, 2, 1, 0, 80, 0, 16, 0};
 static const uint8_t version[] = {4, 0, 2, 1, 0, 80, 0, 16, 0}, early_version[] = {4, 0, 2, 1, 0, 49, 2, 0, 16, 0};
 
+/* Why bytes are no list with members. */
+static uint8_t rejection(const Bytes *form) { return form->length > 0 && form->bytes[0] == 7 ? PEP440_NO_LIST : PEP440_INVALID_LIST; }
+
 /* Calls that read compiled bytes as they lie: of any bytes they say that these are invalid, or write some result. */
 static void ask_in_place(const Bytes *form)
 {
@@ -125,9 +128,9 @@ static void ask_in_place(const Bytes *form)
     status = pep440_contains(list, sizeof list, OF(form), &is, &early);
     hold(status == PEP440_INVALID_VERSION || (status == PEP440_OK && is <= 1 && early <= 1), "contains, a version");
     status = pep440_contains(OF(form), version, sizeof version, &is, &early);
-    hold(status == PEP440_INVALID_LIST || (status == PEP440_OK && is <= 1 && early <= 1), "contains, a list");
+    hold(status == rejection(form) || (status == PEP440_OK && is <= 1 && early <= 1), "contains, a list");
     status = pep440_contains(OF(form), (const uint8_t *)"1", 1, &is, &early);
-    hold(status == PEP440_INVALID_LIST || (status == PEP440_OK && is <= 1 && early <= 1), "contains, a list and a string");
+    hold(status == rejection(form) || (status == PEP440_OK && is <= 1 && early <= 1), "contains, a list and a string");
     status = pep440_contains(members, sizeof members, OF(form), &is, &early);
     hold(status == PEP440_INVALID_VERSION || (status == PEP440_OK && is <= 1 && early <= 1), "contains, a version, without the set");
     for (uint8_t prereleases = 0; prereleases <= PEP440_ASKED_PRERELEASES; prereleases++) {
@@ -198,10 +201,10 @@ static void hold_no_list(const Bytes *form)
     Bytes found;
     size_t ends[1], count = 7;
     uint8_t any = 7, early = 7;
-    hold(pep440_any_prerelease(OF(form), &any) == PEP440_INVALID_LIST && any == 7, "any_prerelease");
-    hold(pep440_compile_list(OF(form), TO(&found)) == PEP440_INVALID_LIST, "compile_list");
+    hold(pep440_any_prerelease(OF(form), &any) == rejection(form) && any == 7, "any_prerelease");
+    hold(pep440_compile_list(OF(form), TO(&found)) == rejection(form), "compile_list");
     hold((form->length > 0 && (form->bytes[0] == 5 || form->bytes[0] == 6)) ||
-             (pep440_contains(OF(form), (const uint8_t *)"1", 1, &any, &early) == PEP440_INVALID_LIST && any == 7), "contains a string");
+             (pep440_contains(OF(form), (const uint8_t *)"1", 1, &any, &early) == rejection(form) && any == 7), "contains a string");
     if (form->length > 0 && (form->bytes[0] == 6 || form->bytes[0] == 7))
         return; /* taken as they lie */
     hold(pep440_boundaries(OF(form), found.bytes, ROOM, ends, 1, &found.length, &count) == PEP440_INVALID_LIST && count == 7, "boundaries");
@@ -225,7 +228,7 @@ static void hold_list(const Bytes *form)
     uint8_t status = pep440_normalize_list(OF(form), TO(&text)), told = pep440_list_error(OF(form), TO(&again));
     int is_compiled = form->length > 0 && (form->bytes[0] == 5 || form->bytes[0] == 6);
     hold(told == PEP440_OK && (again.length == 0) == (status == PEP440_OK), "list_error");
-    if (status == PEP440_INVALID_LIST) {
+    if (status == rejection(form)) {
         rejected++;
         hold_no_list(form);
         return;

@@ -322,6 +322,24 @@ static void ask_boundaries(void)
     hold(pep440_boundaries(LIST("=1.0"), set, sizeof set, ends, 8, &written, &count) == PEP440_INVALID_LIST && count == 77, "no list, so no set");
 }
 
+/* Calls that need the members of a list, of a set by itself: nothing is written. */
+static void ask_members(const uint8_t *set, size_t length)
+{
+    uint8_t out[8] = {7}, is = 7, early = 7;
+    size_t ends[4], written = 77, count = 77;
+    hold(pep440_normalize_list(set, length, out, sizeof out, &written) == PEP440_NO_LIST, "normalize_list of a set");
+    hold(pep440_compile_list(set, length, out, sizeof out, &written) == PEP440_NO_LIST, "compile_list of a set");
+    hold(pep440_specifiers_of(set, length, out, sizeof out, ends, 4, &written, &count) == PEP440_NO_LIST, "specifiers_of a set");
+    hold(pep440_any_prerelease(set, length, &is) == PEP440_NO_LIST, "any_prerelease of a set");
+    hold(pep440_version_in(set, length, out, sizeof out, &written) == PEP440_NO_LIST, "version_in of a set");
+    hold(pep440_ranges(set, length, out, sizeof out, &written) == PEP440_NO_LIST, "ranges of a set");
+    hold(pep440_range_bounds(set, length, out, sizeof out, ends, 4, &written, &count) == PEP440_NO_LIST, "range_bounds of a set");
+    hold(pep440_release_range_bounds(set, length, out, sizeof out, ends, 4, &written, &count) == PEP440_NO_LIST, "release_range_bounds of a set");
+    hold(pep440_contains(set, length, VERSION("1.0"), &is, &early) == PEP440_NO_LIST, "contains, a set");
+    hold(pep440_filter(set, length, NULL, 0, out, sizeof out) == PEP440_NO_LIST, "filter by a set");
+    hold(out[0] == 7 && written == 77 && count == 77 && is == 7 && early == 7, "nothing is written");
+}
+
 /* Sets by themselves, as the keys of their intervals. */
 static void ask_sets(void)
 {
@@ -354,7 +372,7 @@ static void ask_sets(void)
     hold(pep440_allows(set, length, VERSION("1.5"), PEP440_ASKED_PRERELEASES, &is) == PEP440_NO_LIST && is == 7, "no list that asks");
     hold(pep440_allows(set, length, VERSION("latest"), PEP440_ALL_PRERELEASES, &is) == PEP440_INVALID_VERSION && is == 7, "no version for a set");
     hold(pep440_allows(set, length - 1, VERSION("3"), PEP440_ALL_PRERELEASES, &is) == PEP440_INVALID_LIST && is == 7, "a set that is cut");
-    hold(pep440_normalize_list(set, length, again, sizeof again, &more) == PEP440_INVALID_LIST, "a set has no members");
+    ask_members(set, length);
 }
 
 /* The bounds that the header names. */

@@ -250,12 +250,16 @@ static const Call CALLS[] = {
     CALL(compare_invalid, PEP440_INVALID_VERSION, 2),
     CALL(compare_right, PEP440_INVALID_RIGHT, 2),
     CALL(contains, PEP440_OK, 2),
+    CALL(contains_not, PEP440_OK, 2),
     CALL(contains_no_list, PEP440_INVALID_LIST, 2),
+    CALL(contains_invalid, PEP440_INVALID_VERSION, 2),
     CALL(contains_set, PEP440_OK, 2),
     CALL(allows, PEP440_OK, 2),
     CALL(allows_set, PEP440_OK, 2),
     CALL(allows_same_set, PEP440_OK, 2),
+    CALL(allows_not, PEP440_OK, 2),
     CALL(allows_no_list, PEP440_INVALID_LIST, 2),
+    CALL(allows_invalid, PEP440_INVALID_VERSION, 2),
     CALL(filter, PEP440_OK, 2),
     CALL(newest, PEP440_OK, 2),
     CALL(newest_no_list, PEP440_INVALID_LIST, 2),
@@ -266,13 +270,8 @@ static const Call CALLS[] = {
     CALL(sort_keys, PEP440_OK, 2),
     CALL(sort_keys_invalid, PEP440_INVALID_VERSION, 2)};
 
-/* Calls that guess how much they need, and ask for less where that is refused; or that compile a string beside a compiled list, and read the list where
-   that is refused. */
+/* Calls that guess how much they need, and ask for less where that is refused. */
 static const Call GUESSING[] = {
-    CALL(contains_not, PEP440_OK, 2),
-    CALL(contains_invalid, PEP440_INVALID_VERSION, 2),
-    CALL(allows_not, PEP440_OK, 2),
-    CALL(allows_invalid, PEP440_INVALID_VERSION, 2),
     CALL(edit, PEP440_OK, 1),
     CALL(edit_invalid, PEP440_INVALID_VERSION, 1),
     CALL(edit_no_change, PEP440_INVALID_CHANGE, 1),

@@ -10,19 +10,19 @@
 //! compiled forms; and the calls on many strings.
 #![tactic(auto)]
 
-ghost use Rattle.std.specs.Prelude.{map, not, ◌==◌, ◌≡◌};
+ghost use Rattle.std.specs.Prelude.{map, not, ◌==◌, ◌≡◌, ◌≢◌};
 ghost use Rattle.pep440_rs.specs.Bounds.{range_of, release_range_of};
 ghost use Rattle.pep440_calls.specs.Batches.{FilterMarks, KeysResult, SortResult};
-ghost use Rattle.pep440_calls.specs.CallResults.{AllowsResult, ContainsResult, IsCompiled, IsCompiledList, IsKey, IsNormal, IsNormalList, IsVersionIn, NamesPrerelease, OrderResult, PartsResult, JoinsMembers, WordResult};
+ghost use Rattle.pep440_calls.specs.CallResults.{AllowsResult, AsksInPlace, ContainsResult, IsCompiled, IsCompiledList, IsKey, IsNormal, IsNormalList, IsVersionIn, MatchesInPlace, NamesPrerelease, OrderResult, PartsResult, JoinsMembers, WordResult};
 ghost use Rattle.pep440_calls.specs.Edits.{IsEditError, WritesEdited};
 ghost use Rattle.pep440_calls.specs.Explanations.{ErrorResult, IsBuildError, IsNoOperator, RejectsNumbered};
-ghost use Rattle.pep440_calls.specs.JoinedStrings.{WritesJoined, WritesJoinedOr};
-ghost use Rattle.pep440_calls.specs.CallerBytes.{RejectsBytes, RejectsListBytes};
+ghost use Rattle.pep440_calls.specs.JoinedStrings.{WritesJoinedOr};
+ghost use Rattle.pep440_calls.specs.CallerBytes.{ListFaults, RejectsBytes};
 ghost use Rattle.pep440_calls.specs.NewestString.{NewestResult};
 ghost use Rattle.pep440_calls.specs.PatternCalls.{IsCompiledSpecifier, IsSpecifier, PatternResult, RejectsOperand, RejectsOperator, RejectsSpecifierBytes};
 ghost use Rattle.pep440_calls.specs.Ranges.{IsRangeLines, LacksRange, JoinsRangeBounds};
 ghost use Rattle.pep440_calls.specs.SetCalls.{IsComplement, IsIntersection, IsUnion, JoinsBoundaries, SetFault, SubsetResult, TwoSetFaults};
-ghost use Rattle.pep440_calls.specs.Statuses.{IsFlagOf, WritesBytes, WritesBytesOr, WritesOrFails};
+ghost use Rattle.pep440_calls.specs.Statuses.{IsFlagOf, WritesBytes, WritesBytesOr, WritesOr};
 
 use pep440_calls::{
     Parts, write_allow_flag, write_boundaries, write_build_error, write_compiled,
@@ -66,7 +66,7 @@ pub extern "C" fn pep440_normalize_list(
     out: &mut [u8],
     written: &mut usize,
 ) -> u8
-    ensures { WritesBytes ⊥ (RejectsListBytes list.now) ⊥ (IsNormalList list.now) out.old out.new written.old written.new result }
+    ensures { WritesBytesOr (ListFaults ⊥ list.now ⊥) (IsNormalList list.now) out.old out.new written.old written.new result }
 {
     write_normal_list(alloc, list, out, written)
 }
@@ -81,7 +81,7 @@ pub extern "C" fn pep440_specifiers_of(
     written: &mut usize,
     count: &mut usize,
 ) -> u8
-    ensures { WritesJoined ⊥ (RejectsListBytes list.now) ⊥ (JoinsMembers list.now)
+    ensures { WritesJoinedOr (ListFaults ⊥ list.now ⊥) (JoinsMembers list.now)
         out.old out.new ends.old ends.new written.old written.new count.old count.new result }
 {
     write_members(alloc, list, out, ends, written, count)
@@ -175,7 +175,8 @@ pub extern "C" fn pep440_contains(
     contained: &mut u8,
     prerelease: &mut u8,
 ) -> u8
-    ensures { ContainsResult list.now text.now contained.old contained.new prerelease.old prerelease.new result }
+    ensures found { ContainsResult list.now text.now contained.old contained.new prerelease.old prerelease.new result }
+    ensures memory { MatchesInPlace list.now text.now → result ≢ 3 }
 {
     write_match(alloc, list, text, contained, prerelease)
 }
@@ -189,7 +190,8 @@ pub extern "C" fn pep440_allows(
     prereleases: u8,
     allowed: &mut u8,
 ) -> u8
-    ensures { AllowsResult list.now text.now prereleases allowed.old allowed.new result }
+    ensures found { AllowsResult list.now text.now prereleases allowed.old allowed.new result }
+    ensures memory { AsksInPlace list.now text.now → result ≢ 3 }
 {
     write_allow_flag(alloc, list, text, prereleases, allowed)
 }
@@ -197,7 +199,7 @@ pub extern "C" fn pep440_allows(
 /// Whether a version of the list's specifiers is a pre-release or a developmental release, 1 or 0.
 #[unsafe(no_mangle)]
 pub extern "C" fn pep440_any_prerelease(alloc: Global, list: &[u8], any: &mut u8) -> u8
-    ensures { WritesOrFails ⊥ (RejectsListBytes list.now) ⊥ (IsFlagOf (NamesPrerelease list.now)) any.old any.new result }
+    ensures { WritesOr (ListFaults ⊥ list.now ⊥) (IsFlagOf (NamesPrerelease list.now)) any.old any.new result }
 {
     write_prerelease_flag(alloc, list, any)
 }
@@ -210,7 +212,7 @@ pub extern "C" fn pep440_version_in(
     out: &mut [u8],
     written: &mut usize,
 ) -> u8
-    ensures { WritesBytes ⊥ (RejectsListBytes list.now) ⊥ (IsVersionIn list.now) out.old out.new written.old written.new result }
+    ensures { WritesBytesOr (ListFaults ⊥ list.now ⊥) (IsVersionIn list.now) out.old out.new written.old written.new result }
 {
     write_version_in(alloc, list, out, written)
 }
@@ -257,7 +259,7 @@ pub extern "C" fn pep440_ranges(
     out: &mut [u8],
     written: &mut usize,
 ) -> u8
-    ensures { WritesBytes ⊥ (RejectsListBytes list.now) (LacksRange range_of list.now) (IsRangeLines list.now)
+    ensures { WritesBytesOr (ListFaults ⊥ list.now (LacksRange range_of list.now)) (IsRangeLines list.now)
         out.old out.new written.old written.new result }
 {
     write_range(alloc, list, out, written)
@@ -338,7 +340,7 @@ pub extern "C" fn pep440_range_bounds(
     written: &mut usize,
     count: &mut usize,
 ) -> u8
-    ensures { WritesJoined ⊥ (RejectsListBytes list.now) (LacksRange range_of list.now) (JoinsRangeBounds range_of list.now)
+    ensures { WritesJoinedOr (ListFaults ⊥ list.now (LacksRange range_of list.now)) (JoinsRangeBounds range_of list.now)
         out.old out.new ends.old ends.new written.old written.new count.old count.new result }
 {
     write_range_bounds(alloc, list, out, ends, written, count)
@@ -354,7 +356,7 @@ pub extern "C" fn pep440_release_range_bounds(
     written: &mut usize,
     count: &mut usize,
 ) -> u8
-    ensures { WritesJoined ⊥ (RejectsListBytes list.now) (LacksRange release_range_of list.now)
+    ensures { WritesJoinedOr (ListFaults ⊥ list.now (LacksRange release_range_of list.now))
         (JoinsRangeBounds release_range_of list.now) out.old out.new ends.old ends.new written.old written.new count.old count.new result }
 {
     write_release_range_bounds(alloc, list, out, ends, written, count)
@@ -381,7 +383,7 @@ pub extern "C" fn pep440_compile_list(
     out: &mut [u8],
     written: &mut usize,
 ) -> u8
-    ensures { WritesBytes ⊥ (RejectsListBytes list.now) ⊥ (IsCompiledList list.now) out.old out.new written.old written.new result }
+    ensures { WritesBytesOr (ListFaults ⊥ list.now ⊥) (IsCompiledList list.now) out.old out.new written.old written.new result }
 {
     write_compiled_list(alloc, list, out, written)
 }

@@ -1,5 +1,5 @@
 -- What a list allows, and what a set by itself does, of bytes that were read and of compiled bytes as they lie.
-use Rattle.std.proofs.Common.{◌≡◌, ◌∙◌, ◌&&◌, ◌||◌, ◌≤◌, ℕ, zero, suc, List, [], Bool, true, false, ap, arith, inl, inr, refl, sym}
+use Rattle.std.proofs.Common.{◌≡◌, ◌∙◌, ◌&&◌, ◌||◌, ◌≤◌, ℕ, zero, suc, List, [], Bool, true, true≢false, false, ap, arith, inl, inr, refl, sym}
 use Rattle.std.specs.Prelude.{◌==◌, Err, Ok, Result, not, unwrap_or}
 use Rattle.pep440_compiled.proofs.SetKeys.{set_matches}
 use Rattle.pep440_compiled.specs.Lists.{DenotesList, DenotesWithSet, HasSetFormat}
@@ -14,32 +14,39 @@ use Rattle.pep440_rs.specs.Specifiers.{Spec}
 use Rattle.pep440_sets.specs.Sets.{list_set}
 use Rattle.pep440_version.specs.Key.{record_cmp}
 use Rattle.pep440_version.specs.Record.{Record}
-use Rattle.pep440_calls.proofs.Forms.{as_compiled, as_compiled_list, as_set_list, no_compiled_list, no_set_list}
+use Rattle.pep440_calls.proofs.Forms.{as_compiled, as_compiled_list, as_set_list, never_lone, no_compiled_list, no_set_list}
 use Rattle.pep440_calls.proofs.Once.{never_both, one_bytes_list, one_version}
 use Rattle.pep440_calls.proofs.SetForming.{set_format}
-use Rattle.pep440_calls.specs.CallResults.{AllowFaults, Allows, AreAskable, AsksSet, IsFoundInSet, RejectsSet, Takes, set_allows, takes}
-use Rattle.pep440_calls.specs.CallerBytes.{BytesDenote, BytesDenoteList, RejectsBytes}
+use Rattle.pep440_calls.specs.CallResults.{AllowFaults, Allows, AsksSet, RejectsSet, Selects, takes}
+use Rattle.pep440_calls.specs.CallerBytes.{BytesDenote, BytesDenoteList, RejectsBytes, RejectsListBytes}
 use Rattle.pep440_calls.specs.Statuses.{Faults, HoldsOr}
 use Rattle.pep440_calls.specs.declared.fault.Fault.{Fault}
 use Rattle.pep440_calls.specs.declared.fault.Fault.TheVariants as fault
 
 -- ---- of a list and a version that were read
 
-pub allows_read : (list text : List ℕ) (prereleases : ℕ) (l : List Spec) (r : Record) (taken allowed : Bool) → (¬ HasLoneSetFormat list) → BytesDenoteList list l → BytesDenote text r → taken ≡ takes prereleases l → allowed ≡ list_allows_literally taken l r → Allows list text prereleases allowed
-allows_read list text prereleases l r taken allowed plain means also asks is = record {
+-- such bytes select what the list matches
+selects_read : (list : List ℕ) (l members : List Spec) (selects : Record → Bool) → (¬ HasLoneSetFormat list) → BytesDenoteList list l → Selects list members selects →
+    (l ≡ members) × ((r : Record) → list_matches_literally l r ≡ selects r)
+selects_read list l members selects plain means (inl (lone, also, is)) =
+    let same = one_bytes_list list l members means also in
+    (same, λ r. ap (λ m. list_matches_literally m r) same ∙ sym (is r))
+selects_read list l members selects plain means (inr (none, set, d, is)) = absurd (plain (set_format list set d))
+
+pub allows_read : (list text : List ℕ) (n : ℕ) (l : List Spec) (r : Record) (taken allowed : Bool) → (¬ HasLoneSetFormat list) → BytesDenoteList list l → BytesDenote text r → taken ≡ takes n l → allowed ≡ list_allows_literally taken l r → Allows list text n allowed
+allows_read list text n l r taken allowed plain means also asks is = record {
   askable = inr ((l, means), (r, also));
   asks = λ h. plain h.0;
-  of_list = λ m q lone first second.
-      is ∙ ap (λ t. list_allows_literally t l r) asks
-      ∙ (λ i. list_allows_literally (takes prereleases (one_bytes_list list l m means first i)) (one_bytes_list list l m means first i) (one_version text r q also second i));
-  of_set = λ s q d second. absurd (plain (set_format list s d));
+  found = λ members selects q chosen second.
+      let whole = selects_read list l members selects plain means chosen in
+      let version : r ≡ q = one_version text r q also second in
+      let takes_same : taken ≡ takes n members = asks ∙ ap (takes n) whole.0 in
+      let early_same : any_prerelease r ≡ any_prerelease q = ap any_prerelease version in
+      let match_same : list_matches_literally l r ≡ selects q = ap (list_matches_literally l) version ∙ whole.1 q in
+      is ∙ (λ i. (takes_same i || not (early_same i)) && match_same i);
 }
 
 -- ---- which format a form with a set has
-
--- a list with its set is no set by itself
-pub never_lone : (bytes : List ℕ) → HasSetFormat bytes → HasLoneSetFormat bytes → ⊥
-never_lone bytes six seven = omega (arith, ap (λ o. unwrap_or o 0) (sym six ∙ seven))
 
 with_list : (bytes : List ℕ) → HasFormatOfSets bytes → (¬ HasLoneSetFormat bytes) → HasSetFormat bytes
 with_list bytes (inl six) lone = six
@@ -52,33 +59,33 @@ takes_asked zero l two = absurd (omega (arith, two))
 takes_asked (suc zero) l two = absurd (omega (arith, two))
 takes_asked (suc (suc n)) l two = refl
 
-pub takes_plain : (set : List ℕ) (n : ℕ) → (2 ≤ n → ⊥) → Takes set n (n == 1)
-takes_plain set zero few = record { of_list = λ l lone means. refl; of_set = λ lone. refl }
-takes_plain set (suc zero) few = record { of_list = λ l lone means. refl; of_set = λ lone. refl }
-takes_plain set (suc (suc n)) few = absurd (few (omega arith))
+pub takes_plain : (n : ℕ) (members : List Spec) → (2 ≤ n → ⊥) → (n == 1) ≡ takes n members
+takes_plain zero members few = refl
+takes_plain (suc zero) members few = refl
+takes_plain (suc (suc n)) members few = absurd (few (omega arith))
 
 -- a list that is asked has its set before it
 module _ (set : List ℕ) (n : ℕ) (format : HasFormatOfSets set) (asked : ¬ AsksSet set n) (two : 2 ≤ n) where
   pub listed : HasSetFormat set
   listed = with_list set format (λ lone. asked (lone, two))
 
-  pub takes_requests : (requests : Bool) → ((l : List Spec) → DenotesList set l → requests ≡ requests_prereleases l) → Takes set n requests
-  takes_requests requests found = record {
-    of_list = λ l lone means. found l (as_compiled_list set l (inr listed) means) ∙ takes_asked n l two;
-    of_set = λ lone. absurd (never_lone set listed lone);
-  }
+  pub takes_requests : (requests : Bool) → ((l : List Spec) → DenotesList set l → requests ≡ requests_prereleases l) → (members : List Spec) (selects : Record → Bool) → Selects set members selects → requests ≡ takes n members
+  takes_requests requests found members selects (inl (lone, means, is)) = found members (as_compiled_list set members (inr listed) means) ∙ takes_asked n members two
+  takes_requests requests found members selects (inr (none, s, d, is)) = absurd (never_lone set (inr listed) (set_format set s d))
 
 -- ---- what is found in the set of a form
 
+abbrev IsFound : List ℕ → List ℕ → Bool × Bool → Type 0
+IsFound set version found = (members : List Spec) (selects : Record → Bool) (r : Record) → Selects set members selects → BytesDenote version r → found ≡ (selects r, any_prerelease r)
+
 pub found_in_set : (set version : List ℕ) (found : Bool × Bool) → HasFormatOfSets set → HasVersionFormat version
-    → ((s : Segments) (r : Record) → HasSet set s → DenotesVersion version r → found ≡ (contains record_cmp s r, any_prerelease r)) → IsFoundInSet set version found
-found_in_set set version found format is_version told = record {
-  of_list = λ l r lone means also.
-      let d = as_set_list set l (with_list set format lone) means in
-      let e = as_compiled version r is_version also in
-      told (list_set l) r (inr (l, d, refl)) e ∙ ap (λ b. (b, any_prerelease r)) (set_matches l r d.members.members d.given e.parsed);
-  of_set = λ s r d also. told s r (inl d) (as_compiled version r is_version also);
-}
+    → ((s : Segments) (r : Record) → HasSet set s → DenotesVersion version r → found ≡ (contains record_cmp s r, any_prerelease r)) → IsFound set version found
+found_in_set set version found format is_version told members selects r (inl (lone, means, is)) also =
+    let d = as_set_list set members (with_list set format lone) means in
+    let e = as_compiled version r is_version also in
+    told (list_set members) r (inr (members, d, refl)) e ∙ ap (λ b. (b, any_prerelease r)) (set_matches members r d.members.members d.given e.parsed ∙ sym (is r))
+found_in_set set version found format is_version told members selects r (inr (none, s, d, is)) also =
+    told s r (inl d) (as_compiled version r is_version also) ∙ ap (λ b. (b, any_prerelease r)) (sym (is r))
 
 -- a form that has no set is rejected
 pub no_set : (set : List ℕ) → HasFormatOfSets set → ((s : Segments) → HasSet set s → ⊥) → RejectsSet set
@@ -86,6 +93,11 @@ no_set set (inl six) none = inl (no_set_list set six (λ l d. none (list_set l) 
 no_set set (inr seven) none = inr (seven, λ s d. none s (inl d))
 
 -- ---- of a compiled version
+
+final_is : (taken matched early held : Bool) → matched ≡ held → early ≡ false → (taken || not early) && matched ≡ held
+final_is true matched early held e f = e
+final_is false matched true held e f = absurd (true≢false f)
+final_is false matched false held e f = e
 
 no_match : (taken matched early : Bool) → matched ≡ false → (taken || not early) && matched ≡ false
 no_match true true early e = e
@@ -103,50 +115,32 @@ early_match true matched early e f = e
 early_match false matched true e f = refl
 early_match false matched false e f = e ∙ sym f
 
-module _ (set version : List ℕ) (n : ℕ) (held early : Bool) (format : HasFormatOfSets set) (asked : ¬ AsksSet set n) (is_version : HasVersionFormat version) (found : IsFoundInSet set version (held, early)) where
-  askable : AreAskable set version
-  askable = inl (format, inl is_version)
-
-  of_first : (b c : Bool) → ◌≡◌ {A = Bool × Bool} (held, early) (b, c) → b ≡ held
-  of_first b c e = ap (λ (p : Bool × Bool). p.0) (sym e)
-
-  of_second : (b c : Bool) → ◌≡◌ {A = Bool × Bool} (held, early) (b, c) → c ≡ early
-  of_second b c e = ap (λ (p : Bool × Bool). p.1) (sym e)
+module _ (set version : List ℕ) (n : ℕ) (held early : Bool) (format : HasFormatOfSets set) (asked : ¬ AsksSet set n) (is_version : HasVersionFormat version) (found : IsFound set version (held, early)) where
+  allows_by : (allowed : Bool) → ((members : List Spec) (selects : Record → Bool) (r : Record) → Selects set members selects → selects r ≡ held → any_prerelease r ≡ early
+      → (takes n members || not (any_prerelease r)) && selects r ≡ allowed) → Allows set version n allowed
+  allows_by allowed told = record {
+    askable = inl (format, inl is_version);
+    asks = asked;
+    found = λ members selects r chosen also.
+        let is = found members selects r chosen also in
+        sym (told members selects r chosen (ap (λ (p : Bool × Bool). p.0) (sym is)) (ap (λ (p : Bool × Bool). p.1) (sym is)));
+  }
 
   pub allows_none : held ≡ false → Allows set version n false
-  allows_none none = record {
-    askable = askable;
-    asks = asked;
-    of_list = λ l r lone means also. sym (no_match (takes n l) (list_matches_literally l r) (any_prerelease r) (of_first _ _ (found.of_list l r lone means also) ∙ none));
-    of_set = λ s r d also. sym (no_match (takes n []) (contains record_cmp s r) (any_prerelease r) (of_first _ _ (found.of_set s r d also) ∙ none));
-  }
+  allows_none none = allows_by false (λ members selects r chosen h e. no_match (takes n members) (selects r) (any_prerelease r) (h ∙ none))
 
   pub allows_final : held ≡ true → early ≡ false → Allows set version n true
-  allows_final all final = record {
-    askable = askable;
-    asks = asked;
-    of_list = λ l r lone means also.
-        let is = found.of_list l r lone means also in
-        sym (final_match (takes n l) (list_matches_literally l r) (any_prerelease r) (of_first _ _ is ∙ all) (of_second _ _ is ∙ final));
-    of_set = λ s r d also.
-        let is = found.of_set s r d also in
-        sym (final_match (takes n []) (contains record_cmp s r) (any_prerelease r) (of_first _ _ is ∙ all) (of_second _ _ is ∙ final));
-  }
+  allows_final all final = allows_by true (λ members selects r chosen h e. final_match (takes n members) (selects r) (any_prerelease r) (h ∙ all) (e ∙ final))
 
-  pub allows_early : held ≡ true → early ≡ true → (taken : Bool) → Takes set n taken → Allows set version n taken
-  allows_early all pre taken asks = record {
-    askable = askable;
-    asks = asked;
-    of_list = λ l r lone means also.
-        let is = found.of_list l r lone means also in
-        asks.of_list l lone means ∙ sym (early_match (takes n l) (list_matches_literally l r) (any_prerelease r) (of_first _ _ is ∙ all) (of_second _ _ is ∙ pre));
-    of_set = λ s r d also.
-        let is = found.of_set s r d also in
-        asks.of_set (set_format set s d) ∙ sym (early_match (takes n []) (contains record_cmp s r) (any_prerelease r) (of_first _ _ is ∙ all) (of_second _ _ is ∙ pre));
-  }
+  abbrev Takes : Bool → Type 0
+  Takes taken = (members : List Spec) (selects : Record → Bool) → Selects set members selects → taken ≡ takes n members
+
+  pub allows_early : held ≡ true → early ≡ true → (taken : Bool) → Takes taken → Allows set version n taken
+  allows_early all pre taken asks = allows_by taken (λ members selects r chosen h e.
+      early_match (takes n members) (selects r) (any_prerelease r) (h ∙ all) (e ∙ pre) ∙ sym (asks members selects chosen))
 
   -- as pre-releases are taken
-  pub allows_taken : held ≡ true → early ≡ true → (result : Result Bool Fault) → HoldsOr (Faults ⊥ (RejectsSet set) ⊥) (Takes set n) result → HoldsOr (AllowFaults set version n) (Allows set version n) result
+  pub allows_taken : held ≡ true → early ≡ true → (result : Result Bool Fault) → HoldsOr (Faults ⊥ (RejectsSet set) ⊥) Takes result → HoldsOr (AllowFaults set version n) (Allows set version n) result
   allows_taken all pre (Ok taken) h = allows_early all pre taken h
   allows_taken all pre (Err fault.InvalidVersion) h = absurd h
   allows_taken all pre (Err fault.InvalidList) h = h
@@ -156,6 +150,13 @@ module _ (set version : List ℕ) (n : ℕ) (held early : Bool) (format : HasFor
   allows_taken all pre (Err fault.NoSet) h = h
   allows_taken all pre (Err fault.NoList) h = absurd h
 
+-- of a version that is no pre-release
+pub allows_soon : (set version : List ℕ) (n : ℕ) (held : Bool) → HasSetFormat set → HasVersionFormat version
+    → ((s : Segments) (r : Record) → HasSet set s → DenotesVersion version r → held ≡ contains record_cmp s r) → ((r : Record) → DenotesVersion version r → any_prerelease r ≡ false) → Allows set version n held
+allows_soon set version n held six is_version told final =
+    let found = found_in_set set version (held, false) (inl six) is_version (λ s r h d. (λ i. (told s r h d i, sym (final r d) i))) in
+    allows_by set version n held false (inl six) (λ h. never_lone set (inr six) h.0) is_version found held (λ members selects r chosen h e. final_is (takes n members) (selects r) (any_prerelease r) held h e)
+
 -- ---- of a string, whose compiled form is asked
 
 module _ (set text form : List ℕ) (n : ℕ) (format : HasFormatOfSets set) (r : Record) (means : BytesDenote text r) (compiled : DenotesVersion form r) where
@@ -163,8 +164,9 @@ module _ (set text form : List ℕ) (n : ℕ) (format : HasFormatOfSets set) (r 
   allows_same allowed h = record {
     askable = inl (format, inr (r, means));
     asks = h.asks;
-    of_list = λ l q lone list also. h.of_list l r lone list (inr compiled) ∙ ap (list_allows_literally (takes n l) l) (one_version text r q means also);
-    of_set = λ s q d also. h.of_set s r d (inr compiled) ∙ ap (set_allows (takes n []) s) (one_version text r q means also);
+    found = λ members selects q chosen also.
+        let version : r ≡ q = one_version text r q means also in
+        h.found members selects r chosen (inr compiled) ∙ ap (λ v. (takes n members || not (any_prerelease v)) && selects v) version;
   }
 
   pub allows_of_form : (result : Result Bool Fault) → HoldsOr (AllowFaults set form n) (Allows set form n) result → HoldsOr (AllowFaults set text n) (Allows set text n) result
@@ -176,3 +178,14 @@ module _ (set text form : List ℕ) (n : ℕ) (format : HasFormatOfSets set) (r 
   allows_of_form (Err fault.InvalidRight) h = h
   allows_of_form (Err fault.NoSet) h = h
   allows_of_form (Err fault.NoList) h = h
+
+-- ---- of a string that has none
+
+pub fault_named : (set text : List ℕ) (n : ℕ) (f : Fault) → Faults (((l : List Spec) × BytesDenoteList set l) × RejectsBytes text) (RejectsListBytes set) ⊥ f → AllowFaults set text n f
+fault_named set text n fault.InvalidVersion h = (inr (inr h.0), h.1)
+fault_named set text n fault.InvalidList h = inl h
+fault_named set text n fault.OutOfMemory h = h
+fault_named set text n fault.NumberAtMax h = h
+fault_named set text n fault.InvalidRight h = h
+fault_named set text n fault.NoSet h = h
+fault_named set text n fault.NoList h = absurd h

@@ -3,6 +3,7 @@ use Rattle.std.proofs.Common.{◌≡◌, ◌∙◌, ℕ, List, Bool, ap, arith, 
 use Rattle.std.specs.Prelude.{Err, Ok, Result, slice_get, unwrap_or}
 use Rattle.std.specs.declared.cmp.Ordering.{Ordering}
 use Rattle.pep440_compiled.specs.Lists.{DenotesList, DenotesWithSet, HasListFormat, HasSetFormat}
+use Rattle.pep440_compiled.specs.SetForms.{HasLoneSetFormat}
 use Rattle.pep440_compiled.specs.Version.{DenotesVersion, HasVersionFormat}
 use Rattle.pep440_rs.specs.Matching.{any_prerelease, list_matches}
 use Rattle.pep440_rs.specs.Specifiers.{Spec}
@@ -10,10 +11,41 @@ use Rattle.pep440_version.specs.Key.{record_cmp}
 use Rattle.pep440_version.specs.Record.{Record}
 use Rattle.pep440_calls.proofs.Once.{never_both, one_bytes_list, one_version}
 use Rattle.pep440_calls.specs.CallResults.{Contains, IsOrder, IsPrerelease, RejectsSecond, order_number}
-use Rattle.pep440_calls.specs.CallerBytes.{IsNoCompiledList, IsNoCompiledVersion, BytesDenote, BytesDenoteList, StringDenotesList, StringDenotes, RejectsBytes, RejectsListBytes, RejectsListString, RejectsString}
-use Rattle.pep440_calls.specs.Statuses.{HoldsOrFaults}
+use Rattle.pep440_calls.specs.CallerBytes.{IsNoCompiledList, IsNoCompiledVersion, BytesDenote, BytesDenoteList, ListFaults, StringDenotesList, StringDenotes, RejectsBytes, RejectsListBytes, RejectsListString, RejectsString}
+use Rattle.pep440_calls.specs.Statuses.{Faults, HoldsOr, HoldsOrFaults}
 use Rattle.pep440_calls.specs.declared.fault.Fault.{Fault}
 use Rattle.pep440_calls.specs.declared.fault.Fault.TheVariants as fault
+
+-- ---- why nothing is said
+
+-- a cause that may be a wider one
+pub Faults-weaker : (A B C X Y : Type 0) → (A → X) → (B → Y) → (f : Fault) → Faults A B C f → Faults X Y C f
+Faults-weaker A B C X Y wider also fault.InvalidVersion h = wider h
+Faults-weaker A B C X Y wider also fault.InvalidList h = also h
+Faults-weaker A B C X Y wider also fault.OutOfMemory h = h
+Faults-weaker A B C X Y wider also fault.NumberAtMax h = h
+Faults-weaker A B C X Y wider also fault.InvalidRight h = h
+Faults-weaker A B C X Y wider also fault.NoSet h = h
+Faults-weaker A B C X Y wider also fault.NoList h = h
+
+-- a compiled list is no set by itself
+pub never_lone : (bytes : List ℕ) → HasListFormat bytes → HasLoneSetFormat bytes → ⊥
+never_lone bytes (inl five) seven = omega (arith, ap (λ o. unwrap_or o 0) (sym five ∙ seven))
+never_lone bytes (inr six) seven = omega (arith, ap (λ o. unwrap_or o 0) (sym six ∙ seven))
+
+-- of bytes that do not begin as a set by itself
+pub list_faults : (A : Type 0) (bytes : List ℕ) → (¬ HasLoneSetFormat bytes) → (f : Fault) → Faults A (RejectsListBytes bytes) ⊥ f → ListFaults A bytes ⊥ f
+list_faults A bytes plain fault.InvalidVersion h = h
+list_faults A bytes plain fault.InvalidList h = (plain, h)
+list_faults A bytes plain fault.OutOfMemory h = h
+list_faults A bytes plain fault.NumberAtMax h = h
+list_faults A bytes plain fault.InvalidRight h = h
+list_faults A bytes plain fault.NoSet h = h
+list_faults A bytes plain fault.NoList h = absurd h
+
+pub members_read : (bytes : List ℕ) → (¬ HasLoneSetFormat bytes) → (result : Result (List Spec) Fault) → HoldsOrFaults ⊥ (RejectsListBytes bytes) ⊥ (BytesDenoteList bytes) result → HoldsOr (ListFaults ⊥ bytes ⊥) (BytesDenoteList bytes) result
+members_read bytes plain (Ok l) means = means
+members_read bytes plain (Err f) h = list_faults ⊥ bytes plain f h
 
 -- ---- versions
 
@@ -99,7 +131,7 @@ module _ (list text form : List ℕ) (format : HasListFormat list) (r : Record) 
   abbrev Found : List ℕ → Bool × Bool → Type 0
   Found bytes found = Contains list bytes found.0 × IsPrerelease bytes found.1
 
-  pub contains_of_form : (result : Result (Bool × Bool) Fault) → HoldsOrFaults (RejectsSecond list form) (RejectsListBytes list) ⊥ (Found form) result → HoldsOrFaults (RejectsSecond list text) (RejectsListBytes list) ⊥ (Found text) result
+  pub contains_of_form : (result : Result (Bool × Bool) Fault) → HoldsOr (ListFaults (RejectsSecond list form) list ⊥) (Found form) result → HoldsOr (ListFaults (RejectsSecond list text) list ⊥) (Found text) result
   contains_of_form (Ok found) h = (
     (inl (format, inr (r, means)), λ l q lone also. h.0.1 l r lone (inr compiled) ∙ ap (list_matches l) (one_version text r q means also)),
     λ q also. h.1 r (inr compiled) ∙ ap any_prerelease (one_version text r q means also),

@@ -10,8 +10,8 @@ use Rattle.pep440_rs.specs.Specifiers.{Spec}
 use Rattle.pep440_version.specs.Key.{record_cmp}
 use Rattle.pep440_version.specs.Record.{Record}
 use Rattle.pep440_calls.specs.JoinedStrings.{Joins}
-use Rattle.pep440_calls.specs.CallerBytes.{BytesDenote, BytesDenoteList, RejectsBytes, RejectsListBytes}
-use Rattle.pep440_calls.specs.Statuses.{Fails, WritesBoth, WritesAtStart}
+use Rattle.pep440_calls.specs.CallerBytes.{BytesDenote, BytesDenoteList, ListFaults, RejectsBytes}
+use Rattle.pep440_calls.specs.Statuses.{FailsBy, WritesBoth, WritesAtStart}
 use Rattle.pep440_calls.specs.declared.batch.BatchError.{BatchError}
 use Rattle.pep440_calls.specs.declared.fault.Fault.{Fault}
 use Rattle.pep440_calls.specs.declared.batch.BatchError.TheVariants as stop
@@ -31,7 +31,7 @@ Marks list_text texts marks = (list : List Spec) × BytesDenoteList list_text li
 abbrev pub FilterMarks : List ℕ → List (List ℕ) → List ℕ → List ℕ → ℕ → Type 0
 FilterMarks list_text texts old marks status =
     ((found : List ℕ) × Marks list_text texts found × WritesAtStart found old marks status)
-    ⊎ ((marks ≡ old) × Fails ⊥ (RejectsListBytes list_text) ⊥ status)
+    ⊎ ((marks ≡ old) × FailsBy (ListFaults ⊥ list_text ⊥) status)
 
 -- ---- texts that are all to be versions
 

@@ -6,14 +6,14 @@ use Rattle.std.specs.declared.cmp.Ordering.{Ordering}
 use Rattle.std.specs.declared.cmp.Ordering.TheVariants.{Less, Equal, Greater}
 use Rattle.pep440_compiled.specs.Lists.{HasListFormat, IsListForm}
 use Rattle.pep440_compiled.specs.SetForms.{DenotesSet, HasFormatOfSets, HasLoneSetFormat}
-use Rattle.pep440_compiled.specs.Version.{HasVersionFormat, DenotesVersion}
+use Rattle.pep440_compiled.specs.Version.{HasShortForm, HasVersionFormat, DenotesVersion}
 use Rattle.pep440_keys.specs.SortKeys.{key_bytes}
 use Rattle.pep440_rs.specs.Lists.{print_list}
 use Rattle.pep440_rs.specs.Matching.{any_prerelease, has_local, list_matches}
 use Rattle.pep440_rs.specs.Operators.{is_star, operator_text}
 use Rattle.pep440_ranges.specs.RangeSegments.{contains}
 use Rattle.pep440_rs.specs.Bounds.{Segments}
-use Rattle.pep440_rs.specs.LiteralMatching.{list_allows_literally, list_matches_literally}
+use Rattle.pep440_rs.specs.LiteralMatching.{list_matches_literally}
 use Rattle.pep440_rs.specs.Prereleases.{requests_prereleases}
 use Rattle.pep440_rs.specs.Specifiers.{Spec}
 use Rattle.pep440_version.specs.Key.{record_cmp}
@@ -25,8 +25,8 @@ use Rattle.pep440_version.specs.declared.prerelease.PrereleaseKind.{PrereleaseKi
 use Rattle.pep440_version.specs.declared.prerelease.PrereleaseKind.TheVariants.{Alpha, Beta, Rc}
 use Rattle.pep440_sets.specs.Common.{common_version}
 use Rattle.pep440_calls.specs.JoinedStrings.{Joins}
-use Rattle.pep440_calls.specs.CallerBytes.{BytesDenote, BytesDenoteList, RejectsBytes, RejectsListBytes}
-use Rattle.pep440_calls.specs.Statuses.{Fails, FailsBy, Faults, IsFlagOf, WritesAtStart, fault_status, flag}
+use Rattle.pep440_calls.specs.CallerBytes.{BytesDenote, BytesDenoteList, ListFaults, RejectsBytes, RejectsListBytes}
+use Rattle.pep440_calls.specs.Statuses.{Fails, FailsBy, Faults, IsFlagOf, WritesAtStart, WritesOr, fault_status, flag}
 use Rattle.pep440_calls.specs.declared.fault.Fault.{Fault}
 use Rattle.pep440_calls.specs.declared.one_version.Parts.{Parts}
 use Rattle.pep440_calls.specs.declared.fault.Fault.TheVariants as fault
@@ -111,6 +111,18 @@ module _ (left right : List ℕ) where
 abbrev pub IsTakenAsVersion : List ℕ → Type 0
 IsTakenAsVersion text = HasVersionFormat text ⊎ ((r : Record) × BytesDenote text r)
 
+-- nothing is allocated for the version: the bytes begin as its compiled form, or are its normalized form and the compiled one is short
+abbrev pub NeedsNoMemory : List ℕ → Type 0
+NeedsNoMemory text = HasVersionFormat text ⊎ ((r : Record) × HasShortForm r × (text ≡ print r))
+
+-- nothing is allocated for either
+abbrev pub MatchesInPlace : List ℕ → List ℕ → Type 0
+MatchesInPlace list_text text = HasListFormat list_text × NeedsNoMemory text
+
+-- nor of the set
+abbrev pub AsksInPlace : List ℕ → List ℕ → Type 0
+AsksInPlace list_text text = HasFormatOfSets list_text × NeedsNoMemory text
+
 -- the first bytes begin as a compiled list, which is taken as it lies; or they denote a list, and the others a version
 abbrev pub AreMatchable : List ℕ → List ℕ → Type 0
 AreMatchable list_text text = (HasListFormat list_text × IsTakenAsVersion text) ⊎ (((list : List Spec) × BytesDenoteList list_text list) × ((r : Record) × BytesDenote text r))
@@ -131,7 +143,7 @@ RejectsSecond list_text text = ((HasListFormat list_text × HasVersionFormat tex
 abbrev pub ContainsResult : List ℕ → List ℕ → ℕ → ℕ → ℕ → ℕ → ℕ → Type 0
 ContainsResult list text old contained old_prerelease prerelease status =
     ((status ≡ 0) × IsFlagOf (Contains list text) contained × IsFlagOf (IsPrerelease text) prerelease)
-    ⊎ ((contained ≡ old) × (prerelease ≡ old_prerelease) × Fails (RejectsSecond list text) (RejectsListBytes list) ⊥ status)
+    ⊎ ((contained ≡ old) × (prerelease ≡ old_prerelease) × FailsBy (ListFaults (RejectsSecond list text) list ⊥) status)
 
 -- whether a version of the list is a pre-release or a developmental release
 abbrev pub NamesPrerelease : List ℕ → Bool → Type 0
@@ -183,31 +195,23 @@ takes (suc (suc n)) list = requests_prereleases list
 abbrev pub AreAskable : List ℕ → List ℕ → Type 0
 AreAskable list_text text = (HasFormatOfSets list_text × IsTakenAsVersion text) ⊎ (((list : List Spec) × BytesDenoteList list_text list) × ((r : Record) × BytesDenote text r))
 
--- of the versions in a set all, or those that are no pre-releases
-abbrev pub set_allows : Bool → Segments → Record → Bool
-set_allows taken set r = (taken || not (any_prerelease r)) && contains record_cmp set r
-
 -- pre-releases are to be taken as the list asks, of a set by itself, which has no list
 abbrev pub AsksSet : List ℕ → ℕ → Type 0
 AsksSet bytes prereleases = HasLoneSetFormat bytes × (2 ≤ prereleases)
 
--- whether pre-releases are taken; a set by itself has no member that asks for them
-pub record Takes (list_text : List ℕ) (prereleases : ℕ) (taken : Bool) : Type 0 where
-  pub of_list : (list : List Spec) → (¬ HasLoneSetFormat list_text) → BytesDenoteList list_text list → taken ≡ takes prereleases list
-  pub of_set : HasLoneSetFormat list_text → taken ≡ takes prereleases []
+-- the bytes denote a list with these members, which selects what it matches literally; or a set by itself, which has no members and selects
+-- what is in it
+abbrev pub Selects : List ℕ → List Spec → (Record → Bool) → Type 0
+Selects bytes members selects =
+    ((¬ HasLoneSetFormat bytes) × BytesDenoteList bytes members × ((r : Record) → selects r ≡ list_matches_literally members r))
+    ⊎ ((members ≡ []) × (set : Segments) × DenotesSet bytes set × ((r : Record) → selects r ≡ contains record_cmp set r))
 
--- whether the list matches the version literally, or the set by itself has it, and whether the version is a pre-release or a
--- developmental release; if the bytes denote them
-pub record IsFoundInSet (list_text text : List ℕ) (found : Bool × Bool) : Type 0 where
-  pub of_list : (list : List Spec) (r : Record) → (¬ HasLoneSetFormat list_text) → BytesDenoteList list_text list → BytesDenote text r → found ≡ (list_matches_literally list r, any_prerelease r)
-  pub of_set : (set : Segments) (r : Record) → DenotesSet list_text set → BytesDenote text r → found ≡ (contains record_cmp set r, any_prerelease r)
-
--- whether the list allows the version, or the set by itself does, if the bytes denote them
+-- whether the version is selected, and is no pre-release unless these are taken
 pub record Allows (list_text text : List ℕ) (prereleases : ℕ) (allowed : Bool) : Type 0 where
   pub askable : AreAskable list_text text
   pub asks : ¬ AsksSet list_text prereleases
-  pub of_list : (list : List Spec) (r : Record) → (¬ HasLoneSetFormat list_text) → BytesDenoteList list_text list → BytesDenote text r → allowed ≡ list_allows_literally (takes prereleases list) list r
-  pub of_set : (set : Segments) (r : Record) → DenotesSet list_text set → BytesDenote text r → allowed ≡ set_allows (takes prereleases []) set r
+  pub found : (members : List Spec) (selects : Record → Bool) (r : Record) → Selects list_text members selects → BytesDenote text r
+      → allowed ≡ (takes prereleases members || not (any_prerelease r)) && selects r
 
 -- the version is invalid, and the list is not, or begins as a set by itself, or both begin as compiled forms: else the list is read first
 abbrev pub RejectsVersion : List ℕ → List ℕ → Type 0
@@ -222,10 +226,9 @@ abbrev pub AllowFaults : List ℕ → List ℕ → ℕ → Fault → Type 0
 AllowFaults list_text text prereleases fault.NoList = AsksSet list_text prereleases
 AllowFaults list_text text prereleases f = Faults (RejectsVersion list_text text) (RejectsSet list_text) ⊥ f
 
--- the flag is written with status 0; otherwise it is unchanged, and the status is that of the failure
+-- the flag is written, or the call fails
 abbrev pub AllowsResult : List ℕ → List ℕ → ℕ → ℕ → ℕ → ℕ → Type 0
-AllowsResult list_text text prereleases old new status =
-    ((status ≡ 0) × IsFlagOf (Allows list_text text prereleases) new) ⊎ ((new ≡ old) × FailsBy (AllowFaults list_text text prereleases) status)
+AllowsResult list_text text prereleases = WritesOr (AllowFaults list_text text prereleases) (IsFlagOf (Allows list_text text prereleases))
 
 -- the normal form of a version that the list matches literally; no bytes if it matches none
 abbrev pub IsVersionIn : List ℕ → List ℕ → Type 0

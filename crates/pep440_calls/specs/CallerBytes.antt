@@ -3,6 +3,7 @@
 use Rattle.std.specs.Prelude.{◌≡◌, ◌⊎◌, ℕ, List, codes}
 use Rattle.std.specs.Str.{IsUtf8}
 use Rattle.pep440_compiled.specs.Lists.{DenotesList, HasListFormat}
+use Rattle.pep440_compiled.specs.SetForms.{HasLoneSetFormat}
 use Rattle.pep440_compiled.specs.Version.{DenotesVersion, HasVersionFormat}
 use Rattle.pep440_rs.specs.Lists.ListErrorTexts.{list_rejection_text}
 use Rattle.pep440_rs.specs.Lists.ListGrammar.{DerivesList, PieceRejection, RejectsList}
@@ -11,6 +12,8 @@ use Rattle.pep440_version.specs.ErrorTexts.{rejection_text}
 use Rattle.pep440_version.specs.Grammar.{Derives}
 use Rattle.pep440_version.specs.Record.{Record}
 use Rattle.pep440_version.specs.Rejections.{Rejection, Rejects}
+use Rattle.pep440_calls.specs.declared.fault.Fault.{Fault}
+use Rattle.pep440_calls.specs.declared.fault.Fault.TheVariants as fault
 
 -- ---- versions
 
@@ -75,3 +78,15 @@ ExplainsListBytes bytes words =
 -- the bytes are no list
 abbrev pub RejectsListBytes : List ℕ → Type 0
 RejectsListBytes bytes = (words : List ℕ) × ExplainsListBytes bytes words
+
+module _ (version : Type 0) (bytes : List ℕ) (range : Type 0) where
+  -- the cause of a failure of a call that needs the members of a list, other than memory: an invalid version, an invalid list, a list without
+  -- a range, or a set by itself, which has no members
+  abbrev pub ListFaults : Fault → Type 0
+  ListFaults fault.InvalidVersion = version
+  ListFaults fault.InvalidList = (¬ HasLoneSetFormat bytes) × RejectsListBytes bytes
+  ListFaults fault.OutOfMemory = Unit {0}
+  ListFaults fault.NumberAtMax = range
+  ListFaults fault.InvalidRight = ⊥
+  ListFaults fault.NoSet = ⊥
+  ListFaults fault.NoList = HasLoneSetFormat bytes

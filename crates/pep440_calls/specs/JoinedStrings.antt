@@ -1,7 +1,7 @@
 -- Strings one after the other, and where each of them ends.
 use Rattle.std.specs.List.{flat_map}
 use Rattle.std.specs.Prelude.{◌≡◌, ◌⊎◌, ◌+◌, ℕ, List, [], ◌∷◌, length}
-use Rattle.pep440_calls.specs.Statuses.{FailsBy, Faults, WritesBoth}
+use Rattle.pep440_calls.specs.Statuses.{FailsBy, WritesBoth}
 use Rattle.pep440_calls.specs.declared.fault.Fault.{Fault}
 
 -- where each string ends, if the first begins at this position
@@ -20,6 +20,3 @@ abbrev pub WritesJoinedOr : (Fault → Type 0) → (List ℕ → List ℕ → Ty
 WritesJoinedOr Cause P old new old_ends ends old_written written old_count count status =
     ((bytes : List ℕ) × (places : List ℕ) × P bytes places × (written ≡ length bytes) × (count ≡ length places) × WritesBoth bytes places old new old_ends ends status)
     ⊎ ((new ≡ old) × (ends ≡ old_ends) × (written ≡ old_written) × (count ≡ old_count) × FailsBy Cause status)
-
-abbrev pub WritesJoined : Type 0 → Type 0 → Type 0 → (List ℕ → List ℕ → Type 0) → List ℕ → List ℕ → List ℕ → List ℕ → ℕ → ℕ → ℕ → ℕ → ℕ → Type 0
-WritesJoined version list range = WritesJoinedOr (Faults version list range)

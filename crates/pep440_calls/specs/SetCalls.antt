@@ -12,7 +12,7 @@ use Rattle.pep440_version.specs.Key.{record_cmp}
 use Rattle.pep440_version.specs.Record.{Record}
 use Rattle.pep440_calls.specs.CallerBytes.{BytesDenoteList, RejectsListBytes}
 use Rattle.pep440_calls.specs.JoinedStrings.{Joins}
-use Rattle.pep440_calls.specs.Statuses.{FailsBy, IsFlagOf, SetFaults}
+use Rattle.pep440_calls.specs.Statuses.{IsFlagOf, SetFaults, WritesOr}
 use Rattle.pep440_calls.specs.declared.fault.Fault.{Fault}
 use Rattle.pep440_calls.specs.declared.set_calls.SetForm.{SetForm}
 use Rattle.pep440_calls.specs.declared.set_calls.SetForm.TheVariants.{Given, Made}
@@ -77,6 +77,6 @@ IsUnion left right bytes =
 abbrev pub IsInside : List ℕ → List ℕ → Bool → Type 0
 IsInside left right inside = IsTakenAsSet left × IsTakenAsSet right × ((s t : Segments) → HasOwnSet left s → HasOwnSet right t → IsTrue inside ↔ IsSubset s t)
 
--- the flag is written with status 0; otherwise it is unchanged, and the status is that of the failure
+-- the flag is written, or the call fails
 abbrev pub SubsetResult : List ℕ → List ℕ → ℕ → ℕ → ℕ → Type 0
-SubsetResult left right old new status = ((status ≡ 0) × IsFlagOf (IsInside left right) new) ⊎ ((new ≡ old) × FailsBy (TwoSetFaults left right) status)
+SubsetResult left right = WritesOr (TwoSetFaults left right) (IsFlagOf (IsInside left right))

@@ -61,6 +61,10 @@ module _ (Cause : Fault → Type 0) where
   abbrev pub FailsBy : ℕ → Type 0
   FailsBy status = (f : Fault) × Cause f × (status ≡ fault_status f)
 
+  -- a value of which this holds is written with status 0; otherwise the caller's value is unchanged, and the status is that of the failure
+  abbrev pub WritesOr : {X : Type 0} → (X → Type 0) → X → X → ℕ → Type 0
+  WritesOr P old new status = ((status ≡ 0) × P new) ⊎ ((new ≡ old) × FailsBy status)
+
 module _ (version list range : Type 0) where
   -- the cause of a failure other than memory: an invalid version, an invalid list, or a list without a range
   abbrev pub Faults : Fault → Type 0
@@ -77,10 +81,6 @@ module _ (version list range : Type 0) where
 
   abbrev pub Fails : ℕ → Type 0
   Fails status = FailsBy Faults status
-
-  -- a value of which this holds is written; or the call fails and the caller's value is unchanged
-  abbrev pub WritesOrFails : {X : Type 0} → (X → Type 0) → X → X → ℕ → Type 0
-  WritesOrFails P old new status = ((status ≡ 0) × P new) ⊎ ((new ≡ old) × Fails status)
 
 -- the cause of a failure of a call on one or two sets, other than memory: the left one or the only one is invalid, the right one is, or one
 -- is a list that has no set

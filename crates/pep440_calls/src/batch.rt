@@ -3,14 +3,14 @@ ghost use Rattle.std.specs.List.{AllZip};
 ghost use Rattle.std.specs.Prelude.{IfOk, map, ◌≡◌};
 ghost use Rattle.pep440_version.specs.Key.{record_cmp};
 ghost use Rattle.pep440_calls.specs.Batches.{ArrangesPositions, FilterMarks, HoldsOrBatchFaults, IsMark, KeysResult, Marks, JoinsKeys, DenotesPositioned, SortResult, Sorts, ReportsBatchError, batch_error_at};
-ghost use Rattle.pep440_calls.specs.CallerBytes.{RejectsListBytes};
-ghost use Rattle.pep440_calls.specs.Statuses.{HoldsOrFaults};
+ghost use Rattle.pep440_calls.specs.CallerBytes.{ListFaults};
+ghost use Rattle.pep440_calls.specs.Statuses.{HoldsOr};
 ghost use Rattle.pep440_calls.specs.declared.batch.BatchError.TheVariants.{OutOfMemory};
 
 use crate::buffer::{put, put_both};
 use crate::fault::Fault;
 use crate::joined_strings::JoinedStrings;
-use crate::read::{read, read_list};
+use crate::read::{read, to_list};
 use pep440_rs::{Version, VersionSpecifiers};
 use std::alloc::{AllocError, AllocFailed, Global};
 use std::cmp::Ordering;
@@ -109,9 +109,9 @@ fn mark_all(alloc: Global, list: &VersionSpecifiers, texts: &[&[u8]]) -> Result<
 
 // Of each string, whether the list matches it.
 fn filter(alloc: Global, list: &[u8], texts: &[&[u8]]) -> Result<Vec<u8>, Fault>
-    ensures { HoldsOrFaults ⊥ (RejectsListBytes list.now) ⊥ (λ found. Marks list.now (map (λ t. t.now) texts.now) found.items) result }
+    ensures { HoldsOr (ListFaults ⊥ list.now ⊥) (λ found. Marks list.now (map (λ t. t.now) texts.now) found.items) result }
 {
-    let specifiers = read_list(alloc, list)?;
+    let specifiers = to_list(alloc, list)?;
     Ok(mark_all(alloc, &specifiers, texts)?)
 }
 

@@ -2,15 +2,15 @@
 ghost use Rattle.std.specs.Prelude.{IfOk, OnOk, [], string_bytes, ◌++◌, ◌∷◌, ◌≡◌};
 ghost use Rattle.pep440_compiled.specs.Version.{compiled_bytes};
 ghost use Rattle.pep440_rs.specs.Bounds.{Segments, range_of, release_range_of};
-ghost use Rattle.pep440_calls.specs.JoinedStrings.{WritesJoined};
-ghost use Rattle.pep440_calls.specs.CallerBytes.{RejectsListBytes};
+ghost use Rattle.pep440_calls.specs.JoinedStrings.{WritesJoinedOr};
+ghost use Rattle.pep440_calls.specs.CallerBytes.{ListFaults};
 ghost use Rattle.pep440_calls.specs.Ranges.{HasRange, IsRangeLines, JoinsBounds, LacksRange, JoinsRangeBounds, bound_bytes};
-ghost use Rattle.pep440_calls.specs.Statuses.{HoldsOrFaults, WritesBytes};
+ghost use Rattle.pep440_calls.specs.Statuses.{HoldsOr, WritesBytesOr};
 
 use crate::buffer::{put_joined, put_text};
 use crate::fault::Fault;
 use crate::joined_strings::JoinedStrings;
-use crate::read::read_list;
+use crate::read::to_list;
 use pep440_compiled::push_compiled_form;
 use pep440_ranges::Ranges;
 use pep440_rs::{RangeLines, Version, release_specifiers_to_ranges, specifiers_to_ranges};
@@ -19,7 +19,7 @@ use std::ops::Bound;
 
 /// Writes the range of the list, a segment a line. Status 5 if a bound of it would need a number above the greatest.
 pub fn write_range(alloc: Global, list: &[u8], out: &mut [u8], written: &mut usize) -> u8
-    ensures { WritesBytes ⊥ (RejectsListBytes list.now) (LacksRange range_of list.now) (IsRangeLines list.now)
+    ensures { WritesBytesOr (ListFaults ⊥ list.now (LacksRange range_of list.now)) (IsRangeLines list.now)
         out.old out.new written.old written.new result }
 {
     put_text(to_range_lines(alloc, list), out, written)
@@ -36,7 +36,7 @@ pub fn write_range_bounds(
     written: &mut usize,
     count: &mut usize,
 ) -> u8
-    ensures { WritesJoined ⊥ (RejectsListBytes list.now) (LacksRange range_of list.now) (JoinsRangeBounds range_of list.now)
+    ensures { WritesJoinedOr (ListFaults ⊥ list.now (LacksRange range_of list.now)) (JoinsRangeBounds range_of list.now)
         out.old out.new ends.old ends.new written.old written.new count.old count.new result }
 {
     put_joined(to_bounds(alloc, list), out, ends, written, count)
@@ -51,22 +51,22 @@ pub fn write_release_range_bounds(
     written: &mut usize,
     count: &mut usize,
 ) -> u8
-    ensures { WritesJoined ⊥ (RejectsListBytes list.now) (LacksRange release_range_of list.now)
+    ensures { WritesJoinedOr (ListFaults ⊥ list.now (LacksRange release_range_of list.now))
         (JoinsRangeBounds release_range_of list.now) out.old out.new ends.old ends.new written.old written.new count.old count.new result }
 {
     put_joined(to_release_bounds(alloc, list), out, ends, written, count)
 }
 
 fn to_range(alloc: Global, list: &[u8]) -> Result<Ranges<Version>, Fault>
-    ensures { HoldsOrFaults ⊥ (RejectsListBytes list.now) (LacksRange range_of list.now) (HasRange range_of list.now) result }
+    ensures { HoldsOr (ListFaults ⊥ list.now (LacksRange range_of list.now)) (HasRange range_of list.now) result }
 {
-    let specifiers = read_list(alloc, list)?;
+    let specifiers = to_list(alloc, list)?;
     Ok(specifiers_to_ranges(alloc, specifiers)?)
 }
 
 // The range of a list, a segment a line.
 fn to_range_lines(alloc: Global, list: &[u8]) -> Result<String, Fault>
-    ensures { HoldsOrFaults ⊥ (RejectsListBytes list.now) (LacksRange range_of list.now) (λ text. IsRangeLines list.now (string_bytes text)) result }
+    ensures { HoldsOr (ListFaults ⊥ list.now (LacksRange range_of list.now)) (λ text. IsRangeLines list.now (string_bytes text)) result }
 {
     let range = to_range(alloc, list)?;
     Ok(RangeLines(&range).to_string(alloc)?)
@@ -128,7 +128,7 @@ fn join_bounds(alloc: Global, range: &Ranges<Version>) -> Result<JoinedStrings, 
 }
 
 fn to_bounds(alloc: Global, list: &[u8]) -> Result<JoinedStrings, Fault>
-    ensures { HoldsOrFaults ⊥ (RejectsListBytes list.now) (LacksRange range_of list.now)
+    ensures { HoldsOr (ListFaults ⊥ list.now (LacksRange range_of list.now))
         (λ found. JoinsRangeBounds range_of list.now found.bytes.items found.ends.items) result }
 {
     let range = to_range(alloc, list)?;
@@ -136,10 +136,10 @@ fn to_bounds(alloc: Global, list: &[u8]) -> Result<JoinedStrings, Fault>
 }
 
 fn to_release_bounds(alloc: Global, list: &[u8]) -> Result<JoinedStrings, Fault>
-    ensures { HoldsOrFaults ⊥ (RejectsListBytes list.now) (LacksRange release_range_of list.now)
+    ensures { HoldsOr (ListFaults ⊥ list.now (LacksRange release_range_of list.now))
         (λ found. JoinsRangeBounds release_range_of list.now found.bytes.items found.ends.items) result }
 {
-    let specifiers = read_list(alloc, list)?;
+    let specifiers = to_list(alloc, list)?;
     let range = release_specifiers_to_ranges(alloc, specifiers)?;
     Ok(join_bounds(alloc, &range)?)
 }

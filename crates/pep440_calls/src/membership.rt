@@ -1,20 +1,26 @@
 //! Whether a list contains or allows a version.
-ghost use Rattle.std.specs.Prelude.{List, ℕ, true, ◌↔◌, ◌≡◌, ◌≤◌};
+ghost use Rattle.std.specs.Prelude.{Bool, IfErr, List, ℕ, true, ◌↔◌, ◌≡◌, ◌≢◌, ◌≤◌};
 ghost use Rattle.pep440_compiled.specs.Lists.{HasListFormat};
 ghost use Rattle.pep440_compiled.specs.SetForms.{HasFormatOfSets, HasLoneSetFormat};
-ghost use Rattle.pep440_compiled.specs.Version.{HasVersionFormat};
-ghost use Rattle.pep440_calls.specs.CallResults.{AllowFaults, Allows, AllowsResult, AsksSet, Contains, ContainsResult, IsFoundInSet, IsPrerelease, RejectsSecond, RejectsSet, RejectsVersion, Takes, takes};
-ghost use Rattle.pep440_calls.specs.CallerBytes.{RejectsListBytes};
-ghost use Rattle.pep440_calls.specs.Statuses.{HoldsOr, HoldsOrFaults};
+ghost use Rattle.pep440_compiled.specs.Version.{HasShortForm, HasVersionFormat};
+ghost use Rattle.pep440_rs.specs.Matching.{any_prerelease};
+ghost use Rattle.pep440_rs.specs.Specifiers.{Spec};
+ghost use Rattle.pep440_version.specs.Print.{print};
+ghost use Rattle.pep440_version.specs.Record.{Record};
+ghost use Rattle.pep440_calls.specs.CallResults.{AllowFaults, Allows, AllowsResult, AsksInPlace, AsksSet, Contains, ContainsResult, IsPrerelease, MatchesInPlace, RejectsSecond, RejectsSet, RejectsVersion, Selects, takes};
+ghost use Rattle.pep440_calls.specs.CallerBytes.{BytesDenote, BytesDenoteList, ListFaults, RejectsBytes, RejectsListBytes};
+ghost use Rattle.pep440_calls.specs.Statuses.{Faults, HoldsOr, HoldsOrFaults};
+ghost use Rattle.pep440_calls.specs.declared.fault.Fault.TheVariants.{OutOfMemory};
 
 use crate::buffer::{OK, flag};
 use crate::fault::Fault;
 use crate::one_version::compile;
-use crate::read::{read, read_list};
+use crate::read::{read, read_list, to_list};
 use crate::set_calls::has_form;
 use arrayvec::ArrayVec;
 use pep440_compiled::{
     ContainsError, compile_normal, has_list_format, has_lone_set_format, has_version_format,
+    set_contains_soon,
 };
 use pep440_rs::VersionSpecifiers;
 use std::alloc::Global;
@@ -22,9 +28,10 @@ use std::alloc::Global;
 // Writes whether a list contains a version, and whether this is a pre-release or a developmental release.
 #[inline(always)]
 fn put_match(given: Result<(bool, bool), Fault>, contained: &mut u8, prerelease: &mut u8) -> u8
-    ensures { (list version : List ℕ) → HoldsOrFaults (RejectsSecond list version) (RejectsListBytes list) ⊥
+    ensures found { (list version : List ℕ) → HoldsOr (ListFaults (RejectsSecond list version) list ⊥)
         (λ found. Contains list version found.0 × IsPrerelease version found.1) given
         → ContainsResult list version contained.old contained.new prerelease.old prerelease.new result }
+    ensures memory { IfErr given (λ f. f ≢ OutOfMemory) → result ≢ 3 }
 {
     match given {
         Ok((found, is_early)) => {
@@ -41,8 +48,9 @@ fn put_match(given: Result<(bool, bool), Fault>, contained: &mut u8, prerelease:
 fn contains_compiled(list: &[u8], version: &[u8]) -> Result<(bool, bool), Fault>
     requires list { HasListFormat list.now }
     requires version { HasVersionFormat version.now }
-    ensures { HoldsOrFaults (RejectsSecond list.now version.now) (RejectsListBytes list.now) ⊥
+    ensures found { HoldsOr (ListFaults (RejectsSecond list.now version.now) list.now ⊥)
         (λ found. Contains list.now version.now found.0 × IsPrerelease version.now found.1) result }
+    ensures memory { IfErr result (λ f. f ≢ OutOfMemory) }
 {
     match pep440_compiled::contains(list, version) {
         Ok(found) => Ok(found),
@@ -51,12 +59,28 @@ fn contains_compiled(list: &[u8], version: &[u8]) -> Result<(bool, bool), Fault>
     }
 }
 
-// The same of the version of a string, which is compiled first: in a normal spelling without allocating. If both are invalid, the list's
-// error is named.
+// Why nothing is said of a string beside a compiled list, if this is why the string has no compiled form: an invalid list is named first.
+// Out of memory ends the call.
+fn name_fault(alloc: Global, list: &[u8], of_string: Fault) -> Fault
+    ensures fault { (text : List ℕ) → Faults (RejectsBytes text) ⊥ ⊥ of_string
+        → Faults (((l : List Spec) × BytesDenoteList list.now l) × RejectsBytes text) (RejectsListBytes list.now) ⊥ result }
+    ensures memory { of_string ≡ OutOfMemory → result ≡ OutOfMemory }
+{
+    if !matches!(of_string, Fault::InvalidVersion) {
+        return of_string;
+    }
+    match read_list(alloc, list) {
+        Ok(_) => of_string,
+        Err(of_list) => of_list,
+    }
+}
+
+// The same of the version of a string, which is compiled first: in a normal spelling without allocating.
 fn contains_string(alloc: Global, list: &[u8], text: &[u8]) -> Result<(bool, bool), Fault>
     requires { HasListFormat list.now }
-    ensures { HoldsOrFaults (RejectsSecond list.now text.now) (RejectsListBytes list.now) ⊥
+    ensures found { HoldsOr (ListFaults (RejectsSecond list.now text.now) list.now ⊥)
         (λ found. Contains list.now text.now found.0 × IsPrerelease text.now found.1) result }
+    ensures memory { (r : Record) → HasShortForm r → text.now ≡ print r → IfErr result (λ f. f ≢ OutOfMemory) }
 {
     let mut form = ArrayVec::new();
     if compile_normal(&mut form, text) {
@@ -64,16 +88,16 @@ fn contains_string(alloc: Global, list: &[u8], text: &[u8]) -> Result<(bool, boo
     }
     match compile(alloc, text) {
         Ok(compiled) => contains_compiled(list, compiled.as_slice()),
-        Err(_) => contains(alloc, list, text),
+        Err(fault) => Err(name_fault(alloc, list, fault)),
     }
 }
 
 // The same of a list that is read.
 fn contains(alloc: Global, list: &[u8], bytes: &[u8]) -> Result<(bool, bool), Fault>
-    ensures { HoldsOrFaults (RejectsSecond list.now bytes.now) (RejectsListBytes list.now) ⊥
+    ensures { HoldsOr (ListFaults (RejectsSecond list.now bytes.now) list.now ⊥)
         (λ found. Contains list.now bytes.now found.0 × IsPrerelease bytes.now found.1) result }
 {
-    let specifiers = read_list(alloc, list)?;
+    let specifiers = to_list(alloc, list)?;
     let version = read(alloc, bytes)?;
     let contained = specifiers.contains(alloc, &version)?;
     Ok((contained, version.any_prerelease()))
@@ -81,14 +105,16 @@ fn contains(alloc: Global, list: &[u8], bytes: &[u8]) -> Result<(bool, bool), Fa
 
 // As `write_match`, of a string at least. A call of its own, so that two compiled forms pay nothing for strings.
 #[inline(never)]
-fn write_parsed_match(
+fn write_string_match(
     alloc: Global,
     list: &[u8],
     text: &[u8],
     contained: &mut u8,
     prerelease: &mut u8,
 ) -> u8
-    ensures { ContainsResult list.now text.now contained.old contained.new prerelease.old prerelease.new result }
+    ensures found { ContainsResult list.now text.now contained.old contained.new prerelease.old prerelease.new result }
+    ensures memory { (r : Record) → HasListFormat list.now → (¬ HasVersionFormat text.now) → HasShortForm r → text.now ≡ print r
+        → result ≢ 3 }
 {
     if has_list_format(list) && !has_version_format(text) {
         return put_match(contains_string(alloc, list, text), contained, prerelease);
@@ -106,10 +132,11 @@ pub fn write_match(
     contained: &mut u8,
     prerelease: &mut u8,
 ) -> u8
-    ensures { ContainsResult list.now text.now contained.old contained.new prerelease.old prerelease.new result }
+    ensures found { ContainsResult list.now text.now contained.old contained.new prerelease.old prerelease.new result }
+    ensures memory { MatchesInPlace list.now text.now → result ≢ 3 }
 {
     if !has_list_format(list) || !has_version_format(text) {
-        return write_parsed_match(alloc, list, text, contained, prerelease);
+        return write_string_match(alloc, list, text, contained, prerelease);
     }
     put_match(contains_compiled(list, text), contained, prerelease)
 }
@@ -126,7 +153,28 @@ pub fn write_allow_flag(
     prereleases: u8,
     allowed: &mut u8,
 ) -> u8
-    ensures { AllowsResult list.now text.now prereleases allowed.old allowed.new result }
+    ensures found { AllowsResult list.now text.now prereleases allowed.old allowed.new result }
+    ensures memory { AsksInPlace list.now text.now → result ≢ 3 }
+{
+    // Before all else, so that what is soon found pays nothing for the rest.
+    if let Some(held) = set_contains_soon(list, text) {
+        *allowed = flag(held);
+        return OK;
+    }
+    write_any_allow_flag(alloc, list, text, prereleases, allowed)
+}
+
+// As `write_allow_flag`, if more has to be looked at.
+#[inline(never)]
+fn write_any_allow_flag(
+    alloc: Global,
+    list: &[u8],
+    text: &[u8],
+    prereleases: u8,
+    allowed: &mut u8,
+) -> u8
+    ensures found { AllowsResult list.now text.now prereleases allowed.old allowed.new result }
+    ensures memory { AsksInPlace list.now text.now → result ≢ 3 }
 {
     match allows(alloc, list, text, prereleases) {
         Ok(found) => {
@@ -142,7 +190,10 @@ pub fn write_allow_flag(
 fn find_in_set(set: &[u8], version: &[u8]) -> Result<(bool, bool), Fault>
     requires set { HasFormatOfSets set.now }
     requires version { HasVersionFormat version.now }
-    ensures { HoldsOrFaults (RejectsVersion set.now version.now) (RejectsSet set.now) ⊥ (IsFoundInSet set.now version.now) result }
+    ensures found { HoldsOrFaults (RejectsVersion set.now version.now) (RejectsSet set.now) ⊥
+        (λ found. (members : List Spec) (selects : Record → Bool) (r : Record) → Selects set.now members selects
+        → BytesDenote version.now r → found ≡ (selects r, any_prerelease r)) result }
+    ensures memory { IfErr result (λ f. f ≢ OutOfMemory) }
 {
     match pep440_compiled::set_contains(set, version) {
         Ok(found) => Ok(found),
@@ -163,7 +214,9 @@ fn asks_list(prereleases: u8) -> bool
 fn takes(set: &[u8], prereleases: u8) -> Result<bool, Fault>
     requires set { HasFormatOfSets set.now }
     requires asked { ¬ AsksSet set.now prereleases }
-    ensures { HoldsOrFaults ⊥ (RejectsSet set.now) ⊥ (Takes set.now prereleases) result }
+    ensures found { HoldsOrFaults ⊥ (RejectsSet set.now) ⊥ (λ taken. (members : List Spec) (selects : Record → Bool)
+        → Selects set.now members selects → taken ≡ takes prereleases members) result }
+    ensures memory { IfErr result (λ f. f ≢ OutOfMemory) }
 {
     if !asks_list(prereleases) {
         return Ok(prereleases == 1);
@@ -180,7 +233,8 @@ fn allows_version(set: &[u8], version: &[u8], prereleases: u8) -> Result<bool, F
     requires set { HasFormatOfSets set.now }
     requires asked { ¬ AsksSet set.now prereleases }
     requires version { HasVersionFormat version.now }
-    ensures { HoldsOr (AllowFaults set.now version.now prereleases) (Allows set.now version.now prereleases) result }
+    ensures found { HoldsOr (AllowFaults set.now version.now prereleases) (Allows set.now version.now prereleases) result }
+    ensures memory { IfErr result (λ f. f ≢ OutOfMemory) }
 {
     let (held, is_prerelease) = find_in_set(set, version)?;
     if !held {
@@ -192,19 +246,34 @@ fn allows_version(set: &[u8], version: &[u8], prereleases: u8) -> Result<bool, F
     takes(set, prereleases)
 }
 
-// The same of the version of a string in any spelling, which is compiled first. If both are invalid, the list's error is named.
+// The same, in fewer instructions if it is soon found.
+#[inline(always)]
+fn allows_form(set: &[u8], version: &[u8], prereleases: u8) -> Result<bool, Fault>
+    requires set { HasFormatOfSets set.now }
+    requires asked { ¬ AsksSet set.now prereleases }
+    requires version { HasVersionFormat version.now }
+    ensures found { HoldsOr (AllowFaults set.now version.now prereleases) (Allows set.now version.now prereleases) result }
+    ensures memory { IfErr result (λ f. f ≢ OutOfMemory) }
+{
+    match set_contains_soon(set, version) {
+        Some(found) => Ok(found),
+        None => allows_version(set, version, prereleases),
+    }
+}
+
+// The same of the version of a string in any spelling, which is compiled first.
 fn allows_spelling(alloc: Global, set: &[u8], text: &[u8], prereleases: u8) -> Result<bool, Fault>
     requires set { HasFormatOfSets set.now }
     requires asked { ¬ AsksSet set.now prereleases }
     ensures { HoldsOr (AllowFaults set.now text.now prereleases) (Allows set.now text.now prereleases) result }
 {
     match compile(alloc, text) {
-        Ok(compiled) => allows_version(set, compiled.as_slice(), prereleases),
+        Ok(compiled) => allows_form(set, compiled.as_slice(), prereleases),
         Err(fault) => {
             if has_lone_set_format(set) {
                 return Err(fault);
             }
-            allows_parsed(alloc, set, text, prereleases)
+            Err(name_fault(alloc, set, fault))
         }
     }
 }
@@ -214,11 +283,12 @@ fn allows_spelling(alloc: Global, set: &[u8], text: &[u8], prereleases: u8) -> R
 fn allows_string(alloc: Global, set: &[u8], text: &[u8], prereleases: u8) -> Result<bool, Fault>
     requires set { HasFormatOfSets set.now }
     requires asked { ¬ AsksSet set.now prereleases }
-    ensures { HoldsOr (AllowFaults set.now text.now prereleases) (Allows set.now text.now prereleases) result }
+    ensures found { HoldsOr (AllowFaults set.now text.now prereleases) (Allows set.now text.now prereleases) result }
+    ensures memory { (r : Record) → HasShortForm r → text.now ≡ print r → IfErr result (λ f. f ≢ OutOfMemory) }
 {
     let mut form = ArrayVec::new();
     if compile_normal(&mut form, text) {
-        return allows_version(set, form.as_slice(), prereleases);
+        return allows_form(set, form.as_slice(), prereleases);
     }
     allows_spelling(alloc, set, text, prereleases)
 }
@@ -236,7 +306,7 @@ fn are_taken(list: &VersionSpecifiers, prereleases: u8) -> bool
 
 // Whether a list that is read allows the version that the bytes denote.
 #[inline(never)]
-fn allows_parsed(alloc: Global, list: &[u8], bytes: &[u8], prereleases: u8) -> Result<bool, Fault>
+fn read_and_ask(alloc: Global, list: &[u8], bytes: &[u8], prereleases: u8) -> Result<bool, Fault>
     requires { ¬ HasLoneSetFormat list.now }
     ensures { HoldsOr (AllowFaults list.now bytes.now prereleases) (Allows list.now bytes.now prereleases) result }
 {
@@ -257,13 +327,14 @@ fn asks_set(list: &[u8], prereleases: u8) -> bool
 // Whether the list allows the version that the bytes denote.
 #[inline(always)]
 fn allows(alloc: Global, list: &[u8], bytes: &[u8], prereleases: u8) -> Result<bool, Fault>
-    ensures { HoldsOr (AllowFaults list.now bytes.now prereleases) (Allows list.now bytes.now prereleases) result }
+    ensures found { HoldsOr (AllowFaults list.now bytes.now prereleases) (Allows list.now bytes.now prereleases) result }
+    ensures memory { AsksInPlace list.now bytes.now → IfErr result (λ f. f ≢ OutOfMemory) }
 {
     if asks_set(list, prereleases) {
         return Err(Fault::NoList);
     }
     if !has_form(list) {
-        return allows_parsed(alloc, list, bytes, prereleases);
+        return read_and_ask(alloc, list, bytes, prereleases);
     }
     if has_version_format(bytes) {
         return allows_version(list, bytes, prereleases);

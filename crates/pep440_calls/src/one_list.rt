@@ -7,50 +7,50 @@ ghost use Rattle.pep440_rs.specs.Operators.{operator_text};
 ghost use Rattle.pep440_rs.specs.Specifiers.{Spec};
 ghost use Rattle.pep440_version.specs.Print.{print};
 ghost use Rattle.pep440_calls.specs.CallResults.{IsCompiledList, IsNormalList, IsVersionIn, NamesPrerelease, JoinsMembers, member_strings, version_string};
-ghost use Rattle.pep440_calls.specs.JoinedStrings.{Joins, WritesJoined};
-ghost use Rattle.pep440_calls.specs.CallerBytes.{RejectsListBytes};
-ghost use Rattle.pep440_calls.specs.Statuses.{HoldsOrFaults, IsFlagOf, WritesOrFails, WritesBytes};
+ghost use Rattle.pep440_calls.specs.JoinedStrings.{Joins, WritesJoinedOr};
+ghost use Rattle.pep440_calls.specs.CallerBytes.{ListFaults};
+ghost use Rattle.pep440_calls.specs.Statuses.{HoldsOr, IsFlagOf, WritesBytesOr, WritesOr};
 
 use crate::buffer::{OK, flag, put_bytes, put_joined, put_text};
 use crate::fault::Fault;
 use crate::joined_strings::JoinedStrings;
-use crate::read::read_list;
+use crate::read::to_list;
 use pep440_rs::{Version, VersionSpecifier, VersionSpecifiers};
 use pep440_sets::find_version;
 use std::alloc::{AllocError, Global};
 
 /// Writes the normal form of the list.
 pub fn write_normal_list(alloc: Global, list: &[u8], out: &mut [u8], written: &mut usize) -> u8
-    ensures { WritesBytes ⊥ (RejectsListBytes list.now) ⊥ (IsNormalList list.now) out.old out.new written.old written.new result }
+    ensures { WritesBytesOr (ListFaults ⊥ list.now ⊥) (IsNormalList list.now) out.old out.new written.old written.new result }
 {
     put_text(normalize_list(alloc, list), out, written)
 }
 
 // The normal form of a list.
 fn normalize_list(alloc: Global, bytes: &[u8]) -> Result<String, Fault>
-    ensures { HoldsOrFaults ⊥ (RejectsListBytes bytes.now) ⊥ (λ text. IsNormalList bytes.now (string_bytes text)) result }
+    ensures { HoldsOr (ListFaults ⊥ bytes.now ⊥) (λ text. IsNormalList bytes.now (string_bytes text)) result }
 {
-    let list = read_list(alloc, bytes)?;
+    let list = to_list(alloc, bytes)?;
     Ok(list.to_string(alloc)?)
 }
 
 /// Writes the compiled form of the list.
 pub fn write_compiled_list(alloc: Global, list: &[u8], out: &mut [u8], written: &mut usize) -> u8
-    ensures { WritesBytes ⊥ (RejectsListBytes list.now) ⊥ (IsCompiledList list.now) out.old out.new written.old written.new result }
+    ensures { WritesBytesOr (ListFaults ⊥ list.now ⊥) (IsCompiledList list.now) out.old out.new written.old written.new result }
 {
     put_bytes(compile_list(alloc, list), out, written)
 }
 
 pub(crate) fn compile_list(alloc: Global, list: &[u8]) -> Result<Vec<u8>, Fault>
-    ensures { HoldsOrFaults ⊥ (RejectsListBytes list.now) ⊥ (λ compiled. IsCompiledList list.now compiled.items) result }
+    ensures { HoldsOr (ListFaults ⊥ list.now ⊥) (λ compiled. IsCompiledList list.now compiled.items) result }
 {
-    let list = read_list(alloc, list)?;
+    let list = to_list(alloc, list)?;
     Ok(pep440_compiled::compile_list(alloc, &list)?)
 }
 
 /// Whether a version of the list's specifiers is a pre-release or a developmental release, 1 or 0 (PEP 440, "Handling of pre-releases").
 pub fn write_prerelease_flag(alloc: Global, list: &[u8], any: &mut u8) -> u8
-    ensures { WritesOrFails ⊥ (RejectsListBytes list.now) ⊥ (IsFlagOf (NamesPrerelease list.now)) any.old any.new result }
+    ensures { WritesOr (ListFaults ⊥ list.now ⊥) (IsFlagOf (NamesPrerelease list.now)) any.old any.new result }
 {
     match any_prerelease(alloc, list) {
         Ok(found) => {
@@ -70,15 +70,15 @@ fn has_prerelease(list: &VersionSpecifiers) -> bool
 
 // Whether a version of the list is a pre-release or a developmental release.
 fn any_prerelease(alloc: Global, list: &[u8]) -> Result<bool, Fault>
-    ensures { HoldsOrFaults ⊥ (RejectsListBytes list.now) ⊥ (NamesPrerelease list.now) result }
+    ensures { HoldsOr (ListFaults ⊥ list.now ⊥) (NamesPrerelease list.now) result }
 {
-    let specifiers = read_list(alloc, list)?;
+    let specifiers = to_list(alloc, list)?;
     Ok(has_prerelease(&specifiers))
 }
 
 /// Writes a version that the list matches literally, and nothing if it matches none that a string denotes (PEP 440, "Version specifiers").
 pub fn write_version_in(alloc: Global, list: &[u8], out: &mut [u8], written: &mut usize) -> u8
-    ensures { WritesBytes ⊥ (RejectsListBytes list.now) ⊥ (IsVersionIn list.now) out.old out.new written.old written.new result }
+    ensures { WritesBytesOr (ListFaults ⊥ list.now ⊥) (IsVersionIn list.now) out.old out.new written.old written.new result }
 {
     put_text(find_in(alloc, list), out, written)
 }
@@ -95,9 +95,9 @@ fn print_found(alloc: Global, found: Option<Version>) -> Result<String, AllocErr
 
 // A version that the list matches; empty if it matches none.
 fn find_in(alloc: Global, list: &[u8]) -> Result<String, Fault>
-    ensures { HoldsOrFaults ⊥ (RejectsListBytes list.now) ⊥ (λ text. IsVersionIn list.now (string_bytes text)) result }
+    ensures { HoldsOr (ListFaults ⊥ list.now ⊥) (λ text. IsVersionIn list.now (string_bytes text)) result }
 {
-    let specifiers = read_list(alloc, list)?;
+    let specifiers = to_list(alloc, list)?;
     let found = find_version(alloc, specifiers.as_slice())?;
     let text = print_found(alloc, found)?;
     Ok(text)
@@ -113,7 +113,7 @@ pub fn write_members(
     written: &mut usize,
     count: &mut usize,
 ) -> u8
-    ensures { WritesJoined ⊥ (RejectsListBytes list.now) ⊥ (JoinsMembers list.now)
+    ensures { WritesJoinedOr (ListFaults ⊥ list.now ⊥) (JoinsMembers list.now)
         out.old out.new ends.old ends.new written.old written.new count.old count.new result }
 {
     put_joined(to_members(alloc, list), out, ends, written, count)
@@ -163,8 +163,8 @@ fn join_members(alloc: Global, members: &[VersionSpecifier]) -> Result<JoinedStr
 
 // Operators and versions of the members of the list.
 fn to_members(alloc: Global, list: &[u8]) -> Result<JoinedStrings, Fault>
-    ensures { HoldsOrFaults ⊥ (RejectsListBytes list.now) ⊥ (λ found. JoinsMembers list.now found.bytes.items found.ends.items) result }
+    ensures { HoldsOr (ListFaults ⊥ list.now ⊥) (λ found. JoinsMembers list.now found.bytes.items found.ends.items) result }
 {
-    let specifiers = read_list(alloc, list)?;
+    let specifiers = to_list(alloc, list)?;
     Ok(join_members(alloc, specifiers.as_slice())?)
 }

@@ -1,12 +1,14 @@
 //! The version or the list that bytes denote, which are a string or a compiled form.
 ghost use Rattle.pep440_compiled.specs.Lists.{DenotesList};
 ghost use Rattle.pep440_compiled.specs.Version.{DenotesVersion};
-ghost use Rattle.pep440_calls.specs.CallerBytes.{IsNoCompiledList, IsNoCompiledVersion, BytesDenote, BytesDenoteList, StringDenotesList, StringDenotes, RejectsBytes, RejectsListBytes, RejectsListString, RejectsString};
-ghost use Rattle.pep440_calls.specs.Statuses.{HoldsOrFaults};
+ghost use Rattle.pep440_calls.specs.CallerBytes.{IsNoCompiledList, IsNoCompiledVersion, BytesDenote, BytesDenoteList, ListFaults, StringDenotesList, StringDenotes, RejectsBytes, RejectsListBytes, RejectsListString, RejectsString};
+ghost use Rattle.pep440_calls.specs.Statuses.{HoldsOr, HoldsOrFaults};
 ghost use Rattle.pep440_calls.specs.declared.fault.Fault.TheVariants.{OutOfMemory};
 
 use crate::fault::Fault;
-use pep440_compiled::{CompiledError, has_list_format, has_version_format, read_version};
+use pep440_compiled::{
+    CompiledError, has_list_format, has_lone_set_format, has_version_format, read_version,
+};
 use pep440_rs::{SpecifiersErrorKind, Version, VersionSpecifiers};
 use std::alloc::Global;
 
@@ -78,7 +80,7 @@ fn read_compiled_list(alloc: Global, bytes: &[u8]) -> Result<VersionSpecifiers, 
     }
 }
 
-// The list that the bytes denote.
+// The list that the bytes denote; bytes that begin as a set by itself denote none.
 pub(crate) fn read_list(alloc: Global, bytes: &[u8]) -> Result<VersionSpecifiers, Fault>
     ensures { HoldsOrFaults ⊥ (RejectsListBytes bytes.now) ⊥ (BytesDenoteList bytes.now) result }
 {
@@ -86,4 +88,14 @@ pub(crate) fn read_list(alloc: Global, bytes: &[u8]) -> Result<VersionSpecifiers
         return read_compiled_list(alloc, bytes);
     }
     read_list_string(alloc, bytes)
+}
+
+// The list that the bytes denote, for a call that needs its members: a set by itself has none.
+pub(crate) fn to_list(alloc: Global, bytes: &[u8]) -> Result<VersionSpecifiers, Fault>
+    ensures { HoldsOr (ListFaults ⊥ bytes.now ⊥) (BytesDenoteList bytes.now) result }
+{
+    if has_lone_set_format(bytes) {
+        return Err(Fault::NoList);
+    }
+    read_list(alloc, bytes)
 }

@@ -1,6 +1,6 @@
 //! The keys of a set, and what is made of one set or of two, each of a list or a set by itself.
 ghost use Rattle.std.specs.Prelude.{◌≡◌, ◌↔◌, IfOk, map, true};
-ghost use Rattle.pep440_compiled.specs.SetForms.{HasFormatOfSets, HasSet};
+ghost use Rattle.pep440_compiled.specs.SetForms.{HasFormatOfSets, HasLoneSetFormat, HasSet};
 ghost use Rattle.pep440_rs.specs.Bounds.{Segments};
 ghost use Rattle.pep440_calls.specs.CallerBytes.{RejectsListBytes};
 ghost use Rattle.pep440_calls.specs.JoinedStrings.{Joins, WritesJoinedOr};
@@ -97,6 +97,7 @@ impl SetForm<'_> {
 
 // The compiled form of a list with its set.
 fn compile_set(alloc: Global, list: &[u8]) -> Result<Vec<u8>, Fault>
+    requires { ¬ HasLoneSetFormat list.now }
     ensures { HoldsOr (SetFaults (RejectsListBytes list.now) ⊥ (LacksListSet list.now))
         (λ form. (s : Segments) × HasListSet list.now s × HasSet form.items s) result }
 {

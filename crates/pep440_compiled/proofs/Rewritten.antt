@@ -69,6 +69,15 @@ zero_number bytes none = nil_from_length bytes none ∙ sym none_needed
 pub no_number : (n : ℕ) (bytes : List ℕ) → Fits n → length bytes ≡ 0 → bytes ≡ needed_bytes n → 0 ≡ n
 no_number n bytes f none e = same_needed 0 n (lit< tt) f (sym (zero_number bytes none) ∙ e)
 
+-- a number of one byte, and what stands behind it
+pub short_number : (n byte : ℕ) (needed bytes later rest : List ℕ) → Fits n → byte < 256 → needed ≡ needed_bytes n → length needed ≡ 1 → bytes ≡ byte ∷ later → bytes ≡ needed ++ rest
+    → (byte ≡ n) × (later ≡ rest)
+short_number n byte [] bytes later rest f small e one is also = absurd (omega (arith, one))
+short_number n byte (x ∷ []) bytes later rest f small e one is also =
+    let same : byte ≡ x = ap (λ l. get_or l 0 0) (sym is ∙ also) in
+    (same ∙ one_number n x (x ∷ []) f (omega (arith, same, small)) (λ z. needed_first n x (x ∷ []) [] refl z e) refl e, ap (drop 1) (sym is ∙ also))
+short_number n byte (x ∷ y ∷ more) bytes later rest f small e one is also = absurd (omega (arith, one))
+
 pub begins_otherwise : (bytes later : List ℕ) (first : ℕ) → bytes ≡ first ∷ later → (first ≡ 0 → ⊥) → BeginsOtherwise 0 bytes
 begins_otherwise bytes later first is other = subst (BeginsOtherwise 0) (sym is) other
 

@@ -1,7 +1,7 @@
 //! The order of bytes, eight at a time.
 ghost use Rattle.std.specs.Prelude.{◌≡◌, ◌≤◌, ◌-◌, drop, length, take};
 ghost use Rattle.std.specs.Cmp.Lexicographic.{slice_cmp};
-ghost use Rattle.std.specs.Ordering.{nat_cmp};
+ghost use Rattle.std.specs.Ordering.{is_lt, nat_cmp};
 ghost use Rattle.std.specs.Slice.Scan.{big_endian};
 
 use std::cmp::Ordering;
@@ -61,6 +61,29 @@ pub(crate) fn cmp_bytes(a: &[u8], b: &[u8]) -> Ordering
         return read_last_word(a).cmp(&read_last_word(b));
     }
     left.cmp(right)
+}
+
+// Whether the bytes are below the others, by all of them. A call of its own, so that bytes which differ early pay nothing for it.
+#[inline(never)]
+fn is_below_by_all(a: &[u8], b: &[u8]) -> bool
+    ensures { result ≡ is_lt (slice_cmp nat_cmp a.now b.now) }
+{
+    cmp_bytes(a, b).is_lt()
+}
+
+// The same, by the first eight bytes if these differ.
+#[inline(always)]
+pub(crate) fn is_below(a: &[u8], b: &[u8]) -> bool
+    ensures { result ≡ is_lt (slice_cmp nat_cmp a.now b.now) }
+{
+    if a.len() >= 8 && b.len() >= 8 {
+        let x = read_word(a);
+        let y = read_word(b);
+        if x != y {
+            return x.cmp(&y).is_lt();
+        }
+    }
+    is_below_by_all(a, b)
 }
 
 // The order of the bytes that both have: where the one ends first, what follows in the other does not count.

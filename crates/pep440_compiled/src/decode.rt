@@ -74,6 +74,24 @@ pub(crate) fn read_whole_number(bytes: &[u8]) -> Option<(u64, &[u8])>
     Some((number, rest))
 }
 
+// A number of at most one byte with the byte that counts its bytes, and the rest; `None` of a longer one.
+#[inline(always)]
+pub(crate) fn read_short_number(bytes: &[u8]) -> Option<(u8, &[u8])>
+    ensures found { (n : ℕ) (rest : List ℕ) → Fits n → bytes.now ≡ number_bytes 0 n ++ rest
+        → IfSome result (λ p. (p.0 ≡ n) × (p.1.now ≡ rest)) }
+    ensures shorter { IfSome result (λ p. length p.1.now < length bytes.now) }
+{
+    let (count, rest) = bytes.split_first()?;
+    if *count == 0 {
+        return Some((0, rest));
+    }
+    if *count > 1 {
+        return None;
+    }
+    let (number, rest) = rest.split_first()?;
+    Some((*number, rest))
+}
+
 // A rank and its number, as any bytes have them.
 #[derive(Clone, Copy)]
 struct RankAndNumber {

@@ -43,7 +43,8 @@ pub use list::{
     requests_prereleases,
 };
 pub use set_forms::{
-    complement, has_lone_set_format, intersection, is_subset, set_contains, set_keys, union,
+    complement, has_lone_set_format, intersection, is_subset, set_contains, set_contains_soon,
+    set_keys, union,
 };
 pub use stack_form::compile_normal;
 pub use version::{

@@ -24,7 +24,7 @@ use pep440_sets::{SetError, specifiers_to_set};
 use std::alloc::{AllocError, Global};
 
 // The format of lists that have their set.
-const WITH_SET: u8 = 6;
+pub(crate) const WITH_SET: u8 = 6;
 
 /// Whether the bytes begin with a format byte of compiled lists, which no string of a list begins with.
 pub fn has_list_format(bytes: &[u8]) -> bool

@@ -6,8 +6,8 @@ ghost use Rattle.pep440_keys.specs.RangeKeys.{is_below_key, is_within, segment_i
 ghost use Rattle.pep440_rs.specs.Bounds.{Segments};
 ghost use Rattle.pep440_version.specs.Record.{Fits};
 
-use crate::byte_order::cmp_bytes;
-use crate::decode::read_whole_number;
+use crate::byte_order::is_below;
+use crate::decode::{read_short_number, read_whole_number};
 use pep440_keys::{KeyInterval, push_number, range_keys};
 use pep440_rs::{Ranges, Version};
 use std::alloc::{AllocError, Global};
@@ -54,12 +54,23 @@ pub(crate) fn split_by_length(bytes: &[u8]) -> Option<(&[u8], &[u8])>
     rest.split_at_checked(count as usize)
 }
 
+// The same, in fewer instructions, if the count is of at most one byte.
+#[inline(always)]
+pub(crate) fn split_by_short_length(bytes: &[u8]) -> Option<(&[u8], &[u8])>
+    ensures found { (item rest : List ℕ) → Fits (length item) → bytes.now ≡ sized_bytes item ++ rest
+        → IfSome result (λ p. (p.0.now ≡ item) × (p.1.now ≡ rest)) }
+    ensures shorter { IfSome result (λ p. length p.1.now < length bytes.now) }
+{
+    let (count, rest) = read_short_number(bytes)?;
+    rest.split_at_checked(usize::from(count))
+}
+
 // At least the low key, and below the high one; no bytes are no key.
 #[inline(always)]
 fn is_between(low: &[u8], high: &[u8], key: &[u8]) -> bool
     ensures { result ≡ not (is_below_key key.now low.now) && ((length high.now == 0) || is_below_key key.now high.now) }
 {
-    !cmp_bytes(key, low).is_lt() && (high.is_empty() || cmp_bytes(key, high).is_lt())
+    !is_below(key, low) && (high.is_empty() || is_below(key, high))
 }
 
 // Whether the key lies in an interval of the set.
@@ -72,6 +83,24 @@ pub(crate) fn holds_key(set: &[u8], key: &[u8]) -> Option<bool>
     while !left.is_empty() {
         let (low, rest) = split_by_length(left)?;
         let (high, rest) = split_by_length(rest)?;
+        if is_between(low, high, key) {
+            return Some(true);
+        }
+        left = rest;
+    }
+    Some(false)
+}
+
+// The same, in fewer instructions, if the keys up to the answer are short.
+#[inline(always)]
+pub(crate) fn holds_key_soon(set: &[u8], key: &[u8]) -> Option<bool>
+    ensures { (segments : Segments) → All IsSized segments → set.now ≡ set_bytes segments
+        → IfSome result (λ b. b ≡ list_any (λ s. is_within (segment_interval s) key.now) segments) }
+{
+    let mut left = set;
+    while !left.is_empty() {
+        let (low, rest) = split_by_short_length(left)?;
+        let (high, rest) = split_by_short_length(rest)?;
         if is_between(low, high, key) {
             return Some(true);
         }

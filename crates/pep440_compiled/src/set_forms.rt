@@ -1,5 +1,6 @@
 //! Sets of versions as compiled forms: what is made of one and of two, and what they hold.
 ghost use Rattle.std.specs.Prelude.{◌≡◌, ◌↔◌, ◌∷◌, [], Ok, IfErr, IfOk, IfSome, IsTrue, MatchOption, false, map, true};
+ghost use Rattle.pep440_compiled.specs.Lists.{HasSetFormat};
 ghost use Rattle.pep440_compiled.specs.SetBytes.{set_keys};
 ghost use Rattle.pep440_compiled.specs.SetForms.{DenotesSet, HasFormatOfSets, HasLoneSetFormat, HasSet, IsBytesOf};
 ghost use Rattle.pep440_compiled.specs.Version.{DenotesVersion, HasVersionFormat};
@@ -15,8 +16,8 @@ ghost use Rattle.pep440_version.specs.Key.{record_cmp};
 ghost use Rattle.pep440_version.specs.Record.{Record};
 
 use crate::error::{CompiledError, ContainsError};
-use crate::list::split_set;
-use crate::set_bytes::holds_key;
+use crate::list::{WITH_SET, split_set};
+use crate::set_bytes::{holds_key, holds_key_soon, split_by_short_length};
 use crate::set_operations::{collect_keys, push_gaps, push_overlaps};
 use crate::views::{strip_format, view_key, view_version_parts};
 use std::alloc::{AllocError, Global};
@@ -44,24 +45,47 @@ fn view_set(bytes: &[u8]) -> Option<&[u8]>
     Some(keys)
 }
 
-// Whether the version is in the set, as `contains_any` and in fewer instructions, if that is soon found; never of a pre-release or a
-// developmental release.
+// The keys of the set of a list, if their count of bytes is short.
 #[inline(always)]
-fn contains_final(set: &[u8], version: &[u8]) -> Option<bool>
-    ensures found { (s : Segments) (r : Record) → HasSet set.now s → DenotesVersion version.now r
+fn view_short_set(list: &[u8]) -> Option<&[u8]>
+    ensures found { (s : Segments) → HasSet list.now s → IfSome result (λ keys. IsBytesOf keys.now s) }
+    ensures format { IfSome result (λ _. HasSetFormat list.now) }
+{
+    // Before the bytes are split, so that one test serves for all.
+    if list.len() < 3 {
+        return None;
+    }
+    let (format, rest) = list.split_first()?;
+    if *format != WITH_SET {
+        return None;
+    }
+    let (keys, _) = split_by_short_length(rest)?;
+    Some(keys)
+}
+
+/// Whether the version is in the set of a list, as `set_contains` and in fewer instructions, if that is soon found: of a version that is
+/// neither a pre-release nor a developmental release, and of a short list. `None` if more has to be looked at.
+///
+/// Does not allocate.
+#[inline(always)]
+pub fn set_contains_soon(list: &[u8], version: &[u8]) -> Option<bool>
+    ensures found { (s : Segments) (r : Record) → HasSet list.now s → DenotesVersion version.now r
         → IfSome result (λ b. b ≡ contains record_cmp s r) }
     ensures prerelease { (r : Record) → DenotesVersion version.now r → IfSome result (λ _. any_prerelease r ≡ false) }
-    ensures format { IfSome result (λ _. HasFormatOfSets set.now × HasVersionFormat version.now) }
+    ensures format { IfSome result (λ _. HasSetFormat list.now × HasVersionFormat version.now) }
 {
+    let keys = view_short_set(list)?;
     let version = view_key(strip_format(version)?)?;
-    let keys = view_set(set)?;
-    let held = holds_key(keys, version.key)?;
+    let held = holds_key_soon(keys, version.key)?;
     Some(held)
 }
 
-// As `set_contains`, by the parts of the version. A call of its own, so that what is soon found pays nothing for it.
-#[inline(never)]
-fn contains_any(set: &[u8], version: &[u8]) -> Result<(bool, bool), ContainsError>
+/// Whether the version is in the set of a list, or in a set by itself; and whether it is a pre-release or a developmental release. A list
+/// matches the versions of its set literally, as `VersionSpecifiers::matches_literally` (PEP 440, "Version specifiers"). If one is of
+/// another format, the error names it; if one denotes nothing, an error or any result.
+///
+/// Does not allocate.
+pub fn set_contains(set: &[u8], version: &[u8]) -> Result<(bool, bool), ContainsError>
     ensures found { (s : Segments) (r : Record) → HasSet set.now s → DenotesVersion version.now r
         → result ≡ Ok (contains record_cmp s r, any_prerelease r) }
     ensures prerelease { (r : Record) → DenotesVersion version.now r → IfOk result (λ found. found.1 ≡ any_prerelease r) }
@@ -78,27 +102,6 @@ fn contains_any(set: &[u8], version: &[u8]) -> Result<(bool, bool), ContainsErro
     match holds_key(keys, version.version.key) {
         Some(held) => Ok((held, version.suffix.is_prerelease)),
         None => Err(ContainsError::NoList),
-    }
-}
-
-/// Whether the version is in the set of a list, or in a set by itself; and whether it is a pre-release or a developmental release. A list
-/// matches the versions of its set literally, as `VersionSpecifiers::matches_literally` (PEP 440, "Version specifiers"). If one is of
-/// another format, the error names it; if one denotes nothing, an error or any result.
-///
-/// Does not allocate.
-#[inline(always)]
-pub fn set_contains(set: &[u8], version: &[u8]) -> Result<(bool, bool), ContainsError>
-    ensures found { (s : Segments) (r : Record) → HasSet set.now s → DenotesVersion version.now r
-        → result ≡ Ok (contains record_cmp s r, any_prerelease r) }
-    ensures prerelease { (r : Record) → DenotesVersion version.now r → IfOk result (λ found. found.1 ≡ any_prerelease r) }
-    ensures format { IfOk result (λ _. HasFormatOfSets set.now × HasVersionFormat version.now) }
-    ensures version { IfErr result (λ e. e ≡ NoVersion → (r : Record) → DenotesVersion version.now r → ⊥) }
-    ensures list { IfErr result (λ e. e ≡ NoList → (s : Segments) → HasSet set.now s → ⊥) }
-{
-    match contains_final(set, version) {
-        Some(found) => Ok((found, false)),
-        // taken apart, or what is soon found has a place in memory, too
-        None => Ok(contains_any(set, version)?),
     }
 }
 

@@ -2,7 +2,7 @@
 use crate::bytes::{bytes_argument, print_bytes};
 use pep440_compiled::{
     CompiledError, ContainsError, complement, has_lone_set_format, intersection, is_subset,
-    set_contains, set_keys, union,
+    set_contains, set_contains_soon, set_keys, union,
 };
 use std::alloc::Global;
 use testing::CaseError;
@@ -78,6 +78,20 @@ pub fn set_has(alloc: Global, set: &str, version: &str) -> Result<String, CaseEr
         Ok((false, _)) => "no",
         Err(ContainsError::NoVersion) => "no version",
         Err(ContainsError::NoList) => "no set",
+    };
+    Ok(String::from_str(alloc, text)?)
+}
+
+/// Whether the compiled version is in the set of the list, if that is soon found.
+pub fn set_has_soon(alloc: Global, list: &str, version: &str) -> Result<String, CaseError> {
+    let (list, version) = (
+        bytes_argument(alloc, list)?,
+        bytes_argument(alloc, version)?,
+    );
+    let text = match set_contains_soon(list.as_slice(), version.as_slice()) {
+        Some(true) => "yes",
+        Some(false) => "no",
+        None => "not soon",
     };
     Ok(String::from_str(alloc, text)?)
 }

@@ -20,7 +20,7 @@ use compiled_lists::{
     compile_list_of, compile_unchecked, contains_bytes, denotes_list, list_contains, requests,
 };
 use compiled_sets::{
-    keys_of_set, set_complement, set_has, set_intersection, set_subset, set_union,
+    keys_of_set, set_complement, set_has, set_has_soon, set_intersection, set_subset, set_union,
 };
 use compiled_versions::{compile, compile_local, compile_text, denotes};
 use given::given_arguments;
@@ -73,6 +73,7 @@ fn of_two(alloc: Global, call: &str, one: &str, other: &str) -> Result<String, C
         "set-union" => set_union(alloc, one, other),
         "set-subset" => set_subset(alloc, one, other),
         "set-has" => set_has(alloc, one, other),
+        "set-has-soon" => set_has_soon(alloc, one, other),
         _ => Err(CaseError::Unreadable),
     }
 }

@@ -2,7 +2,7 @@ use Rattle.std.proofs.Common.{◌≡◌, ◌∙◌, Some, ap, sym}
 use Rattle.std.specs.Prelude.{Ok, unwrap_or}
 use Rattle.std.specs.List.{list_any}
 use Rattle.pep440_compiled.proofs.SetKeys.{set_tells}
-use Rattle.pep440_compiled.proofs.set_forms.contains_any.Goals as goal
+use Rattle.pep440_compiled.proofs.set_forms.set_contains.Goals as goal
 use Rattle.pep440_keys.specs.RangeKeys.{is_within, segment_interval}
 
 pub returns-in_default-view_set-clause-found : goal.returns-in_default-view_set-clause-found

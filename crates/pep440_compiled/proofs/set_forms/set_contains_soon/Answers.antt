@@ -2,13 +2,11 @@ use Rattle.std.proofs.Common.{◌≡◌, ◌∙◌, Some, ap}
 use Rattle.std.specs.Prelude.{unwrap_or}
 use Rattle.std.specs.List.{list_any}
 use Rattle.pep440_compiled.proofs.SetKeys.{set_tells}
-use Rattle.pep440_compiled.proofs.set_forms.contains_final.Goals as goal
+use Rattle.pep440_compiled.proofs.set_forms.set_contains_soon.Goals as goal
 use Rattle.pep440_keys.specs.RangeKeys.{is_within, segment_interval}
 
 pub returns-clause-found : goal.returns-clause-found
 returns-clause-found c s r h d =
     let keys = c.in_ok-keys.ensures.found s h in
     let version = c.in_ok-version.ensures r d.parsed (c.in_ok-strip_format.ensures.found r d) in
-    let held : Some c.in_ok-held.held ≡ Some (list_any (λ s. is_within (segment_interval s) c.in_ok-version.version.key.now) s) = c.in_ok-held.ensures s keys.sizes keys.same in
-    let same = ap (λ o. unwrap_or o c.in_ok-held.held) held in
-    same ∙ ap (λ k. list_any (λ s. is_within (segment_interval s) k) s) version.key ∙ set_tells s r keys.valid d.parsed
+    c.in_ok-held.ensures s keys.sizes keys.same ∙ ap (λ k. list_any (λ s. is_within (segment_interval s) k) s) version.key ∙ set_tells s r keys.valid d.parsed
