@@ -153,6 +153,9 @@ fn read_text(
             read_toml_lock(alloc, name, text, "package", "[[package]]")
         }
         DocumentKind::Lock(LockKind::Pipfile) => read_pipfile_lock(alloc, name, text),
+        DocumentKind::Lock(LockKind::Unknown) => {
+            reject_document(alloc, name, text.as_bytes(), 0, "no known format")
+        }
     }
 }
 

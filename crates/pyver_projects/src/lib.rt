@@ -32,5 +32,5 @@ mod toml_lock;
 mod version_reason;
 
 pub use document::Document;
-pub use document_kind::{DocumentKind, LockKind, kind_of_path, kind_of_word};
+pub use document_kind::{DocumentKind, LockKind, is_document_path, kind_of_path, kind_of_word};
 pub use document_report::find_document_problems;
