@@ -17,7 +17,7 @@ pub enum HeldFile<'a> {
 }
 
 /// Files of versions.
-pub const VERSIONS: [(&str, HeldFile<'static>); 11] = [
+pub const VERSIONS: [(&str, HeldFile<'static>); 12] = [
     ("a.txt", HeldFile::Text(b"1.0\n2.0rc1\n0.9\n")),
     ("b.txt", HeldFile::Text(b"\xEF\xBB\xBF1.5\r\n\r\n3.0")),
     ("c.csv", HeldFile::Text(b"name,version\na,1.9\n")),
@@ -35,7 +35,7 @@ pub const VERSIONS: [(&str, HeldFile<'static>); 11] = [
 ];
 
 /// Files of requirements and of a project.
-pub const REQUIREMENTS: [(&str, HeldFile<'static>); 11] = [
+pub const REQUIREMENTS: [(&str, HeldFile<'static>); 12] = [
     (
         "a.txt",
         HeldFile::Text(b"a==1.0\n-r sub/b.txt\n-c ./c.txt\n"),
@@ -55,6 +55,7 @@ pub const REQUIREMENTS: [(&str, HeldFile<'static>); 11] = [
         "uv.lock",
         HeldFile::Text(b"[[package]]\nname = 'B'\nversion = '1'\n"),
     ),
+    ("pdm.lock", HeldFile::Text(b"[[package]]\nname = 'b'\n")),
     ("lost.txt", HeldFile::Text(b"a b\n-r gone.txt\n")),
     ("bytes.txt", HeldFile::Text(b"-r \xFF.txt\n")),
     ("utf16.txt", HeldFile::Text(b"\xFF\xFEa\0\n\0b\0")),

@@ -1,7 +1,8 @@
 //! What is found in documents.
 use pyver_findings::{Conflict, FileLine, Finding, SourceFile};
 use pyver_projects::{
-    Document, DocumentKind, LockKind, find_document_problems, kind_of_path, kind_of_word,
+    Document, DocumentKind, LockKind, find_document_problems, is_document_path, kind_of_path,
+    kind_of_word,
 };
 use std::alloc::Global;
 use std::str;
@@ -15,6 +16,7 @@ fn print_kind(alloc: Global, kind: Option<DocumentKind>) -> Result<String, CaseE
         Some(DocumentKind::Lock(LockKind::Uv)) => "uv",
         Some(DocumentKind::Lock(LockKind::Poetry)) => "poetry",
         Some(DocumentKind::Lock(LockKind::Pipfile)) => "pipfile",
+        Some(DocumentKind::Lock(LockKind::Unknown)) => "unknown",
         None => "-",
     };
     Ok(String::from_str(alloc, word)?)
@@ -30,10 +32,12 @@ pub fn print_named_kind(alloc: Global, word: &str) -> Result<String, CaseError> 
     print_kind(alloc, kind_of_word(word))
 }
 
-// The document with this name, by its kind, and text.
+// The document with this name, by its kind, and text. It is to be named as documents are.
 fn document(alloc: Global, name: &str, text: &str) -> Result<Document, CaseError> {
-    let Some(kind) = kind_of_path(name.as_bytes()) else {
-        return Err(CaseError::Unreadable);
+    let kind = match kind_of_path(name.as_bytes()) {
+        Some(kind) => kind,
+        None if is_document_path(name.as_bytes()) => DocumentKind::Lock(LockKind::Unknown),
+        None => return Err(CaseError::Unreadable),
     };
     let file = SourceFile {
         name: Vec::from_slice(alloc, name.as_bytes())?,
@@ -103,4 +107,13 @@ pub fn print_document_report(alloc: Global, files: &[String]) -> Result<String, 
     let (lines, files, left_out) = (report.lines, report.files, report.left_out.len());
     write!(printed, "{lines} {files} {left_out}\n")?;
     Ok(printed)
+}
+
+/// Whether the path ends as those of documents do.
+pub fn print_document_path(path: &str) -> &'static str {
+    if is_document_path(path.as_bytes()) {
+        "yes"
+    } else {
+        "no"
+    }
 }

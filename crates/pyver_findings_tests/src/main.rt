@@ -7,7 +7,7 @@ mod lines;
 mod reports;
 mod strings;
 
-use documents::{print_document_kind, print_document_report, print_named_kind};
+use documents::{print_document_kind, print_document_path, print_document_report, print_named_kind};
 use lines::{print_kind, print_lines, print_marker, print_parts, print_pip_parts};
 use reports::{
     Form, print_each, print_findings, print_named_files, print_report, print_report_of,
@@ -37,6 +37,9 @@ impl Calls for FindingsCalls {
         match (call, arguments) {
             ("documents", files) => print_document_report(alloc, files),
             ("document-kind", [path]) => print_document_kind(alloc, path.as_str()),
+            ("document-path", [path]) => {
+                Ok(String::from_str(alloc, print_document_path(path.as_str()))?)
+            }
             ("named-kind", [word]) => print_named_kind(alloc, word.as_str()),
             ("lines", [text]) => print_lines(alloc, text.as_str()),
             ("kind", [line]) => print_kind(alloc, line.as_str()),

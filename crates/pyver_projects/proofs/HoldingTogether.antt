@@ -64,7 +64,7 @@ module _ {X : Type 0} (P : X → Type 0) where
   right_all (x ∷ xs) ys k = right_all xs ys (All-tail P x (xs ++ ys) k)
 
   -- what holds of all that is made of elements holds of what is made of each
-  each_flat : {Y : Type 0} (f : Y → List X) (ys : List Y) → All P (flat_map f ys) → All (λ y. All P (f y)) ys
+  pub each_flat : {Y : Type 0} (f : Y → List X) (ys : List Y) → All P (flat_map f ys) → All (λ y. All P (f y)) ys
   each_flat f [] k = All-nil (λ y. All P (f y))
   each_flat f (y ∷ ys) k = All-cons (λ z. All P (f z)) y ys (left_all (f y) (flat_map f ys) k) (each_flat f ys (right_all (f y) (flat_map f ys) k))
 

@@ -10,6 +10,7 @@ pub mod Locks
 pub mod Meanings
 pub mod Soundness
 pub mod ProjectViews
+pub mod NameMaps
 pub mod PackageIndexes
 pub mod Together
 pub mod Comparing

@@ -1,13 +1,12 @@
 -- What the crate's own types hold, apart from where they lie in memory.
 use Rattle.std.specs.Prelude.{map, option_map, string_bytes}
 use Rattle.pyver_findings.specs.Views.{file_line_of, file_of, finding_of, line_meaning_of}
-use Rattle.pyver_projects.specs.Groups.{Groups, Inclusion}
+use Rattle.pyver_projects.specs.Groups.{Inclusion}
 use Rattle.pyver_projects.specs.Meanings.{Document, DocumentReading, IsBroken, IsLock, IsProject, LockedReading, StringReading}
 use Rattle.pyver_projects.specs.ProjectStrings.{Build, Dependencies, Extra, Group, Include, Invalid, LockContents, LockedPackage, LockedRequirement, Section, Python, ProjectString, Version}
 use Rattle.pyver_projects.specs.declared.document.Document.{Document as DocumentValue}
 use Rattle.pyver_projects.specs.declared.document_reading.DocumentReading.{DocumentReading as DocumentReadingValue}
 use Rattle.pyver_projects.specs.declared.document_reading.DocumentReading.TheVariants as reading
-use Rattle.pyver_projects.specs.declared.groups.Groups.{Groups as GroupsValue}
 use Rattle.pyver_projects.specs.declared.groups.Inclusion.{Inclusion as InclusionValue}
 use Rattle.pyver_projects.specs.declared.locked_package.LockContents.{LockContents as ContentsValue}
 use Rattle.pyver_projects.specs.declared.locked_package.LockedPackage.{LockedPackage as LockedValue}
@@ -33,9 +32,6 @@ project_string_of s = record { section = section_of s.section; text = string_byt
 
 abbrev pub inclusion_of : InclusionValue → Inclusion
 inclusion_of i = record { group = i.group.items; included = i.included.items }
-
-abbrev pub groups_of : GroupsValue → Groups
-groups_of all = record { names = map (λ n. n.items) all.names.items; inclusions = map inclusion_of all.inclusions.items }
 
 abbrev pub locked_of : LockedValue → LockedPackage
 locked_of l = record { line = l.line; name = string_bytes l.name; version = option_map string_bytes l.version }

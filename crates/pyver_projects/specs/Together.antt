@@ -78,6 +78,10 @@ demand_in_part has part x = if holds_in has part x.section then demands_in x.mea
 abbrev pub part_demands : List Inclusion → Section → List StringReading → List Demand
 part_demands is part xs = flat_map (demand_in_part (has_group is part) part) xs
 
+-- the requirements of all strings
+abbrev pub all_demands : List StringReading → List Demand
+all_demands xs = flat_map (λ (x : StringReading). demands_in x.meaning) xs
+
 -- ---- each once
 
 -- these, and after them those that are not there yet

@@ -1,11 +1,11 @@
 //! The kinds of documents, by their paths and by words.
-ghost use Rattle.std.specs.Prelude.{◌≡◌};
-ghost use Rattle.pyver_projects.specs.DocumentKinds.{ends_path, kind_of_path, kind_of_word};
+ghost use Rattle.std.specs.Prelude.{◌≡◌, ◌==◌, count_by};
+ghost use Rattle.pyver_projects.specs.DocumentKinds.{ends_path, has_slash, is_document_path, is_named_pylock, kind_of_path, kind_of_word, last_section};
 
 /// The kinds of locks.
 #[derive(Clone, Copy, Debug, PartialEq, Eq)]
 pub enum LockKind {
-    /// `pylock.toml` (PEP 751).
+    /// `pylock.toml` or `pylock.NAME.toml` (PEP 751).
     Pylock,
     /// `uv.lock`.
     Uv,
@@ -13,6 +13,8 @@ pub enum LockKind {
     Poetry,
     /// `Pipfile.lock`.
     Pipfile,
+    /// Any other file with the ending of a document. It is not read.
+    Unknown,
 }
 
 /// The kinds of documents.
@@ -31,8 +33,55 @@ fn ends_path(path: &[u8], name: &[u8], after_slash: &[u8]) -> bool
     path == name || path.ends_with(after_slash)
 }
 
-/// The kind of the document with this path, by its last section: `pyproject.toml`, `pylock.toml`, `uv.lock`,
-/// `poetry.lock` or `Pipfile.lock`. Any other document has none.
+fn has_slash(path: &[u8]) -> bool
+    ensures { result ≡ has_slash path.now }
+{
+    path.iter().any(|byte| *byte == b'/')
+}
+
+fn last_section(path: &[u8]) -> &[u8]
+    ensures { result.now ≡ last_section path.now }
+{
+    let mut rest = path;
+    while let [_, later @ ..] = rest {
+        if !has_slash(rest) {
+            return rest;
+        }
+        rest = later;
+    }
+    rest
+}
+
+fn count_dots(name: &[u8]) -> usize
+    ensures { result ≡ count_by (λ b. b == 46) name.now }
+{
+    name.iter().filter(|byte| **byte == b'.').count()
+}
+
+// `pylock.NAME.toml`, where NAME has no dot.
+fn is_named_pylock(name: &[u8]) -> bool
+    ensures { result ≡ is_named_pylock name.now }
+{
+    name.len() > 12
+        && name.starts_with(b"pylock.")
+        && name.ends_with(b".toml")
+        && count_dots(name) == 2
+}
+
+/// The path ends as those of documents do: with `.lock`, `.toml`, `.cfg` or `.json`.
+///
+/// Allocates nothing.
+pub fn is_document_path(path: &[u8]) -> bool
+    ensures { result ≡ is_document_path path.now }
+{
+    path.ends_with(b".lock")
+        || path.ends_with(b".toml")
+        || path.ends_with(b".cfg")
+        || path.ends_with(b".json")
+}
+
+/// The kind of the document with this path, by its last section: `pyproject.toml`, `pylock.toml`, `pylock.NAME.toml` with a
+/// NAME without a dot, `uv.lock`, `poetry.lock` or `Pipfile.lock`. Any other document has none.
 ///
 /// Allocates nothing.
 pub fn kind_of_path(path: &[u8]) -> Option<DocumentKind>
@@ -41,6 +90,8 @@ pub fn kind_of_path(path: &[u8]) -> Option<DocumentKind>
     if ends_path(path, b"pyproject.toml", b"/pyproject.toml") {
         Some(DocumentKind::Project)
     } else if ends_path(path, b"pylock.toml", b"/pylock.toml") {
+        Some(DocumentKind::Lock(LockKind::Pylock))
+    } else if is_named_pylock(last_section(path)) {
         Some(DocumentKind::Lock(LockKind::Pylock))
     } else if ends_path(path, b"uv.lock", b"/uv.lock") {
         Some(DocumentKind::Lock(LockKind::Uv))

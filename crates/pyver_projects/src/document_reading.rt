@@ -9,7 +9,7 @@ ghost use Rattle.toml.specs.View.{table_view};
 
 use crate::document::Document;
 use crate::document_kind::{DocumentKind, LockKind};
-use crate::groups::read_groups;
+use crate::groups::{Groups, group_names, string_inclusions};
 use crate::locked_package::LockContents;
 use crate::locked_reading::{LockedReading, read_packages};
 use crate::pipfile_lock::pipfile_contents;
@@ -44,7 +44,9 @@ fn read_project(
     ensures { IfOk result (λ x. IsProjectReading (record { name = name.now; text = text.now }) (table_view table.now) (document_reading_of x)) }
 {
     let strings = project_strings(alloc, table)?;
-    let groups = read_groups(alloc, table, strings.as_slice())?;
+    let names = group_names(alloc, table)?;
+    let inclusions = string_inclusions(alloc, strings.as_slice())?;
+    let groups = Groups::new(alloc, names.as_slice(), inclusions.as_slice())?;
     let lines = read_quoted_lines(alloc, text.as_bytes())?;
     let readings = read_strings(alloc, &groups, name, &lines, strings.as_slice())?;
     Ok(DocumentReading::Project(readings))
@@ -151,6 +153,9 @@ fn read_text(
             read_toml_lock(alloc, name, text, "package", "[[package]]")
         }
         DocumentKind::Lock(LockKind::Pipfile) => read_pipfile_lock(alloc, name, text),
+        DocumentKind::Lock(LockKind::Unknown) => {
+            reject_document(alloc, name, text.as_bytes(), 0, "no known format")
+        }
     }
 }
 

@@ -190,8 +190,8 @@ fn read_documents(alloc: Global, documents: &[Document]) -> Result<Vec<DocumentR
 /// without one. Each string and each package counts as a line.
 ///
 /// A requirement with a marker or a URL, of a package with markers, of the build, or that is optional, is not compared, and only
-/// `project.dependencies` are to be in each lock. Takes time for each requirement, each package, each pair of them with one name, and for
-/// each extra or group and requirement.
+/// `project.dependencies` are to be in each lock. Takes time for each requirement, each package, each pair of them with one name, and, if
+/// not all requirements of a project have a version in common, for each extra or group and requirement.
 ///
 /// Allocates.
 pub fn find_document_problems(alloc: Global, documents: &[Document]) -> Result<Report, AllocError>

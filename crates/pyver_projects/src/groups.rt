@@ -1,15 +1,18 @@
 //! Groups that include others.
-ghost use Rattle.std.specs.Prelude.{◌≡◌, ◌++◌, ◌||◌, ◌&&◌, IfOk, List, bytes_eq, count_by, map, nat_lt, ℕ};
+ghost use Rattle.std.specs.Prelude.{◌≡◌, ◌++◌, IfOk, bytes_eq, map};
 ghost use Rattle.std.specs.List.{flat_map, list_any};
 ghost use Rattle.pyver_projects.specs.Documents.{group_name, group_names};
-ghost use Rattle.pyver_projects.specs.Groups.{groups, includes, includes_by, inclusion, inclusions};
-ghost use Rattle.pyver_projects.specs.ProjectStrings.{ProjectString as StringModel};
-ghost use Rattle.pyver_projects.specs.ProjectViews.{groups_of, inclusion_of, project_string_of, section_of, string_reading_of};
+ghost use Rattle.pyver_projects.specs.Groups.{includes, inclusion, inclusions};
+ghost use Rattle.pyver_projects.specs.NameMaps.{HasGroups, IsInclusionIndex, IsNameIndex, IsOrder, groups_of, inclusions_of, names_of};
+ghost use Rattle.pyver_projects.specs.ProjectViews.{inclusion_of, project_string_of, section_of, string_reading_of};
 ghost use Rattle.pyver_projects.specs.Together.{sections};
-ghost use Rattle.pyver_projects.specs.Documents.{sources};
 ghost use Rattle.pyver_projects.specs.TomlValues.{members_list};
 ghost use Rattle.toml.specs.View.{table_view};
 
+use crate::group_order::GroupOrder;
+use crate::group_walk::included_groups;
+use crate::inclusion_index::InclusionIndex;
+use crate::name_index::NameIndex;
 use crate::project_string::ProjectString;
 use crate::section::Section;
 use crate::string_reading::StringReading;
@@ -25,11 +28,12 @@ pub(crate) struct Inclusion {
     pub(crate) included: Vec<u8>,
 }
 
-// The names of groups in their normal form, and which includes which.
+// The names of groups in their normal form, which includes which, and an order.
 #[derive(Drop)]
-pub(crate) struct Groups {
-    pub(crate) names: Vec<Vec<u8>>,
-    pub(crate) inclusions: Vec<Inclusion>,
+pub(crate) struct Groups<'a> {
+    names: NameIndex<'a>,
+    inclusions: InclusionIndex<'a>,
+    order: GroupOrder<'a>,
 }
 
 fn new_inclusion(group: &Vec<u8>, included: &Vec<u8>) -> Result<Inclusion, AllocError>
@@ -50,7 +54,11 @@ fn push_inclusion(inclusions: &mut Vec<Inclusion>, section: &Section) -> Result<
     Ok(())
 }
 
-fn string_inclusions(alloc: Global, strings: &[ProjectString]) -> Result<Vec<Inclusion>, AllocError>
+// Which groups of the strings of a document include which.
+pub(crate) fn string_inclusions(
+    alloc: Global,
+    strings: &[ProjectString],
+) -> Result<Vec<Inclusion>, AllocError>
     ensures { IfOk result (λ is. map inclusion_of is.items ≡ inclusions (map (λ s. s.section) (map project_string_of strings.now))) }
 {
     let mut inclusions = Vec::new(alloc);
@@ -94,109 +102,48 @@ pub(crate) fn group_names(alloc: Global, document: &Table) -> Result<Vec<Vec<u8>
     }
 }
 
-// The groups of the document, which has these strings.
-pub(crate) fn read_groups(
-    alloc: Global,
-    document: &Table,
-    strings: &[ProjectString],
-) -> Result<Groups, AllocError>
-    requires { map project_string_of strings.now ≡ sources (table_view document.now) }
-    ensures { IfOk result (λ all. groups_of all ≡ groups (table_view document.now)) }
-{
-    Ok(Groups {
-        names: group_names(alloc, document)?,
-        inclusions: string_inclusions(alloc, strings)?,
-    })
-}
+impl<'a> Groups<'a> {
+    // The groups with these names, which include others so.
+    pub(crate) fn new(
+        alloc: Global,
+        names: &'a [Vec<u8>],
+        inclusions: &'a [Inclusion],
+    ) -> Result<Groups<'a>, AllocError>
+        ensures groups { IfOk result (λ all. groups_of all ≡ record { names = map (λ n. n.items) names.now; inclusions = map inclusion_of inclusions.now }) }
+        ensures found { IfOk result HasGroups }
+    {
+        let names = NameIndex::new(alloc, names)?;
+        let inclusions = InclusionIndex::new(alloc, inclusions)?;
+        let order = GroupOrder::new(alloc, &inclusions)?;
+        Ok(Groups {
+            names,
+            inclusions,
+            order,
+        })
+    }
 
-// The name is one of these.
-pub(crate) fn has_name(names: &[Vec<u8>], name: &[u8]) -> bool
-    ensures { result ≡ list_any (bytes_eq name.now) (map (λ n. n.items) names.now) }
-{
-    for other in names {
-        if name == other.as_slice() {
-            return true;
+    // There is a group with this name.
+    pub(crate) fn has(&self, name: &[u8]) -> bool
+        requires { HasGroups self.now }
+        ensures { result ≡ list_any (bytes_eq name.now) (groups_of self.now).names }
+    {
+        self.names.has(name)
+    }
+
+    // The first group is the second, or includes it.
+    pub(crate) fn includes(
+        &self,
+        alloc: Global,
+        group: &[u8],
+        name: &[u8],
+    ) -> Result<bool, AllocError>
+        requires { HasGroups self.now }
+        ensures { IfOk result (λ b. b ≡ includes (groups_of self.now).inclusions group.now name.now) }
+    {
+        if self.order.has_before(name, group) {
+            return Ok(false);
         }
+        let names = included_groups(alloc, &self.inclusions, group)?;
+        Ok(names.contains_key(name))
     }
-    false
-}
-
-// How often the name is one of these.
-fn count_name(names: &[Vec<u8>], name: &[u8]) -> usize
-    ensures { result ≡ count_by (bytes_eq name.now) (map (λ n. n.items) names.now) }
-{
-    names
-        .iter()
-        .filter(|other| name == other.as_slice())
-        .count()
-}
-
-// The name is two of these, or more.
-pub(crate) fn is_repeated(names: &[Vec<u8>], name: &[u8]) -> bool
-    ensures { result ≡ nat_lt 1 (count_by (bytes_eq name.now) (map (λ n. n.items) names.now)) }
-{
-    count_name(names, name) > 1
-}
-
-// Adds the name of the group that is included, if that which includes it is known.
-fn push_included(
-    found: &mut Vec<Vec<u8>>,
-    known: &[Vec<u8>],
-    inclusion: &Inclusion,
-) -> Result<(), AllocError>
-    ensures { IfOk result (λ _. (q : List ℕ) → list_any (bytes_eq q) (map (λ n. n.items) found.new.items) ≡ list_any (bytes_eq q) (map (λ n. n.items) found.old.items) || includes_by (λ n. list_any (bytes_eq n) (map (λ m. m.items) known.now)) q (inclusion_of inclusion.now)) }
-{
-    let is_new = !has_name(found.as_slice(), inclusion.included.as_slice());
-    if is_new && has_name(known, inclusion.group.as_slice()) {
-        found.push(copy_name(&inclusion.included)?)?;
-    }
-    Ok(())
-}
-
-// These names, and the names of the groups that they include themselves.
-fn one_step(
-    alloc: Global,
-    known: &[Vec<u8>],
-    inclusions: &[Inclusion],
-) -> Result<Vec<Vec<u8>>, AllocError>
-    ensures { IfOk result (λ found. (q : List ℕ) → list_any (bytes_eq q) (map (λ n. n.items) found.items) ≡ list_any (bytes_eq q) (map (λ n. n.items) known.now) || list_any (includes_by (λ n. list_any (bytes_eq n) (map (λ m. m.items) known.now)) q) (map inclusion_of inclusions.now)) }
-{
-    let mut found = copy_names(alloc, known)?;
-    for inclusion in inclusions {
-        push_included(&mut found, known, inclusion)?;
-    }
-    Ok(found)
-}
-
-fn copy_name(name: &Vec<u8>) -> Result<Vec<u8>, AllocError>
-    ensures { IfOk result (λ copy. copy.items ≡ name.now.items) }
-{
-    name.clone()
-}
-
-fn copy_names(alloc: Global, names: &[Vec<u8>]) -> Result<Vec<Vec<u8>>, AllocError>
-    ensures { IfOk result (λ copy. map (λ n. n.items) copy.items ≡ map (λ n. n.items) names.now) }
-{
-    let mut copy = Vec::new(alloc);
-    for name in names {
-        copy.push(copy_name(name)?)?;
-    }
-    Ok(copy)
-}
-
-// The names of the group and of all that it includes.
-pub(crate) fn included_groups(
-    alloc: Global,
-    inclusions: &[Inclusion],
-    group: &[u8],
-) -> Result<Vec<Vec<u8>>, AllocError>
-    ensures { IfOk result (λ names. (q : List ℕ) → list_any (bytes_eq q) (map (λ n. n.items) names.items) ≡ includes (map inclusion_of inclusions.now) group.now q) }
-{
-    let mut names = Vec::new(alloc);
-    names.push(Vec::from_slice(alloc, group)?)?;
-    for (steps, _) in inclusions.iter().enumerate() {
-        prove!(steps < inclusions.len());
-        names = one_step(alloc, names.as_slice(), inclusions)?;
-    }
-    Ok(names)
 }

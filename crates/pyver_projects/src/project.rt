@@ -3,12 +3,14 @@ ghost use Rattle.std.specs.Prelude.{◌≡◌, ◌∷◌, ◌++◌, [], IfOk, So
 ghost use Rattle.std.specs.List.{flat_map};
 ghost use Rattle.pep440_pick.specs.Names.{normal};
 ghost use Rattle.pyver_projects.specs.Documents.{array_sources, extra_sources, group_names, group_sources, groups_table, included_name, item_source, item_sources, repeated_name, source_from, source_in, sources, table_sources};
+ghost use Rattle.pyver_projects.specs.NameMaps.{IsNameIndex, names_of};
 ghost use Rattle.pyver_projects.specs.ProjectStrings.{Group, Include};
 ghost use Rattle.pyver_projects.specs.ProjectViews.{section_of, project_string_of};
 ghost use Rattle.pyver_projects.specs.TomlValues.{entries, listed, members_list};
 ghost use Rattle.toml.specs.View.{table_view, view};
 
-use crate::groups::{group_names, is_repeated};
+use crate::groups::group_names;
+use crate::name_index::NameIndex;
 use crate::project_string::ProjectString;
 use crate::section::Section;
 use crate::table::{inside, items, table, text, top};
@@ -102,13 +104,14 @@ fn push_string(
 fn push_repeated(
     alloc: Global,
     sources: &mut Vec<ProjectString>,
-    names: &[Vec<u8>],
+    names: &NameIndex<'_>,
     name: &str,
 ) -> Result<(), AllocError>
-    ensures { IfOk result (λ _. map project_string_of sources.new.items ≡ map project_string_of sources.old.items ++ repeated_name (map (λ n. n.items) names.now) name.now) }
+    requires { IsNameIndex names.now }
+    ensures { IfOk result (λ _. map project_string_of sources.new.items ≡ map project_string_of sources.old.items ++ repeated_name (names_of names.now) name.now) }
 {
     let normal = normalize_name(alloc, name)?;
-    if !is_repeated(names, normal.as_slice()) {
+    if !names.has_twice(normal.as_slice()) {
         return Ok(());
     }
     let section = Section::Invalid("another group has this name");
@@ -171,11 +174,12 @@ fn push_items(
 fn push_group(
     alloc: Global,
     sources: &mut Vec<ProjectString>,
-    names: &[Vec<u8>],
+    names: &NameIndex<'_>,
     name: &String,
     value: &Value,
 ) -> Result<(), AllocError>
-    ensures { IfOk result (λ _. map project_string_of sources.new.items ≡ map project_string_of sources.old.items ++ group_sources (map (λ n. n.items) names.now) (string_bytes name.now, view value.now)) }
+    requires { IsNameIndex names.now }
+    ensures { IfOk result (λ _. map project_string_of sources.new.items ≡ map project_string_of sources.old.items ++ group_sources (names_of names.now) (string_bytes name.now, view value.now)) }
 {
     push_repeated(alloc, sources, names, name.as_str())?;
     push_items(alloc, sources, name.as_str(), value)
@@ -197,10 +201,11 @@ fn push_extras(
 fn push_groups(
     alloc: Global,
     sources: &mut Vec<ProjectString>,
-    names: &[Vec<u8>],
+    names: &NameIndex<'_>,
     groups: &Table,
 ) -> Result<(), AllocError>
-    ensures { IfOk result (λ _. map project_string_of sources.new.items ≡ map project_string_of sources.old.items ++ flat_map (group_sources (map (λ n. n.items) names.now)) (members_list (table_view groups.now))) }
+    requires { IsNameIndex names.now }
+    ensures { IfOk result (λ _. map project_string_of sources.new.items ≡ map project_string_of sources.old.items ++ flat_map (group_sources (names_of names.now)) (members_list (table_view groups.now))) }
 {
     for (name, value) in groups.iter() {
         push_group(alloc, sources, names, name, value)?;
@@ -229,8 +234,9 @@ fn push_all_groups(
     ensures { IfOk result (λ _. map project_string_of sources.new.items ≡ map project_string_of sources.old.items ++ flat_map (group_sources (group_names (table_view document.now))) (groups_table (table_view document.now))) }
 {
     let names = group_names(alloc, document)?;
+    let names = NameIndex::new(alloc, names.as_slice())?;
     match table(top(document, "dependency-groups")) {
-        Some(groups) => push_groups(alloc, sources, names.as_slice(), groups),
+        Some(groups) => push_groups(alloc, sources, &names, groups),
         None => Ok(()),
     }
 }

@@ -9,10 +9,11 @@ ghost use Rattle.pyver_findings.specs.LineMeanings.{IsNone};
 ghost use Rattle.pyver_findings.specs.Views.{file_line_of, line_meaning_of};
 ghost use Rattle.pyver_projects.specs.Groups.{include_meaning, no_group};
 ghost use Rattle.pyver_projects.specs.Meanings.{IsSectionMeaning, IsStringReading, IsVersionMeaning};
-ghost use Rattle.pyver_projects.specs.ProjectViews.{groups_of, project_string_of, section_of, string_reading_of};
+ghost use Rattle.pyver_projects.specs.NameMaps.{HasGroups, groups_of};
+ghost use Rattle.pyver_projects.specs.ProjectViews.{project_string_of, section_of, string_reading_of};
 ghost use Rattle.pyver_projects.specs.QuotedStrings.{HasQuotedLines};
 
-use crate::groups::{Groups, has_name, included_groups};
+use crate::groups::Groups;
 use crate::place::string_line;
 use crate::project_string::ProjectString;
 use crate::quoted_lines::QuotedLines;
@@ -67,18 +68,18 @@ fn no_group(alloc: Global, line: &FileLine, reason: &str) -> Result<LineMeaning,
 // What the name of a group is that another includes.
 fn include_meaning(
     alloc: Global,
-    groups: &Groups,
+    groups: &Groups<'_>,
     line: &FileLine,
     group: &[u8],
     included: &[u8],
 ) -> Result<LineMeaning, AllocError>
+    requires { HasGroups groups.now }
     ensures { IfOk result (λ x. line_meaning_of x ≡ include_meaning (groups_of groups.now) (file_line_of line.now) group.now included.now) }
 {
-    if !has_name(groups.names.as_slice(), included) {
+    if !groups.has(included) {
         return no_group(alloc, line, "there is no group of this name");
     }
-    let others = included_groups(alloc, groups.inclusions.as_slice(), included)?;
-    if has_name(others.as_slice(), group) {
+    if groups.includes(alloc, included, group)? {
         return no_group(alloc, line, "the group includes itself");
     }
     Ok(LineMeaning::AsksNothing)
@@ -87,11 +88,12 @@ fn include_meaning(
 // What the string of this line, which is this text, is in this section of a project with these groups.
 fn parse_string(
     alloc: Global,
-    groups: &Groups,
+    groups: &Groups<'_>,
     section: &Section,
     line: &FileLine,
     text: &str,
 ) -> Result<LineMeaning, AllocError>
+    requires { HasGroups groups.now }
     ensures { IfOk result (λ x. IsSectionMeaning (groups_of groups.now) (section_of section.now) (file_line_of line.now) text.now (line_meaning_of x)) }
 {
     match section {
@@ -111,12 +113,13 @@ fn parse_string(
 // What a string of the file with this name is.
 fn read_string(
     alloc: Global,
-    groups: &Groups,
+    groups: &Groups<'_>,
     name: &[u8],
     lines: &QuotedLines,
     string: &ProjectString,
 ) -> Result<StringReading, AllocError>
-    requires { HasQuotedLines lines.now }
+    requires lines { HasQuotedLines lines.now }
+    requires groups { HasGroups groups.now }
     ensures { IfOk result (λ x. IsStringReading (groups_of groups.now) (record { name = name.now; text = lines.now.text.now }) (project_string_of string.now) (string_reading_of x)) }
 {
     let line = string_line(alloc, name, lines, string)?;
@@ -130,12 +133,13 @@ fn read_string(
 // What the strings are.
 pub(crate) fn read_strings(
     alloc: Global,
-    groups: &Groups,
+    groups: &Groups<'_>,
     name: &[u8],
     lines: &QuotedLines,
     strings: &[ProjectString],
 ) -> Result<Vec<StringReading>, AllocError>
-    requires { HasQuotedLines lines.now }
+    requires lines { HasQuotedLines lines.now }
+    requires groups { HasGroups groups.now }
     ensures { IfOk result (λ xs. AllZip (IsStringReading (groups_of groups.now) (record { name = name.now; text = lines.now.text.now })) (map project_string_of strings.now) (map string_reading_of xs.items)) }
 {
     let mut readings = Vec::new(alloc);

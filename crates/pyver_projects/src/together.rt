@@ -5,16 +5,20 @@ ghost use Rattle.pyver_findings.specs.Demands.{IsSound};
 ghost use Rattle.pyver_findings.specs.Reports.{demands_in};
 ghost use Rattle.pyver_findings.specs.Views.{demand_of, file_line_of, finding_of, line_meaning_of};
 ghost use Rattle.pyver_projects.specs.Groups.{inclusions as inclusions_in};
-ghost use Rattle.pyver_projects.specs.ProjectViews.{inclusion_of, section_of, string_reading_of};
+ghost use Rattle.pyver_projects.specs.NameMaps.{IsInclusionIndex, has_key, inclusions_of};
+ghost use Rattle.pyver_projects.specs.ProjectViews.{section_of, string_reading_of};
 ghost use Rattle.pyver_projects.specs.Soundness.{IsSoundString};
-ghost use Rattle.pyver_projects.specs.Together.{demand_in_part, has_dependencies, has_group, holds_in, is_build, is_extra, part_conflicts, part_demands, parts, project_conflicts, same_finding, same_line, same_lines, same_part, section_part, sections, with_new};
+ghost use Rattle.pyver_projects.specs.Together.{all_demands, demand_in_part, has_dependencies, has_group, holds_in, is_build, is_extra, part_conflicts, part_demands, parts, project_conflicts, same_finding, same_line, same_lines, same_part, section_part, sections, with_new};
 ghost use Rattle.pyver_findings.specs.Conflicts.{conflicts};
 
-use crate::groups::{Inclusion, has_name, included_groups, inclusions};
+use crate::group_walk::included_groups;
+use crate::groups::inclusions;
+use crate::inclusion_index::InclusionIndex;
 use crate::section::Section;
 use crate::string_reading::StringReading;
 use pyver_findings::{Demand, FileLine, Finding, LineMeaning, push_conflicts};
 use std::alloc::{AllocError, Global};
+use std::collections::HashMap;
 
 // ---- parts of a project
 
@@ -89,27 +93,28 @@ fn is_build(part: &Section) -> bool
 }
 
 // The names of the groups in the part.
-fn part_groups(
+fn part_groups<'a>(
     alloc: Global,
-    inclusions: &[Inclusion],
-    part: &Section,
-) -> Result<Vec<Vec<u8>>, AllocError>
-    ensures { IfOk result (λ names. (q : List ℕ) → list_any (bytes_eq q) (map (λ n. n.items) names.items) ≡ has_group (map inclusion_of inclusions.now) (section_of part.now) q) }
+    inclusions: &InclusionIndex<'a>,
+    part: &'a Section,
+) -> Result<HashMap<&'a [u8], ()>, AllocError>
+    requires { IsInclusionIndex inclusions.now }
+    ensures { IfOk result (λ names. (q : List ℕ) → has_key names q ≡ has_group (inclusions_of inclusions.now) (section_of part.now) q) }
 {
     match part {
         Section::Group(group) => included_groups(alloc, inclusions, group.as_slice()),
-        _ => Ok(Vec::new(alloc)),
+        _ => Ok(HashMap::new(alloc)),
     }
 }
 
 // A string of the section holds in the part, which has these groups.
-fn holds_in(groups: &[Vec<u8>], part: &Section, section: &Section) -> bool
-    ensures { result ≡ holds_in (λ q. list_any (bytes_eq q) (map (λ n. n.items) groups.now)) (section_of part.now) (section_of section.now) }
+fn holds_in(groups: &HashMap<&[u8], ()>, part: &Section, section: &Section) -> bool
+    ensures { result ≡ holds_in (has_key groups.now) (section_of part.now) (section_of section.now) }
 {
     match section {
         Section::Dependencies => has_dependencies(part),
         Section::Extra(name) => is_extra(name.as_slice(), part),
-        Section::Group(name) => has_name(groups, name.as_slice()),
+        Section::Group(name) => groups.contains_key(name.as_slice()),
         Section::Build => is_build(part),
         Section::Include(_, _) | Section::Invalid(_) | Section::Python | Section::Version => false,
     }
@@ -150,11 +155,11 @@ fn push_demand(demands: &mut Vec<Demand>, meaning: &LineMeaning) -> Result<(), A
 
 fn push_in_part(
     demands: &mut Vec<Demand>,
-    groups: &[Vec<u8>],
+    groups: &HashMap<&[u8], ()>,
     part: &Section,
     string: &StringReading,
 ) -> Result<(), AllocError>
-    ensures { IfOk result (λ _. map demand_of demands.new.items ≡ map demand_of demands.old.items ++ demand_in_part (λ q. list_any (bytes_eq q) (map (λ n. n.items) groups.now)) (section_of part.now) (string_reading_of string.now)) }
+    ensures { IfOk result (λ _. map demand_of demands.new.items ≡ map demand_of demands.old.items ++ demand_in_part (has_key groups.now) (section_of part.now) (string_reading_of string.now)) }
 {
     if holds_in(groups, part, &string.section) {
         push_demand(demands, &string.meaning)?;
@@ -165,11 +170,11 @@ fn push_in_part(
 // The requirements of the part, which has these groups.
 fn demands_of_part(
     alloc: Global,
-    groups: &[Vec<u8>],
+    groups: &HashMap<&[u8], ()>,
     part: &Section,
     strings: &[StringReading],
 ) -> Result<Vec<Demand>, AllocError>
-    ensures { IfOk result (λ demands. map demand_of demands.items ≡ flat_map (demand_in_part (λ q. list_any (bytes_eq q) (map (λ n. n.items) groups.now)) (section_of part.now)) (map string_reading_of strings.now)) }
+    ensures { IfOk result (λ demands. map demand_of demands.items ≡ flat_map (demand_in_part (has_key groups.now) (section_of part.now)) (map string_reading_of strings.now)) }
 {
     let mut demands = Vec::new(alloc);
     for string in strings {
@@ -181,26 +186,28 @@ fn demands_of_part(
 // The requirements of the part.
 fn part_demands(
     alloc: Global,
-    inclusions: &[Inclusion],
+    inclusions: &InclusionIndex<'_>,
     part: &Section,
     strings: &[StringReading],
 ) -> Result<Vec<Demand>, AllocError>
-    ensures { IfOk result (λ demands. map demand_of demands.items ≡ part_demands (map inclusion_of inclusions.now) (section_of part.now) (map string_reading_of strings.now)) }
+    requires { IsInclusionIndex inclusions.now }
+    ensures { IfOk result (λ demands. map demand_of demands.items ≡ part_demands (inclusions_of inclusions.now) (section_of part.now) (map string_reading_of strings.now)) }
 {
     let groups = part_groups(alloc, inclusions, part)?;
-    demands_of_part(alloc, groups.as_slice(), part, strings)
+    demands_of_part(alloc, &groups, part, strings)
 }
 
 // Adds what is wrong with the requirements of the part together.
 fn push_part_conflicts(
     alloc: Global,
     findings: &mut Vec<Finding>,
-    inclusions: &[Inclusion],
+    inclusions: &InclusionIndex<'_>,
     part: &Section,
     strings: &[StringReading],
 ) -> Result<(), AllocError>
-    requires { All IsSoundString (map string_reading_of strings.now) }
-    ensures { IfOk result (λ _. map finding_of findings.new.items ≡ map finding_of findings.old.items ++ conflicts (part_demands (map inclusion_of inclusions.now) (section_of part.now) (map string_reading_of strings.now))) }
+    requires sound { All IsSoundString (map string_reading_of strings.now) }
+    requires index { IsInclusionIndex inclusions.now }
+    ensures { IfOk result (λ _. map finding_of findings.new.items ≡ map finding_of findings.old.items ++ conflicts (part_demands (inclusions_of inclusions.now) (section_of part.now) (map string_reading_of strings.now))) }
 {
     let demands = part_demands(alloc, inclusions, part, strings)?;
     push_conflicts(alloc, findings, demands.as_slice())
@@ -210,11 +217,12 @@ fn push_part_conflicts(
 fn push_part(
     alloc: Global,
     findings: &mut Vec<Finding>,
-    inclusions: &[Inclusion],
+    inclusions: &InclusionIndex<'_>,
     part: &Section,
     strings: &[StringReading],
 ) -> Result<(), AllocError>
-    requires known { map inclusion_of inclusions.now ≡ inclusions_in (sections (map string_reading_of strings.now)) }
+    requires known { inclusions_of inclusions.now ≡ inclusions_in (sections (map string_reading_of strings.now)) }
+    requires index { IsInclusionIndex inclusions.now }
     requires sound { All IsSoundString (map string_reading_of strings.now) }
     ensures { IfOk result (λ _. map finding_of findings.new.items ≡ map finding_of findings.old.items ++ part_conflicts (map string_reading_of strings.now) (section_of part.now)) }
 {
@@ -231,9 +239,10 @@ fn conflicts_of_parts(
     ensures { IfOk result (λ found. map finding_of found.items ≡ flat_map (part_conflicts (map string_reading_of strings.now)) (map section_of parts.now)) }
 {
     let inclusions = inclusions(alloc, strings)?;
+    let inclusions = InclusionIndex::new(alloc, inclusions.as_slice())?;
     let mut findings = Vec::new(alloc);
     for part in parts {
-        push_part(alloc, &mut findings, inclusions.as_slice(), part, strings)?;
+        push_part(alloc, &mut findings, &inclusions, part, strings)?;
     }
     Ok(findings)
 }
@@ -295,7 +304,29 @@ fn each_once(alloc: Global, findings: Vec<Finding>) -> Result<Vec<Finding>, Allo
     Ok(found)
 }
 
-// What is wrong with requirements of a project together.
+// The requirements of all strings.
+fn all_demands(alloc: Global, strings: &[StringReading]) -> Result<Vec<Demand>, AllocError>
+    ensures { IfOk result (λ demands. map demand_of demands.items ≡ all_demands (map string_reading_of strings.now)) }
+{
+    let mut demands = Vec::new(alloc);
+    for string in strings {
+        push_demand(&mut demands, &string.meaning)?;
+    }
+    Ok(demands)
+}
+
+// What is wrong with all requirements, as if they held together.
+fn conflicts_of_all(alloc: Global, strings: &[StringReading]) -> Result<Vec<Finding>, AllocError>
+    requires { All IsSoundString (map string_reading_of strings.now) }
+    ensures { IfOk result (λ found. map finding_of found.items ≡ conflicts (all_demands (map string_reading_of strings.now))) }
+{
+    let demands = all_demands(alloc, strings)?;
+    let mut findings = Vec::new(alloc);
+    push_conflicts(alloc, &mut findings, demands.as_slice())?;
+    Ok(findings)
+}
+
+// What is wrong with requirements of a project together. If nothing is wrong with all of them, nothing is with any part.
 pub(crate) fn project_conflicts(
     alloc: Global,
     strings: &[StringReading],
@@ -303,6 +334,10 @@ pub(crate) fn project_conflicts(
     requires { All IsSoundString (map string_reading_of strings.now) }
     ensures { IfOk result (λ found. map finding_of found.items ≡ project_conflicts (map string_reading_of strings.now)) }
 {
+    let all = conflicts_of_all(alloc, strings)?;
+    if all.is_empty() {
+        return Ok(all);
+    }
     let parts = parts(alloc, strings)?;
     let findings = conflicts_of_parts(alloc, parts.as_slice(), strings)?;
     each_once(alloc, findings)

@@ -260,8 +260,8 @@ Prints what is wrong in requirements files: lines that are no requirements, line
 satisfies together, and versions that one line names and another excludes. '-' and no file mean
 standard input. Files that lines name after -r and -c are read too, each once; their paths are
 relative to the file that names them. Lines with different markers do not count together.
-A file named pyproject.toml is read as a project, one named pylock.toml, uv.lock, poetry.lock or
-Pipfile.lock as a lock: malformed strings are reported, requirements that no version satisfies
+A file named pyproject.toml is read as a project, one named pylock.toml, pylock.NAME.toml, uv.lock,
+poetry.lock or Pipfile.lock as a lock: malformed strings are reported, requirements that no version satisfies
 together, and, for each lock beside a project, versions that it excludes and names the lock lacks.
 KIND is requirements, pyproject, pylock, uv, poetry or pipfile.
 Standard error says how much was read, and how much was left out: options of pip, editables, paths,

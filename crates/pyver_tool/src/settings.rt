@@ -74,7 +74,7 @@ impl Settings {
             format: ShowFormat::Normal,
             to: None,
             each: false,
-            kind: FileKind::Requirements,
+            kind: FileKind::unknown(),
         }
     }
 

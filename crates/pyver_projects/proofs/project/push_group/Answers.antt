@@ -4,13 +4,14 @@ use Rattle.std.proofs.lemmas.Result.{IfOk-weaker}
 use Rattle.std.specs.List.{flat_map}
 use Rattle.toml.specs.View.{view}
 use Rattle.pyver_projects.specs.Documents.{group_sources, item_sources, repeated_name}
+use Rattle.pyver_projects.specs.NameMaps.{names_of}
 use Rattle.pyver_projects.specs.ProjectViews.{project_string_of}
 use Rattle.pyver_projects.specs.TomlValues.{listed}
 use Rattle.pyver_projects.proofs.project.push_group.Goals as goal
 
 pub returns : goal.returns
 returns c =
-    let names = map (λ n. n.items) c.args.names.now in
+    let names = names_of c.args.names.now in
     let name = string_bytes c.args.name.now in
     let old = map project_string_of c.args.sources.now.items in
     let middle = map project_string_of c.push_repeated.new.sources.items in

@@ -1,11 +1,12 @@
-use Rattle.std.proofs.Common.{◌≡◌, ◌++◌, bytes_eq, drop, map}
-use Rattle.std.specs.List.{flat_map, list_any}
+use Rattle.std.proofs.Common.{◌≡◌, ◌++◌, drop, map}
+use Rattle.std.specs.List.{flat_map}
 use Rattle.pyver_findings.specs.Views.{demand_of}
+use Rattle.pyver_projects.specs.NameMaps.{has_key}
 use Rattle.pyver_projects.specs.ProjectViews.{section_of, string_reading_of}
 use Rattle.pyver_projects.specs.Together.{demand_in_part}
 use Rattle.pyver_projects.proofs.together.demands_of_part.Given as goal
 
 abbrev pub invariant-loop-string : goal.invariant-loop-string
 invariant-loop-string l =
-    map demand_of l.demands.items ++ flat_map (demand_in_part (λ q. list_any (bytes_eq q) (map (λ n. n.items) l.groups)) (section_of l.part)) (map string_reading_of (drop l.string-index l.strings))
-    ≡ flat_map (demand_in_part (λ q. list_any (bytes_eq q) (map (λ n. n.items) l.groups)) (section_of l.part)) (map string_reading_of l.strings)
+    map demand_of l.demands.items ++ flat_map (demand_in_part (has_key l.groups) (section_of l.part)) (map string_reading_of (drop l.string-index l.strings))
+    ≡ flat_map (demand_in_part (has_key l.groups) (section_of l.part)) (map string_reading_of l.strings)

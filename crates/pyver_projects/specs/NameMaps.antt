@@ -1,0 +1,66 @@
+-- What maps with names hold: sets of names, repeated names, inclusions by the groups that have them, and places of groups.
+use Rattle.std.specs.Prelude.{◌≡◌, ℕ, ◌||◌, List, [], Bool, Option, Some, None, bytes_eq, count_by, is_some, map, nat_eq, nat_lt, if◌then◌else◌}
+use Rattle.std.specs.Borrow.{Bor}
+use Rattle.std.specs.HashMap.{HashMap, get_by}
+use Rattle.std.specs.List.{filter, list_all, list_any}
+use Rattle.std.specs.Option.{option_map_or, unwrap_or}
+use Rattle.pyver_projects.specs.Groups.{Groups, Inclusion}
+use Rattle.pyver_projects.specs.ProjectViews.{inclusion_of}
+use Rattle.pyver_projects.specs.declared.group_order.GroupOrder.{GroupOrder}
+use Rattle.pyver_projects.specs.declared.groups.Groups.{Groups as GroupsValue}
+use Rattle.pyver_projects.specs.declared.inclusion_index.InclusionIndex.{InclusionIndex}
+use Rattle.pyver_projects.specs.declared.name_index.NameIndex.{NameIndex}
+
+-- ---- sets of names
+
+-- the name is in the set
+abbrev pub has_key : {X S : Type 0} → HashMap (Bor (List ℕ)) X S → List ℕ → Bool
+has_key names name = is_some (get_by (λ k. bytes_eq name k.now) names)
+
+-- those of the set are those before, and these
+abbrev pub IsFound : {X S : Type 0} → (List ℕ → Bool) → HashMap (Bor (List ℕ)) X S → List (Bor (List ℕ)) → Type 0
+IsFound before names found = (q : List ℕ) → has_key names q ≡ (before q || list_any (bytes_eq q) (map (λ n. n.now) found))
+
+-- ---- repeated names
+
+-- what is kept of a name that stands there so often: whether it is repeated
+abbrev pub is_repeated : ℕ → Option Bool
+is_repeated n = if nat_eq n 0 then None else Some (nat_lt 1 n)
+
+abbrev pub names_of : NameIndex → List (List ℕ)
+names_of index = map (λ n. n.items) index.names.now
+
+abbrev pub IsNameIndex : NameIndex → Type 0
+IsNameIndex index = (q : List ℕ) → get_by (λ k. bytes_eq q k.now) index.repeated ≡ is_repeated (count_by (bytes_eq q) (names_of index))
+
+-- ---- inclusions by their groups
+
+abbrev pub inclusions_of : InclusionIndex → List Inclusion
+inclusions_of index = map inclusion_of index.inclusions.now
+
+-- under each name stand the inclusions of the group with this name, in their order
+abbrev pub IsInclusionIndex : InclusionIndex → Type 0
+IsInclusionIndex index = (q : List ℕ) → map (λ i. inclusion_of i.now) (option_map_or (λ group. group.items) (get_by (λ k. bytes_eq q k.now) index.by_group) []) ≡ filter (λ i. bytes_eq q i.group) (inclusions_of index)
+
+-- ---- places
+
+-- the number of a name, or 0
+abbrev pub number_of : {S : Type 0} → HashMap (Bor (List ℕ)) ℕ S → List ℕ → ℕ
+number_of numbers name = unwrap_or (get_by (λ k. bytes_eq name k.now) numbers) 0
+
+-- the group that includes the other stands before it
+abbrev pub is_before : (List ℕ → ℕ) → Inclusion → Bool
+is_before place i = nat_lt (place i.group) (place i.included)
+
+-- what is known of an order
+abbrev pub IsOrder : List Inclusion → GroupOrder → Type 0
+IsOrder is order = order.is_right ≡ list_all (is_before (number_of order.places)) is
+
+-- ---- groups
+
+abbrev pub groups_of : GroupsValue → Groups
+groups_of all = record { names = names_of all.names; inclusions = inclusions_of all.inclusions }
+
+-- its maps are right
+abbrev pub HasGroups : GroupsValue → Type 0
+HasGroups all = IsNameIndex all.names × IsInclusionIndex all.inclusions × IsOrder (inclusions_of all.inclusions) all.order

@@ -1,0 +1,141 @@
+//! An order of groups, in which each stands before those that it includes, if none includes itself.
+ghost use Rattle.std.specs.Prelude.{◌≡◌, ◌&&◌, IfOk, map, nat_lt};
+ghost use Rattle.std.specs.List.{list_all};
+ghost use Rattle.pyver_projects.specs.NameMaps.{IsInclusionIndex, IsOrder, inclusions_of, is_before, number_of};
+ghost use Rattle.pyver_projects.specs.ProjectViews.{inclusion_of};
+
+use crate::groups::Inclusion;
+use crate::inclusion_index::InclusionIndex;
+use std::alloc::{AllocError, Global};
+use std::collections::HashMap;
+
+// The places of groups, and whether each group stands before those that it includes.
+#[derive(Drop)]
+pub(crate) struct GroupOrder<'a> {
+    places: HashMap<&'a [u8], usize>,
+    is_right: bool,
+}
+
+// The number of the name, or 0.
+fn number_of(numbers: &HashMap<&[u8], usize>, name: &[u8]) -> usize
+    ensures { result ≡ number_of numbers.now name.now }
+{
+    match numbers.get(name) {
+        Some(number) => *number,
+        None => 0,
+    }
+}
+
+// How often each group is included.
+fn count_inclusions<'a>(
+    alloc: Global,
+    inclusions: &'a [Inclusion],
+) -> Result<HashMap<&'a [u8], usize>, AllocError> {
+    let mut counts: HashMap<&'a [u8], usize> = HashMap::new(alloc);
+    for inclusion in inclusions {
+        let name = inclusion.included.as_slice();
+        let count = number_of(&counts, name);
+        counts.insert(name, count.saturating_add(1))?;
+    }
+    Ok(counts)
+}
+
+// The groups that no other includes.
+fn first_groups<'a>(
+    alloc: Global,
+    counts: &HashMap<&'a [u8], usize>,
+    inclusions: &'a [Inclusion],
+) -> Result<Vec<&'a [u8]>, AllocError> {
+    let mut found: Vec<&'a [u8]> = Vec::new(alloc);
+    for inclusion in inclusions {
+        let name = inclusion.group.as_slice();
+        if number_of(counts, name) == 0 {
+            found.push(name)?;
+        }
+    }
+    Ok(found)
+}
+
+// Takes an inclusion of the group. After the last the group can be placed.
+fn take_inclusion<'a>(
+    counts: &mut HashMap<&'a [u8], usize>,
+    ready: &mut Vec<&'a [u8]>,
+    name: &'a [u8],
+) -> Result<(), AllocError> {
+    let count = number_of(counts, name);
+    if count == 1 {
+        ready.push(name)?;
+    }
+    counts.insert(name, count.saturating_sub(1))?;
+    Ok(())
+}
+
+fn take_inclusions<'a>(
+    counts: &mut HashMap<&'a [u8], usize>,
+    ready: &mut Vec<&'a [u8]>,
+    group: Option<&Vec<&'a Inclusion>>,
+) -> Result<(), AllocError> {
+    let Some(inclusions) = group else {
+        return Ok(());
+    };
+    for inclusion in inclusions.as_slice() {
+        take_inclusion(counts, ready, inclusion.included.as_slice())?;
+    }
+    Ok(())
+}
+
+// Places the groups, each after all that include it. Groups that include themselves, and what only they include, get no place.
+fn place_groups<'a>(
+    alloc: Global,
+    index: &InclusionIndex<'a>,
+) -> Result<HashMap<&'a [u8], usize>, AllocError>
+    requires { IsInclusionIndex index.now }
+{
+    let mut counts = count_inclusions(alloc, index.inclusions)?;
+    let mut ready = first_groups(alloc, &counts, index.inclusions)?;
+    let mut places: HashMap<&'a [u8], usize> = HashMap::new(alloc);
+    for place in 0..index.inclusions.len().saturating_mul(2) {
+        let Some(name) = ready.pop() else {
+            return Ok(places);
+        };
+        if !places.contains_key(name) {
+            places.insert(name, place)?;
+            take_inclusions(&mut counts, &mut ready, index.of_group(name))?;
+        }
+    }
+    Ok(places)
+}
+
+// Each group stands before those that it includes.
+fn are_ordered(places: &HashMap<&[u8], usize>, inclusions: &[Inclusion]) -> bool
+    ensures { result ≡ list_all (is_before (number_of places.now)) (map inclusion_of inclusions.now) }
+{
+    for inclusion in inclusions {
+        let place = number_of(places, inclusion.group.as_slice());
+        if place >= number_of(places, inclusion.included.as_slice()) {
+            return false;
+        }
+    }
+    true
+}
+
+impl<'a> GroupOrder<'a> {
+    pub(crate) fn new(
+        alloc: Global,
+        index: &InclusionIndex<'a>,
+    ) -> Result<GroupOrder<'a>, AllocError>
+        requires { IsInclusionIndex index.now }
+        ensures { IfOk result (IsOrder (inclusions_of index.now)) }
+    {
+        let places = place_groups(alloc, index)?;
+        let is_right = are_ordered(&places, index.inclusions);
+        Ok(GroupOrder { places, is_right })
+    }
+
+    // The first group stands before the second, which therefore does not include it.
+    pub(crate) fn has_before(&self, group: &[u8], other: &[u8]) -> bool
+        ensures { result ≡ self.now.is_right && nat_lt (number_of self.now.places group.now) (number_of self.now.places other.now) }
+    {
+        self.is_right && number_of(&self.places, group) < number_of(&self.places, other)
+    }
+}
