@@ -5,6 +5,7 @@ pub mod Columns
 pub mod LineMeanings
 pub mod NamedFiles
 pub mod Findings
+pub mod FindingKinds
 pub mod Conflicts
 pub mod Reports
 pub mod Views

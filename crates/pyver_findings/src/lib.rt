@@ -27,7 +27,7 @@ pub use cause::Cause;
 pub use conflicts::push_conflicts;
 pub use demand::Demand;
 pub use file_line::{FileLine, SourceFile};
-pub use finding::{Conflict, Finding};
+pub use finding::{Conflict, Finding, FindingKind};
 pub use json_string::push_json_string;
 pub use line_meaning::LineMeaning;
 pub use named_files::{NamedFile, Position, push_named_files};
