@@ -12,5 +12,6 @@ pub mod Views
 pub mod ReadingViews
 pub mod ReportTexts
 pub mod ReportObjects
+pub mod GithubCommands
 pub mod FindingLaws
 pub mod StringGrammar

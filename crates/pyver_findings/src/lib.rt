@@ -18,6 +18,7 @@ mod named_files;
 mod normal_name;
 mod plain;
 mod report;
+mod report_github;
 mod report_json;
 mod report_text;
 mod requirement_line;
