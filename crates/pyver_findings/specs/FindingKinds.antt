@@ -21,6 +21,12 @@ kind_code kind.NoVersion = codes "PV002"
 kind_code kind.PinOutside = codes "PV003"
 kind_code kind.TwoPins = codes "PV004"
 
+abbrev pub kind_summary : FindingKind → List ℕ
+kind_summary kind.NoRequirement = codes "A line or string is malformed, or what it names is missing."
+kind_summary kind.NoVersion = codes "No version satisfies the lines."
+kind_summary kind.PinOutside = codes "A line is pinned to a version that another excludes."
+kind_summary kind.TwoPins = codes "Two lines are pinned to two versions."
+
 abbrev pub kind_word : FindingKind → List ℕ
 kind_word kind.NoRequirement = codes "no-requirement"
 kind_word kind.NoVersion = codes "no-version"

@@ -33,7 +33,8 @@ finding_properties (Conflicting conflict lines) = first_properties lines
 -- the command of a finding, whose title is its code
 abbrev pub finding_command : Finding → List ℕ
 finding_command f =
-    codes "::error " ++ (finding_properties f ++ (codes "title=" ++ (kind_code (finding_kind f) ++ (codes "::" ++ (flat_map message_byte (finding_message f) ++ codes "\n")))))
+    codes "::error " ++ (finding_properties f ++ (codes "title=" ++ (kind_code (finding_kind f)
+    ++ (codes "::" ++ (flat_map message_byte (finding_message f) ++ codes "\n")))))
 
 -- one command after another
 abbrev pub report_commands : Report → List ℕ

@@ -13,5 +13,6 @@ pub mod ReadingViews
 pub mod ReportTexts
 pub mod ReportObjects
 pub mod GithubCommands
+pub mod SarifLogs
 pub mod FindingLaws
 pub mod StringGrammar

@@ -1,7 +1,7 @@
 //! What is reported.
 ghost use Rattle.std.specs.Prelude.{◌≡◌, bytes_eq, map, not};
 ghost use Rattle.std.specs.List.{list_any};
-ghost use Rattle.pyver_findings.specs.FindingKinds.{conflict_kind_of, finding_kind, kind_code, kind_word};
+ghost use Rattle.pyver_findings.specs.FindingKinds.{conflict_kind_of, finding_kind, kind_code, kind_summary, kind_word};
 ghost use Rattle.pyver_findings.specs.Reports.{are_of_several, spans_files};
 ghost use Rattle.pyver_findings.specs.Views.{file_line_of, finding_of};
 
@@ -43,6 +43,22 @@ impl FindingKind {
             FindingKind::NoVersion => "PV002",
             FindingKind::PinOutside => "PV003",
             FindingKind::TwoPins => "PV004",
+        }
+    }
+
+    /// What it says of a finding.
+    ///
+    /// Allocates nothing.
+    pub fn summary(self) -> &'static str
+        ensures { result.now ≡ kind_summary self }
+    {
+        match self {
+            FindingKind::NoRequirement => {
+                "A line or string is malformed, or what it names is missing."
+            }
+            FindingKind::NoVersion => "No version satisfies the lines.",
+            FindingKind::PinOutside => "A line is pinned to a version that another excludes.",
+            FindingKind::TwoPins => "Two lines are pinned to two versions.",
         }
     }
 

@@ -20,6 +20,7 @@ mod plain;
 mod report;
 mod report_github;
 mod report_json;
+mod report_sarif;
 mod report_text;
 mod requirement_line;
 mod smallest;

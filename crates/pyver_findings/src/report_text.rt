@@ -81,7 +81,7 @@ fn push_blanks(bytes: &mut Vec<u8>, characters: &[u8]) -> Result<(), AllocError>
     Ok(())
 }
 
-fn start_of(text: &[u8], column: usize) -> &[u8]
+pub(crate) fn start_of(text: &[u8], column: usize) -> &[u8]
     ensures { result.now ≡ take column text.now }
 {
     if column <= text.len() {

@@ -174,6 +174,7 @@ fn print_findings(
         OutputForm::Text => report.to_text(alloc),
         OutputForm::Json => report.to_json(alloc),
         OutputForm::Github => report.to_github(alloc),
+        OutputForm::Sarif => report.to_sarif(alloc),
     }
 }
 

@@ -263,8 +263,8 @@ relative to the file that names them. Lines with different markers do not count 
 A file named pyproject.toml is read as a project, one named pylock.toml, uv.lock, poetry.lock or
 Pipfile.lock as a lock: malformed strings are reported, requirements that no version satisfies
 together, and, for each lock beside a project, versions that it excludes and names the lock lacks.
-KIND is requirements, pyproject, pylock, uv, poetry or pipfile. FORM is text, json or github: github
-prints commands that GitHub Actions shows at the lines.
+KIND is requirements, pyproject, pylock, uv, poetry or pipfile. FORM is text, json, github or
+sarif: github prints commands that GitHub Actions shows at the lines, sarif a log of SARIF 2.1.0.
 Standard error says how much was read, and how much was left out: options of pip, editables, paths,
 archives, URLs, and lines with a variable. The exit status is 0 if nothing is wrong, 1 if something
 is, and 2 if a file cannot be opened; the other files are checked all the same.

@@ -58,7 +58,7 @@ const OUTPUT: OptionRow = (
     "",
     "--output",
     "one of its choices",
-    &["text", "json", "github"],
+    &["text", "json", "github", "sarif"],
 );
 
 const TO: OptionRow = ("", "--to", "a whole number", &[]);

@@ -9,6 +9,7 @@ pub(crate) enum OutputForm {
     Json,
     // Commands to GitHub Actions.
     Github,
+    Sarif,
 }
 
 // The form that the word names.
@@ -19,6 +20,7 @@ pub(crate) fn parse_output_form(word: &str) -> Option<OutputForm>
         "text" => Some(OutputForm::Text),
         "json" => Some(OutputForm::Json),
         "github" => Some(OutputForm::Github),
+        "sarif" => Some(OutputForm::Sarif),
         _ => None,
     }
 }
