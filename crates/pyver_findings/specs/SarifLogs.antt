@@ -45,7 +45,7 @@ abbrev pub file_uri : List ℕ → List ℕ
 file_uri path = scheme path ++ flat_map path_byte path
 
 -- the physical location of a line, up to its region's line number
-abbrev pub line_start : FileLine → List ℕ
+unfoldable pub line_start : FileLine → List ℕ
 line_start l =
     codes "{\"physicalLocation\":{\"artifactLocation\":{\"uri\":\""
     ++ (file_uri l.file ++ (codes "\"},\"region\":{\"startLine\":" ++ decimal l.number))
@@ -55,16 +55,20 @@ abbrev pub first_location : List FileLine → List ℕ
 first_location [] = []
 first_location (l ∷ rest) = line_start l ++ codes "}}}"
 
+-- the location of the line with the column
+unfoldable pub line_location : FileLine → ℕ → List ℕ
+line_location l column =
+    line_start l ++ (codes ",\"startColumn\":" ++ (decimal (utf16_length (take column l.text) + 1) ++ codes "}}}"))
+
 -- the location of the line with the column, or of the first line
 abbrev pub finding_location : Finding → List ℕ
-finding_location (NoRequirement l reason column) =
-    line_start l ++ (codes ",\"startColumn\":" ++ (decimal (utf16_length (take column l.text) + 1) ++ codes "}}}"))
+finding_location (NoRequirement l reason column) = line_location l column
 finding_location (Conflicting conflict lines) = first_location lines
 
 -- ---- results
 
 -- a finding: its code, the message and the location
-abbrev pub finding_result : Finding → List ℕ
+unfoldable pub finding_result : Finding → List ℕ
 finding_result f =
     codes "{\"ruleId\":\"" ++ (kind_code (finding_kind f) ++ (codes "\",\"level\":\"error\",\"message\":{\"text\":"
     ++ (json_string (finding_message f) ++ (codes "},\"locations\":[" ++ (finding_location f ++ codes "]}")))))
@@ -80,21 +84,21 @@ finding_results (f ∷ rest) = finding_result f ++ flat_map next_result rest
 -- ---- the log
 
 -- a kind: its code, its word, and what it says of a finding
-abbrev pub rule : FindingKind → List ℕ
+unfoldable pub rule : FindingKind → List ℕ
 rule k =
     codes "{\"id\":\"" ++ (kind_code k ++ (codes "\",\"name\":\"" ++ (kind_word k
     ++ (codes "\",\"shortDescription\":{\"text\":\"" ++ (kind_summary k ++ codes "\"}}")))))
 
 -- all kinds, with commas between them
-abbrev pub rules : List ℕ
-rules =
+abbrev pub all_rules : List ℕ
+all_rules =
     rule kind.NoRequirement ++ (codes "," ++ (rule kind.NoVersion ++ (codes "," ++ (rule kind.PinOutside ++ (codes "," ++ rule kind.TwoPins)))))
 
 -- the run of the tool
 abbrev pub log_run : Report → List ℕ
 log_run r =
     codes "{\"tool\":{\"driver\":{\"name\":\"pyver\",\"rules\":["
-    ++ (rules ++ (codes "]}},\"columnKind\":\"utf16CodeUnits\",\"results\":[" ++ (finding_results r.findings ++ codes "]}")))
+    ++ (all_rules ++ (codes "]}},\"columnKind\":\"utf16CodeUnits\",\"results\":[" ++ (finding_results r.findings ++ codes "]}")))
 
 -- all kinds and all findings, and a newline
 abbrev pub report_log : Report → List ℕ

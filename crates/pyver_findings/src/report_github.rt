@@ -84,11 +84,7 @@ fn push_first_properties(
     }
 }
 
-fn push_properties(
-    alloc: Global,
-    bytes: &mut Vec<u8>,
-    finding: &Finding,
-) -> Result<(), AllocError>
+fn push_properties(alloc: Global, bytes: &mut Vec<u8>, finding: &Finding) -> Result<(), AllocError>
     ensures { IfOk result (λ _. bytes.new.items ≡ bytes.old.items ++ finding_properties (finding_of finding.now)) }
 {
     match finding {

@@ -4,7 +4,7 @@ ghost use Rattle.std.specs.Fmt.{decimal};
 ghost use Rattle.std.specs.List.{flat_map};
 ghost use Rattle.pyver_findings.specs.JsonStrings.{json_string};
 ghost use Rattle.pyver_findings.specs.ReportTexts.{finding_message};
-ghost use Rattle.pyver_findings.specs.SarifLogs.{begins_character, begins_pair, file_uri, finding_location, finding_result, finding_results, first_location, is_path_byte, line_start, log_run, next_result, path_byte, report_log, rule, rules, scheme, utf16_length};
+ghost use Rattle.pyver_findings.specs.SarifLogs.{begins_character, begins_pair, file_uri, finding_location, finding_result, finding_results, first_location, is_path_byte, all_rules, line_location, line_start, log_run, next_result, path_byte, report_log, rule, scheme, utf16_length};
 ghost use Rattle.pyver_findings.specs.Views.{file_line_of, finding_of, report_of};
 
 use crate::file_line::FileLine;
@@ -97,10 +97,14 @@ fn push_uri(bytes: &mut Vec<u8>, path: &[u8]) -> Result<(), AllocError>
 fn push_line_start(alloc: Global, bytes: &mut Vec<u8>, line: &FileLine) -> Result<(), AllocError>
     ensures { IfOk result (λ _. bytes.new.items ≡ bytes.old.items ++ line_start (file_line_of line.now)) }
 {
-    push_text(bytes, "{\"physicalLocation\":{\"artifactLocation\":{\"uri\":\"")?;
+    push_text(
+        bytes,
+        "{\"physicalLocation\":{\"artifactLocation\":{\"uri\":\"",
+    )?;
     push_uri(bytes, line.file.as_slice())?;
     push_text(bytes, "\"},\"region\":{\"startLine\":")?;
-    push_number(alloc, bytes, line.number)
+    push_number(alloc, bytes, line.number)?;
+    Ok(())
 }
 
 fn push_first_location(
@@ -119,16 +123,26 @@ fn push_first_location(
     }
 }
 
+fn push_line_location(
+    alloc: Global,
+    bytes: &mut Vec<u8>,
+    line: &FileLine,
+    column: usize,
+) -> Result<(), AllocError>
+    ensures { IfOk result (λ _. bytes.new.items ≡ bytes.old.items ++ line_location (file_line_of line.now) column) }
+{
+    push_line_start(alloc, bytes, line)?;
+    push_text(bytes, ",\"startColumn\":")?;
+    push_column(alloc, bytes, start_of(line.text.as_slice(), column))?;
+    push_text(bytes, "}}}")?;
+    Ok(())
+}
+
 fn push_location(alloc: Global, bytes: &mut Vec<u8>, finding: &Finding) -> Result<(), AllocError>
     ensures { IfOk result (λ _. bytes.new.items ≡ bytes.old.items ++ finding_location (finding_of finding.now)) }
 {
     match finding {
-        Finding::NoRequirement(line, _, column) => {
-            push_line_start(alloc, bytes, line)?;
-            push_text(bytes, ",\"startColumn\":")?;
-            push_column(alloc, bytes, start_of(line.text.as_slice(), *column))?;
-            push_text(bytes, "}}}")
-        }
+        Finding::NoRequirement(line, _, column) => push_line_location(alloc, bytes, line, *column),
         Finding::Conflicting(_, lines) => push_first_location(alloc, bytes, lines.as_slice()),
     }
 }
@@ -154,7 +168,8 @@ fn push_result(alloc: Global, bytes: &mut Vec<u8>, finding: &Finding) -> Result<
     push_message_string(alloc, bytes, finding)?;
     push_text(bytes, "},\"locations\":[")?;
     push_location(alloc, bytes, finding)?;
-    push_text(bytes, "]}")
+    push_text(bytes, "]}")?;
+    Ok(())
 }
 
 fn push_next_result(alloc: Global, bytes: &mut Vec<u8>, finding: &Finding) -> Result<(), AllocError>
@@ -198,11 +213,12 @@ fn push_rule(bytes: &mut Vec<u8>, kind: FindingKind) -> Result<(), AllocError>
     push_text(bytes, kind.word())?;
     push_text(bytes, "\",\"shortDescription\":{\"text\":\"")?;
     push_text(bytes, kind.summary())?;
-    push_text(bytes, "\"}}")
+    push_text(bytes, "\"}}")?;
+    Ok(())
 }
 
 fn push_rules(bytes: &mut Vec<u8>) -> Result<(), AllocError>
-    ensures { IfOk result (λ _. bytes.new.items ≡ bytes.old.items ++ rules) }
+    ensures { IfOk result (λ _. bytes.new.items ≡ bytes.old.items ++ all_rules) }
 {
     push_rule(bytes, FindingKind::NoRequirement)?;
     push_text(bytes, ",")?;
@@ -210,17 +226,22 @@ fn push_rules(bytes: &mut Vec<u8>) -> Result<(), AllocError>
     push_text(bytes, ",")?;
     push_rule(bytes, FindingKind::PinOutside)?;
     push_text(bytes, ",")?;
-    push_rule(bytes, FindingKind::TwoPins)
+    push_rule(bytes, FindingKind::TwoPins)?;
+    Ok(())
 }
 
 fn push_log_run(alloc: Global, bytes: &mut Vec<u8>, report: &Report) -> Result<(), AllocError>
     ensures { IfOk result (λ _. bytes.new.items ≡ bytes.old.items ++ log_run (report_of report.now)) }
 {
-    push_text(bytes, "{\"tool\":{\"driver\":{\"name\":\"pyver\",\"rules\":[")?;
+    push_text(
+        bytes,
+        "{\"tool\":{\"driver\":{\"name\":\"pyver\",\"rules\":[",
+    )?;
     push_rules(bytes)?;
     push_text(bytes, "]}},\"columnKind\":\"utf16CodeUnits\",\"results\":[")?;
     push_results(alloc, bytes, report.findings.as_slice())?;
-    push_text(bytes, "]}")
+    push_text(bytes, "]}")?;
+    Ok(())
 }
 
 impl Report {

@@ -36,7 +36,11 @@ fn push_place(alloc: Global, bytes: &mut Vec<u8>, line: &FileLine) -> Result<(),
 }
 
 // The number that counts from 1 where this counts from 0.
-pub(crate) fn push_from_one(alloc: Global, bytes: &mut Vec<u8>, number: usize) -> Result<(), AllocError>
+pub(crate) fn push_from_one(
+    alloc: Global,
+    bytes: &mut Vec<u8>,
+    number: usize,
+) -> Result<(), AllocError>
     ensures { IfOk result (λ _. bytes.new.items ≡ bytes.old.items ++ decimal (number + 1)) }
 {
     push_text(bytes, (number as u128 + 1).to_string(alloc)?.as_str())

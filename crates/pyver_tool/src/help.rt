@@ -38,7 +38,8 @@ const BUMP_USAGE: &str = "pyver bump [--to N] PART.. [V]";
 
 const RANGE_USAGE: &str = "pyver range [--json] SPECS..";
 
-const CHECK_USAGE: &str = "pyver check [-q] [--each] [--format KIND] [--output FORM | --json] [FILE..]";
+const CHECK_USAGE: &str =
+    "pyver check [-q] [--each] [--format KIND] [--output FORM | --json] [FILE..]";
 
 pub(crate) const VERSION_LINE: &str = "pyver 0.3.0\n";
 
@@ -254,7 +255,8 @@ examples:
   pyver range '>=1.16,!=1.18' '<2' '~=1.17'
 ";
 
-const CHECK_HELP: &str = "usage: pyver check [-q] [--each] [--format KIND] [--output FORM | --json] [FILE..]
+const CHECK_HELP: &str =
+    "usage: pyver check [-q] [--each] [--format KIND] [--output FORM | --json] [FILE..]
 
 Prints what is wrong in requirements files: lines that are no requirements, lines that no version
 satisfies together, and versions that one line names and another excludes. '-' and no file mean
