@@ -28,7 +28,8 @@ _pyver() {
         *,bump,*) words='-h --help --to major minor patch stable alpha beta rc post dev' ;;
         *,range,*) words='-h --help --json' ;;
         *,check,--format) words='requirements pyproject pylock uv poetry pipfile' ;;
-        *,check,*) words='-h --help -q --quiet --each --format --json' ;;
+        *,check,--output) words='text json github sarif' ;;
+        *,check,*) words='-h --help -q --quiet --each --format --output --json' ;;
     esac
     [[ ! ${COMP_WORDS[1]} =~ ^(filter|sort|newest|check)$ ]] || compopt -o default 2> /dev/null
     COMPREPLY=()

@@ -65,3 +65,7 @@ six_parts o a b c d e f n1 n2 n3 n4 n5 n6 e1 e2 e3 e4 e5 e6 = let whole : n6 ≡
 
 pub three_parts : (o a b c n1 n2 n3 : List ℕ) → o ≡ [] → n1 ≡ o ++ a → n2 ≡ n1 ++ b → n3 ≡ n2 ++ c → n3 ≡ a ++ (b ++ c)
 three_parts o a b c n1 n2 n3 e0 e1 e2 e3 = e3 ∙ (λ j. (e2 ∙ (λ i. (e1 ∙ (λ k. e0 k ++ a)) i ++ b)) j ++ c) ∙ append_assoc a b c
+
+-- one part more, before the others
+pub part_more : (a x y b c : List ℕ) → b ≡ a ++ x → c ≡ b ++ y → c ≡ a ++ (x ++ y)
+part_more a x y b c first rest = rest ∙ ap (λ l. l ++ y) first ∙ append_assoc a x y

@@ -5,11 +5,14 @@ pub mod Columns
 pub mod LineMeanings
 pub mod NamedFiles
 pub mod Findings
+pub mod FindingKinds
 pub mod Conflicts
 pub mod Reports
 pub mod Views
 pub mod ReadingViews
 pub mod ReportTexts
 pub mod ReportObjects
+pub mod GithubCommands
+pub mod SarifLogs
 pub mod FindingLaws
 pub mod StringGrammar

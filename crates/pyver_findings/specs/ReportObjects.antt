@@ -5,8 +5,8 @@ use Rattle.std.specs.List.{flat_map}
 use Rattle.pyver_findings.specs.FileLines.{FileLine}
 use Rattle.pyver_findings.specs.Findings.{Conflicting, Finding, NoRequirement}
 use Rattle.pyver_findings.specs.Reports.{Report}
-use Rattle.pyver_findings.specs.declared.finding.Conflict.{Conflict}
-use Rattle.pyver_findings.specs.declared.finding.Conflict.TheVariants.{NoVersion, PinOutside, TwoPins}
+use Rattle.pyver_findings.specs.FindingKinds.{finding_kind, kind_code, kind_word}
+use Rattle.pyver_findings.specs.declared.finding.FindingKind.{FindingKind}
 use Rattle.pyver_findings.specs.JsonStrings.{json_string}
 
 -- the members `file`, `line` and `text`
@@ -25,19 +25,22 @@ abbrev pub line_array : List FileLine → List ℕ
 line_array [] = codes "[]"
 line_array (l ∷ rest) = codes "[" ++ (line_object l ++ (flat_map next_line rest ++ codes "]"))
 
-abbrev pub conflict_word : Conflict → List ℕ
-conflict_word NoVersion = codes "\"no-version\""
-conflict_word PinOutside = codes "\"pin-outside\""
-conflict_word TwoPins = codes "\"two-pins\""
-
 -- the members `reason` and `column`
 abbrev pub reason_members : List ℕ → ℕ → List ℕ
 reason_members reason column = codes ",\"reason\":" ++ (json_string reason ++ (codes ",\"column\":" ++ decimal column))
 
--- a finding as an object: its kind; then the line with the reason and the column, or the lines
+-- the members of a finding after its kind: the line with the reason and the column, or the lines
+abbrev pub finding_members : Finding → List ℕ
+finding_members (NoRequirement l reason column) = line_members l ++ reason_members reason column
+finding_members (Conflicting conflict lines) = codes "\"lines\":" ++ line_array lines
+
+-- the members `kind` and `code`
+abbrev pub kind_members : FindingKind → List ℕ
+kind_members k = codes "\"kind\":\"" ++ (kind_word k ++ (codes "\",\"code\":\"" ++ (kind_code k ++ codes "\",")))
+
+-- a finding as an object
 abbrev pub finding_object : Finding → List ℕ
-finding_object (NoRequirement l reason column) = codes "{\"kind\":\"no-requirement\"," ++ (line_members l ++ (reason_members reason column ++ codes "}"))
-finding_object (Conflicting conflict lines) = codes "{\"kind\":" ++ (conflict_word conflict ++ (codes ",\"lines\":" ++ (line_array lines ++ codes "}")))
+finding_object f = codes "{" ++ (kind_members (finding_kind f) ++ (finding_members f ++ codes "}"))
 
 abbrev pub next_finding : Finding → List ℕ
 next_finding f = codes "," ++ finding_object f

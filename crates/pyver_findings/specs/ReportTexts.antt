@@ -26,35 +26,45 @@ abbrev pub first_position_text : List FileLine → List ℕ
 first_position_text [] = []
 first_position_text (l ∷ rest) = line_position_text l
 
--- a blank for each character that is printed before the column, and a caret
-abbrev pub caret_text : List ℕ → ℕ → List ℕ
-caret_text text column = map (λ _. 32) (escaped (take column text)) ++ codes "^\n"
-
--- a line with its file and line number, indented
+-- a line of its own, indented, with a file, a line number and the line
 abbrev pub quoted_line : FileLine → List ℕ
-quoted_line l = codes "    " ++ (line_position_text l ++ (escaped l.text ++ codes "\n"))
-
--- a line, indented, and the caret under it
-abbrev pub marked_line : List ℕ → ℕ → List ℕ
-marked_line text column = codes "\n    " ++ (escaped text ++ (codes "\n    " ++ caret_text text column))
+quoted_line l = codes "\n    " ++ (line_position_text l ++ escaped l.text)
 
 abbrev pub conflict_text : Conflict → List ℕ
-conflict_text NoVersion = codes "no version satisfies:\n"
-conflict_text PinOutside = codes "pinned to a version that another line excludes:\n"
-conflict_text TwoPins = codes "two versions are named:\n"
+conflict_text NoVersion = codes "no version satisfies:"
+conflict_text PinOutside = codes "pinned to a version that another line excludes:"
+conflict_text TwoPins = codes "two versions are named:"
 
 -- how many lines more there are, if any
 abbrev pub more_text : ℕ → List ℕ
-more_text count = if count == 0 then [] else codes "    and " ++ (decimal count ++ codes " more\n")
+more_text count = if count == 0 then [] else codes "\n    and " ++ (decimal count ++ codes " more")
 
 -- at most 20 lines, and how many more
 abbrev pub quoted_lines : List FileLine → List ℕ
 quoted_lines lines = flat_map quoted_line (take 20 lines) ++ more_text (length lines - 20)
 
--- the file, the line number, the column and the reason, and then the line, with a caret where it is none, or the lines
+-- the reason and the line, or why lines cannot be satisfied together and these
+abbrev pub finding_message : Finding → List ℕ
+finding_message (NoRequirement l reason column) = escaped reason ++ (codes "\n    " ++ escaped l.text)
+finding_message (Conflicting conflict lines) = conflict_text conflict ++ quoted_lines lines
+
+-- the position at which the line is no requirement, or of the first line
+abbrev pub finding_position : Finding → List ℕ
+finding_position (NoRequirement l reason column) = column_position_text l column
+finding_position (Conflicting conflict lines) = first_position_text lines
+
+-- a line of its own: a blank for each character that is printed before the column, and a caret
+abbrev pub caret_text : List ℕ → ℕ → List ℕ
+caret_text text column = codes "\n    " ++ (map (λ _. 32) (escaped (take column text)) ++ codes "^")
+
+-- the caret under the position at which the line is no requirement
+abbrev pub finding_caret : Finding → List ℕ
+finding_caret (NoRequirement l reason column) = caret_text l.text column
+finding_caret (Conflicting conflict lines) = []
+
+-- the position, the message, and the caret
 abbrev pub finding_text : Finding → List ℕ
-finding_text (NoRequirement l reason column) = column_position_text l column ++ (escaped reason ++ marked_line l.text column)
-finding_text (Conflicting conflict lines) = first_position_text lines ++ (conflict_text conflict ++ quoted_lines lines)
+finding_text f = finding_position f ++ (finding_message f ++ (finding_caret f ++ codes "\n"))
 
 -- one finding after another
 abbrev pub report_text : Report → List ℕ

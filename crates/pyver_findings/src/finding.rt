@@ -1,6 +1,7 @@
 //! What is reported.
 ghost use Rattle.std.specs.Prelude.{◌≡◌, bytes_eq, map, not};
 ghost use Rattle.std.specs.List.{list_any};
+ghost use Rattle.pyver_findings.specs.FindingKinds.{conflict_kind_of, finding_kind, kind_code, kind_summary, kind_word};
 ghost use Rattle.pyver_findings.specs.Reports.{are_of_several, spans_files};
 ghost use Rattle.pyver_findings.specs.Views.{file_line_of, finding_of};
 
@@ -15,6 +16,75 @@ pub enum Conflict {
     PinOutside,
     /// Each names another version.
     TwoPins,
+}
+
+/// What kind a finding is of.
+#[derive(Clone, Copy, Debug, PartialEq, Eq)]
+pub enum FindingKind {
+    /// A line is no requirement.
+    NoRequirement,
+    /// No version satisfies lines together.
+    NoVersion,
+    /// A line names a version that another excludes.
+    PinOutside,
+    /// Two lines name two versions.
+    TwoPins,
+}
+
+impl FindingKind {
+    /// The code, which stays: `PV001` and so on.
+    ///
+    /// Allocates nothing.
+    pub fn code(self) -> &'static str
+        ensures { result.now ≡ kind_code self }
+    {
+        match self {
+            FindingKind::NoRequirement => "PV001",
+            FindingKind::NoVersion => "PV002",
+            FindingKind::PinOutside => "PV003",
+            FindingKind::TwoPins => "PV004",
+        }
+    }
+
+    /// What it says of a finding.
+    ///
+    /// Allocates nothing.
+    pub fn summary(self) -> &'static str
+        ensures { result.now ≡ kind_summary self }
+    {
+        match self {
+            FindingKind::NoRequirement => {
+                "A line or string is malformed, or what it names is missing."
+            }
+            FindingKind::NoVersion => "No version satisfies the lines.",
+            FindingKind::PinOutside => "A line is pinned to a version that another excludes.",
+            FindingKind::TwoPins => "Two lines are pinned to two versions.",
+        }
+    }
+
+    /// The word for it.
+    ///
+    /// Allocates nothing.
+    pub fn word(self) -> &'static str
+        ensures { result.now ≡ kind_word self }
+    {
+        match self {
+            FindingKind::NoRequirement => "no-requirement",
+            FindingKind::NoVersion => "no-version",
+            FindingKind::PinOutside => "pin-outside",
+            FindingKind::TwoPins => "two-pins",
+        }
+    }
+}
+
+fn conflict_kind_of(conflict: Conflict) -> FindingKind
+    ensures { result ≡ conflict_kind_of conflict }
+{
+    match conflict {
+        Conflict::NoVersion => FindingKind::NoVersion,
+        Conflict::PinOutside => FindingKind::PinOutside,
+        Conflict::TwoPins => FindingKind::TwoPins,
+    }
 }
 
 /// What is wrong with a line, or with lines together.
@@ -47,6 +117,18 @@ fn are_of_several(lines: &[FileLine]) -> bool
 }
 
 impl Finding {
+    /// Its kind.
+    ///
+    /// Allocates nothing.
+    pub fn kind(&self) -> FindingKind
+        ensures { result ≡ finding_kind (finding_of self.now) }
+    {
+        match self {
+            Finding::NoRequirement(_, _, _) => FindingKind::NoRequirement,
+            Finding::Conflicting(conflict, _) => conflict_kind_of(*conflict),
+        }
+    }
+
     /// Whether lines of two files, or more, are reported together.
     ///
     /// Allocates nothing.

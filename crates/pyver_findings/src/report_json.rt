@@ -1,12 +1,11 @@
 //! A report as JSON.
 ghost use Rattle.std.specs.Prelude.{◌≡◌, ◌++◌, IfOk, map};
 ghost use Rattle.std.specs.List.{flat_map};
-ghost use Rattle.pyver_findings.specs.Findings.{Conflicting, NoRequirement};
-ghost use Rattle.pyver_findings.specs.ReportObjects.{conflict_word, finding_array, finding_object, line_array, line_members, line_object, next_finding, next_line, reason_members, report_object};
+ghost use Rattle.pyver_findings.specs.ReportObjects.{finding_array, finding_members, finding_object, kind_members, line_array, line_members, line_object, next_finding, next_line, reason_members, report_object};
 ghost use Rattle.pyver_findings.specs.Views.{file_line_of, finding_of, report_of};
 
 use crate::file_line::FileLine;
-use crate::finding::{Conflict, Finding};
+use crate::finding::{Finding, FindingKind};
 use crate::json_string::push_json_string;
 use crate::report::Report;
 use crate::report_text::{push_number, push_text};
@@ -61,32 +60,6 @@ fn push_lines(alloc: Global, bytes: &mut Vec<u8>, lines: &[FileLine]) -> Result<
     }
 }
 
-fn conflict_word(conflict: Conflict) -> &'static str
-    ensures { result.now ≡ conflict_word conflict }
-{
-    match conflict {
-        Conflict::NoVersion => "\"no-version\"",
-        Conflict::PinOutside => "\"pin-outside\"",
-        Conflict::TwoPins => "\"two-pins\"",
-    }
-}
-
-fn push_conflict(
-    alloc: Global,
-    bytes: &mut Vec<u8>,
-    conflict: Conflict,
-    lines: &[FileLine],
-) -> Result<(), AllocError>
-    ensures { IfOk result (λ _. bytes.new.items ≡ bytes.old.items
-        ++ finding_object (Conflicting conflict (map file_line_of lines.now))) }
-{
-    push_text(bytes, "{\"kind\":")?;
-    push_text(bytes, conflict_word(conflict))?;
-    push_text(bytes, ",\"lines\":")?;
-    push_lines(alloc, bytes, lines)?;
-    push_text(bytes, "}")
-}
-
 fn push_reason(
     alloc: Global,
     bytes: &mut Vec<u8>,
@@ -102,33 +75,42 @@ fn push_reason(
     Ok(())
 }
 
-fn push_no_requirement(
+fn push_finding_members(
     alloc: Global,
     bytes: &mut Vec<u8>,
-    line: &FileLine,
-    reason: &str,
-    column: usize,
+    finding: &Finding,
 ) -> Result<(), AllocError>
-    ensures { IfOk result (λ _. bytes.new.items ≡ bytes.old.items
-        ++ finding_object (NoRequirement (file_line_of line.now) reason.now column)) }
+    ensures { IfOk result (λ _. bytes.new.items ≡ bytes.old.items ++ finding_members (finding_of finding.now)) }
 {
-    push_text(bytes, "{\"kind\":\"no-requirement\",")?;
-    push_members(alloc, bytes, line)?;
-    push_reason(alloc, bytes, reason, column)?;
-    push_text(bytes, "}")
+    match finding {
+        Finding::NoRequirement(line, reason, column) => {
+            push_members(alloc, bytes, line)?;
+            push_reason(alloc, bytes, reason.as_str(), *column)
+        }
+        Finding::Conflicting(_, lines) => {
+            push_text(bytes, "\"lines\":")?;
+            push_lines(alloc, bytes, lines.as_slice())
+        }
+    }
+}
+
+fn push_kind(bytes: &mut Vec<u8>, kind: FindingKind) -> Result<(), AllocError>
+    ensures { IfOk result (λ _. bytes.new.items ≡ bytes.old.items ++ kind_members kind) }
+{
+    push_text(bytes, "\"kind\":\"")?;
+    push_text(bytes, kind.word())?;
+    push_text(bytes, "\",\"code\":\"")?;
+    push_text(bytes, kind.code())?;
+    push_text(bytes, "\",")
 }
 
 fn push_finding(alloc: Global, bytes: &mut Vec<u8>, finding: &Finding) -> Result<(), AllocError>
     ensures { IfOk result (λ _. bytes.new.items ≡ bytes.old.items ++ finding_object (finding_of finding.now)) }
 {
-    match finding {
-        Finding::NoRequirement(line, reason, column) => {
-            push_no_requirement(alloc, bytes, line, reason.as_str(), *column)
-        }
-        Finding::Conflicting(conflict, lines) => {
-            push_conflict(alloc, bytes, *conflict, lines.as_slice())
-        }
-    }
+    push_text(bytes, "{")?;
+    push_kind(bytes, finding.kind())?;
+    push_finding_members(alloc, bytes, finding)?;
+    push_text(bytes, "}")
 }
 
 fn push_next_finding(
@@ -170,8 +152,8 @@ fn push_findings(alloc: Global, bytes: &mut Vec<u8>, findings: &[Finding]) -> Re
 }
 
 impl Report {
-    /// The findings as a JSON array of objects, and a newline: the kind of each, and then the line with the reason and the column,
-    /// or the lines, with strings as by `push_json_string`.
+    /// The findings as a JSON array of objects, and a newline: the kind of each and its code, and then the line with the reason and the
+    /// column, or the lines, with strings as by `push_json_string`.
     ///
     /// Allocates.
     pub fn to_json(&self, alloc: Global) -> Result<Vec<u8>, AllocError>

@@ -2,8 +2,7 @@
 ghost use Rattle.std.specs.Prelude.{◌≡◌, ◌+◌, ◌++◌, IfOk, count_by, map, take};
 ghost use Rattle.std.specs.Fmt.{decimal};
 ghost use Rattle.std.specs.List.{flat_map};
-ghost use Rattle.pyver_findings.specs.Findings.{Conflicting, NoRequirement};
-ghost use Rattle.pyver_findings.specs.ReportTexts.{caret_text, cause_text, column_position_text, conflict_text, count_text, counted, finding_text, first_position_text, left_out_text, left_out_texts, marked_line, more_text, line_position_text, problems_text, quoted_line, quoted_lines, report_text, same_cause, summary_text};
+ghost use Rattle.pyver_findings.specs.ReportTexts.{caret_text, cause_text, column_position_text, conflict_text, count_text, counted, finding_caret, finding_message, finding_position, finding_text, first_position_text, left_out_text, left_out_texts, more_text, line_position_text, problems_text, quoted_line, quoted_lines, report_text, same_cause, summary_text};
 ghost use Rattle.pyver_findings.specs.Views.{file_line_of, finding_of, report_of};
 
 use crate::cause::Cause;
@@ -37,7 +36,11 @@ fn push_place(alloc: Global, bytes: &mut Vec<u8>, line: &FileLine) -> Result<(),
 }
 
 // The number that counts from 1 where this counts from 0.
-fn push_from_one(alloc: Global, bytes: &mut Vec<u8>, number: usize) -> Result<(), AllocError>
+pub(crate) fn push_from_one(
+    alloc: Global,
+    bytes: &mut Vec<u8>,
+    number: usize,
+) -> Result<(), AllocError>
     ensures { IfOk result (λ _. bytes.new.items ≡ bytes.old.items ++ decimal (number + 1)) }
 {
     push_text(bytes, (number as u128 + 1).to_string(alloc)?.as_str())
@@ -82,7 +85,7 @@ fn push_blanks(bytes: &mut Vec<u8>, characters: &[u8]) -> Result<(), AllocError>
     Ok(())
 }
 
-fn start_of(text: &[u8], column: usize) -> &[u8]
+pub(crate) fn start_of(text: &[u8], column: usize) -> &[u8]
     ensures { result.now ≡ take column text.now }
 {
     if column <= text.len() {
@@ -92,7 +95,7 @@ fn start_of(text: &[u8], column: usize) -> &[u8]
     }
 }
 
-// A caret under the column.
+// A caret under the column, on a line of its own.
 fn push_caret(
     alloc: Global,
     bytes: &mut Vec<u8>,
@@ -103,32 +106,17 @@ fn push_caret(
 {
     let mut before = Vec::new(alloc);
     push_escaped(&mut before, start_of(text, column))?;
+    push_text(bytes, "\n    ")?;
     push_blanks(bytes, before.as_slice())?;
-    push_text(bytes, "^\n")
-}
-
-// The line, indented, and the caret under it.
-fn push_marked_line(
-    alloc: Global,
-    bytes: &mut Vec<u8>,
-    text: &[u8],
-    column: usize,
-) -> Result<(), AllocError>
-    ensures { IfOk result (λ _. bytes.new.items ≡ bytes.old.items ++ marked_line text.now column) }
-{
-    push_text(bytes, "\n    ")?;
-    push_escaped(bytes, text)?;
-    push_text(bytes, "\n    ")?;
-    push_caret(alloc, bytes, text, column)
+    push_text(bytes, "^")
 }
 
 fn push_quoted_line(alloc: Global, bytes: &mut Vec<u8>, line: &FileLine) -> Result<(), AllocError>
     ensures { IfOk result (λ _. bytes.new.items ≡ bytes.old.items ++ quoted_line (file_line_of line.now)) }
 {
-    push_text(bytes, "    ")?;
+    push_text(bytes, "\n    ")?;
     push_place(alloc, bytes, line)?;
-    push_escaped(bytes, line.text.as_slice())?;
-    push_text(bytes, "\n")
+    push_escaped(bytes, line.text.as_slice())
 }
 
 fn push_quoted_lines(
@@ -161,9 +149,9 @@ fn push_more(alloc: Global, bytes: &mut Vec<u8>, count: usize) -> Result<(), All
     if count == 0 {
         return Ok(());
     }
-    push_text(bytes, "    and ")?;
+    push_text(bytes, "\n    and ")?;
     push_number(alloc, bytes, count as u64)?;
-    push_text(bytes, " more\n")
+    push_text(bytes, " more")
 }
 
 // At most 20 lines, and how many more.
@@ -182,51 +170,68 @@ fn conflict_text(conflict: Conflict) -> &'static str
     ensures { result.now ≡ conflict_text conflict }
 {
     match conflict {
-        Conflict::NoVersion => "no version satisfies:\n",
-        Conflict::PinOutside => "pinned to a version that another line excludes:\n",
-        Conflict::TwoPins => "two versions are named:\n",
+        Conflict::NoVersion => "no version satisfies:",
+        Conflict::PinOutside => "pinned to a version that another line excludes:",
+        Conflict::TwoPins => "two versions are named:",
     }
 }
 
-fn push_conflict(
+// The reason and the line, or why lines cannot be satisfied together and these.
+pub(crate) fn push_message(
     alloc: Global,
     bytes: &mut Vec<u8>,
-    conflict: Conflict,
-    lines: &[FileLine],
+    finding: &Finding,
 ) -> Result<(), AllocError>
-    ensures { IfOk result (λ _. bytes.new.items ≡ bytes.old.items ++ finding_text (Conflicting conflict (map file_line_of lines.now))) }
+    ensures { IfOk result (λ _. bytes.new.items ≡ bytes.old.items ++ finding_message (finding_of finding.now)) }
 {
-    push_first_place(alloc, bytes, lines)?;
-    push_text(bytes, conflict_text(conflict))?;
-    push_first_lines(alloc, bytes, lines)
+    match finding {
+        Finding::NoRequirement(line, reason, _) => {
+            push_escaped(bytes, reason.as_bytes())?;
+            push_text(bytes, "\n    ")?;
+            push_escaped(bytes, line.text.as_slice())
+        }
+        Finding::Conflicting(conflict, lines) => {
+            push_text(bytes, conflict_text(*conflict))?;
+            push_first_lines(alloc, bytes, lines.as_slice())
+        }
+    }
 }
 
-fn push_no_requirement(
+fn push_finding_position(
     alloc: Global,
     bytes: &mut Vec<u8>,
-    line: &FileLine,
-    reason: &str,
-    column: usize,
+    finding: &Finding,
 ) -> Result<(), AllocError>
-    ensures { IfOk result (λ _. bytes.new.items ≡ bytes.old.items
-        ++ finding_text (NoRequirement (file_line_of line.now) reason.now column)) }
+    ensures { IfOk result (λ _. bytes.new.items ≡ bytes.old.items ++ finding_position (finding_of finding.now)) }
 {
-    push_column_place(alloc, bytes, line, column)?;
-    push_escaped(bytes, reason.as_bytes())?;
-    push_marked_line(alloc, bytes, line.text.as_slice(), column)
+    match finding {
+        Finding::NoRequirement(line, _, column) => push_column_place(alloc, bytes, line, *column),
+        Finding::Conflicting(_, lines) => push_first_place(alloc, bytes, lines.as_slice()),
+    }
+}
+
+fn push_finding_caret(
+    alloc: Global,
+    bytes: &mut Vec<u8>,
+    finding: &Finding,
+) -> Result<(), AllocError>
+    ensures { IfOk result (λ _. bytes.new.items ≡ bytes.old.items ++ finding_caret (finding_of finding.now)) }
+{
+    match finding {
+        Finding::NoRequirement(line, _, column) => {
+            push_caret(alloc, bytes, line.text.as_slice(), *column)
+        }
+        Finding::Conflicting(_, _) => Ok(()),
+    }
 }
 
 fn push_finding(alloc: Global, bytes: &mut Vec<u8>, finding: &Finding) -> Result<(), AllocError>
     ensures { IfOk result (λ _. bytes.new.items ≡ bytes.old.items ++ finding_text (finding_of finding.now)) }
 {
-    match finding {
-        Finding::NoRequirement(line, reason, column) => {
-            push_no_requirement(alloc, bytes, line, reason.as_str(), *column)
-        }
-        Finding::Conflicting(conflict, lines) => {
-            push_conflict(alloc, bytes, *conflict, lines.as_slice())
-        }
-    }
+    push_finding_position(alloc, bytes, finding)?;
+    push_message(alloc, bytes, finding)?;
+    push_finding_caret(alloc, bytes, finding)?;
+    push_text(bytes, "\n")
 }
 
 fn push_findings(alloc: Global, bytes: &mut Vec<u8>, findings: &[Finding]) -> Result<(), AllocError>

@@ -12,6 +12,8 @@ use testing::CaseError;
 pub enum Form {
     Text,
     Json,
+    Github,
+    Sarif,
     Counts,
 }
 
@@ -36,6 +38,8 @@ fn print_form(alloc: Global, report: &Report, form: Form) -> Result<String, Case
     let printed = match form {
         Form::Text => report.to_text(alloc)?,
         Form::Json => report.to_json(alloc)?,
+        Form::Github => report.to_github(alloc)?,
+        Form::Sarif => report.to_sarif(alloc)?,
         Form::Counts => report.summarize(alloc)?,
     };
     Ok(String::from_str(alloc, text(printed.as_slice())?)?)

@@ -3,6 +3,7 @@ use Rattle.std.specs.Prelude.{◌≡◌, ◌⊎◌, ℕ, List, [], ◌∷◌, �
 use Rattle.std.specs.Fmt.{decimal}
 use Rattle.std.specs.List.{flat_map, list_any}
 use Rattle.cli_io.specs.Runs.{Outcome}
+use Rattle.pyver_tool.specs.OutputForms.{findings_text}
 use Rattle.pyver_tool.specs.RequirementFiles.{FilesRead, ReadsFiles, FailsInFiles, UnopenedFile}
 use Rattle.pyver_commands.specs.Sources.{KnownFile, failure_reason, source_names}
 use Rattle.pyver_tool.specs.declared.check.CheckOptions.{CheckOptions}
@@ -12,8 +13,7 @@ use Rattle.pyver_commands.specs.declared.sources.stream.RunFailure.TheVariants a
 use Rattle.cli_io.specs.Escapes.{escaped}
 use Rattle.pyver_findings.specs.Findings.{Finding}
 use Rattle.pyver_findings.specs.NamedFiles.{Position}
-use Rattle.pyver_findings.specs.ReportObjects.{report_object}
-use Rattle.pyver_findings.specs.ReportTexts.{report_text, summary_text}
+use Rattle.pyver_findings.specs.ReportTexts.{summary_text}
 use Rattle.pyver_findings.specs.Reports.{IsReport, Report, empty_report, joined_report, spans_files}
 use Rattle.pyver_projects.specs.Comparing.{IsDocumentsReport}
 
@@ -68,10 +68,6 @@ check_status [] [] = 0
 check_status [] (f ∷ rest) = 1
 check_status (file ∷ others) found = 2
 
--- the findings, as JSON or as lines
-abbrev pub findings_text : Bool → Report → List ℕ
-findings_text json r = if json then report_object r else report_text r
-
 -- the file, the line and the column of the path that a line names, if one does
 abbrev pub position_text : Option Position → List ℕ
 position_text None = []
@@ -98,7 +94,7 @@ summary options words r = if options.quiet then [] else together_note options wo
 -- the findings, the files that were not opened, and how much was read
 abbrev pub check_outcome : CheckOptions → List (List ℕ) → CheckResult → Outcome
 check_outcome options words c = record {
-  output = if options.quiet then [] else findings_text options.json c.report;
+  output = if options.quiet then [] else findings_text options.output c.report;
   errors = flat_map unopened_text c.unopened ++ summary options words c.report;
   status = check_status c.unopened c.report.findings;
 }

@@ -4,6 +4,7 @@ pub mod Options
 pub mod SplitWords
 pub mod SplitViews
 pub mod FileKinds
+pub mod OutputForms
 pub mod Settings
 pub mod Tasks
 pub mod TaskViews

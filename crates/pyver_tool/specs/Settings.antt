@@ -2,11 +2,13 @@
 use Rattle.std.specs.Prelude.{ℕ, ◌==◌, List, [], ◌∷◌, true, false, Option, Some, None, bytes_eq, codes, if◌then◌else◌}
 use Rattle.std.specs.Option.{option_map}
 use Rattle.pyver_tool.specs.FileKinds.{file_kind_of, unknown_kind}
+use Rattle.pyver_tool.specs.OutputForms.{output_form_of}
 use Rattle.pyver_commands.specs.Sources.InvalidLines.{invalid_lines_of}
 use Rattle.pyver_commands.specs.Sources.LineOptions.{no_line_options}
 use Rattle.pyver_commands.specs.Numbers.{word_number}
 use Rattle.pyver_tool.specs.SplitWords.{Named}
 use Rattle.pyver_commands.specs.Parts.{part_of}
+use Rattle.pyver_tool.specs.declared.output_form.OutputForm.TheVariants as output_form
 use Rattle.pyver_commands.specs.declared.sources.line_options.LineOptions.{LineOptions}
 use Rattle.pyver_commands.specs.declared.prerelease_rule.Prereleases.TheVariants as prereleases
 use Rattle.pyver_tool.specs.declared.settings.Settings.{Settings}
@@ -45,16 +47,17 @@ with_option settings name value =
     else if bytes_eq name (codes "--reverse") then Some (record settings { reversed = true })
     else if bytes_eq name (codes "--unique") then Some (record settings { unique = true })
     else if bytes_eq name (codes "--last") then option_map (λ n. record settings { last = Some n }) (word_number value)
-    else if bytes_eq name (codes "--json") then Some (record settings { format = format.Json })
+    else if bytes_eq name (codes "--json") then Some (record settings { format = format.Json; output = output_form.Json })
     else if bytes_eq name (codes "--part") then option_map (λ part. record settings { format = format.Part part }) (part_of value)
     else if bytes_eq name (codes "--to") then option_map (λ n. record settings { to = Some n }) (word_number value)
     else if bytes_eq name (codes "--each") then Some (record settings { each = true })
     else if bytes_eq name (codes "--format") then option_map (λ kind. record settings { kind = kind }) (file_kind_of value)
+    else if bytes_eq name (codes "--output") then option_map (λ form. record settings { output = form }) (output_form_of value)
     else option_map (λ lines. record settings { lines = lines }) (with_line_option settings.lines name value)
 
 -- without an option
 abbrev pub no_settings : Settings
-no_settings = record { quiet = false; prereleases = prereleases.Listed; inverted = false; reversed = false; unique = false; last = None; lines = no_line_options; format = format.Normal; to = None; each = false; kind = unknown_kind }
+no_settings = record { quiet = false; prereleases = prereleases.Listed; inverted = false; reversed = false; unique = false; last = None; lines = no_line_options; format = format.Normal; to = None; each = false; kind = unknown_kind; output = output_form.Text }
 
 -- what options set, or the first of them with a wrong value
 pub data Effect : Type 0 where

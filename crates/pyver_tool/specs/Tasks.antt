@@ -185,7 +185,7 @@ task_with settings topic.Newest (specifiers ∷ names) = Newest (record { prerel
 task_with settings topic.Show (word ∷ words) = Show settings.format (word ∷ words)
 task_with settings topic.Bump words = bump_operands settings.to words
 task_with settings topic.Range (word ∷ words) = Range (is_json settings.format) (word ∷ words)
-task_with settings topic.Check names = Check (record { json = is_json settings.format; each = settings.each; quiet = settings.quiet; kind = settings.kind }) names
+task_with settings topic.Check names = Check (record { output = settings.output; each = settings.each; quiet = settings.quiet; kind = settings.kind }) names
 task_with settings topic _ = Misused (wrong_count topic)
 
 -- ---- words

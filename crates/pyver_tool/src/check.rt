@@ -4,13 +4,15 @@ ghost use Rattle.std.specs.Fmt.{decimal};
 ghost use Rattle.std.specs.List.{flat_map, list_any};
 ghost use Rattle.pyver_commands.specs.AnswerViews.{outcome_of};
 ghost use Rattle.pyver_tool.specs.CheckViews.{check_result_of};
-ghost use Rattle.pyver_tool.specs.Checks.{Checks, ChecksGroup, ChecksGroups, FailsInCheck, FailsInGroup, FailsInGroups, are_several, check_outcome, check_status, findings_text, none_checked, position_text, summary, together_note, unopened_text, with_report, word_groups};
+ghost use Rattle.pyver_tool.specs.Checks.{Checks, ChecksGroup, ChecksGroups, FailsInCheck, FailsInGroup, FailsInGroups, are_several, check_outcome, check_status, none_checked, position_text, summary, together_note, unopened_text, with_report, word_groups};
 ghost use Rattle.pyver_tool.specs.FileSteps.{unopened_file_of};
+ghost use Rattle.pyver_tool.specs.OutputForms.{findings_text};
 ghost use Rattle.pyver_commands.specs.Sources.{source_names};
 ghost use Rattle.pyver_findings.specs.Reports.{spans_files};
 ghost use Rattle.pyver_findings.specs.Views.{finding_of, position_of, report_of};
 
 use crate::file_kind::FileKind;
+use crate::output_form::OutputForm;
 use crate::requirement_files::{UnopenedFile, read_files};
 use cli_io::push_escaped;
 use pyver_commands::{Answer, Files, RunFailure};
@@ -22,8 +24,7 @@ use std::io::Read;
 // How files are checked, and what is written of them.
 #[derive(Clone, Copy)]
 pub(crate) struct CheckOptions {
-    // The findings are written as JSON.
-    pub(crate) json: bool,
+    pub(crate) output: OutputForm,
     // Each file that a word names is checked by itself, with those that its lines name.
     pub(crate) each: bool,
     // No finding is written.
@@ -158,20 +159,22 @@ fn push_summary(
     bytes.extend_from_slice(report.summarize(alloc)?.as_slice())
 }
 
-// The findings, as JSON or as lines.
+// The findings in their form.
 fn print_findings(
     alloc: Global,
     options: CheckOptions,
     report: &Report,
 ) -> Result<Vec<u8>, AllocError>
-    ensures { IfOk result (λ output. output.items ≡ (if options.quiet then [] else findings_text options.json (report_of report.now))) }
+    ensures { IfOk result (λ output. output.items ≡ (if options.quiet then [] else findings_text options.output (report_of report.now))) }
 {
     if options.quiet {
-        Ok(Vec::new(alloc))
-    } else if options.json {
-        report.to_json(alloc)
-    } else {
-        report.to_text(alloc)
+        return Ok(Vec::new(alloc));
+    }
+    match options.output {
+        OutputForm::Text => report.to_text(alloc),
+        OutputForm::Json => report.to_json(alloc),
+        OutputForm::Github => report.to_github(alloc),
+        OutputForm::Sarif => report.to_sarif(alloc),
     }
 }
 

@@ -224,7 +224,7 @@ fn parse_check<'a>(settings: Settings, words: &'a [String]) -> Command<'a>
     ensures { task result ≡ task_with settings Topic.Check (map string_bytes words.now) }
 {
     let options = CheckOptions {
-        json: is_json(settings.format),
+        output: settings.output,
         each: settings.each,
         quiet: settings.quiet,
         kind: settings.kind,

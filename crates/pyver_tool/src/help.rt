@@ -38,7 +38,8 @@ const BUMP_USAGE: &str = "pyver bump [--to N] PART.. [V]";
 
 const RANGE_USAGE: &str = "pyver range [--json] SPECS..";
 
-const CHECK_USAGE: &str = "pyver check [-q] [--each] [--format KIND] [--json] [FILE..]";
+const CHECK_USAGE: &str =
+    "pyver check [-q] [--each] [--format KIND] [--output FORM | --json] [FILE..]";
 
 pub(crate) const VERSION_LINE: &str = "pyver 0.3.0\n";
 
@@ -254,7 +255,8 @@ examples:
   pyver range '>=1.16,!=1.18' '<2' '~=1.17'
 ";
 
-const CHECK_HELP: &str = "usage: pyver check [-q] [--each] [--format KIND] [--json] [FILE..]
+const CHECK_HELP: &str =
+    "usage: pyver check [-q] [--each] [--format KIND] [--output FORM | --json] [FILE..]
 
 Prints what is wrong in requirements files: lines that are no requirements, lines that no version
 satisfies together, and versions that one line names and another excludes. '-' and no file mean
@@ -263,7 +265,8 @@ relative to the file that names them. Lines with different markers do not count 
 A file named pyproject.toml is read as a project, one named pylock.toml, pylock.NAME.toml, uv.lock,
 poetry.lock or Pipfile.lock as a lock: malformed strings are reported, requirements that no version satisfies
 together, and, for each lock beside a project, versions that it excludes and names the lock lacks.
-KIND is requirements, pyproject, pylock, uv, poetry or pipfile.
+KIND is requirements, pyproject, pylock, uv, poetry or pipfile. FORM is text, json, github or
+sarif: github prints commands that GitHub Actions shows at the lines, sarif a log of SARIF 2.1.0.
 Standard error says how much was read, and how much was left out: options of pip, editables, paths,
 archives, URLs, and lines with a variable. The exit status is 0 if nothing is wrong, 1 if something
 is, and 2 if a file cannot be opened; the other files are checked all the same.
@@ -272,7 +275,8 @@ options:
   -q, --quiet    print nothing; files that cannot be opened are named
   --each         check each file by itself, with those that its lines name
   --format KIND  the kind of files that have none by name
-  --json         print an array of what is wrong
+  --output FORM  the form in which what is wrong is printed; without it text
+  --json         --output json: an array of objects
   --             end of options
 
 examples:
@@ -282,6 +286,7 @@ examples:
   git show HEAD:uv.lock | pyver check --format uv pyproject.toml -
   pyver check --each */requirements.txt
   pip freeze | pyver check --json
+  pyver check --output github requirements.txt
 ";
 
 // What the help says.

@@ -12,6 +12,7 @@ pub mod laws;
 mod misuse;
 mod nearest;
 mod options;
+mod output_form;
 mod program;
 mod requirement_files;
 mod settings;

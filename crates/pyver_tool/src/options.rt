@@ -54,6 +54,13 @@ const PART: OptionRow = (
 
 const JSON: OptionRow = ("", "--json", "", &[]);
 
+const OUTPUT: OptionRow = (
+    "",
+    "--output",
+    "one of its choices",
+    &["text", "json", "github", "sarif"],
+);
+
 const TO: OptionRow = ("", "--to", "a whole number", &[]);
 
 const EACH: OptionRow = ("", "--each", "", &[]);
@@ -99,7 +106,7 @@ const BUMP_OPTIONS: &[OptionRow] = &[HELP, TO];
 
 const RANGE_OPTIONS: &[OptionRow] = &[HELP, JSON];
 
-const CHECK_OPTIONS: &[OptionRow] = &[HELP, QUIET, EACH, FORMAT, JSON];
+const CHECK_OPTIONS: &[OptionRow] = &[HELP, QUIET, EACH, FORMAT, OUTPUT, JSON];
 
 // The options of the command.
 pub(crate) fn options(topic: Topic) -> &'static [OptionRow]

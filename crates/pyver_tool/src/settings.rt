@@ -3,6 +3,7 @@ ghost use Rattle.std.specs.Prelude.{◌≡◌};
 ghost use Rattle.pyver_tool.specs.Settings.{delimiter_of, field_number_of, no_settings, with_line_option, with_option};
 
 use crate::file_kind::{FileKind, parse_file_kind};
+use crate::output_form::{OutputForm, parse_output_form};
 use pyver_commands::{
     LineOptions, Prereleases, ShowFormat, parse_invalid_lines, parse_number, parse_part,
 };
@@ -21,6 +22,7 @@ pub(crate) struct Settings {
     pub(crate) to: Option<u64>,
     pub(crate) each: bool,
     pub(crate) kind: FileKind,
+    pub(crate) output: OutputForm,
 }
 
 // A number from 1.
@@ -75,6 +77,7 @@ impl Settings {
             to: None,
             each: false,
             kind: FileKind::unknown(),
+            output: OutputForm::Text,
         }
     }
 
@@ -91,11 +94,15 @@ impl Settings {
             "--reverse" => settings.reversed = true,
             "--unique" => settings.unique = true,
             "--last" => settings.last = Some(parse_number(value)?),
-            "--json" => settings.format = ShowFormat::Json,
+            "--json" => {
+                settings.format = ShowFormat::Json;
+                settings.output = OutputForm::Json;
+            }
             "--part" => settings.format = ShowFormat::Part(parse_part(value)?),
             "--to" => settings.to = Some(parse_number(value)?),
             "--each" => settings.each = true,
             "--format" => settings.kind = parse_file_kind(value)?,
+            "--output" => settings.output = parse_output_form(value)?,
             _ => settings.lines = with_line_option(settings.lines, name, value)?,
         }
         Some(settings)

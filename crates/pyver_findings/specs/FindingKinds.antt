@@ -1,0 +1,34 @@
+-- The kinds of findings, each with a code and a word.
+use Rattle.std.specs.Prelude.{ℕ, List, codes}
+use Rattle.pyver_findings.specs.Findings.{Conflicting, Finding, NoRequirement}
+use Rattle.pyver_findings.specs.declared.finding.Conflict.{Conflict}
+use Rattle.pyver_findings.specs.declared.finding.Conflict.TheVariants.{NoVersion, PinOutside, TwoPins}
+use Rattle.pyver_findings.specs.declared.finding.FindingKind.{FindingKind}
+use Rattle.pyver_findings.specs.declared.finding.FindingKind.TheVariants as kind
+
+abbrev pub conflict_kind_of : Conflict → FindingKind
+conflict_kind_of NoVersion = kind.NoVersion
+conflict_kind_of PinOutside = kind.PinOutside
+conflict_kind_of TwoPins = kind.TwoPins
+
+abbrev pub finding_kind : Finding → FindingKind
+finding_kind (NoRequirement l reason column) = kind.NoRequirement
+finding_kind (Conflicting conflict lines) = conflict_kind_of conflict
+
+abbrev pub kind_code : FindingKind → List ℕ
+kind_code kind.NoRequirement = codes "PV001"
+kind_code kind.NoVersion = codes "PV002"
+kind_code kind.PinOutside = codes "PV003"
+kind_code kind.TwoPins = codes "PV004"
+
+abbrev pub kind_summary : FindingKind → List ℕ
+kind_summary kind.NoRequirement = codes "A line or string is malformed, or what it names is missing."
+kind_summary kind.NoVersion = codes "No version satisfies the lines."
+kind_summary kind.PinOutside = codes "A line is pinned to a version that another excludes."
+kind_summary kind.TwoPins = codes "Two lines are pinned to two versions."
+
+abbrev pub kind_word : FindingKind → List ℕ
+kind_word kind.NoRequirement = codes "no-requirement"
+kind_word kind.NoVersion = codes "no-version"
+kind_word kind.PinOutside = codes "pin-outside"
+kind_word kind.TwoPins = codes "two-pins"
