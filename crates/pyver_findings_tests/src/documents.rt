@@ -109,7 +109,7 @@ pub fn print_document_report(alloc: Global, files: &[String]) -> Result<String, 
     Ok(printed)
 }
 
-/// Whether the path ends as those of documents do.
+/// Whether the path has an ending of documents.
 pub fn print_document_path(path: &str) -> &'static str {
     if is_document_path(path.as_bytes()) {
         "yes"

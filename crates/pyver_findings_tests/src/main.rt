@@ -7,7 +7,9 @@ mod lines;
 mod reports;
 mod strings;
 
-use documents::{print_document_kind, print_document_path, print_document_report, print_named_kind};
+use documents::{
+    print_document_kind, print_document_path, print_document_report, print_named_kind,
+};
 use lines::{print_kind, print_lines, print_marker, print_parts, print_pip_parts};
 use reports::{
     Form, print_each, print_findings, print_named_files, print_report, print_report_of,

@@ -4,7 +4,7 @@ use Rattle.std.proofs.lemmas.Bool.{true≢false}
 use Rattle.std.proofs.lemmas.Slice.Eq.{bytes_eq-Decides}
 use Rattle.std.specs.List.{list_all, list_any}
 use Rattle.pyver_projects.specs.Groups.{Inclusion, includes, includes_by, includes_within}
-use Rattle.pyver_projects.specs.NameMaps.{is_before}
+use Rattle.pyver_projects.specs.NameMaps.{stands_before}
 
 pub left_true : (a b : Bool) → (a && b) ≡ true → a ≡ true
 left_true true b e = refl
@@ -18,7 +18,7 @@ below : (m n : ℕ) → nat_lt m n ≡ true → m < n
 below m n e = grind arith
 
 module _ (place : List ℕ → ℕ) (low : ℕ) (has : List ℕ → Bool) (known : (q : List ℕ) → has q ≡ true → low ≤ place q) (name : List ℕ) where
-  by_step : (b : Bool) (i : Inclusion) (is : List Inclusion) → includes_by has name i ≡ b → (b || list_any (includes_by has name) is) ≡ true → is_before place i ≡ true → (list_any (includes_by has name) is ≡ true → low ≤ place name) → low ≤ place name
+  by_step : (b : Bool) (i : Inclusion) (is : List Inclusion) → includes_by has name i ≡ b → (b || list_any (includes_by has name) is) ≡ true → stands_before place i ≡ true → (list_any (includes_by has name) is ≡ true → low ≤ place name) → low ≤ place name
   by_step true i is e any before later =
       let same : name ≡ i.included = (bytes_eq-Decides name i.included).0 (left_true (bytes_eq name i.included) (has i.group) e) in
       let first : low ≤ place i.group = known i.group (right_true (bytes_eq name i.included) (has i.group) e) in
@@ -26,12 +26,12 @@ module _ (place : List ℕ → ℕ) (low : ℕ) (has : List ℕ → Bool) (known
       subst (λ (n : List ℕ). low ≤ place n) (sym same) (omega (arith, first, rises))
   by_step false i is e any before later = later any
 
-  by_steps : (is : List Inclusion) → list_all (is_before place) is ≡ true → list_any (includes_by has name) is ≡ true → low ≤ place name
+  by_steps : (is : List Inclusion) → list_all (stands_before place) is ≡ true → list_any (includes_by has name) is ≡ true → low ≤ place name
   by_steps [] ordered any = absurd (true≢false (sym any))
   by_steps (i ∷ is) ordered any =
-      by_step (includes_by has name i) i is refl any (left_true (is_before place i) (list_all (is_before place) is) ordered) (by_steps is (right_true (is_before place i) (list_all (is_before place) is) ordered))
+      by_step (includes_by has name i) i is refl any (left_true (stands_before place i) (list_all (stands_before place) is) ordered) (by_steps is (right_true (stands_before place i) (list_all (stands_before place) is) ordered))
 
-module _ (place : List ℕ → ℕ) (is : List Inclusion) (ordered : list_all (is_before place) is ≡ true) (group : List ℕ) where
+module _ (place : List ℕ → ℕ) (is : List Inclusion) (ordered : list_all (stands_before place) is ≡ true) (group : List ℕ) where
   after_more : (b c : Bool) (name : List ℕ) → (b || c) ≡ true → (b ≡ true → place group ≤ place name) → (c ≡ true → place group ≤ place name) → place group ≤ place name
   after_more true c name e first second = first refl
   after_more false c name e first second = second e
@@ -47,8 +47,8 @@ never true apart = absurd (apart refl)
 never false apart = refl
 
 -- what stands before a group is not included by it
-pub not_included : (place : List ℕ → ℕ) (is : List Inclusion) (right : Bool) (group name : List ℕ) → right ≡ list_all (is_before place) is → (right && nat_lt (place name) (place group)) ≡ true → includes is group name ≡ false
+pub not_included : (place : List ℕ → ℕ) (is : List Inclusion) (right : Bool) (group name : List ℕ) → right ≡ list_all (stands_before place) is → (right && nat_lt (place name) (place group)) ≡ true → includes is group name ≡ false
 not_included place is right group name known before =
-    let ordered : list_all (is_before place) is ≡ true = sym known ∙ left_true right (nat_lt (place name) (place group)) before in
+    let ordered : list_all (stands_before place) is ≡ true = sym known ∙ left_true right (nat_lt (place name) (place group)) before in
     let apart : place name < place group = below (place name) (place group) (right_true right (nat_lt (place name) (place group)) before) in
     never (includes is group name) (λ e. let after : place group ≤ place name = stands_after place is ordered group (length is) name e in absurd (omega (arith, apart, after)))

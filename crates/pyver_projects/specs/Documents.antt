@@ -1,30 +1,43 @@
 -- What a parsed TOML document has to check: the strings of `pyproject.toml`, and the versions of a lock.
-use Rattle.std.specs.Prelude.{ℕ, ◌+◌, List, [], ◌∷◌, ◌++◌, Option, Some, None, bytes_eq, codes, count_by, get_or, if◌then◌else◌, length, map, nat_eq, nat_lt}
+use Rattle.std.specs.Prelude.{ℕ, ◌+◌, List, [], ◌∷◌, ◌++◌, Bool, Option, Some, None, bytes_eq, codes, count_by, get_or, if◌then◌else◌, length, map, nat_eq, nat_lt}
 use Rattle.std.specs.List.{flat_map}
 use Rattle.pep440_pick.specs.Names.{normal}
 use Rattle.toml.specs.Data.{Data, Members, as_str, get, get_member}
 use Rattle.pyver_projects.specs.PackageRequirements.{requirements_from}
 use Rattle.pyver_projects.specs.ProjectStrings.{Build, Dependencies, Extra, Group, Include, Invalid, LockContents, LockedPackage, Section, Python, ProjectString, Version}
-use Rattle.pyver_projects.specs.TomlValues.{entries, inside, listed, text_in}
+use Rattle.pyver_projects.specs.TomlValues.{entries, inside, is_array_or_none, is_table_or_none, listed, text_in}
 
 -- ---- `pyproject.toml`
 
--- a source, if there is a string
-abbrev pub source_in : Section → Option (List ℕ) → List ProjectString
-source_in section None = []
-source_in section (Some text) = record { section = section; text = text } ∷ []
+-- the name of a value that is invalid for this reason
+abbrev pub invalid_name : List ℕ → List ℕ → List ProjectString
+invalid_name name reason = record { section = Invalid reason; text = name } ∷ []
 
--- a source, if the value is a string
-abbrev pub source_from : Section → Data → List ProjectString
-source_from section d = source_in section (as_str d)
+-- the name for this reason, unless it is right
+abbrev pub unless : Bool → List ℕ → List ℕ → List ProjectString
+unless is_right name reason = if is_right then [] else invalid_name name reason
 
--- the strings of an array
-abbrev pub array_sources : Section → Option Data → List ProjectString
-array_sources section value = flat_map (source_from section) (listed value)
+-- the string, or that the value at this name is none
+abbrev pub string_or : List ℕ → List ℕ → Section → Option (List ℕ) → List ProjectString
+string_or name reason section None = invalid_name name reason
+string_or name reason section (Some text) = record { section = section; text = text } ∷ []
+
+-- the string at this name, if there is a value
+abbrev pub text_sources : List ℕ → Section → Option Data → List ProjectString
+text_sources name section None = []
+text_sources name section (Some d) = string_or name (codes "not a string") section (as_str d)
+
+-- an item of the array at this name, which is to be a string
+abbrev pub source_from : List ℕ → Section → Data → List ProjectString
+source_from name section d = string_or name (codes "not an array of strings") section (as_str d)
+
+-- the strings of the array at this name
+abbrev pub array_sources : List ℕ → Section → Option Data → List ProjectString
+array_sources name section value = unless (is_array_or_none value) name (codes "not an array of strings") ++ flat_map (source_from name section) (listed value)
 
 -- the strings of the array of an extra
 abbrev pub extra_sources : List ℕ × Data → List ProjectString
-extra_sources e = array_sources (Extra (normal e.0)) (Some e.1)
+extra_sources e = array_sources e.0 (Extra (normal e.0)) (Some e.1)
 
 -- ---- groups
 
@@ -40,13 +53,9 @@ group_name e = normal e.0
 abbrev pub group_names : Members → List (List ℕ)
 group_names document = map group_name (groups_table document)
 
--- the name of a group that is invalid for this reason
-abbrev pub invalid_group : List ℕ → List ℕ → List ProjectString
-invalid_group name reason = record { section = Invalid reason; text = name } ∷ []
-
 -- the name of a group, if another of these has it, too
 abbrev pub repeated_name : List (List ℕ) → List ℕ → List ProjectString
-repeated_name names name = if nat_lt 1 (count_by (bytes_eq (normal name)) names) then invalid_group name (codes "another group has this name") else []
+repeated_name names name = if nat_lt 1 (count_by (bytes_eq (normal name)) names) then invalid_name name (codes "another group has this name") else []
 
 -- the name of the group that an item includes: it is a table with the key `include-group` only
 abbrev pub included_name : Data → Option (List ℕ)
@@ -56,29 +65,48 @@ included_name d = if nat_eq (length (entries (Some d))) 1 then text_in (get (cod
 abbrev pub item_source : List ℕ → Option (List ℕ) → Option (List ℕ) → List ProjectString
 item_source name (Some text) included = record { section = Group (normal name); text = text } ∷ []
 item_source name None (Some included) = record { section = Include (normal name) (normal included); text = included } ∷ []
-item_source name None None = invalid_group name (codes "an item is neither a requirement nor an included group")
+item_source name None None = invalid_name name (codes "an item is neither a requirement nor an included group")
 
 abbrev pub item_sources : List ℕ → Data → List ProjectString
 item_sources name d = item_source name (as_str d) (included_name d)
 
--- the strings of the array of a group, and the names of those that it includes, beside these groups
+-- the strings of the array of a group, and the names of those that it includes
+abbrev pub group_items : List ℕ → Data → List ProjectString
+group_items name d = unless (is_array_or_none (Some d)) name (codes "not an array") ++ flat_map (item_sources name) (listed (Some d))
+
+-- the same, beside these groups
 abbrev pub group_sources : List (List ℕ) → List ℕ × Data → List ProjectString
-group_sources names e = repeated_name names e.0 ++ flat_map (item_sources e.0) (listed (Some e.1))
+group_sources names e = repeated_name names e.0 ++ group_items e.0 e.1
 
 -- ---- all strings
 
+-- that the value at this name is no table, if there is one
+abbrev pub table_fault : List ℕ → Option Data → List ProjectString
+table_fault name value = unless (is_table_or_none value) name (codes "not a table")
+
+-- the strings of the extras in this table
+abbrev pub optional_sources : Option Data → List ProjectString
+optional_sources extras = table_fault (codes "optional-dependencies") extras ++ flat_map extra_sources (entries extras)
+
 -- the strings in the table `project`
 abbrev pub table_sources : Option Data → List ProjectString
-table_sources project = array_sources Dependencies (inside (codes "dependencies") project)
-    ++ (flat_map extra_sources (entries (inside (codes "optional-dependencies") project))
-    ++ (source_in Python (text_in (inside (codes "requires-python") project))
-    ++ source_in Version (text_in (inside (codes "version") project))))
+table_sources project = array_sources (codes "dependencies") Dependencies (inside (codes "dependencies") project)
+    ++ (optional_sources (inside (codes "optional-dependencies") project)
+    ++ (text_sources (codes "requires-python") Python (inside (codes "requires-python") project)
+    ++ text_sources (codes "version") Version (inside (codes "version") project)))
+
+-- the names of tables that are none
+abbrev pub table_faults : Members → List ProjectString
+table_faults document = table_fault (codes "project") (get_member (codes "project") document)
+    ++ (table_fault (codes "dependency-groups") (get_member (codes "dependency-groups") document)
+    ++ table_fault (codes "build-system") (get_member (codes "build-system") document))
 
 -- the strings of `pyproject.toml`. Those of an included group stand in that group alone
 abbrev pub sources : Members → List ProjectString
-sources document = table_sources (get_member (codes "project") document)
+sources document = table_faults document
+    ++ (table_sources (get_member (codes "project") document)
     ++ (flat_map (group_sources (group_names document)) (groups_table document)
-    ++ array_sources Build (inside (codes "requires") (get_member (codes "build-system") document)))
+    ++ array_sources (codes "requires") Build (inside (codes "requires") (get_member (codes "build-system") document))))
 
 -- ---- locks
 

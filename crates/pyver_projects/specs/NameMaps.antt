@@ -27,11 +27,11 @@ IsFound before names found = (q : List ℕ) → has_key names q ≡ (before q ||
 abbrev pub is_repeated : ℕ → Option Bool
 is_repeated n = if nat_eq n 0 then None else Some (nat_lt 1 n)
 
-abbrev pub names_of : NameIndex → List (List ℕ)
-names_of index = map (λ n. n.items) index.names.now
+abbrev pub indexed_names : NameIndex → List (List ℕ)
+indexed_names index = map (λ n. n.items) index.names.now
 
 abbrev pub IsNameIndex : NameIndex → Type 0
-IsNameIndex index = (q : List ℕ) → get_by (λ k. bytes_eq q k.now) index.repeated ≡ is_repeated (count_by (bytes_eq q) (names_of index))
+IsNameIndex index = (q : List ℕ) → get_by (λ k. bytes_eq q k.now) index.repeated ≡ is_repeated (count_by (bytes_eq q) (indexed_names index))
 
 -- ---- inclusions by their groups
 
@@ -45,22 +45,22 @@ IsInclusionIndex index = (q : List ℕ) → map (λ i. inclusion_of i.now) (opti
 -- ---- places
 
 -- the number of a name, or 0
-abbrev pub number_of : {S : Type 0} → HashMap (Bor (List ℕ)) ℕ S → List ℕ → ℕ
-number_of numbers name = unwrap_or (get_by (λ k. bytes_eq name k.now) numbers) 0
+abbrev pub rank_of : {S : Type 0} → HashMap (Bor (List ℕ)) ℕ S → List ℕ → ℕ
+rank_of numbers name = unwrap_or (get_by (λ k. bytes_eq name k.now) numbers) 0
 
 -- the group that includes the other stands before it
-abbrev pub is_before : (List ℕ → ℕ) → Inclusion → Bool
-is_before place i = nat_lt (place i.group) (place i.included)
+abbrev pub stands_before : (List ℕ → ℕ) → Inclusion → Bool
+stands_before place i = nat_lt (place i.group) (place i.included)
 
 -- what is known of an order
-abbrev pub IsOrder : List Inclusion → GroupOrder → Type 0
-IsOrder is order = order.is_right ≡ list_all (is_before (number_of order.places)) is
+abbrev pub IsGroupOrder : List Inclusion → GroupOrder → Type 0
+IsGroupOrder is order = order.is_right ≡ list_all (stands_before (rank_of order.places)) is
 
 -- ---- groups
 
 abbrev pub groups_of : GroupsValue → Groups
-groups_of all = record { names = names_of all.names; inclusions = inclusions_of all.inclusions }
+groups_of all = record { names = indexed_names all.names; inclusions = inclusions_of all.inclusions }
 
 -- its maps are right
 abbrev pub HasGroups : GroupsValue → Type 0
-HasGroups all = IsNameIndex all.names × IsInclusionIndex all.inclusions × IsOrder (inclusions_of all.inclusions) all.order
+HasGroups all = IsNameIndex all.names × IsInclusionIndex all.inclusions × IsGroupOrder (inclusions_of all.inclusions) all.order

@@ -1,5 +1,5 @@
 -- Values of a TOML document that are tables, arrays or strings.
-use Rattle.std.specs.Prelude.{ℕ, List, [], ◌∷◌, Option, Some, None, option_and_then}
+use Rattle.std.specs.Prelude.{ℕ, List, [], ◌∷◌, Bool, true, Option, Some, None, is_some, option_and_then}
 use Rattle.toml.specs.Data.{Data, Items, Members, as_array, as_str, as_table, get, item, member, no_items, no_members}
 
 abbrev pub items_list : Items → List Data
@@ -33,3 +33,15 @@ entries value = members_or_none (option_and_then as_table value)
 -- the string, if there is one
 abbrev pub text_in : Option Data → Option (List ℕ)
 text_in value = option_and_then as_str value
+
+abbrev pub is_some_or : {X : Type 0} → (Data → Option X) → Option Data → Bool
+is_some_or read None = true
+is_some_or read (Some d) = is_some (read d)
+
+-- the value is an array, if there is one
+abbrev pub is_array_or_none : Option Data → Bool
+is_array_or_none value = is_some_or as_array value
+
+-- the value is a table, if there is one
+abbrev pub is_table_or_none : Option Data → Bool
+is_table_or_none value = is_some_or as_table value

@@ -68,7 +68,7 @@ fn is_named_pylock(name: &[u8]) -> bool
         && count_dots(name) == 2
 }
 
-/// The path ends as those of documents do: with `.lock`, `.toml`, `.cfg` or `.json`.
+/// The path has an ending of documents: `.lock`, `.toml`, `.cfg` or `.json`.
 ///
 /// Allocates nothing.
 pub fn is_document_path(path: &[u8]) -> bool

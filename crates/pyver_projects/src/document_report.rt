@@ -171,8 +171,8 @@ fn read_documents(alloc: Global, documents: &[Document]) -> Result<Vec<DocumentR
 }
 
 #[tactic(auto, using(crate::proofs::Sound::sound_documents))]
-/// What is wrong in the documents. First what is wrong in each by itself, in order: strings of a project that are no requirement, no list
-/// of specifiers or no version, groups (PEP 735) with the normal name of another, with an item that is neither a string nor a table of
+/// What is wrong in the documents. First what is wrong in each by itself, in order: tables, arrays or strings of a project that are none,
+/// strings that are no requirement, no list of specifiers or no version, groups (PEP 735) with the normal name of another, with an item that is neither a string nor a table of
 /// `include-group` only, or that include a group that does not exist or that includes them in turn, versions of a lock that are none, and a
 /// document that is not TOML, or JSON, in UTF-8. After the strings of a project its requirements that hold together and have no version in
 /// common, as `pyver_findings` reports them, each once: `project.dependencies`; these with each extra, and with each group and all that it
@@ -184,8 +184,8 @@ fn read_documents(alloc: Global, documents: &[Document]) -> Result<Vec<DocumentR
 /// `project.version`, `dependency-groups` with the names of included groups, and `build-system.requires`; of a lock
 /// the names and versions of its packages, in `Pipfile.lock` of the members of `default` and of those of `develop` that are not there with
 /// the same version. Their requirements are the `specifier` of each item of uv's `metadata.requires-dist`, and the lists of Poetry's table
-/// `dependencies`, but `*`; one that PEP 440 does not know, as `^1.0`, is left out. Values of other types are passed over. Extras and groups
-/// come in the order of their names. A string has the number of the first line on which it stands in quotes, a package of `Pipfile.lock`
+/// `dependencies`, but `*`; one that PEP 440 does not know, as `^1.0`, is left out. Values of other types in a lock are passed over. Extras and
+/// groups come in the order of their names. A string has the number of the first line on which it stands in quotes, a package of `Pipfile.lock`
 /// the number of the first line with its name in quotes, another package, with what it requires, the number of its header. Either has 1
 /// without one. Each string and each package counts as a line.
 ///

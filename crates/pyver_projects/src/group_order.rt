@@ -1,7 +1,7 @@
-//! An order of groups, in which each stands before those that it includes, if none includes itself.
+//! An order of groups, in which each stands before all that it includes, if none includes itself.
 ghost use Rattle.std.specs.Prelude.{◌≡◌, ◌&&◌, IfOk, map, nat_lt};
 ghost use Rattle.std.specs.List.{list_all};
-ghost use Rattle.pyver_projects.specs.NameMaps.{IsInclusionIndex, IsOrder, inclusions_of, is_before, number_of};
+ghost use Rattle.pyver_projects.specs.NameMaps.{IsInclusionIndex, IsGroupOrder, inclusions_of, stands_before, rank_of};
 ghost use Rattle.pyver_projects.specs.ProjectViews.{inclusion_of};
 
 use crate::groups::Inclusion;
@@ -9,16 +9,16 @@ use crate::inclusion_index::InclusionIndex;
 use std::alloc::{AllocError, Global};
 use std::collections::HashMap;
 
-// The places of groups, and whether each group stands before those that it includes.
+// The positions of groups, and whether each stands before all that it includes.
 #[derive(Drop)]
 pub(crate) struct GroupOrder<'a> {
     places: HashMap<&'a [u8], usize>,
     is_right: bool,
 }
 
-// The number of the name, or 0.
-fn number_of(numbers: &HashMap<&[u8], usize>, name: &[u8]) -> usize
-    ensures { result ≡ number_of numbers.now name.now }
+// The rank of the name, or 0.
+fn rank_of(numbers: &HashMap<&[u8], usize>, name: &[u8]) -> usize
+    ensures { result ≡ rank_of numbers.now name.now }
 {
     match numbers.get(name) {
         Some(number) => *number,
@@ -34,7 +34,7 @@ fn count_inclusions<'a>(
     let mut counts: HashMap<&'a [u8], usize> = HashMap::new(alloc);
     for inclusion in inclusions {
         let name = inclusion.included.as_slice();
-        let count = number_of(&counts, name);
+        let count = rank_of(&counts, name);
         counts.insert(name, count.saturating_add(1))?;
     }
     Ok(counts)
@@ -49,7 +49,7 @@ fn first_groups<'a>(
     let mut found: Vec<&'a [u8]> = Vec::new(alloc);
     for inclusion in inclusions {
         let name = inclusion.group.as_slice();
-        if number_of(counts, name) == 0 {
+        if rank_of(counts, name) == 0 {
             found.push(name)?;
         }
     }
@@ -62,7 +62,7 @@ fn take_inclusion<'a>(
     ready: &mut Vec<&'a [u8]>,
     name: &'a [u8],
 ) -> Result<(), AllocError> {
-    let count = number_of(counts, name);
+    let count = rank_of(counts, name);
     if count == 1 {
         ready.push(name)?;
     }
@@ -106,13 +106,13 @@ fn place_groups<'a>(
     Ok(places)
 }
 
-// Each group stands before those that it includes.
+// Each group stands before all that it includes.
 fn are_ordered(places: &HashMap<&[u8], usize>, inclusions: &[Inclusion]) -> bool
-    ensures { result ≡ list_all (is_before (number_of places.now)) (map inclusion_of inclusions.now) }
+    ensures { result ≡ list_all (stands_before (rank_of places.now)) (map inclusion_of inclusions.now) }
 {
     for inclusion in inclusions {
-        let place = number_of(places, inclusion.group.as_slice());
-        if place >= number_of(places, inclusion.included.as_slice()) {
+        let place = rank_of(places, inclusion.group.as_slice());
+        if place >= rank_of(places, inclusion.included.as_slice()) {
             return false;
         }
     }
@@ -125,7 +125,7 @@ impl<'a> GroupOrder<'a> {
         index: &InclusionIndex<'a>,
     ) -> Result<GroupOrder<'a>, AllocError>
         requires { IsInclusionIndex index.now }
-        ensures { IfOk result (IsOrder (inclusions_of index.now)) }
+        ensures { IfOk result (IsGroupOrder (inclusions_of index.now)) }
     {
         let places = place_groups(alloc, index)?;
         let is_right = are_ordered(&places, index.inclusions);
@@ -134,8 +134,8 @@ impl<'a> GroupOrder<'a> {
 
     // The first group stands before the second, which therefore does not include it.
     pub(crate) fn has_before(&self, group: &[u8], other: &[u8]) -> bool
-        ensures { result ≡ self.now.is_right && nat_lt (number_of self.now.places group.now) (number_of self.now.places other.now) }
+        ensures { result ≡ self.now.is_right && nat_lt (rank_of self.now.places group.now) (rank_of self.now.places other.now) }
     {
-        self.is_right && number_of(&self.places, group) < number_of(&self.places, other)
+        self.is_right && rank_of(&self.places, group) < rank_of(&self.places, other)
     }
 }

@@ -3,7 +3,7 @@ ghost use Rattle.std.specs.Prelude.{◌≡◌, ◌++◌, IfOk, bytes_eq, map};
 ghost use Rattle.std.specs.List.{flat_map, list_any};
 ghost use Rattle.pyver_projects.specs.Documents.{group_name, group_names};
 ghost use Rattle.pyver_projects.specs.Groups.{includes, inclusion, inclusions};
-ghost use Rattle.pyver_projects.specs.NameMaps.{HasGroups, IsInclusionIndex, IsNameIndex, IsOrder, groups_of, inclusions_of, names_of};
+ghost use Rattle.pyver_projects.specs.NameMaps.{HasGroups, IsInclusionIndex, IsNameIndex, IsGroupOrder, groups_of, inclusions_of, indexed_names};
 ghost use Rattle.pyver_projects.specs.ProjectViews.{inclusion_of, project_string_of, section_of, string_reading_of};
 ghost use Rattle.pyver_projects.specs.Together.{sections};
 ghost use Rattle.pyver_projects.specs.TomlValues.{members_list};

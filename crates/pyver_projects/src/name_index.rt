@@ -2,7 +2,7 @@
 ghost use Rattle.std.specs.Prelude.{◌≡◌, IfOk, bytes_eq, count_by, map, nat_lt};
 ghost use Rattle.std.specs.HashMap.{get_by};
 ghost use Rattle.std.specs.List.{list_any};
-ghost use Rattle.pyver_projects.specs.NameMaps.{IsNameIndex, is_repeated, names_of};
+ghost use Rattle.pyver_projects.specs.NameMaps.{IsNameIndex, is_repeated, indexed_names};
 
 use std::alloc::{AllocError, Global};
 use std::collections::HashMap;
@@ -17,7 +17,7 @@ pub(crate) struct NameIndex<'a> {
 impl<'a> NameIndex<'a> {
     pub(crate) fn new(alloc: Global, names: &'a [Vec<u8>]) -> Result<NameIndex<'a>, AllocError>
         ensures index { IfOk result (λ index. IsNameIndex index) }
-        ensures names { IfOk result (λ index. names_of index ≡ map (λ n. n.items) names.now) }
+        ensures names { IfOk result (λ index. indexed_names index ≡ map (λ n. n.items) names.now) }
     {
         let mut repeated: HashMap<&'a [u8], bool> = HashMap::new(alloc);
         for name in names {
@@ -30,7 +30,7 @@ impl<'a> NameIndex<'a> {
     // The name is one of these.
     pub(crate) fn has(&self, name: &[u8]) -> bool
         requires { IsNameIndex self.now }
-        ensures { result ≡ list_any (bytes_eq name.now) (names_of self.now) }
+        ensures { result ≡ list_any (bytes_eq name.now) (indexed_names self.now) }
     {
         self.repeated.contains_key(name)
     }
@@ -38,7 +38,7 @@ impl<'a> NameIndex<'a> {
     // The name is two of these, or more.
     pub(crate) fn has_twice(&self, name: &[u8]) -> bool
         requires { IsNameIndex self.now }
-        ensures { result ≡ nat_lt 1 (count_by (bytes_eq name.now) (names_of self.now)) }
+        ensures { result ≡ nat_lt 1 (count_by (bytes_eq name.now) (indexed_names self.now)) }
     {
         match self.repeated.get(name) {
             Some(is_repeated) => *is_repeated,

@@ -1,65 +1,124 @@
 //! What is read of `pyproject.toml`.
-ghost use Rattle.std.specs.Prelude.{◌≡◌, ◌∷◌, ◌++◌, [], IfOk, Some, length, map, nat_eq, option_map, string_bytes};
+ghost use Rattle.std.specs.Prelude.{◌≡◌, ◌∷◌, ◌++◌, [], IfOk, length, map, nat_eq, option_map, string_bytes};
 ghost use Rattle.std.specs.List.{flat_map};
 ghost use Rattle.pep440_pick.specs.Names.{normal};
-ghost use Rattle.pyver_projects.specs.Documents.{array_sources, extra_sources, group_names, group_sources, groups_table, included_name, item_source, item_sources, repeated_name, source_from, source_in, sources, table_sources};
-ghost use Rattle.pyver_projects.specs.NameMaps.{IsNameIndex, names_of};
+ghost use Rattle.pyver_projects.specs.Documents.{array_sources, extra_sources, group_items, group_names, group_sources, groups_table, included_name, item_source, item_sources, optional_sources, repeated_name, source_from, sources, string_or, table_fault, table_faults, table_sources, text_sources, unless};
+ghost use Rattle.pyver_projects.specs.NameMaps.{IsNameIndex, indexed_names};
 ghost use Rattle.pyver_projects.specs.ProjectStrings.{Group, Include};
 ghost use Rattle.pyver_projects.specs.ProjectViews.{section_of, project_string_of};
-ghost use Rattle.pyver_projects.specs.TomlValues.{entries, listed, members_list};
+ghost use Rattle.pyver_projects.specs.TomlValues.{entries, members_list};
 ghost use Rattle.toml.specs.View.{table_view, view};
 
 use crate::groups::group_names;
 use crate::name_index::NameIndex;
 use crate::project_string::ProjectString;
 use crate::section::Section;
-use crate::table::{inside, items, table, text, top};
+use crate::table::{inside, is_array_or_none, is_table_or_none, items, table, text, top};
 use pyver_findings::normalize_name;
 use std::alloc::{AllocError, Global};
 use toml::{Table, Value};
 
-// Adds the string, if there is one.
-fn push_text(
+fn push_string(
     alloc: Global,
     sources: &mut Vec<ProjectString>,
+    section: Section,
+    text: &str,
+) -> Result<(), AllocError>
+    ensures { IfOk result (λ _. map project_string_of sources.new.items ≡ map project_string_of sources.old.items ++ record { section = section_of section; text = text.now } ∷ []) }
+{
+    let text = String::from_str(alloc, text)?;
+    sources.push(ProjectString { section, text })?;
+    Ok(())
+}
+
+// Adds the name for this reason, unless it is right.
+fn push_unless(
+    alloc: Global,
+    sources: &mut Vec<ProjectString>,
+    is_right: bool,
+    name: &str,
+    reason: &'static str,
+) -> Result<(), AllocError>
+    ensures { IfOk result (λ _. map project_string_of sources.new.items ≡ map project_string_of sources.old.items ++ unless is_right name.now reason.now) }
+{
+    if is_right {
+        return Ok(());
+    }
+    push_string(alloc, sources, Section::Invalid(reason), name)
+}
+
+// Adds the string, or the name for this reason, if there is none.
+fn push_string_or(
+    alloc: Global,
+    sources: &mut Vec<ProjectString>,
+    name: &str,
+    reason: &'static str,
     section: &Section,
     text: Option<&str>,
 ) -> Result<(), AllocError>
-    ensures { IfOk result (λ _. map project_string_of sources.new.items ≡ map project_string_of sources.old.items ++ source_in (section_of section.now) (option_map (λ t. t.now) text.entry)) }
+    ensures { IfOk result (λ _. map project_string_of sources.new.items ≡ map project_string_of sources.old.items ++ string_or name.now reason.now (section_of section.now) (option_map (λ t. t.now) text.entry)) }
 {
-    if let Some(text) = text {
-        let text = String::from_str(alloc, text)?;
-        let section = section.clone()?;
-        sources.push(ProjectString { section, text })?;
+    match text {
+        Some(text) => push_string(alloc, sources, section.clone()?, text),
+        None => push_string(alloc, sources, Section::Invalid(reason), name),
     }
-    Ok(())
 }
 
-fn push_item(
+// Adds the string at this name, if there is a value.
+fn push_text(
     alloc: Global,
     sources: &mut Vec<ProjectString>,
-    section: &Section,
-    item: &Value,
-) -> Result<(), AllocError>
-    ensures { IfOk result (λ _. map project_string_of sources.new.items ≡ map project_string_of sources.old.items ++ source_from (section_of section.now) (view item.now)) }
-{
-    push_text(alloc, sources, section, item.as_str())
-}
-
-// Adds the strings of an array.
-fn push_array(
-    alloc: Global,
-    sources: &mut Vec<ProjectString>,
+    name: &str,
     section: &Section,
     value: Option<&Value>,
 ) -> Result<(), AllocError>
-    ensures { IfOk result (λ _. map project_string_of sources.new.items ≡ map project_string_of sources.old.items ++ array_sources (section_of section.now) (option_map (λ v. view v.now) value.entry)) }
+    ensures { IfOk result (λ _. map project_string_of sources.new.items ≡ map project_string_of sources.old.items ++ text_sources name.now (section_of section.now) (option_map (λ v. view v.now) value.entry)) }
 {
-    let found = items(value);
+    match value {
+        Some(value) => {
+            push_string_or(
+                alloc,
+                sources,
+                name,
+                "not a string",
+                section,
+                value.as_str(),
+            )
+        }
+        None => Ok(()),
+    }
+}
+
+// Adds the strings of an array that is to have no other items.
+fn push_strings(
+    alloc: Global,
+    sources: &mut Vec<ProjectString>,
+    name: &str,
+    section: &Section,
+    found: &[Value],
+) -> Result<(), AllocError>
+    ensures { IfOk result (λ _. map project_string_of sources.new.items ≡ map project_string_of sources.old.items ++ flat_map (source_from name.now (section_of section.now)) (map view found.now)) }
+{
+    let reason = "not an array of strings";
     for item in found {
-        push_item(alloc, sources, section, item)?;
+        push_string_or(alloc, sources, name, reason, section, item.as_str())?;
     }
     Ok(())
+}
+
+// Adds the strings of the array at this name, if there is a value.
+fn push_array(
+    alloc: Global,
+    sources: &mut Vec<ProjectString>,
+    name: &str,
+    section: &Section,
+    value: Option<&Value>,
+) -> Result<(), AllocError>
+    ensures { IfOk result (λ _. map project_string_of sources.new.items ≡ map project_string_of sources.old.items ++ array_sources name.now (section_of section.now) (option_map (λ v. view v.now) value.entry)) }
+{
+    let is_right = is_array_or_none(value);
+    push_unless(alloc, sources, is_right, name, "not an array of strings")?;
+    push_strings(alloc, sources, name, section, items(value))
 }
 
 fn push_extra(
@@ -71,7 +130,7 @@ fn push_extra(
     ensures { IfOk result (λ _. map project_string_of sources.new.items ≡ map project_string_of sources.old.items ++ extra_sources (string_bytes name.now, view value.now)) }
 {
     let section = Section::Extra(normalize_name(alloc, name.as_str())?);
-    push_array(alloc, sources, &section, Some(value))
+    push_array(alloc, sources, name.as_str(), &section, Some(value))
 }
 
 fn group_section(alloc: Global, name: &str) -> Result<Section, AllocError>
@@ -87,19 +146,6 @@ fn include_section(alloc: Global, name: &str, included: &str) -> Result<Section,
     Ok(Section::Include(group, normalize_name(alloc, included)?))
 }
 
-fn push_string(
-    alloc: Global,
-    sources: &mut Vec<ProjectString>,
-    section: Section,
-    text: &str,
-) -> Result<(), AllocError>
-    ensures { IfOk result (λ _. map project_string_of sources.new.items ≡ map project_string_of sources.old.items ++ record { section = section_of section; text = text.now } ∷ []) }
-{
-    let text = String::from_str(alloc, text)?;
-    sources.push(ProjectString { section, text })?;
-    Ok(())
-}
-
 // Adds the name of the group, if another of these has it, too.
 fn push_repeated(
     alloc: Global,
@@ -108,7 +154,7 @@ fn push_repeated(
     name: &str,
 ) -> Result<(), AllocError>
     requires { IsNameIndex names.now }
-    ensures { IfOk result (λ _. map project_string_of sources.new.items ≡ map project_string_of sources.old.items ++ repeated_name (names_of names.now) name.now) }
+    ensures { IfOk result (λ _. map project_string_of sources.new.items ≡ map project_string_of sources.old.items ++ repeated_name (indexed_names names.now) name.now) }
 {
     let normal = normalize_name(alloc, name)?;
     if !names.has_twice(normal.as_slice()) {
@@ -160,15 +206,28 @@ fn push_items(
     alloc: Global,
     sources: &mut Vec<ProjectString>,
     name: &str,
-    value: &Value,
+    found: &[Value],
 ) -> Result<(), AllocError>
-    ensures { IfOk result (λ _. map project_string_of sources.new.items ≡ map project_string_of sources.old.items ++ flat_map (item_sources name.now) (listed (Some (view value.now)))) }
+    ensures { IfOk result (λ _. map project_string_of sources.new.items ≡ map project_string_of sources.old.items ++ flat_map (item_sources name.now) (map view found.now)) }
 {
-    let found = items(Some(value));
     for item in found {
         push_item_source(alloc, sources, name, item.as_str(), included_name(item))?;
     }
     Ok(())
+}
+
+// Adds the items of the group with this name.
+fn push_group_items(
+    alloc: Global,
+    sources: &mut Vec<ProjectString>,
+    name: &str,
+    value: &Value,
+) -> Result<(), AllocError>
+    ensures { IfOk result (λ _. map project_string_of sources.new.items ≡ map project_string_of sources.old.items ++ group_items name.now (view value.now)) }
+{
+    let is_right = is_array_or_none(Some(value));
+    push_unless(alloc, sources, is_right, name, "not an array")?;
+    push_items(alloc, sources, name, items(Some(value)))
 }
 
 fn push_group(
@@ -179,10 +238,10 @@ fn push_group(
     value: &Value,
 ) -> Result<(), AllocError>
     requires { IsNameIndex names.now }
-    ensures { IfOk result (λ _. map project_string_of sources.new.items ≡ map project_string_of sources.old.items ++ group_sources (names_of names.now) (string_bytes name.now, view value.now)) }
+    ensures { IfOk result (λ _. map project_string_of sources.new.items ≡ map project_string_of sources.old.items ++ group_sources (indexed_names names.now) (string_bytes name.now, view value.now)) }
 {
     push_repeated(alloc, sources, names, name.as_str())?;
-    push_items(alloc, sources, name.as_str(), value)
+    push_group_items(alloc, sources, name.as_str(), value)
 }
 
 fn push_extras(
@@ -205,7 +264,7 @@ fn push_groups(
     groups: &Table,
 ) -> Result<(), AllocError>
     requires { IsNameIndex names.now }
-    ensures { IfOk result (λ _. map project_string_of sources.new.items ≡ map project_string_of sources.old.items ++ flat_map (group_sources (names_of names.now)) (members_list (table_view groups.now))) }
+    ensures { IfOk result (λ _. map project_string_of sources.new.items ≡ map project_string_of sources.old.items ++ flat_map (group_sources (indexed_names names.now)) (members_list (table_view groups.now))) }
 {
     for (name, value) in groups.iter() {
         push_group(alloc, sources, names, name, value)?;
@@ -241,6 +300,30 @@ fn push_all_groups(
     }
 }
 
+// Adds the name, if the value is no table.
+fn push_table_fault(
+    alloc: Global,
+    sources: &mut Vec<ProjectString>,
+    name: &str,
+    value: Option<&Value>,
+) -> Result<(), AllocError>
+    ensures { IfOk result (λ _. map project_string_of sources.new.items ≡ map project_string_of sources.old.items ++ table_fault name.now (option_map (λ v. view v.now) value.entry)) }
+{
+    push_unless(alloc, sources, is_table_or_none(value), name, "not a table")
+}
+
+// Adds the strings of the extras.
+fn push_optional(
+    alloc: Global,
+    sources: &mut Vec<ProjectString>,
+    extras: Option<&Value>,
+) -> Result<(), AllocError>
+    ensures { IfOk result (λ _. map project_string_of sources.new.items ≡ map project_string_of sources.old.items ++ optional_sources (option_map (λ v. view v.now) extras.entry)) }
+{
+    push_table_fault(alloc, sources, "optional-dependencies", extras)?;
+    push_all_extras(alloc, sources, extras)
+}
+
 // Adds the strings of the table `project`.
 fn push_project(
     alloc: Global,
@@ -249,13 +332,34 @@ fn push_project(
 ) -> Result<(), AllocError>
     ensures { IfOk result (λ _. map project_string_of sources.new.items ≡ map project_string_of sources.old.items ++ table_sources (option_map (λ v. view v.now) project.entry)) }
 {
-    let dependencies = inside(project, "dependencies");
-    push_array(alloc, sources, &Section::Dependencies, dependencies)?;
-    push_all_extras(alloc, sources, inside(project, "optional-dependencies"))?;
-    let python = text(inside(project, "requires-python"));
-    push_text(alloc, sources, &Section::Python, python)?;
-    let version = text(inside(project, "version"));
-    push_text(alloc, sources, &Section::Version, version)
+    let name = "dependencies";
+    push_array(
+        alloc,
+        sources,
+        name,
+        &Section::Dependencies,
+        inside(project, name),
+    )?;
+    push_optional(alloc, sources, inside(project, "optional-dependencies"))?;
+    let python = inside(project, "requires-python");
+    push_text(alloc, sources, "requires-python", &Section::Python, python)?;
+    let version = inside(project, "version");
+    push_text(alloc, sources, "version", &Section::Version, version)
+}
+
+// Adds the names of tables that are none.
+fn push_table_faults(
+    alloc: Global,
+    sources: &mut Vec<ProjectString>,
+    document: &Table,
+) -> Result<(), AllocError>
+    ensures { IfOk result (λ _. map project_string_of sources.new.items ≡ map project_string_of sources.old.items ++ table_faults (table_view document.now)) }
+{
+    push_table_fault(alloc, sources, "project", top(document, "project"))?;
+    let groups = top(document, "dependency-groups");
+    push_table_fault(alloc, sources, "dependency-groups", groups)?;
+    let build = top(document, "build-system");
+    push_table_fault(alloc, sources, "build-system", build)
 }
 
 // The strings of `pyproject.toml`.
@@ -266,9 +370,10 @@ pub(crate) fn project_strings(
     ensures { IfOk result (λ found. map project_string_of found.items ≡ sources (table_view document.now)) }
 {
     let mut found = Vec::new(alloc);
+    push_table_faults(alloc, &mut found, document)?;
     push_project(alloc, &mut found, top(document, "project"))?;
     push_all_groups(alloc, &mut found, document)?;
     let build = inside(top(document, "build-system"), "requires");
-    push_array(alloc, &mut found, &Section::Build, build)?;
+    push_array(alloc, &mut found, "requires", &Section::Build, build)?;
     Ok(found)
 }

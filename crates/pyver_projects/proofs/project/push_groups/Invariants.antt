@@ -2,12 +2,12 @@ use Rattle.std.proofs.Common.{◌≡◌, ◌++◌, map}
 use Rattle.std.specs.List.{flat_map}
 use Rattle.toml.specs.View.{members_view}
 use Rattle.pyver_projects.specs.Documents.{group_sources}
-use Rattle.pyver_projects.specs.NameMaps.{names_of}
+use Rattle.pyver_projects.specs.NameMaps.{indexed_names}
 use Rattle.pyver_projects.specs.TomlValues.{members_list}
 use Rattle.pyver_projects.specs.ProjectViews.{project_string_of}
 use Rattle.pyver_projects.proofs.project.push_groups.Given as goal
 
 abbrev pub invariant-loop-name : goal.invariant-loop-name
 invariant-loop-name l =
-    map project_string_of l.sources.items ++ flat_map (group_sources (names_of l.names)) (members_list (members_view l.name-iterator))
-    ≡ map project_string_of l.initial.sources.items ++ flat_map (group_sources (names_of l.names)) (members_list (members_view l.groups.entries))
+    map project_string_of l.sources.items ++ flat_map (group_sources (indexed_names l.names)) (members_list (members_view l.name-iterator))
+    ≡ map project_string_of l.initial.sources.items ++ flat_map (group_sources (indexed_names l.names)) (members_list (members_view l.groups.entries))

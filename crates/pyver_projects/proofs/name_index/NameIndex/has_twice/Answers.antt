@@ -1,10 +1,10 @@
 use Rattle.std.proofs.Common.{◌∙◌, bytes_eq, count_by, sym}
 use Rattle.pyver_projects.proofs.RepeatedNames.{is_not_twice, is_twice}
-use Rattle.pyver_projects.specs.NameMaps.{names_of}
+use Rattle.pyver_projects.specs.NameMaps.{indexed_names}
 use Rattle.pyver_projects.proofs.name_index.NameIndex.has_twice.Goals as goal
 
 pub returns-in-Some : goal.returns-in-Some
-returns-in-Some c = is_twice (count_by (bytes_eq c.args.name.now) (names_of c.args.self.now)) c.in-Some.is_repeated.now (sym (c.requires c.args.name.now) ∙ sym c.in-Some.ensures.value)
+returns-in-Some c = is_twice (count_by (bytes_eq c.args.name.now) (indexed_names c.args.self.now)) c.in-Some.is_repeated.now (sym (c.requires c.args.name.now) ∙ sym c.in-Some.ensures.value)
 
 pub returns-in-None : goal.returns-in-None
-returns-in-None c = is_not_twice (count_by (bytes_eq c.args.name.now) (names_of c.args.self.now)) (sym (c.requires c.args.name.now) ∙ sym c.in-None.ensures.value)
+returns-in-None c = is_not_twice (count_by (bytes_eq c.args.name.now) (indexed_names c.args.self.now)) (sym (c.requires c.args.name.now) ∙ sym c.in-None.ensures.value)

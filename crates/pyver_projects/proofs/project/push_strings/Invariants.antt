@@ -3,9 +3,9 @@ use Rattle.std.specs.List.{flat_map}
 use Rattle.toml.specs.View.{view}
 use Rattle.pyver_projects.specs.Documents.{source_from}
 use Rattle.pyver_projects.specs.ProjectViews.{section_of, project_string_of}
-use Rattle.pyver_projects.proofs.project.push_array.Given as goal
+use Rattle.pyver_projects.proofs.project.push_strings.Given as goal
 
 abbrev pub invariant-loop-item : goal.invariant-loop-item
 invariant-loop-item l =
-    map project_string_of l.sources.items ++ flat_map (source_from (section_of l.section)) (map view (drop l.item-index l.found))
-    ≡ map project_string_of l.initial.sources.items ++ flat_map (source_from (section_of l.section)) (map view l.found)
+    map project_string_of l.sources.items ++ flat_map (source_from l.name (section_of l.section)) (map view (drop l.item-index l.found))
+    ≡ map project_string_of l.initial.sources.items ++ flat_map (source_from l.name (section_of l.section)) (map view l.found)
