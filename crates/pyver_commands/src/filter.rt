@@ -182,7 +182,14 @@ impl FilterState {
         ensures { IfOk result (λ _. StepsAt rule.now origin.entry text.now (Entry (Denotes version.now)) self.old self.new) }
     {
         if let Selection::Newest = rule.wanted {
-            keep_newer(alloc, rule.takes, &rule.list, &mut self.newest, text, version)?;
+            keep_newer(
+                alloc,
+                rule.takes,
+                &rule.list,
+                &mut self.newest,
+                text,
+                version,
+            )?;
             return Ok(());
         }
         if rule.shows(alloc, version)? {

@@ -188,7 +188,8 @@ impl<'a> VersionLines<'a> {
     ) -> Result<(), AllocError>
         requires { self.old.fault_count + length text.now < 2 ^ 63 }
         ensures lines { IfOk result (λ _. (lines : List SourceLine) → KeepsLines options lines self.old
-            → KeepsLines options (lines ++ source_lines (record { origin = origin_of origin.entry; lines = input_lines text.now })) self.new) }
+            → KeepsLines options
+            (lines ++ source_lines (record { origin = origin_of origin.entry; lines = input_lines text.now })) self.new) }
         ensures faults { IfOk result (λ _. self.new.fault_count ≤ self.old.fault_count + length text.now + 1) }
     {
         self.line_count = 0;
