@@ -157,7 +157,8 @@ impl<'a> EnvironmentMarker<'a> {
         Ok(found)
     }
 
-    /// Whether it is known that the marker has the wanted value in no environment.
+    /// Whether it is known that the marker has the wanted value in no environment. In each, `python_version`, `python_full_version` and
+    /// `implementation_version` are versions, the first without pre-release, post-release and dev part; variables are independent.
     ///
     /// Allocates.
     pub fn is_never(&self, alloc: Global, wanted: bool) -> Result<bool, AllocError>
