@@ -179,13 +179,15 @@ static int has_known_pieces(PyObject *given)
 /* Reads a string with commas, or members. */
 static int read_set(Specifiers *self, PyObject *given, PyObject *said)
 {
-    PyObject *list, *members = NULL;
-    if (has_known_pieces(given)) {
+    int is_empty = PyUnicode_CheckExact(given) && PyUnicode_GetLength(given) == 0;
+    PyObject *list = NULL, *members = is_empty ? PyTuple_New(0) : NULL;
+    if (!is_empty && has_known_pieces(given)) {
         take(self, NULL, NULL, said);
         self->source = Py_NewRef(given);
         return 0;
     }
-    list = PyList_New(0);
+    if (!is_empty)
+        list = PyList_New(0);
     if (list && (PyUnicode_Check(given) ? add_pieces(list, given) : add_members(list, given)) == 0)
         members = PyList_AsTuple(list);
     Py_XDECREF(list);

@@ -205,11 +205,24 @@ static PyObject *joined(PyObject *text, Py_ssize_t width)
     return made;
 }
 
+/* Whether white space of ASCII, `;` or `)` stands there. */
+static int is_end_of_text(uint8_t it) { return (it >= '\t' && it <= '\r') || (it >= 0x1C && it <= ' ') || it == ';' || it == ')'; }
+
 /* Whether the text behind `===` has no white space, `;` or `)`, and so is any that may stand there. 1, 0, or -1 with an error. */
 static int is_any_text(PyObject *print)
 {
-    PyObject *words = PyUnicode_Split(print, NULL, 1);
-    int found = !words ? -1 : PyList_Size(words) == 1;
+    Py_ssize_t length = 0;
+    const char *at = PyUnicode_AsUTF8AndSize(print, &length);
+    PyObject *words;
+    int found;
+    if (at && length == PyUnicode_GetLength(print)) {
+        while (length && !is_end_of_text((uint8_t)*at))
+            at++, length--;
+        return !length;
+    }
+    PyErr_Clear();
+    words = PyUnicode_Split(print, NULL, 1);
+    found = !words ? -1 : PyList_Size(words) == 1;
     for (const char *each = ";)"; found > 0 && *each; each++)
         found = PyUnicode_FindChar(print, (Py_UCS4)*each, 0, PY_SSIZE_T_MAX, 1) == -1;
     Py_XDECREF(words);
@@ -242,25 +255,38 @@ static int has_two_numbers(pep440_string version)
 /* How many bytes a specifier has that is known to be one by its version, at most: so many are compiled in place. */
 enum { MOST_KNOWN = 256 };
 
+/* Whether the version behind an operator is one: most have a word, which is found sooner. One with a local part is compiled, which takes less than to see
+   that it has no word. */
+static inline int is_version(pep440_string version, int is_local)
+{
+    uint8_t few[PEP440_COMPILED_BOUND(MOST_KNOWN)], status;
+    uint64_t word;
+    size_t length;
+    if (is_local)
+        return pep440_compile(version.bytes, version.length, few, sizeof few, &length) == PEP440_OK;
+    status = pep440_word(version.bytes, version.length, &word);
+    return status == PEP440_OK || status == PEP440_NOT_PACKED;
+}
+
 /* Whether it is a specifier by its version: any version may stand behind `==` and `!=`, and a release with a star; behind `<`, `<=`, `>` and `>=` one without
-   a local part, and behind `~=` one that has two numbers, too. One of a set has no local part, and may have blanks behind its operator. */
+   a local part, and behind `~=` one that has two numbers, too. One of a set may have blanks behind its operator. */
 static inline int is_known(pep440_string text, int is_of_set)
 {
     const uint8_t *at = text.bytes;
     size_t width = text.length > 2 && at[1] == '=' ? 2 : 1;
-    int may_be_local = !is_of_set && (at[0] == '=' || at[0] == '!');
+    int is_local = memchr(at, '+', text.length) != NULL;
     pep440_string version;
-    uint64_t word;
-    uint8_t status;
     while (is_of_set && width < text.length && at[width] == ' ')
         width++;
-    if (text.length <= width || text.length > MOST_KNOWN || at[width] <= ' ' || at[width] > '~')
+    if (text.length <= width || text.length > MOST_KNOWN || at[width] <= ' ' || at[width] > '~' || at[width] == '=')
         return 0;
     version = (pep440_string){at + width, text.length - width};
-    if (at[0] != '>' && at[0] != '<' && (at[1] != '=' || (at[0] != '=' && at[0] != '!' && (at[0] != '~' || !has_two_numbers(version)))))
+    if (at[0] == '>' || at[0] == '<')
+        return !is_local && is_version(version, 0);
+    if (at[1] != '=' || (at[0] != '=' && at[0] != '!' && (at[0] != '~' || is_local || !has_two_numbers(version))))
         return 0;
-    status = pep440_word(version.bytes, version.length - star_length(at, version), &word);
-    return status == PEP440_OK || (status == PEP440_NOT_PACKED && (may_be_local || !memchr(at, '+', text.length)));
+    version.length -= star_length(at, version);
+    return is_version(version, is_local);
 }
 
 /* Compiles a specifier as the list of it alone, and one with `===` as the list of nothing, since any text may stand there: Python compares it. */
@@ -562,7 +588,15 @@ static int names_prerelease(Specifiers *self)
     return self->allows = (signed char)early;
 }
 
-/* Whether the version behind any operator but `!=` is a pre-release, of a compiled list of versions without local parts. */
+/* Where a sort key ends, by where its local part lies: behind its segments, which are a 1, a string and a 0, or a number, and a 0. */
+static size_t key_end(const uint8_t *key, size_t local)
+{
+    while (key[local])
+        local += key[local] == 1 ? 2 + strlen((const char *)key + local + 1) : (size_t)key[local] - 1;
+    return local + 1;
+}
+
+/* Whether the version behind any operator but `!=` is a pre-release, of a compiled list. */
 static int list_names_prerelease(pep440_string list)
 {
     size_t at = LIST_HEAD;
@@ -571,7 +605,7 @@ static int list_names_prerelease(pep440_string list)
         uint8_t operator = list.bytes[at++] - OPERATOR;
         KeyView view = view_key(list.bytes + at);
         found = view.is_early && operator != PEP440_NOT_EQUAL;
-        for (at += view.local + 1; at < list.length && list.bytes[at] == 1;)
+        for (at += key_end(list.bytes + at, view.local); at < list.length && list.bytes[at] == 1;)
             at++;
     }
     return found;
