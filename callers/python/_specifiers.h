@@ -255,17 +255,17 @@ static int has_two_numbers(pep440_string version)
 /* How many bytes a specifier has that is known to be one by its version, at most: so many are compiled in place. */
 enum { MOST_KNOWN = 256 };
 
-/* Whether the version behind an operator is one: most have a word, which is found sooner. One with a local part is compiled, which takes less than to see
-   that it has no word. */
-static inline int is_version(pep440_string version, int is_local)
+/* Whether the version behind an operator is one, and has no local part unless it may: most have a word, which is found sooner. One with a local part is
+   compiled, which takes less than to see that it has no word. */
+static inline int is_version(pep440_string version, int may_be_local)
 {
     uint8_t few[PEP440_COMPILED_BOUND(MOST_KNOWN)], status;
     uint64_t word;
     size_t length;
-    if (is_local)
+    if (may_be_local && memchr(version.bytes, '+', version.length))
         return pep440_compile(version.bytes, version.length, few, sizeof few, &length) == PEP440_OK;
     status = pep440_word(version.bytes, version.length, &word);
-    return status == PEP440_OK || status == PEP440_NOT_PACKED;
+    return status == PEP440_OK || (status == PEP440_NOT_PACKED && !memchr(version.bytes, '+', version.length));
 }
 
 /* Whether it is a specifier by its version: any version may stand behind `==` and `!=`, and a release with a star; behind `<`, `<=`, `>` and `>=` one without
@@ -274,7 +274,6 @@ static inline int is_known(pep440_string text, int is_of_set)
 {
     const uint8_t *at = text.bytes;
     size_t width = text.length > 2 && at[1] == '=' ? 2 : 1;
-    int is_local = memchr(at, '+', text.length) != NULL;
     pep440_string version;
     while (is_of_set && width < text.length && at[width] == ' ')
         width++;
@@ -282,11 +281,13 @@ static inline int is_known(pep440_string text, int is_of_set)
         return 0;
     version = (pep440_string){at + width, text.length - width};
     if (at[0] == '>' || at[0] == '<')
-        return !is_local && is_version(version, 0);
-    if (at[1] != '=' || (at[0] != '=' && at[0] != '!' && (at[0] != '~' || is_local || !has_two_numbers(version))))
+        return is_version(version, 0);
+    if (at[1] != '=')
         return 0;
+    if (at[0] == '~')
+        return has_two_numbers(version) && is_version(version, 0);
     version.length -= star_length(at, version);
-    return is_version(version, is_local);
+    return (at[0] == '=' || at[0] == '!') && is_version(version, 1);
 }
 
 /* Compiles a specifier as the list of it alone, and one with `===` as the list of nothing, since any text may stand there: Python compares it. */
