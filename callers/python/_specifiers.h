@@ -255,15 +255,21 @@ static int has_two_numbers(pep440_string version)
 /* How many bytes a specifier has that is known to be one by its version, at most: so many are compiled in place. */
 enum { MOST_KNOWN = 256 };
 
-/* Whether the version behind an operator is one, and has no local part unless it may: most have a word, which is found sooner. One with a local part is
-   compiled, which takes less than to see that it has no word. */
+/* Whether a string with a local part is a version: it is compiled, which takes less than to see that it has no word. */
+__attribute__((noinline)) static int is_local_version(pep440_string version)
+{
+    uint8_t few[PEP440_COMPILED_BOUND(MOST_KNOWN)];
+    size_t length;
+    return pep440_compile(version.bytes, version.length, few, sizeof few, &length) == PEP440_OK;
+}
+
+/* Whether the version behind an operator is one, and has no local part unless it may. */
 static inline int is_version(pep440_string version, int may_be_local)
 {
-    uint8_t few[PEP440_COMPILED_BOUND(MOST_KNOWN)], status;
     uint64_t word;
-    size_t length;
+    uint8_t status;
     if (may_be_local && memchr(version.bytes, '+', version.length))
-        return pep440_compile(version.bytes, version.length, few, sizeof few, &length) == PEP440_OK;
+        return is_local_version(version);
     status = pep440_word(version.bytes, version.length, &word);
     return status == PEP440_OK || (status == PEP440_NOT_PACKED && !memchr(version.bytes, '+', version.length));
 }
