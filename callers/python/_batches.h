@@ -109,12 +109,15 @@ static uint8_t mark_form(pep440_string list, pep440_string form, uint8_t *mark)
 }
 
 /* The same of a string or a compiled version. */
-static uint8_t mark_text(pep440_string list, pep440_string text, uint8_t *mark)
+static uint8_t mark_text(pep440_string list, const Words *words, pep440_string text, uint8_t *mark)
 {
     Compiled compiled;
     uint8_t status;
+    uint64_t word;
     if (text.length && text.bytes[0] == VERSION)
         return mark_form(list, text, mark);
+    if (words->count > 0 && pep440_word(text.bytes, text.length, &word) == PEP440_OK && (*mark = mark_word(words, text, word)) != NO_MARK)
+        return PEP440_OK;
     status = compile(pep440_compile, text, &compiled);
     if (status == PEP440_OK) {
         status = mark_form(list, (pep440_string){compiled.bytes, compiled.length}, mark);
@@ -140,14 +143,14 @@ static void drop_early(uint8_t *marks, size_t count, Early early)
 }
 
 /* The marks of the batch. */
-static uint8_t mark(const Batch *batch, const pep440_string *list, uint8_t *marks)
+static uint8_t mark(const Batch *batch, const pep440_string *list, const Words *words, uint8_t *marks)
 {
     PyThreadState *state = PyEval_SaveThread();
     uint8_t status = PEP440_OK;
     for (size_t start = 0; status == PEP440_OK && start < batch->count; start += CHUNK) {
         size_t end = batch->count - start < CHUNK ? batch->count : start + CHUNK;
         for (size_t place = start; status == PEP440_OK && place < end; place++)
-            status = mark_text(*list, batch->texts[place], &marks[place]);
+            status = mark_text(*list, words, batch->texts[place], &marks[place]);
         if (status == PEP440_OK && look_between(&state) < 0)
             status = PEP440_OUT_OF_MEMORY;
     }
@@ -186,10 +189,11 @@ static uint8_t *copy_list(const Specifiers *self, pep440_string *list)
 static PyObject *kept_of(Batch *batch, PyObject *places, const Specifiers *self, Early early, int skip)
 {
     pep440_string list;
+    Words words = follows_26 ? self->words : (Words){.count = 0}; /* a copy, since other threads run meanwhile */
     uint8_t *marks = NULL, *copy = copy_list(self, &list), status = PEP440_OUT_OF_MEMORY;
     PyObject *kept;
     if (copy && copy_forms(batch) == 0 && (marks = PyMem_Calloc(batch->count + 1, 1)))
-        status = mark(batch, &list, marks);
+        status = mark(batch, &list, &words, marks);
     if (status == PEP440_OK)
         drop_early(marks, batch->count, early);
     kept = status == PEP440_OK ? marked(batch, places, marks, skip) : raise_by(status, NULL, NULL);

@@ -26,8 +26,10 @@
 
 /* What they share comes first; each is included here alone. */
 #include "_strings.h"
+#include "_words.h"
 #include "_versions.h"
 #include "_specifiers.h"
+#include "_matching.h"
 #include "_sets.h"
 #include "_sorting.h"
 #include "_batches.h"
@@ -113,7 +115,6 @@ static PyMethodDef set_calls[] = {
     {"prereleases", (getter)get_prereleases, (setter)set_prereleases, "Whether pre-releases are allowed. May be set.", NULL}, \
     {"_prereleases", (getter)get_said, (setter)set_prereleases, "What was said of pre-releases, or None.", NULL}, \
     {"_compiled", (getter)get_compiled, NULL, "The compiled list, of all but what Python is to compare.", NULL}, \
-    {"_is_by_python", (getter)get_changed, NULL, "Whether Python is to compare.", NULL}, \
     {"__dict__", PyObject_GenericGetDict, PyObject_GenericSetDict, NULL, NULL}
 
 static PyGetSetDef specifier_values[] = {

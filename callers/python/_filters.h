@@ -12,6 +12,7 @@ typedef struct {
     char is_begun;
     char is_found;  /* something was given that is no pre-release */
     char gives_all; /* the items are those for later */
+    Words words;
     uint8_t few[160];
 } Filter;
 
@@ -51,10 +52,13 @@ static int mark_given(const Filter *self, PyObject *given)
     PyObject *held;
     uint8_t mark = PEP440_NOT_A_VERSION, status = PEP440_OUT_OF_MEMORY;
     if (PyObject_TypeCheck(given, HeldType)) {
+        if (self->words.count > 0 && version->is_by_word && view_str(version->text, &text) == 0 &&
+            (mark = mark_word(&self->words, text, version->word)) != NO_MARK)
+            return mark;
         if (version->compiled || compile_held(version) == 0)
             status = mark_form(list, (pep440_string){version->compiled, version->length}, &mark);
     } else if ((held = text_of(given, &text))) {
-        status = mark_text(list, text, &mark);
+        status = mark_text(list, &self->words, text, &mark);
         Py_DECREF(held);
     } else if (PyErr_ExceptionMatches(PyExc_TypeError)) {
         PyErr_Clear();
@@ -154,6 +158,7 @@ static PyObject *make_filter(Specifiers *self, PyObject *items, PyObject *key, E
     memset(&made->items, 0, offsetof(Filter, few) - offsetof(Filter, items));
     made->compiled = keep(self->compiled, self->length, made->few, sizeof made->few);
     made->length = self->length;
+    made->words = self->words;
     made->items = Py_NewRef(items);
     made->key = key == Py_None ? NULL : Py_NewRef(key);
     made->early = early;

@@ -155,8 +155,8 @@ static int add_members(PyObject *list, PyObject *given)
     return PyErr_Occurred() ? -1 : 0;
 }
 
-/* Whether a str of ASCII has one piece or more between commas, and each is a specifier with a word, and maybe blanks before it. */
-static int has_words(PyObject *given)
+/* Whether a str of ASCII has one piece or more between commas, and each is known to be a specifier, maybe with blanks before it. */
+static int has_known_pieces(PyObject *given)
 {
     Py_ssize_t length = 0;
     const char *at = PyUnicode_CheckExact(given) ? PyUnicode_AsUTF8AndSize(given, &length) : NULL, *end, *comma;
@@ -169,7 +169,7 @@ static int has_words(PyObject *given)
         while (*at == ' ')
             at++;
         comma = memchr(at, ',', (size_t)(end - at));
-        if (!has_word((pep440_string){(const uint8_t *)at, (size_t)((comma ? comma : end) - at)}))
+        if (!is_known((pep440_string){(const uint8_t *)at, (size_t)((comma ? comma : end) - at)}, 1))
             return 0;
         at = comma ? comma + 1 : end;
     } while (comma);
@@ -179,13 +179,15 @@ static int has_words(PyObject *given)
 /* Reads a string with commas, or members. */
 static int read_set(Specifiers *self, PyObject *given, PyObject *said)
 {
-    PyObject *list, *members = NULL;
-    if (has_words(given)) {
+    int is_empty = PyUnicode_CheckExact(given) && PyUnicode_GetLength(given) == 0;
+    PyObject *list = NULL, *members = is_empty ? PyTuple_New(0) : NULL;
+    if (!is_empty && has_known_pieces(given)) {
         take(self, NULL, NULL, said);
         self->source = Py_NewRef(given);
         return 0;
     }
-    list = PyList_New(0);
+    if (!is_empty)
+        list = PyList_New(0);
     if (list && (PyUnicode_Check(given) ? add_pieces(list, given) : add_members(list, given)) == 0)
         members = PyList_AsTuple(list);
     Py_XDECREF(list);

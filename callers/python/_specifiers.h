@@ -1,4 +1,4 @@
-/* What specifiers and sets of them hold and contain, and the type of specifiers. */
+/* What specifiers and sets of them hold, and the type of specifiers. */
 
 /* The class of the members that a set makes of its string, `Specifier`, and that of the sets that are made of two, once their module has named them. */
 static PyObject *member_class, *set_class;
@@ -12,7 +12,7 @@ typedef struct {
     PyObject *members;    /* once asked for: of a set a tuple, and by 25 then a frozenset; of a specifier (operator, version) */
     union {
         PyObject *canonical; /* of a specifier, once asked for: what equal ones share */
-        PyObject *source;    /* of a set whose members are not made yet: the string of them, of which each has a word */
+        PyObject *source;    /* of a set whose members are not made yet: the string of them, each known to be a specifier */
     };
     PyObject *said;       /* of pre-releases; NULL until `__init__` has read a string */
     uint8_t *compiled;    /* `few`, or a block of its own; with its set once 26 was to match by it */
@@ -21,6 +21,7 @@ typedef struct {
     signed char allows;  /* whether it allows pre-releases where nobody says so, or UNKNOWN; -1: not asked yet */
     signed char changed; /* whether Python is to compare (`is_changed`); -1: not asked yet */
     char is_sorted;      /* of a set: its members are as 26 compares them, in the order of their strings, each one once */
+    Words words;         /* of what is compiled with its set */
     uint8_t few[48];
 } Specifiers;
 
@@ -62,6 +63,7 @@ static inline void drop_list(Specifiers *self)
         free(self->compiled);
     self->compiled = NULL;
     self->length = 0;
+    self->words.count = -1;
 }
 
 /* Drops what was read, and what was made of it; whom this wakes finds nothing read, and may read another string. */
@@ -93,7 +95,7 @@ static inline void take(Specifiers *self, PyObject *text, PyObject *members, PyO
     while (self->said)
         drop_read(self);
     self->text = text, self->members = members, self->said = Py_NewRef(said);
-    self->asked_at = -1, self->allows = -1, self->changed = -1, self->is_sorted = 0;
+    self->asked_at = -1, self->allows = -1, self->changed = -1, self->is_sorted = 0, self->words.count = -1;
 }
 
 static int specifiers_traverse(Specifiers *self, visitproc visit, void *arg)
@@ -203,38 +205,95 @@ static PyObject *joined(PyObject *text, Py_ssize_t width)
     return made;
 }
 
+/* Whether white space of ASCII, `;` or `)` stands there. */
+static int is_end_of_text(uint8_t it) { return (it >= '\t' && it <= '\r') || (it >= 0x1C && it <= ' ') || it == ';' || it == ')'; }
+
 /* Whether the text behind `===` has no white space, `;` or `)`, and so is any that may stand there. 1, 0, or -1 with an error. */
 static int is_any_text(PyObject *print)
 {
-    PyObject *words = PyUnicode_Split(print, NULL, 1);
-    int found = !words ? -1 : PyList_Size(words) == 1;
+    Py_ssize_t length = 0;
+    const char *at = PyUnicode_AsUTF8AndSize(print, &length);
+    PyObject *words;
+    int found;
+    if (at && length == PyUnicode_GetLength(print)) {
+        while (length && !is_end_of_text((uint8_t)*at))
+            at++, length--;
+        return !length;
+    }
+    PyErr_Clear();
+    words = PyUnicode_Split(print, NULL, 1);
+    found = !words ? -1 : PyList_Size(words) == 1;
     for (const char *each = ";)"; found > 0 && *each; each++)
         found = PyUnicode_FindChar(print, (Py_UCS4)*each, 0, PY_SSIZE_T_MAX, 1) == -1;
     Py_XDECREF(words);
     return found;
 }
 
-/* How many bytes `.*` takes at the end of a specifier with `==` or `!=`, behind digits and dots alone; 0 where it does not stand there. */
-static inline size_t star_length(pep440_string text)
+static inline int is_digit(uint8_t it) { return it >= '0' && it <= '9'; }
+
+/* How many bytes `.*` takes at the end of the version of `==` or `!=`, behind digits and dots alone; 0 where it does not stand there. */
+static inline size_t star_length(const uint8_t *operator, pep440_string version)
 {
-    const uint8_t *at = text.bytes;
-    size_t end = text.length < 5 ? 0 : text.length - 2, place = 2;
-    if (!end || at[end] != '.' || at[end + 1] != '*' || at[1] != '=' || (at[0] != '=' && at[0] != '!'))
+    const uint8_t *at = version.bytes;
+    size_t end = version.length < 3 ? 0 : version.length - 2, place = 0;
+    if (!end || at[end] != '.' || at[end + 1] != '*' || operator[1] != '=' || (operator[0] != '=' && operator[0] != '!'))
         return 0;
-    while (place < end && ((at[place] >= '0' && at[place] <= '9') || at[place] == '.'))
+    while (place < end && (is_digit(at[place]) || at[place] == '.'))
         place++;
     return place == end ? 2 : 0;
 }
 
-/* Whether behind an operator that any version without a local part may stand behind a version stands that has a word, or such a release and a star: then it is
-   a specifier. */
-static inline int has_word(pep440_string text)
+/* Whether two numbers of a release come first, as behind `~=` they must. */
+static int has_two_numbers(pep440_string version)
+{
+    size_t at = 0;
+    while (at < version.length && is_digit(version.bytes[at]))
+        at++;
+    return at + 1 < version.length && version.bytes[at] == '.' && is_digit(version.bytes[at + 1]);
+}
+
+/* How many bytes a specifier has that is known to be one by its version, at most: so many are compiled in place. */
+enum { MOST_KNOWN = 256 };
+
+/* Whether a string with a local part is a version: it is compiled, which takes less than to see that it has no word. */
+__attribute__((noinline)) static int is_local_version(pep440_string version)
+{
+    uint8_t few[PEP440_COMPILED_BOUND(MOST_KNOWN)];
+    size_t length;
+    return pep440_compile(version.bytes, version.length, few, sizeof few, &length) == PEP440_OK;
+}
+
+/* Whether the version behind an operator is one, and has no local part unless it may. */
+static inline int is_version(pep440_string version, int may_be_local)
+{
+    uint64_t word;
+    uint8_t status;
+    if (may_be_local && memchr(version.bytes, '+', version.length))
+        return is_local_version(version);
+    status = pep440_word(version.bytes, version.length, &word);
+    return status == PEP440_OK || (status == PEP440_NOT_PACKED && !memchr(version.bytes, '+', version.length));
+}
+
+/* Whether it is a specifier by its version: any version may stand behind `==` and `!=`, and a release with a star; behind `<`, `<=`, `>` and `>=` one without
+   a local part, and behind `~=` one that has two numbers, too. One of a set may have blanks behind its operator. */
+static inline int is_known(pep440_string text, int is_of_set)
 {
     const uint8_t *at = text.bytes;
     size_t width = text.length > 2 && at[1] == '=' ? 2 : 1;
-    uint64_t word;
-    return text.length > width && (at[0] == '>' || at[0] == '<' || (width == 2 && (at[0] == '=' || at[0] == '!'))) && at[width] > ' ' &&
-           pep440_word(at + width, text.length - width - star_length(text), &word) == PEP440_OK;
+    pep440_string version;
+    while (is_of_set && width < text.length && at[width] == ' ')
+        width++;
+    if (text.length <= width || text.length > MOST_KNOWN || at[width] <= ' ' || at[width] > '~' || at[width] == '=')
+        return 0;
+    version = (pep440_string){at + width, text.length - width};
+    if (at[0] == '>' || at[0] == '<')
+        return is_version(version, 0);
+    if (at[1] != '=')
+        return 0;
+    if (at[0] == '~')
+        return has_two_numbers(version) && is_version(version, 0);
+    version.length -= star_length(at, version);
+    return (at[0] == '=' || at[0] == '!') && is_version(version, 1);
 }
 
 /* Compiles a specifier as the list of it alone, and one with `===` as the list of nothing, since any text may stand there: Python compares it. */
@@ -257,7 +316,7 @@ static uint8_t compile_specifier(PyObject *print, Compiled *compiled)
     return status;
 }
 
-/* The number of an operator that any version without a local part may stand behind. */
+/* The number of the operator of a specifier that is known to be one. */
 static uint8_t operator_of(const uint8_t *at)
 {
     int has_equal = at[1] == '=';
@@ -265,10 +324,12 @@ static uint8_t operator_of(const uint8_t *at)
         return has_equal ? PEP440_LESS_EQUAL : PEP440_LESS;
     if (at[0] == '>')
         return has_equal ? PEP440_GREATER_EQUAL : PEP440_GREATER;
+    if (at[0] == '~')
+        return PEP440_COMPATIBLE;
     return at[0] == '!' ? PEP440_NOT_EQUAL : PEP440_EQUAL;
 }
 
-/* Compiles a specifier that has a word: its version, which takes few bytes then, behind the head of the list of it alone. */
+/* Compiles a specifier that is known to be one: its version, which takes few bytes then, behind the head of the list of it alone. */
 static uint8_t compile_known(PyObject *print, Compiled *compiled)
 {
     pep440_string text, version;
@@ -277,8 +338,9 @@ static uint8_t compile_known(PyObject *print, Compiled *compiled)
     if (view_str(print, &text) < 0)
         return PEP440_OUT_OF_MEMORY;
     width = text.bytes[1] == '=' ? 2 : 1;
-    star = star_length(text);
-    version = (pep440_string){text.bytes + width, text.length - width - star};
+    version = (pep440_string){text.bytes + width, text.length - width};
+    star = star_length(text.bytes, version);
+    version.length -= star;
     status = compile(pep440_compile, version, compiled);
     if (status != PEP440_OK)
         return status;
@@ -293,8 +355,14 @@ static uint8_t compile_known(PyObject *print, Compiled *compiled)
 static int read_compiled(Specifiers *self, PyObject *given, PyObject *text, PyObject *said)
 {
     PyObject *print = joined(text, operator_width(text));
+    pep440_string string;
     Compiled compiled;
-    uint8_t status = print ? compile_specifier(print, &compiled) : PEP440_OUT_OF_MEMORY;
+    uint8_t status;
+    if (print && print != text && view_str(print, &string) == 0 && is_known(string, 0)) {
+        take(self, print, NULL, said);
+        return 0;
+    }
+    status = print ? compile_specifier(print, &compiled) : PEP440_OUT_OF_MEMORY;
     if (status == PEP440_OK) {
         take(self, print, NULL, said);
         return hold(self, &compiled);
@@ -307,7 +375,7 @@ static int read_compiled(Specifiers *self, PyObject *given, PyObject *text, PyOb
     return -1;
 }
 
-/* Reads a specifier. One that is known to be one by a word is compiled when it is asked for. */
+/* Reads a specifier. One that is known to be one is compiled when it is asked for. */
 static inline int read_specifier(Specifiers *self, PyObject *given, PyObject *said)
 {
     pep440_string string;
@@ -316,7 +384,7 @@ static inline int read_specifier(Specifiers *self, PyObject *given, PyObject *sa
     if (!PyUnicode_CheckExact(given) && !PyUnicode_Check(given))
         return raise_no_str(given);
     text = stripped(given, &string);
-    if (text && has_word(string)) {
+    if (text && is_known(string, 0)) {
         take(self, text, NULL, said);
         return 0;
     }
@@ -360,15 +428,20 @@ static int compile_set_of(Specifiers *self)
     uint8_t status;
     if (compile_list_of(self) < 0)
         return -1;
-    if (!follows_26 || self->compiled[0] == SET || is_arbitrary(self))
+    if (!follows_26 || self->words.count >= 0 || is_arbitrary(self))
         return 0;
-    status = compile(pep440_compile_list, (pep440_string){self->compiled, self->length}, &compiled);
-    if (status == PEP440_OK) {
+    if (self->compiled[0] != SET) {
+        status = compile(pep440_compile_list, (pep440_string){self->compiled, self->length}, &compiled);
+        if (status != PEP440_OK) {
+            raise_by(status, NULL, NULL);
+            return -1;
+        }
         drop_list(self);
-        return hold(self, &compiled);
+        if (hold(self, &compiled) < 0)
+            return -1;
     }
-    raise_by(status, NULL, NULL);
-    return -1;
+    self->words = words_in(self->compiled);
+    return 0;
 }
 
 /* ---- what is asked of a specifier */
@@ -522,7 +595,15 @@ static int names_prerelease(Specifiers *self)
     return self->allows = (signed char)early;
 }
 
-/* Whether the version behind any operator but `!=` is a pre-release, of a compiled list of versions without local parts. */
+/* Where a sort key ends, by where its local part lies: behind its segments, which are a 1, a string and a 0, or a number, and a 0. */
+static size_t key_end(const uint8_t *key, size_t local)
+{
+    while (key[local])
+        local += key[local] == 1 ? 2 + strlen((const char *)key + local + 1) : (size_t)key[local] - 1;
+    return local + 1;
+}
+
+/* Whether the version behind any operator but `!=` is a pre-release, of a compiled list. */
 static int list_names_prerelease(pep440_string list)
 {
     size_t at = LIST_HEAD;
@@ -531,7 +612,7 @@ static int list_names_prerelease(pep440_string list)
         uint8_t operator = list.bytes[at++] - OPERATOR;
         KeyView view = view_key(list.bytes + at);
         found = view.is_early && operator != PEP440_NOT_EQUAL;
-        for (at += view.local + 1; at < list.length && list.bytes[at] == 1;)
+        for (at += key_end(list.bytes + at, view.local); at < list.length && list.bytes[at] == 1;)
             at++;
     }
     return found;
@@ -618,165 +699,4 @@ static int set_prereleases(Specifiers *self, PyObject *value, void *unused)
     times_set += is_specifier(self);
     Py_DECREF(old);
     return 0;
-}
-
-/* ---- what is contained */
-
-/* Whether Python is to compare: it is or has a specifier with `===`, or the class or a member's class has a comparison or properties of its own. */
-static int is_changed(Specifiers *self)
-{
-    PyObject *flag, *each, *all;
-    int changed;
-    if (self->changed >= 0 || !is_read(self))
-        return self->changed;
-    flag = PyObject_GetAttrString((PyObject *)Py_TYPE((PyObject *)self), "_is_changed");
-    changed = flag ? PyObject_IsTrue(flag) : -1;
-    Py_XDECREF(flag);
-    if (changed == 0 && is_arbitrary(self))
-        changed = 1;
-    if (changed == 0 && !is_specifier(self) && self->members) {
-        all = PyObject_GetIter(self->members);
-        while (all && changed == 0 && (each = PyIter_Next(all))) {
-            changed = is_changed((Specifiers *)each);
-            Py_DECREF(each);
-        }
-        Py_XDECREF(all);
-        if (PyErr_Occurred())
-            changed = -1;
-    }
-    return self->changed = (signed char)changed;
-}
-
-static PyObject *get_changed(Specifiers *self, void *unused)
-{
-    int changed = is_read(self) ? is_changed(self) : -1;
-    return changed < 0 ? NULL : PyBool_FromLong(changed);
-}
-
-/* Whether a compiled version is contained. */
-static uint8_t match_form(const Specifiers *self, pep440_string form, uint8_t which, uint8_t *contained)
-{
-    uint8_t early, status;
-    if (follows_26)
-        return pep440_allows(self->compiled, self->length, form.bytes, form.length, which, contained);
-    status = pep440_contains(self->compiled, self->length, form.bytes, form.length, contained, &early);
-    *contained &= which == PEP440_ALL_PRERELEASES || !early;
-    return status;
-}
-
-/* Whether the version of a string is contained: it is compiled first, since of two compiled forms the library answers in place. */
-static uint8_t contains_text(const Specifiers *self, PyObject *item, uint8_t which, uint8_t *contained)
-{
-    pep440_string string;
-    PyObject *text = stripped(item, &string);
-    Compiled compiled;
-    uint8_t status = PEP440_OUT_OF_MEMORY;
-    if (text)
-        status = compile(pep440_compile, string, &compiled);
-    if (status == PEP440_OK) {
-        status = match_form(self, (pep440_string){compiled.bytes, compiled.length}, which, contained);
-        drop_compiled(&compiled);
-    }
-    Py_XDECREF(text);
-    return status;
-}
-
-/* Whether pre-releases are left out: by 26 where this is said, by 25 unless they are asked for. 1, 0, or -1 with an error. */
-static int excludes_prereleases(Specifiers *self, PyObject *prereleases)
-{
-    int allows;
-    if (follows_26)
-        return prereleases == Py_False || (prereleases == Py_None && self->said == Py_False);
-    allows = prereleases == Py_None ? allows_prereleases(self) : prereleases == Py_True;
-    return allows < 0 ? -1 : !allows;
-}
-
-/* Whether the version of a str, or this version, is contained: 1, 0, or -1 with an error. By 26 what is no version is in the empty set alone. */
-static int contains(Specifiers *self, PyObject *item, int excludes)
-{
-    Held *version = (Held *)item;
-    uint8_t which = excludes ? PEP440_NO_PRERELEASES : PEP440_ALL_PRERELEASES, contained = 0, status = PEP440_OUT_OF_MEMORY;
-    if (!PyObject_TypeCheck(item, HeldType))
-        status = contains_text(self, item, which, &contained);
-    else if (version->compiled || compile_held(version) == 0)
-        status = match_form(self, (pep440_string){version->compiled, version->length}, which, &contained);
-    if (status == PEP440_INVALID_VERSION && follows_26)
-        return is_empty_set(self);
-    if (status != PEP440_OK) {
-        raise_by(status, item, NULL);
-        return -1;
-    }
-    return contained;
-}
-
-/* Whether it stands for what `asked_item` was given. */
-static int is_no_version(PyObject *item) { return PyUnicode_Check(item) && PyUnicode_GetLength(item) == 0; }
-
-/* What is asked for, as `item_of` has it; by 26 what is of another type is the empty string, which is no version. */
-static PyObject *asked_item(PyObject *given)
-{
-    PyObject *item = item_of(given);
-    if (item || !follows_26 || !PyErr_ExceptionMatches(PyExc_TypeError))
-        return item;
-    PyErr_Clear();
-    return PyUnicode_FromString("");
-}
-
-/* Reads (item, prereleases, installed): an installed version is by 26 asked for with pre-releases. Returns whether Python is to compare for this. */
-static int read_flags(PyObject **given)
-{
-    int installed = given[2] == Py_None ? 0 : PyObject_IsTrue(given[2]), allows;
-    if (installed < 0 || follows_26) {
-        if (installed > 0)
-            given[1] = Py_True;
-        return installed < 0 ? -1 : 0;
-    }
-    if (given[1] != Py_None && (allows = PyObject_IsTrue(given[1])) >= 0)
-        given[1] = allows ? Py_True : Py_False;
-    return PyErr_Occurred() ? -1 : installed;
-}
-
-static PyObject *contains_of(Specifiers *self, PyObject *const *args, Py_ssize_t count, PyObject *named, Py_ssize_t most)
-{
-    static const char *const NAMES[] = {"item", "prereleases", "installed"};
-    PyObject *given[] = {NULL, Py_None, Py_None}, *item, *answer = NULL;
-    int by_python, excludes = 0, contained;
-    if (count == 1 && !named)
-        given[0] = args[0];
-    else if (arguments_of("contains", args, count, named, NAMES, given, most) < 0)
-        return NULL;
-    /* the caller's code first, since this may have the specifiers read again */
-    item = asked_item(given[0]);
-    by_python = item ? read_flags(given) : -1;
-    if (by_python == 0 && !is_read(self))
-        by_python = -1;
-    if (by_python == 0 && self->changed)
-        by_python = is_changed(self);
-    if (by_python == 0 && (excludes = excludes_prereleases(self, given[1])) >= 0 && self->changed)
-        by_python = is_changed(self);
-    if (by_python > 0)
-        answer = PyObject_CallMethod((PyObject *)self, "_contains", "OOO", is_no_version(item) ? given[0] : item, given[1], given[2]);
-    else if (by_python == 0 && excludes >= 0 && compile_set_of(self) == 0 && (contained = contains(self, item, excludes)) >= 0)
-        answer = PyBool_FromLong(contained);
-    Py_XDECREF(item);
-    return answer;
-}
-
-static PyObject *specifier_contains(PyObject *self, PyObject *const *args, Py_ssize_t count, PyObject *named)
-{
-    return contains_of((Specifiers *)self, args, count, named, 2);
-}
-
-static PyObject *set_contains(PyObject *self, PyObject *const *args, Py_ssize_t count, PyObject *named)
-{
-    return contains_of((Specifiers *)self, args, count, named, 3);
-}
-
-/* `item in self` */
-static int has(PyObject *self, PyObject *item)
-{
-    PyObject *answer = contains_of((Specifiers *)self, &item, 1, NULL, 1);
-    int found = answer ? PyObject_IsTrue(answer) : -1;
-    Py_XDECREF(answer);
-    return found;
 }

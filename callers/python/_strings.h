@@ -338,15 +338,22 @@ static uint8_t compile(Writer call, pep440_string text, Compiled *compiled)
     return status;
 }
 
+/* Reads a number behind the byte that says how many bytes it takes, and moves behind it. */
+static size_t take_number(const uint8_t **at)
+{
+    const uint8_t *end = *at + 1 + **at;
+    size_t number = 0;
+    while (++*at < end)
+        number = number << 8 | **at;
+    return number;
+}
+
 /* Where the list begins in what the library compiled: after a byte, how many bytes the set takes, and the set, if there is one. */
 static size_t list_start(const uint8_t *compiled)
 {
-    size_t length = 0, at = 2;
-    if (compiled[0] != SET)
-        return 0;
-    while (at < 2 + (size_t)compiled[1])
-        length = length << 8 | compiled[at++];
-    return at + length;
+    const uint8_t *at = compiled + 1;
+    size_t length = compiled[0] == SET ? take_number(&at) : 0;
+    return compiled[0] == SET ? (size_t)(at - compiled) + length : 0;
 }
 
 /* Room for bytes: `few`, or where they are more than `room`, a block of its own. NULL where there is no memory. */

@@ -148,8 +148,9 @@ def programs():
 
 def check_interpreter():
     """An error where the wheel is for no such Python."""
-    if sys.implementation.name != "cpython" or "t" in sys.abiflags:
-        stop(f"no build for {sys.implementation.name} {sysconfig.get_python_version()}{sys.abiflags}: it needs CPython with its global lock")
+    name, is_free_threaded = sys.implementation.name, "t" in sys.abiflags or bool(sysconfig.get_config_var("Py_GIL_DISABLED"))
+    if name != "cpython" or is_free_threaded:
+        stop(f"no build for {name} {sysconfig.get_python_version()}{'t' * is_free_threaded}: it needs CPython with its global lock")
 
 
 def compile_extension(out, libraries):

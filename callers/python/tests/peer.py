@@ -173,9 +173,9 @@ def is_beyond(text):
     return not re.sub(r"\s", "", text).isascii() or any(int(it) > MOST for it in re.findall(r"[0-9]+", text))
 
 
-def is_compatible_by_text(operator, version, print_of):
-    """`loose compatible release`: `~=` beside a version that is not written as it prints, which `packaging` 25 cuts as text."""
-    return operator == "~=" and print_of(version) != version and not follows_26()
+def is_compatible_by_text(name, operator, version, print_of):
+    """`loose compatible release`: `~=` beside a version that is not written as it prints, which releases before 26.3 cut as text."""
+    return operator == "~=" and print_of(version) != version and number_of(name) < (26, 3)
 
 
 def is_local_above(operator, bound, candidate):

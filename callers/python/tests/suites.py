@@ -1,10 +1,12 @@
 """Runs the tests of `packaging` 25.0, and those of two projects that use it, with the swap and without.
 
 Usage: python suites.py [FOLDER..]
+       python suites.py --fetch SUITE FOLDER SOURCE..
 
-Each FOLDER has a project's sources and its folder `tests`; the first one is that of `packaging`, which all are run with. With none, the sources are those of
-Debian's suite trixie, fetched by apt-get, and so are pytest and pretend where this Python has none. A test fails here where it passes without the swap and
-does not with it. Prints a line for each project, and `N passed, M failed` last. Exit status: 0 where none failed, else 1.
+Each FOLDER has a project's sources and its folder `tests`; all are run with the first one on Python's path, as that of `packaging`. With none, the sources
+are those of Debian's suite trixie, fetched by apt-get, and so are pytest and pretend where this Python has none. A test fails here where it passes without the
+swap and does not with it. Prints a line for each project, and `N passed, M failed` last. Exit status: 0 where none failed, else 1. With --fetch the sources of
+a suite of Debian are unpacked in the folder, and nothing runs.
 """
 import importlib.util
 import os
@@ -17,24 +19,24 @@ import xml.etree.ElementTree
 
 SOURCES = ["python-packaging", "pyproject-metadata", "requirements-parser"]
 TOOLS = ["python3-pytest", "python3-iniconfig", "python3-pluggy", "python3-attr", "python3-pretend"]
-SUITE = "deb-src [signed-by=/usr/share/keyrings/debian-archive-keyring.gpg] http://deb.debian.org/debian trixie main\n"
+SUITE = "deb-src [signed-by=/usr/share/keyrings/debian-archive-keyring.gpg] http://deb.debian.org/debian {} main\n"
 
 
 def call(*words, folder):
     subprocess.run(words, cwd=folder, check=True, stdout=subprocess.DEVNULL)
 
 
-def fetch_sources(work):
+def fetch_sources(work, suite, sources):
     """The folders of the projects, unpacked in a new one; what apt-get knows otherwise stays as it is."""
     (work / "lists/partial").mkdir(parents=True)
     (work / "cache/archives/partial").mkdir(parents=True)
-    (work / "sources.list").write_text(SUITE)
+    (work / "sources.list").write_text(SUITE.format(suite))
     options = {"Dir::Etc::SourceList": work / "sources.list", "Dir::Etc::SourceParts": "-", "Dir::State::Lists": work / "lists", "Dir::Cache": work / "cache"}
     apt = ["apt-get", "-qq", *(f"-o{name}={value}" for name, value in options.items()), "-oAPT::Sandbox::User=root"]
     call(*apt, "update", folder=work)
-    call(*apt, "source", "--download-only", "--tar-only", *SOURCES, folder=work)
+    call(*apt, "source", "--download-only", "--tar-only", *sources, folder=work)
     folders = []
-    for name in SOURCES:
+    for name in sources:
         (archive,) = work.glob(f"{name}_*.orig.tar.*")
         with tarfile.open(archive) as it:
             it.extraction_filter = getattr(tarfile, "data_filter", None)
@@ -82,9 +84,12 @@ def compare(folder, path):
 
 
 def main():
+    if sys.argv[1:2] == ["--fetch"]:
+        fetch_sources(pathlib.Path(sys.argv[3]).resolve(), sys.argv[2], sys.argv[4:])
+        return 0
     with tempfile.TemporaryDirectory() as work:
         work = pathlib.Path(work)
-        folders = [pathlib.Path(each).resolve() for each in sys.argv[1:]] or fetch_sources(work)
+        folders = [pathlib.Path(each).resolve() for each in sys.argv[1:]] or fetch_sources(work, "trixie", SOURCES)
         path = [folders[0] / "src" if (folders[0] / "src").is_dir() else folders[0]]
         if not all(importlib.util.find_spec(it) for it in ("pytest", "pretend")):
             path.append(fetch_tools(work))

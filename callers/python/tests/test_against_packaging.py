@@ -110,7 +110,7 @@ class AgainstPackaging(unittest.TestCase):
         for each in specifiers:
             operator, version = each.operator, each.version
             if operator != "===" and not version.endswith(".*"):
-                if peer.is_compatible_by_text(operator, version, self.print_of):
+                if peer.is_compatible_by_text(self.name, operator, version, self.print_of):
                     return "loose compatible release"
                 bound = self.their_version.Version(version)
                 if any(peer.is_local_above(operator, bound, it) for it in parsed):

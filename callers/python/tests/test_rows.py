@@ -271,6 +271,29 @@ class SpecifiersBy25(peer.By25, Specifiers):
     pass
 
 
+class Ends(unittest.TestCase):
+    """Versions at the ends of sets, of which most have a word, and none of the others: each is in a set as the library's calls on sets have it."""
+
+    LISTS = (">=1.0,<2.0,!=1.5.*", "~=1.4.2", "==1.*", "!=1.5.*", "<1.5", ">=65535.255.255.255", "<65536", ">=1.5a1,<2", "<=1.5", ">1.5", "==1.5", "!=1.5", ">=2,<1", ">=1!0")
+    RELEASES = ("0", "1.0", "1.0.0.0", "1.4.1", "1.4.2", "1.4.3", "1.5", "1.5.0.1", "1.6", "2", "65535.255.255.255", "65536", "1!0", "1.2.3.4.5")
+    SUFFIXES = ("", "a1", "a2", "rc2097151", "rc2097152", ".post0", ".post2097151", ".dev0", ".dev1", ".post0.dev0", "+u")
+
+    def test_sets(self):
+        for text in self.LISTS:
+            several = SpecifierSet(text)
+            for version in (release + suffix for release in self.RELEASES for suffix in self.SUFFIXES):
+                wanted, plain = SpecifierSet(f"=={version}").is_subset(several), not Version(version).is_prerelease
+                for asked in (version, Version(version), f" {version}", f"v{version}"):
+                    with self.subTest(list=text, asked=asked):
+                        said = [several.contains(asked), asked in several, several.contains(asked, prereleases=True), list(several.filter([asked])) == [asked]]
+                        self.assertEqual(said, [wanted] * 4)
+                        self.assertIs(several.contains(asked, prereleases=False), wanted and plain)
+                        self.assertEqual(filter_texts(several, [asked]), [asked] * wanted)
+            # what the list says once it is set to exclude pre-releases
+            several.prereleases = False
+            self.assertFalse(several.contains("1.6a1") or several.contains(Version("1.6a1")))
+
+
 class Page(unittest.TestCase):
     def test_examples(self):
         # what a comment behind an expression shows, unless it is a sentence, is its value or the exception

@@ -15,7 +15,7 @@ from __future__ import annotations
 from typing import TypeVar, Union
 
 from ._segments import ABOVE, AFTER_LOCALS, AFTER_POSTS, BELOW, EMPTY, FULL, Parts, Point, Segments, least_above, segments_of, single
-from .specifiers import InvalidSpecifier, SpecifierSet, _version_or_none
+from .specifiers import InvalidSpecifier, SpecifierSet, _filter_one_by_one, _version_or_none
 from .version import Version
 
 TYPE_CHECKING = False
@@ -478,44 +478,12 @@ class VersionRange:
         >>> list(SpecifierSet(">=1.0,<2.0").to_range().filter(["0.9", "1.5", "1.6a1"]))
         ['1.5']
         """
-        if prereleases is None and self._prereleases_configured is None:
-            return self._filter_by_default(iterable, key)
         allowed = self._prereleases_configured if prereleases is None else prereleases
-        return self._filter_by_word(iterable, key, allowed is not False)
+        return _filter_one_by_one(iterable, None if allowed is None else allowed is not False, key, self._has, self._asks_for)
 
-    def _filter_by_word(self, items: Iterable[_Item], key: Callable[[_Item], object] | None, allowed: bool) -> Iterator[_Item]:
-        for item in items:
-            given = item if key is None else key(item)
-            version = _version_or_none(given)
-            # a string that `===` names is no pre-release here
-            is_kept = allowed or version is None or not version.is_prerelease
-            if is_kept and self._has(given, version):
-                yield item
-
-    def _filter_by_default(self, items: Iterable[_Item], key: Callable[[_Item], object] | None) -> Iterator[_Item]:
-        is_found = False
-        later: list[_Item] = []
-        strings: list[_Item] = []
-        for item in items:
-            given = item if key is None else key(item)
-            version = _version_or_none(given)
-            if not self._has(given, version):
-                continue
-            if version is None or not version.is_prerelease:
-                if version is not None and not is_found:
-                    yield from strings
-                    is_found = True
-                if is_found:
-                    yield item
-                else:
-                    strings.append(item)
-                    later.append(item)
-            elif self._pre_region.contains(version) or (self._admit and str(given).lower() in self._admit):
-                yield item
-            elif not is_found:
-                later.append(item)
-        if not is_found:
-            yield from later
+    def _asks_for(self, given: object, version: Version) -> bool:
+        """Whether a specifier asked for the pre-release, or a string that `===` names is it."""
+        return self._pre_region.contains(version) or str(given).lower() in self._admit
 
     # ---- as specifiers, and as text
 

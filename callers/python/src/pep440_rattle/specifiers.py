@@ -231,37 +231,39 @@ def _filter(
     if not (is_open or prereleases is None):
         prereleases = prereleases is not False
     kept = _kept_at_once(several, items, prereleases if prereleases is None else bool(prereleases), key, not is_open)
-    return _filter_one_by_one(several, items, prereleases, key) if kept is None else iter(kept)
+    if kept is not None:
+        return iter(kept)
+    return _filter_one_by_one(items, several._default_prereleases() if prereleases is None else prereleases, key, several._matches)
 
 
 def _filter_one_by_one(
-    several: Specifier | SpecifierSet, items: Iterable[Any], prereleases: bool | None, key: Callable[[Any], UnparsedVersion] | None
+    items: Iterable[Any],
+    prereleases: bool | None,
+    key: Callable[[Any], object] | None,
+    matches: Callable[[object, Version | None], bool],
+    is_asked: Callable[[object, Version], bool] = lambda given, version: False,
 ) -> Iterator[Any]:
-    """Items of any kind, which are read when they are asked for. With no word on pre-releases these are given where nothing else is contained, and strings
-    that are no versions once something else is, or at the end."""
-    if prereleases is None:
-        prereleases = several._default_prereleases()
+    """Items of any kind, which are read when they are asked for. With no word on pre-releases those that are asked for are given, and others where nothing else
+    is contained; strings that are no versions once something else is, or at the end."""
     is_found = False
     later: list[Any] = []
     strings: list[Any] = []
     for item in items:
         given = item if key is None else key(item)
         version = _version_or_none(given)
-        if not several._matches(given, version):
+        if not matches(given, version):
             continue
-        is_early = version is not None and version.is_prerelease
-        if prereleases is not None:
-            if prereleases or not is_early:
-                yield item
-        elif version is not None and not is_early:
-            if not is_found:
-                yield from strings
-            is_found = True
+        early = version if version is not None and version.is_prerelease else None
+        if early and (is_asked(given, early) if prereleases is None else prereleases):
             yield item
-        elif not is_found:
+        elif early:
+            later += [] if is_found or prereleases is not None else [item]
+        elif version is None and prereleases is None and not is_found:
             later.append(item)
-            strings += [] if is_early else [item]
-        elif not is_early:
+            strings.append(item)
+        else:
+            yield from [] if is_found else strings
+            is_found = True
             yield item
     if not is_found:
         yield from later
@@ -270,6 +272,21 @@ def _filter_one_by_one(
 def _contains_by_name(self: Specifier | SpecifierSet, item: UnparsedVersion) -> bool:
     """Whether it contains the version, and `prereleases` allows it."""
     return self.contains(item)
+
+
+def _note_changes(cls: Any, base: type[Specifier | SpecifierSet], asked: list[str]) -> None:
+    """Says of a subclass whether it has any of these of its own, and has `in` ask its own `contains`."""
+    _remove_held_slots(cls)
+    cls._is_changed = any(getattr(cls, it) is not getattr(base, it) for it in asked)
+    if cls.contains is not base.contains and cls.__contains__ is base.__contains__:
+        cls.__contains__ = _contains_by_name
+
+
+def _comparison(operator: str) -> Callable[[Specifier, Version, str], bool]:
+    def compare(self: Specifier, prospective: Version, spec: str) -> bool:
+        return Specifier(operator + spec).contains(prospective, True)
+
+    return compare
 
 
 class _Called(abc.ABCMeta):
@@ -316,12 +333,8 @@ class Specifier(_core.HeldSpecifier, BaseSpecifier, metaclass=_Called):
 
     def __init_subclass__(cls, **named: object) -> None:
         super().__init_subclass__(**named)
-        _remove_held_slots(cls)
-        asked = ["operator", "version", "prereleases", "__str__", "_get_operator", *map("_compare_{}".format, cls._operators.values())]
-        is_by_name = cls.contains is not Specifier.contains
-        cls._is_changed = is_by_name or any(getattr(cls, it) is not getattr(Specifier, it) for it in asked)
-        if is_by_name and cls.__contains__ is Specifier.__contains__:
-            cls.__contains__ = _contains_by_name  # type: ignore[assignment]
+        asked = ["contains", "operator", "version", "prereleases", "__str__", "_get_operator", *map("_compare_{}".format, cls._operators.values())]
+        _note_changes(cls, Specifier, asked)
 
     def __getstate__(self) -> Any:
         return _get_state(self, spec=self._spec, prereleases=self._prereleases)
@@ -408,26 +421,13 @@ class Specifier(_core.HeldSpecifier, BaseSpecifier, metaclass=_Called):
         comparison: Callable[[Version, str], bool] = getattr(self, f"_compare_{self._operators[op]}")
         return comparison
 
-    def _compare_compatible(self, prospective: Version, spec: str) -> bool:
-        return Specifier(f"~={spec}").contains(prospective, True)
-
-    def _compare_equal(self, prospective: Version, spec: str) -> bool:
-        return Specifier(f"=={spec}").contains(prospective, True)
-
-    def _compare_not_equal(self, prospective: Version, spec: str) -> bool:
-        return Specifier(f"!={spec}").contains(prospective, True)
-
-    def _compare_less_than_equal(self, prospective: Version, spec: str) -> bool:
-        return Specifier(f"<={spec}").contains(prospective, True)
-
-    def _compare_greater_than_equal(self, prospective: Version, spec: str) -> bool:
-        return Specifier(f">={spec}").contains(prospective, True)
-
-    def _compare_less_than(self, prospective: Version, spec: str) -> bool:
-        return Specifier(f"<{spec}").contains(prospective, True)
-
-    def _compare_greater_than(self, prospective: Version, spec: str) -> bool:
-        return Specifier(f">{spec}").contains(prospective, True)
+    _compare_compatible = _comparison("~=")
+    _compare_equal = _comparison("==")
+    _compare_not_equal = _comparison("!=")
+    _compare_less_than_equal = _comparison("<=")
+    _compare_greater_than_equal = _comparison(">=")
+    _compare_less_than = _comparison("<")
+    _compare_greater_than = _comparison(">")
 
     def _compare_arbitrary(self, prospective: Version, spec: str) -> bool:
         return str(prospective).lower() == spec.lower()
@@ -460,10 +460,7 @@ class SpecifierSet(_core.HeldSet, BaseSpecifier, metaclass=_Called):
 
     def __init_subclass__(cls, **named: object) -> None:
         super().__init_subclass__(**named)
-        _remove_held_slots(cls)
-        cls._is_changed = cls.prereleases is not SpecifierSet.prereleases
-        if cls.contains is not SpecifierSet.contains and cls.__contains__ is SpecifierSet.__contains__:
-            cls.__contains__ = _contains_by_name  # type: ignore[assignment]
+        _note_changes(cls, SpecifierSet, ["prereleases"])
 
     def __getstate__(self) -> Any:
         return _get_state(self, specs=self._specs, prereleases=self._prereleases)
@@ -584,11 +581,11 @@ class SpecifierSet(_core.HeldSet, BaseSpecifier, metaclass=_Called):
 
     def _matches(self, given: object, version: Version | None) -> bool:
         """Whether each member contains what was given, with pre-releases, by `packaging` 26."""
-        if not self._is_by_python:
-            return not self._specs if version is None else _core.HeldSet.contains(self, version, True)
-        if self._has_arbitrary:
-            return all(it.contains(given, True) for it in self._specs)
-        return not self._specs if version is None else all(it.contains(version, True) for it in self._specs)
+        is_arbitrary = self._has_arbitrary
+        if version is None and not is_arbitrary:
+            return not self._specs
+        asked: Any = given if is_arbitrary else version
+        return all(it.contains(asked, True) for it in self._specs)
 
     def filter(
         self, iterable: Iterable[_Item], prereleases: bool | None = None, key: Callable[[_Item], UnparsedVersion] | None = None
