@@ -137,4 +137,21 @@ int compare_bytes(Bytes left, Bytes right);
     } \
     extern int no_such_variable
 
+/* The functions of a type by which its values become texts and are made of them. */
+#define TEXT_FUNCTIONS(type, read, normal) \
+    SQL_FUNCTION(type##_in, read_cstring(fcinfo, read)); \
+    SQL_FUNCTION(type##_out, CStringGetDatum(normal)); \
+    SQL_FUNCTION(type##_recv, read_binary(fcinfo, read)); \
+    SQL_FUNCTION(type##_send, binary_of(normal)); \
+    SQL_FUNCTION(type##_from_text, read_text(fcinfo, read)); \
+    SQL_FUNCTION(type##_to_text, PointerGetDatum(cstring_to_text(normal)))
+
+/* The comparisons that are an order; their names have lt, le, eq, ge and gt between these. */
+#define COMPARISONS(before, behind, order) \
+    SQL_FUNCTION(before##lt##behind, BoolGetDatum((order) < 0)); \
+    SQL_FUNCTION(before##le##behind, BoolGetDatum((order) <= 0)); \
+    SQL_FUNCTION(before##eq##behind, BoolGetDatum((order) == 0)); \
+    SQL_FUNCTION(before##ge##behind, BoolGetDatum((order) >= 0)); \
+    SQL_FUNCTION(before##gt##behind, BoolGetDatum((order) > 0))
+
 #endif

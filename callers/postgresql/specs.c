@@ -44,12 +44,7 @@ static char *normal_list(FunctionCallInfo fcinfo, int number)
     return normal_text(pep440_normalize_list, GET_LIST(number));
 }
 
-SQL_FUNCTION(specs_in, read_cstring(fcinfo, read_specs));
-SQL_FUNCTION(specs_out, CStringGetDatum(normal_list(fcinfo, 0)));
-SQL_FUNCTION(specs_recv, read_binary(fcinfo, read_specs));
-SQL_FUNCTION(specs_send, binary_of(normal_list(fcinfo, 0)));
-SQL_FUNCTION(specs_from_text, read_text(fcinfo, read_specs));
-SQL_FUNCTION(specs_to_text, PointerGetDatum(cstring_to_text(normal_list(fcinfo, 0))));
+TEXT_FUNCTIONS(specs, read_specs, normal_list(fcinfo, 0));
 
 PG_FUNCTION_INFO_V1(specs_valid);
 Datum specs_valid(PG_FUNCTION_ARGS)
@@ -157,13 +152,8 @@ static int order_of_lists(FunctionCallInfo fcinfo)
     return order;
 }
 
-SQL_FUNCTION(specs_lt, BoolGetDatum(order_of_lists(fcinfo) < 0));
-SQL_FUNCTION(specs_le, BoolGetDatum(order_of_lists(fcinfo) <= 0));
-SQL_FUNCTION(specs_eq, BoolGetDatum(order_of_lists(fcinfo) == 0));
-SQL_FUNCTION(specs_ge, BoolGetDatum(order_of_lists(fcinfo) >= 0));
-SQL_FUNCTION(specs_gt, BoolGetDatum(order_of_lists(fcinfo) > 0));
+COMPARISONS(specs_, , order_of_lists(fcinfo));
 SQL_FUNCTION(specs_ne, BoolGetDatum(order_of_lists(fcinfo) != 0));
-
 SQL_FUNCTION(specs_cmp, Int32GetDatum(order_of_lists(fcinfo)));
 
 static Datum hash_of_list(FunctionCallInfo fcinfo)
@@ -351,7 +341,7 @@ static const Kept *known_argument(FunctionCallInfo fcinfo, int list_at)
 {
     FmgrInfo *function = fcinfo->flinfo;
     Kept *kept = function == NULL ? NULL : function->fn_extra;
-    if (kept != NULL && kept->is_constant && kept->is_known)
+    if (kept != NULL && kept->is_constant)
         return kept;
     if (function == NULL || !is_constant(function, list_at))
         return known_list(function, GET_LIST(list_at));
@@ -374,10 +364,6 @@ static bool contains(FunctionCallInfo fcinfo, int list_at, const struct varlena 
     }
     Bytes list = GET_LIST(list_at);
     Version version = version_of(stored, &buffer);
-    if (list.length > 0 && list.bytes[0] == SET_FORMAT) {
-        Cover cover = cover_of(list);
-        return is_in_cover(&cover, version.key);
-    }
     expect_ok(pep440_allows(list.bytes, list.length, version.bytes.bytes, version.bytes.length, PEP440_ALL_PRERELEASES, &allowed));
     return allowed != 0;
 }

@@ -35,12 +35,22 @@ def test_installcheck(server):
     return re.search(r"All \d+ tests passed", ran.stdout)[0]
 
 
+def run_commands(server, block):
+    """Runs the page's commands, but for the one that installs packages, in a copy of the folder, for this server and its database `page`."""
+    commands = re.sub(r"^sudo apt-get .*$|^sudo ", "", block, flags=re.M).replace("/usr/local", PREFIX)
+    ran = subprocess.run(USER + ["sh", "-e"], input=f"cp -r src page && cd page && make -s clean PEP440={PREFIX}\n{commands}", cwd=FOLDER, capture_output=True, text=True, check=False,
+                         env={**os.environ, **server.environment("page"), "PATH": f"{FOLDER}/bin:{os.environ['PATH']}"})
+    assert ran.returncode == 0 and ran.stdout.endswith("CREATE EXTENSION\n"), ran.stdout[-1000:] + ran.stderr[-1000:]
+
+
 def test_page(server):
-    """Each query of the page gives what stands under it."""
+    """The page's commands install the extension, and each query gives what stands under it."""
     server.connect().rows("CREATE DATABASE page")
+    page = (HERE / "README.md").read_text(encoding="utf-8")
+    (block,) = re.findall(r"```sh\n(.*?)```", page, re.S)
+    run_commands(server, block)
     db, count = server.connect("page"), 0
-    db.rows("CREATE EXTENSION pep440")
-    for block in re.findall(r"```sql\n(.*?)```", (HERE / "README.md").read_text(encoding="utf-8"), re.S):
+    for block in re.findall(r"```sql\n(.*?)```", page, re.S):
         for query in re.findall(r"(?:^[^-\n].*\n)+(?:^-- .*\n)*", block, re.M):
             wanted = re.findall(r"^-- (.*)$", query, re.M)
             found = ["|".join(value or "" for value in row) for row in db.rows(re.sub(r"^-- .*$", "", query, flags=re.M))]
@@ -48,7 +58,7 @@ def test_page(server):
             count += bool(wanted)
     db.close()
     assert count == 4, count
-    return f"{count} queries"
+    return f"4 commands, {count} queries"
 
 
 def test_lists(server):
@@ -492,8 +502,20 @@ HELD = ["SELECT * FROM kept ORDER BY version, number", "SELECT count(*), sum(num
         "SELECT count(*), sum(number) FROM kept WHERE versions && '==1.*'", "SELECT count(*) FROM kept WHERE version = '1.8.1.dev1'", "SELECT versions - '>=1.5' FROM kept ORDER BY versions, 1 LIMIT 50"]
 
 
+def upgrade(old, new):
+    """The tables of a server in those of another one, by pg_upgrade; the errors, where it ends with some."""
+    try:
+        new.run("pg_upgrade", "-b", old.home / "bin", "-B", new.home / "bin", "-d", old.data, "-D", new.data, "-U", "tester", "-s", new.folder)
+    except AssertionError as failure:
+        logs = "".join(file.read_text(errors="replace") for file in new.data.glob("pg_upgrade_output.d/*/log/*"))
+        errors = set(re.findall(r"(?:ERROR|error|FATAL): +(.*)", logs))
+        assert errors, failure
+        return errors
+    return set()
+
+
 def test_pg_upgrade(unused):
-    """The tables and indexes of another server, by pg_upgrade."""
+    """The tables and indexes of another server, by pg_upgrade; left out if it ends with the same errors where nothing is in the tables."""
     homes = [pathlib.Path(word[7:]) for word in sys.argv if word.startswith("--from=")]
     if not homes:
         return "left out"
@@ -505,7 +527,11 @@ def test_pg_upgrade(unused):
         held, version = [db.rows(query) for query in HELD], db.value("SHOW server_version_num")
         db.close()
         old.stop()
-        new.run("pg_upgrade", "-b", homes[0] / "bin", "-B", FOLDER / "bin", "-d", old.data, "-D", new.data, "-U", "tester", "-s", new.folder)
+        errors = upgrade(old, new)
+        if errors:
+            others = upgrade(Server("empty", "-k", home=homes[0]), Server("filling", "-k"))
+            assert errors == others, (errors, others)
+            return f"left out: without the extension, too, pg_upgrade ends with: {min(errors)}"
         new.start()
         db = new.connect()
         for setting in (NO_TABLE, NO_INDEX):

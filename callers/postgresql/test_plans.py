@@ -2,9 +2,10 @@
 import json
 import random
 import re
+import unittest
 
 from server import NO_INDEX, NO_TABLE, SMALL, copied, plan_of, version
-from test_values import database, refused, specifiers
+from test_values import database, peer_of_26, refused, specifiers
 
 PACKAGES = 300 if SMALL else 1000
 EXCLUSION_VIOLATION, INVALID_TEXT, TOO_LONG = "23P01", "22P02", "54000"
@@ -134,6 +135,46 @@ def test_set_index(server):
     count = db.value("SELECT count(*) FROM unlike")
     db.close()
     return f"{len(conditions)} conditions over {count} sets by the index as without"
+
+
+MATCHES = "SELECT a.number, string_agg(o.number::text, ' ' ORDER BY o.number) FROM asked a JOIN offered o ON o.version <@ a.specs GROUP BY 1 ORDER BY 1"
+# What makes each plan, and what the plan has.
+PLANS = [
+    (NO_INDEX, r"Join Filter: \(o\.version <@ a\.specs\)"), ("CREATE INDEX by_offered ON offered (version);" + NO_TABLE, r"by_offered[\s\S]*Index Cond: \(+version >= pep440_cover_start\(a\.specs"),
+    ("DROP INDEX by_offered; CREATE INDEX by_asked ON asked USING gist (specs);" + NO_TABLE, r"by_asked[\s\S]*Index Cond: \(specs @> o\.version\)"),
+]
+
+
+def test_matches(server):
+    """Each of many lists beside each of many versions: by a scan, by an index on the versions, by one on the lists, and by `packaging`."""
+    db, rng = database(server, "matched"), random.Random(917)
+    lists, versions = 200 if SMALL else 2000, 100 if SMALL else 1000
+    asked = sorted({",".join(filter(None, (specifiers(rng), rng.choice([">=", "<", "!=", "<=", ">", "=="]) + version(rng)))) for _ in range(2 * lists)}, key=lambda _: rng.random())[:lists]
+    offered = [version(rng) for _ in range(versions)]
+    for table, column, values in (("asked", "specs pep440_specs", asked), ("offered", "version pep440", offered)):
+        db.rows(f"CREATE TABLE {table} (number int, {column}); INSERT INTO {table} VALUES " + ",".join(f"({number}, '{it}')" for number, it in enumerate(values)) + f"; ANALYZE {table}")
+    found = []
+    for setting, wanted in PLANS:
+        db.rows("RESET ALL; SET enable_material = off; SET enable_bitmapscan = off;" + setting)
+        plan = plan_of(db, MATCHES)
+        assert re.search(wanted, plan), plan
+        found.append(db.rows(MATCHES))
+    db.close()
+    assert len(asked) == lists and found[0] == found[1] == found[2]
+    return f"{lists * versions} pairs in 3 plans, {sum(len(those.split()) for _, those in found[0])} match{compare_matches(asked, offered, found[0])}"
+
+
+def compare_matches(asked, offered, found):
+    """Whether the same lists match the same versions in `packaging`."""
+    try:
+        versions, specifiers_of, name = peer_of_26()
+    except unittest.SkipTest:
+        return ""
+    found, parsed = {int(number): those for number, those in found}, [versions.Version(it) for it in offered]
+    for number, specs in enumerate(asked):
+        those = specifiers_of.SpecifierSet(specs, prereleases=True)
+        assert found.get(number, "") == " ".join(str(place) for place, it in enumerate(parsed) if those.contains(it)), specs
+    return f", as in {name}"
 
 
 def test_partitions(server):
