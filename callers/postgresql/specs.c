@@ -296,10 +296,25 @@ bool is_in_cover(const Cover *cover, Bytes key)
     return false;
 }
 
-/* Whether the version is in the cover of the list: by the first bytes of its key, where these decide. */
-static bool is_covered(const Kept *kept, const struct varlena *stored)
+/* These two are functions of their own, since a function with room for a version takes longer to begin and to end. */
+static pg_noinline bool has_key_of(const Cover *cover, const struct varlena *stored)
 {
     VersionBuffer buffer;
+    return is_in_cover(cover, version_of(stored, &buffer).key);
+}
+
+static pg_noinline bool allows(Bytes list, const struct varlena *stored)
+{
+    VersionBuffer buffer;
+    uint8_t allowed;
+    Version version = version_of(stored, &buffer);
+    expect_ok(pep440_allows(list.bytes, list.length, version.bytes.bytes, version.bytes.length, PEP440_ALL_PRERELEASES, &allowed));
+    return allowed != 0;
+}
+
+/* Whether the version is in the cover of the list: by the first bytes of its key, where these decide. */
+static inline bool is_covered(const Kept *kept, const struct varlena *stored)
+{
     uint64 sought = first_of_version(stored);
     size_t first = 0, end = kept->cover.count;
     while (first < end) {
@@ -310,7 +325,7 @@ static bool is_covered(const Kept *kept, const struct varlena *stored)
         else if (sought > firsts.high)
             first = middle + 1;
         else
-            return (sought > firsts.low && sought < firsts.high) || is_in_cover(&kept->cover, version_of(stored, &buffer).key);
+            return (sought > firsts.low && sought < firsts.high) || has_key_of(&kept->cover, stored);
     }
     return false;
 }
@@ -337,12 +352,10 @@ const Cover *known_cover(FmgrInfo *function, Bytes list)
 }
 
 /* What is known of the list that is this argument: of a constant all, from the first call on. */
-static const Kept *known_argument(FunctionCallInfo fcinfo, int list_at)
+static pg_noinline const Kept *know_argument(FunctionCallInfo fcinfo, int list_at)
 {
     FmgrInfo *function = fcinfo->flinfo;
-    Kept *kept = function == NULL ? NULL : function->fn_extra;
-    if (kept != NULL && kept->is_constant)
-        return kept;
+    Kept *kept;
     if (function == NULL || !is_constant(function, list_at))
         return known_list(function, GET_LIST(list_at));
     kept = keep_list(function, GET_LIST(list_at));
@@ -351,21 +364,18 @@ static const Kept *known_argument(FunctionCallInfo fcinfo, int list_at)
     return kept;
 }
 
-/* Whether the list or the set contains the version, pre-releases like others: by its key where this decides, else by the library. */
-static bool contains(FunctionCallInfo fcinfo, int list_at, const struct varlena *stored)
+static inline const Kept *known_argument(FunctionCallInfo fcinfo, int list_at)
 {
-    VersionBuffer buffer;
-    uint8_t allowed;
+    const Kept *kept = fcinfo->flinfo == NULL ? NULL : fcinfo->flinfo->fn_extra;
+    return kept != NULL && kept->is_constant ? kept : know_argument(fcinfo, list_at);
+}
+
+/* Whether the list or the set contains the version, pre-releases like others: by its key where this decides, else by the library. */
+static inline bool contains(FunctionCallInfo fcinfo, int list_at, const struct varlena *stored)
+{
     const Kept *known = known_argument(fcinfo, list_at);
-    if (known != NULL) {
-        bool found = is_covered(known, stored);
-        if (!found || known->cover.is_exact)
-            return found;
-    }
-    Bytes list = GET_LIST(list_at);
-    Version version = version_of(stored, &buffer);
-    expect_ok(pep440_allows(list.bytes, list.length, version.bytes.bytes, version.bytes.length, PEP440_ALL_PRERELEASES, &allowed));
-    return allowed != 0;
+    bool is_in = known != NULL && is_covered(known, stored);
+    return known != NULL && (!is_in || known->cover.is_exact) ? is_in : allows(GET_LIST(list_at), stored);
 }
 
 SQL_FUNCTION(specs_contains, BoolGetDatum(contains(fcinfo, 0, GET_STORED(1))));

@@ -22,11 +22,6 @@ enum { RELEASE_ALONE = 0, SHORT = 0x80, MOST_SHORT = 0x7f, MOST_FIRST = 7, MOST_
 /* Of eight bytes of a value those of the key: of the first one the lower bits. */
 static const uint64 FIRST_BYTES = PG_UINT64_MAX >> 5;
 
-Bytes bytes_of(const struct varlena *stored)
-{
-    return (Bytes){(const uint8_t *)VARDATA_ANY(stored), VARSIZE_ANY_EXHDR(stored)};
-}
-
 static uint8_t last_of(Bytes bytes)
 {
     return bytes.length == 0 ? 0 : bytes.bytes[bytes.length - 1];
@@ -136,7 +131,7 @@ typedef struct {
     uint64 number;
 } Part;
 
-enum { NO_PART = -1, DEV_STAGE = 1, FINAL_STAGE = 5, NO_POST = 0, HAS_POST = 1, HAS_DEV = 0, NO_DEV = 1, STRING_SEGMENT = 1, NUMBER_BASE = 2 };
+enum { NO_PART = -1, DEV_STAGE = 1, ALPHA_STAGE = 2, RC_STAGE = 4, FINAL_STAGE = 5, NO_POST = 0, HAS_POST = 1, HAS_DEV = 0, NO_DEV = 1, STRING_SEGMENT = 1, NUMBER_BASE = 2 };
 
 /* Three parts beyond the end of a key have no more bytes. */
 enum { MOST_BEYOND = 32 };
@@ -251,12 +246,12 @@ static char *put_local(char *out, const uint8_t *at, const uint8_t *end)
 
 static char *put_suffix(char *out, Bytes value, const uint8_t *at)
 {
-    static const char *const stages[] = {NULL, NULL, "a", "b", "rc", NULL};
     Suffix suffix;
     if (!read_suffix(value, at, &suffix))
         return NULL;
-    if (stages[suffix.stage.rank] != NULL)
-        out = put_word(out, stages[suffix.stage.rank], suffix.stage.number);
+    int stage = suffix.stage.rank;
+    if (stage > DEV_STAGE && stage < FINAL_STAGE)
+        out = stage == RC_STAGE ? put_word(out, "rc", suffix.stage.number) : put_word(out, stage == ALPHA_STAGE ? "a" : "b", suffix.stage.number);
     if (suffix.post.rank == HAS_POST)
         out = put_word(out, ".post", suffix.post.number);
     if (suffix.dev.rank == HAS_DEV)
@@ -336,12 +331,24 @@ static inline uint64 read_first(const uint8_t *bytes, size_t length)
     return (uint64)pg_ntoh16(short_high) << 48 | (uint64)pg_ntoh16(short_low) << unused;
 }
 
+/* These two are functions of their own, since a function with room for a version takes longer to begin and to end. */
+static pg_noinline uint64 first_of_rare_version(const struct varlena *stored)
+{
+    VersionBuffer buffer;
+    return first_of_key(version_of(stored, &buffer).key);
+}
+
+static pg_noinline int compare_keys(const struct varlena *left, const struct varlena *right)
+{
+    VersionBuffer buffers[2];
+    return compare_bytes(version_of(left, &buffers[0]).key, version_of(right, &buffers[1]).key);
+}
+
 uint64 first_of_version(const struct varlena *stored)
 {
     Bytes value = bytes_of(stored);
-    VersionBuffer buffer;
     if (!is_short(value) || value.length == 1 || (value.bytes[0] & MOST_FIRST) == 0)
-        return first_of_key(version_of(stored, &buffer).key);
+        return first_of_rare_version(stored);
     size_t length = Min(value.length, sizeof(uint64));
     uint64 first = read_first(value.bytes, length) & FIRST_BYTES;
     return length == sizeof first ? first : first | ENDS[end_of(value)].first >> (8 * length);
@@ -350,13 +357,12 @@ uint64 first_of_version(const struct varlena *stored)
 int compare_versions(const struct varlena *left, const struct varlena *right)
 {
     uint64 first = first_of_version(left), second = first_of_version(right);
-    VersionBuffer buffers[2];
     if (first != second)
         return first < second ? -1 : 1;
     Bytes one = bytes_of(left), other = bytes_of(right);
     if (one.length == other.length && memcmp(one.bytes, other.bytes, one.length) == 0)
         return 0;
-    return compare_bytes(version_of(left, &buffers[0]).key, version_of(right, &buffers[1]).key);
+    return compare_keys(left, right);
 }
 
 static bool ends_with(Bytes key, int end)

@@ -11,7 +11,6 @@ import pathlib
 import random
 import re
 import signal
-import statistics
 import subprocess
 import sys
 import threading
@@ -21,8 +20,9 @@ import test_hostile
 import test_plans
 import test_values
 from libpq import Refused
-from server import (FOLDER, HERE, INVALID_REGULAR_EXPRESSION, LISTS, NARROW, NO_INDEX, NO_TABLE, OUT_OF_MEMORY, PREFIX, PROGRAM, RECHECKED, ROWS, SMALL, STRINGS, USER, Server, copied, fill,
-                    instructions, milliseconds, plan_of, time_of, version)
+from server import (FOLDER, HERE, INVALID_REGULAR_EXPRESSION, LISTS, NARROW, NO_INDEX, NO_TABLE, OUT_OF_MEMORY, PREFIX, PROGRAM, RECHECKED, ROWS, SMALL, STRINGS, USER, Server, both_ways, copied, fill,
+                    instructions, milliseconds, plan_of, version)
+from test_values import refused
 
 # ---- what a running server is asked
 
@@ -107,12 +107,9 @@ def test_order(server):
             db.rows("RESET ALL;" + setting)
             answers.append(db.rows(query))
         assert answers[0] == answers[1] == answers[2], (query, answers)
-    db.rows("RESET ALL; DROP INDEX by_version;" + NO_TABLE)
+    db.rows("RESET ALL; DROP INDEX by_version")
     for _ in range(60):
-        query = f"SELECT count(*), sum(id) FROM releases WHERE version = '{version(rng)}'"
-        assert "by_hash" in plan_of(db, query)
-        by_hash = db.rows(query)
-        assert by_hash == db.rows(NO_INDEX + "SET enable_seqscan = on;" + query) and db.rows("RESET ALL;" + NO_TABLE + "SELECT 1"), query
+        both_ways(db, f"SELECT count(*), sum(id) FROM releases WHERE version = '{version(rng)}'", "by_hash")
     db.rows("RESET ALL; CREATE INDEX by_version ON releases (version); ANALYZE releases")
     db.close()
     return f"{len(queries)} queries by an index as without, 60 by the hash index"
@@ -220,24 +217,14 @@ def test_encodings(server):
     other.rows("CREATE EXTENSION pep440; SET client_encoding = 'UTF8'")
     assert other.value("SELECT ' v1.0+A '::pep440") == "1.0+a"
     for text in ("1.0+é", "é"):
-        try:
-            other.rows(f"SELECT '{text}'::pep440")
-        except Refused as error:
-            assert error.code == "22P02" and text in str(error), error
-        else:
-            raise AssertionError(text)
+        assert text in refused(other, f"SELECT '{text}'::pep440", "22P02")
     other.close()
     db.rows("CREATE DATABASE no_encoding ENCODING 'SQL_ASCII' LC_COLLATE 'C' LC_CTYPE 'C' TEMPLATE template0")
     other = server.connect("no_encoding")
     other.rows("CREATE EXTENSION pep440; SET client_encoding = 'SQL_ASCII'")
     assert other.rows("SELECT pep440_valid(E'caf\\xe9'), pep440_specs_valid(E'>=1\\xe9'), pep440_valid('1.0')") == [("f", "f", "t")]
     for kind, text in (("pep440", "caf\\xe9"), ("pep440_specs", ">=1\\xe9")):
-        try:
-            other.rows(f"SELECT E'{text}'::{kind}")
-        except Refused as error:
-            assert error.code == "22P02", error
-        else:
-            raise AssertionError(text)
+        refused(other, f"SELECT E'{text}'::{kind}", "22P02")
     other.close()
     db.close()
     return "LATIN1, SQL_ASCII"
@@ -318,18 +305,32 @@ def test_speed(server):
     by_index = min(milliseconds(db, newest) for _ in range(50))
     db.rows(NO_INDEX)
     without = min(milliseconds(db, newest) for _ in range(5))
-    ratios = [f"ORDER BY with LIMIT {without / by_index:.0f} times faster by the index"]
-    matches = []
-    conditions = {f"`{specs}`": f"'{specs}' @> version" for specs in (">=1.0", ">=1.0,<2.0,!=1.5.*", "~=1.4.2")}
-    conditions |= {"pep440_is_prerelease": "pep440_is_prerelease(version)", "a comparison": "version >= '1.0'", "a set": "version <@ '{[1, 1.5), [1.6, 2.dev0)}'::pep440_set"}
-    for name, condition in conditions.items():
-        match, like = (f"SELECT count(*) FROM releases WHERE {it}" for it in (condition, "written LIKE '1.%'"))
-        # The median, since a processor is slow while its neighbour works.
-        matches.append(statistics.median(time_of(db, match) / time_of(db, like) for _ in range(15)))
-        ratios.append(f"{name} over all rows {matches[-1]:.2f} of a LIKE")
     db.close()
-    assert without / by_index >= 1000 and max(matches) <= 1.75, ratios
-    return "; ".join(ratios)
+    assert without / by_index >= 1000, (without, by_index)
+    return f"ORDER BY with LIMIT {without / by_index:.0f} times faster by the index"
+
+
+# The conditions of filters, with the most that they may execute of a prefix LIKE's instructions.
+FILTERS = {
+    "'>=1.0' @> version": 1.0, "'>=1.0,<2.0,!=1.5.*' @> version": 1.0, "version <@ '~=1.4.2'": 1.0, "version <@ '{[1, 1.5), [1.6, 2.dev0)}'::pep440_set": 1.0,
+    "version >= '1.0'": 1.1, "pep440_is_prerelease(version)": 1.1,
+}
+
+
+def test_filters(server):
+    """What filters execute of the instructions of a prefix LIKE, with all else that a row takes."""
+    if SMALL:
+        return "left out"
+    db = server.connect()
+    db.rows("CREATE TABLE filtered AS SELECT written, version FROM releases WHERE id <= 20000")
+    db.rows("VACUUM FREEZE ANALYZE filtered")
+    db.close()
+    server.stop()
+    counts = [instructions(server, f"SELECT count(*) FROM filtered WHERE {condition}") for condition in ("written LIKE '1.%'", *FILTERS)]
+    server.start()
+    ratios = {condition: count / counts[0] for condition, count in zip(FILTERS, counts[1:])}
+    assert all(ratio <= FILTERS[condition] for condition, ratio in ratios.items()), ratios
+    return "; ".join(f"{condition} {ratio:.2f}" for condition, ratio in ratios.items())
 
 
 # ---- refused memory, in servers of their own
@@ -490,8 +491,7 @@ def test_killed(unused):
                 written[int(client)] = int(found)
             db.rows("SELECT bt_index_check('by_version', true)")
             for condition in ("version <@ '~=1.7'", "version = '2.8.1'", "specs @> '1.9.3'", "versions @> '1.9.3'::pep440", "versions && '==3.*'"):
-                query = f"SELECT count(*), sum(number) FROM kept WHERE {condition}"
-                assert db.rows("RESET ALL;" + NO_TABLE + query) == db.rows("RESET ALL;" + NO_INDEX + query), condition
+                both_ways(db, f"SELECT count(*), sum(number) FROM kept WHERE {condition}", "by_")
             db.close()
     finally:
         server.stop()

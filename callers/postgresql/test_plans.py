@@ -4,7 +4,7 @@ import random
 import re
 import unittest
 
-from server import NO_INDEX, NO_TABLE, SMALL, copied, plan_of, version
+from server import NO_INDEX, NO_TABLE, SMALL, both_ways, plan_of, version
 from test_values import database, peer_of_26, refused, specifiers
 
 PACKAGES = 300 if SMALL else 1000
@@ -85,17 +85,12 @@ def test_packages(server):
 def test_list_index(server):
     """An index on lists finds which ones contain a version, or have one in common with another list, as a scan does; and an exclusion constraint has it."""
     db, rng = server.connect("packages"), random.Random(913)
-    db.folder = server.folder
     db.rows("CREATE INDEX by_list ON requires USING gist (specs)")
     lists = ["", ">2,<1", "===1.0", "!=1.0", "==1.0+" + "a" * 300, f"<1.{'1.' * 100}1", ">=1!0"] + [f"{specifiers(rng)}" for _ in range(30)]
     db.rows("INSERT INTO requires VALUES " + ",".join(f"('p0', '{it}')" for it in lists) + ", ('p0', NULL); ANALYZE requires")
     conditions = [f"specs @> '{version(rng)}'" for _ in range(10)] + [f"specs && '{it}'" for it in lists[:15]] + ["specs @> '1!1.0'", "'1.0+" + "a" * 300 + "'::pep440 <@ specs"]
     for condition in conditions:
-        query = f"SELECT dep, specs FROM requires WHERE {condition} ORDER BY 1, 2"
-        db.rows("RESET ALL;" + NO_INDEX)
-        alone = copied(db, query, "alone")
-        db.rows("RESET ALL;" + NO_TABLE)
-        assert "by_list" in plan_of(db, query) and copied(db, query, "by_index") == alone, condition
+        both_ways(db, f"SELECT dep, specs FROM requires WHERE {condition} ORDER BY 1, 2", "by_list")
     db.rows("SET enable_hashjoin = off; SET enable_mergejoin = off")
     query = "SELECT r.version, count(*) FROM releases r JOIN requires s ON r.version <@ s.specs WHERE r.name = 'p1' AND s.dep < 'p2' GROUP BY 1 ORDER BY 1"
     plan = plan_of(db, query)
@@ -125,10 +120,7 @@ def test_set_index(server):
             "(SELECT specs FROM requires OFFSET 90 LIMIT 30) c; INSERT INTO unlike VALUES (NULL), ('{}'), ('{(*, *)}'), ('{(1.post*, 2+a]}'); CREATE INDEX by_set ON unlike USING gist (versions); ANALYZE unlike")
     conditions = [f"versions @> '{version(rng)}'::pep440" for _ in range(10)] + [f"versions && '{specifiers(rng).replace('===', '==')}'" for _ in range(15)] + ["'1.5'::pep440 <@ versions"]
     for condition in conditions:
-        query = f"SELECT versions FROM unlike WHERE {condition} ORDER BY 1"
-        alone = db.rows("RESET ALL;" + NO_INDEX + query)
-        db.rows("RESET ALL;" + NO_TABLE)
-        assert "by_set" in plan_of(db, query) and db.rows(query) == alone, condition
+        both_ways(db, f"SELECT versions FROM unlike WHERE {condition} ORDER BY 1", "by_set")
     assert set(re.findall(r"Scan on (parts_\d)\b", plan_of(db, "SELECT * FROM parts WHERE version <@ '{[1.4, 1.5), [1.6, 1.9)}'::pep440_set"))) == {"parts_1"}
     db.rows("RESET ALL; CREATE TABLE rules (name text, versions pep440_set, EXCLUDE USING gist (name WITH =, versions WITH &&)); INSERT INTO rules VALUES ('a', '<1'), ('a', '{[1, 2)}')")
     refused(db, "INSERT INTO rules VALUES ('a', '{[1.5, *)}')", EXCLUSION_VIOLATION)
