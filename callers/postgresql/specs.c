@@ -19,7 +19,10 @@ static bool is_too_long(Bytes text)
 
 static uint8_t compile_list(Bytes text, Bytes *compiled)
 {
-    return is_too_long(text) ? PEP440_NO_ROOM : write_all(pep440_compile_list, text, compiled);
+    if (is_too_long(text))
+        return PEP440_NO_ROOM;
+    CHECK_FOR_INTERRUPTS();
+    return write_all(pep440_compile_list, text, compiled);
 }
 
 bool read_list(Bytes text, const char *type, Node *context, Bytes *compiled)

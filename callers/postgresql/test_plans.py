@@ -90,7 +90,7 @@ def test_list_index(server):
     db.rows("INSERT INTO requires VALUES " + ",".join(f"('p0', '{it}')" for it in lists) + ", ('p0', NULL); ANALYZE requires")
     conditions = [f"specs @> '{version(rng)}'" for _ in range(10)] + [f"specs && '{it}'" for it in lists[:15]] + ["specs @> '1!1.0'", "'1.0+" + "a" * 300 + "'::pep440 <@ specs"]
     for condition in conditions:
-        both_ways(db, f"SELECT dep, specs FROM requires WHERE {condition} ORDER BY 1, 2", "by_list")
+        both_ways(db, f"SELECT dep, specs FROM requires WHERE {condition}", "by_list")
     db.rows("SET enable_hashjoin = off; SET enable_mergejoin = off")
     query = "SELECT r.version, count(*) FROM releases r JOIN requires s ON r.version <@ s.specs WHERE r.name = 'p1' AND s.dep < 'p2' GROUP BY 1 ORDER BY 1"
     plan = plan_of(db, query)
@@ -120,7 +120,7 @@ def test_set_index(server):
             "(SELECT specs FROM requires OFFSET 90 LIMIT 30) c; INSERT INTO unlike VALUES (NULL), ('{}'), ('{(*, *)}'), ('{(1.post*, 2+a]}'); CREATE INDEX by_set ON unlike USING gist (versions); ANALYZE unlike")
     conditions = [f"versions @> '{version(rng)}'::pep440" for _ in range(10)] + [f"versions && '{specifiers(rng).replace('===', '==')}'" for _ in range(15)] + ["'1.5'::pep440 <@ versions"]
     for condition in conditions:
-        both_ways(db, f"SELECT versions FROM unlike WHERE {condition} ORDER BY 1", "by_set")
+        both_ways(db, f"SELECT versions FROM unlike WHERE {condition}", "by_set")
     assert set(re.findall(r"Scan on (parts_\d)\b", plan_of(db, "SELECT * FROM parts WHERE version <@ '{[1.4, 1.5), [1.6, 1.9)}'::pep440_set"))) == {"parts_1"}
     db.rows("RESET ALL; CREATE TABLE rules (name text, versions pep440_set, EXCLUDE USING gist (name WITH =, versions WITH &&)); INSERT INTO rules VALUES ('a', '<1'), ('a', '{[1, 2)}')")
     refused(db, "INSERT INTO rules VALUES ('a', '{[1.5, *)}')", EXCLUSION_VIOLATION)

@@ -74,6 +74,7 @@ uint8_t write_all(Writer call, Bytes read, Bytes *out)
     uint8_t *bytes = palloc(room + 1);
     uint8_t status = call(read.bytes, read.length, bytes, room, &out->length);
     if (status == PEP440_NO_ROOM) {
+        CHECK_FOR_INTERRUPTS();
         pfree(bytes);
         room = out->length;
         bytes = palloc(room + 1);
