@@ -107,10 +107,11 @@ def test_list_index(server):
 def test_set_index(server):
     """Sets find versions by an index on these, and are found by one on sets, as by a scan; what all lists of a package allow is one query."""
     db, rng = server.connect("packages"), random.Random(915)
+    db.rows("CREATE INDEX by_dep ON requires (dep)")
     wrong = db.value("""SELECT count(*) FROM allowed s JOIN releases r ON r.name = s.dep JOIN LATERAL (SELECT bool_and(t.specs @> r.version) AS all_of, bool_or(t.specs @> r.version) AS one_of
         FROM requires t WHERE t.dep = s.dep) AS t ON true WHERE s.dep BETWEEN 'p1' AND 'p3' AND (s.shared @> r.version <> all_of OR s.either @> r.version <> one_of)""")
     assert wrong == "0", wrong
-    db.rows("SET enable_seqscan = off; SET enable_bitmapscan = off")
+    db.rows("DROP INDEX by_dep; SET enable_seqscan = off; SET enable_bitmapscan = off")
     query = "SELECT max(version) FROM releases WHERE name = 'p7' AND version <@ (SELECT intersect_agg(specs) FROM requires WHERE dep = 'p7')"
     plan = plan_of(db, query)
     assert re.search(r"Index Cond: [^\n]*version >= pep440_cover_start", plan), plan
