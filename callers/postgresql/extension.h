@@ -51,6 +51,16 @@ typedef struct {
 /* The first byte of compiled versions, of the members of a list, which an earlier release stored alone, of lists, and of sets. */
 enum { VERSION_FORMAT = 4, MEMBERS_FORMAT = 5, LIST_FORMAT = 6, SET_FORMAT = 7 };
 
+/* What the server calls once it has loaded the extension. */
+extern PGDLLEXPORT void _PG_init(void);
+/* The output functions of the types, which no other type has but domains over these. */
+extern PGDLLEXPORT Datum version_out(PG_FUNCTION_ARGS);
+extern PGDLLEXPORT Datum specs_out(PG_FUNCTION_ARGS);
+extern PGDLLEXPORT Datum set_out(PG_FUNCTION_ARGS);
+
+/* No other library can put a function of its own in place of these, so that calls of them need no look-up. */
+#pragma GCC visibility push(hidden)
+
 /* The argument of a function that takes a text. */
 Bytes utf8_argument(FunctionCallInfo fcinfo);
 /* What the input functions of a type do, by the call that reads its text: of a C string, of the binary form, and of a text. */
@@ -76,7 +86,18 @@ static inline void expect_ok(uint8_t status)
 }
 
 /* What is behind the header. */
-Bytes bytes_of(const struct varlena *stored);
+static inline Bytes bytes_of(const struct varlena *stored)
+{
+    return (Bytes){(const uint8_t *)VARDATA_ANY(stored), VARSIZE_ANY_EXHDR(stored)};
+}
+
+/* The value of a datum: nearly all versions have a short header, and lie as they are. */
+static inline struct varlena *stored_of(Datum datum)
+{
+    struct varlena *stored = (struct varlena *)DatumGetPointer(datum);
+    return VARATT_IS_1B(stored) && !VARATT_IS_1B_E(stored) ? stored : PG_DETOAST_DATUM_PACKED(datum);
+}
+
 /* What a version is; the buffer keeps the compiled bytes of one that is stored without them. */
 Version version_of(const struct varlena *stored, VersionBuffer *buffer);
 /* The order of two versions, -1, 0 or 1. */
@@ -91,10 +112,6 @@ VersionKind kind_of(const struct varlena *stored);
 char *short_text(const struct varlena *stored);
 /* The normal form of a version that is the first argument. */
 char *normal_argument(FunctionCallInfo fcinfo);
-/* The output functions of the types, which no other type has but domains over these. */
-extern PGDLLEXPORT Datum version_out(PG_FUNCTION_ARGS);
-extern PGDLLEXPORT Datum specs_out(PG_FUNCTION_ARGS);
-extern PGDLLEXPORT Datum set_out(PG_FUNCTION_ARGS);
 /* What the library takes as the list or the set: compiled bytes, or the normal form where an older release stored a list. */
 Bytes list_of(const struct varlena *stored);
 /* The members in a compiled list; of a set all bytes. So lists and sets are equal if these are. */
@@ -125,7 +142,9 @@ Datum hash_of(Bytes bytes, FunctionCallInfo fcinfo);
 /* As keys are compared: byte by byte, then the shorter one first. -1, 0 or 1. */
 int compare_bytes(Bytes left, Bytes right);
 
-#define GET_STORED(number) ((struct varlena *)PG_DETOAST_DATUM_PACKED(PG_GETARG_DATUM(number)))
+#pragma GCC visibility pop
+
+#define GET_STORED(number) stored_of(PG_GETARG_DATUM(number))
 #define GET_LIST(number) list_of(GET_STORED(number))
 
 /* A function of SQL that returns the datum. */
@@ -136,5 +155,22 @@ int compare_bytes(Bytes left, Bytes right);
         return datum; \
     } \
     extern int no_such_variable
+
+/* The functions of a type by which its values become texts and are made of them. */
+#define TEXT_FUNCTIONS(type, read, normal) \
+    SQL_FUNCTION(type##_in, read_cstring(fcinfo, read)); \
+    SQL_FUNCTION(type##_out, CStringGetDatum(normal)); \
+    SQL_FUNCTION(type##_recv, read_binary(fcinfo, read)); \
+    SQL_FUNCTION(type##_send, binary_of(normal)); \
+    SQL_FUNCTION(type##_from_text, read_text(fcinfo, read)); \
+    SQL_FUNCTION(type##_to_text, PointerGetDatum(cstring_to_text(normal)))
+
+/* The comparisons that are an order; their names have lt, le, eq, ge and gt between these. */
+#define COMPARISONS(before, behind, order) \
+    SQL_FUNCTION(before##lt##behind, BoolGetDatum((order) < 0)); \
+    SQL_FUNCTION(before##le##behind, BoolGetDatum((order) <= 0)); \
+    SQL_FUNCTION(before##eq##behind, BoolGetDatum((order) == 0)); \
+    SQL_FUNCTION(before##ge##behind, BoolGetDatum((order) >= 0)); \
+    SQL_FUNCTION(before##gt##behind, BoolGetDatum((order) > 0))
 
 #endif

@@ -51,32 +51,22 @@ Datum version_pre_kind(PG_FUNCTION_ARGS)
     PG_RETURN_TEXT_P(cstring_to_text(words[parts.pre_kind]));
 }
 
-PG_FUNCTION_INFO_V1(version_pre);
-Datum version_pre(PG_FUNCTION_ARGS)
+/* A number that not each version has, or null. */
+typedef enum { PRE, POST, DEV } PartName;
+
+static Datum number_or_null(FunctionCallInfo fcinfo, PartName name)
 {
     pep440_parts parts = parts_of(fcinfo);
-    if (parts.pre_kind == PEP440_NO_PRE)
+    const bool has[] = {parts.pre_kind != PEP440_NO_PRE, parts.has_post, parts.has_dev};
+    const uint64_t numbers[] = {parts.pre, parts.post, parts.dev};
+    if (!has[name])
         PG_RETURN_NULL();
-    return make_numeric(parts.pre);
+    return make_numeric(numbers[name]);
 }
 
-PG_FUNCTION_INFO_V1(version_post);
-Datum version_post(PG_FUNCTION_ARGS)
-{
-    pep440_parts parts = parts_of(fcinfo);
-    if (!parts.has_post)
-        PG_RETURN_NULL();
-    return make_numeric(parts.post);
-}
-
-PG_FUNCTION_INFO_V1(version_dev);
-Datum version_dev(PG_FUNCTION_ARGS)
-{
-    pep440_parts parts = parts_of(fcinfo);
-    if (!parts.has_dev)
-        PG_RETURN_NULL();
-    return make_numeric(parts.dev);
-}
+SQL_FUNCTION(version_pre, number_or_null(fcinfo, PRE));
+SQL_FUNCTION(version_post, number_or_null(fcinfo, POST));
+SQL_FUNCTION(version_dev, number_or_null(fcinfo, DEV));
 
 PG_FUNCTION_INFO_V1(version_is_prerelease);
 Datum version_is_prerelease(PG_FUNCTION_ARGS)

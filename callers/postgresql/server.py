@@ -101,6 +101,14 @@ def plan_of(db, query):
     return "\n".join(line for (line,) in db.rows("EXPLAIN (COSTS OFF) " + query))
 
 
+def both_ways(db, query, index):
+    """The rows of the query are by the index those that they are without one."""
+    query = f"SELECT count(*), md5(string_agg(found::text, ' ' ORDER BY found::text)) FROM ({query}) AS found"
+    alone = db.rows("RESET ALL;" + NO_INDEX + query)
+    db.rows("RESET ALL;" + NO_TABLE)
+    assert index in plan_of(db, query) and db.rows(query) == alone, query
+
+
 def copied(db, query, name):
     """What the query gives, as COPY writes it."""
     file = db.folder / name
@@ -115,12 +123,6 @@ def milliseconds(db, query):
 def processor_time(db):
     """What the backend has taken, in seconds: on a loaded machine it waits longer, and takes no more."""
     return int(pathlib.Path(f"/proc/{db.value('SELECT pg_backend_pid()')}/schedstat").read_text().split()[0]) / 1e9
-
-
-def time_of(db, query):
-    before = processor_time(db)
-    db.rows(query)
-    return processor_time(db) - before
 
 
 def instructions(server, query):

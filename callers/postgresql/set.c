@@ -292,12 +292,7 @@ static struct varlena *read_set(Bytes text, Node *context)
     return make_set(&reading);
 }
 
-SQL_FUNCTION(set_in, read_cstring(fcinfo, read_set));
-SQL_FUNCTION(set_out, CStringGetDatum(set_text(fcinfo)));
-SQL_FUNCTION(set_recv, read_binary(fcinfo, read_set));
-SQL_FUNCTION(set_send, binary_of(set_text(fcinfo)));
-SQL_FUNCTION(set_from_text, read_text(fcinfo, read_set));
-SQL_FUNCTION(set_to_text, PointerGetDatum(cstring_to_text(set_text(fcinfo))));
+TEXT_FUNCTIONS(set, read_set, set_text(fcinfo));
 SQL_FUNCTION(set_from_specs, PointerGetDatum(set_of_list(GET_LIST(0), NULL)));
 
 /* ---- sets of sets */

@@ -19,7 +19,10 @@ static bool is_too_long(Bytes text)
 
 static uint8_t compile_list(Bytes text, Bytes *compiled)
 {
-    return is_too_long(text) ? PEP440_NO_ROOM : write_all(pep440_compile_list, text, compiled);
+    if (is_too_long(text))
+        return PEP440_NO_ROOM;
+    CHECK_FOR_INTERRUPTS();
+    return write_all(pep440_compile_list, text, compiled);
 }
 
 bool read_list(Bytes text, const char *type, Node *context, Bytes *compiled)
@@ -44,12 +47,7 @@ static char *normal_list(FunctionCallInfo fcinfo, int number)
     return normal_text(pep440_normalize_list, GET_LIST(number));
 }
 
-SQL_FUNCTION(specs_in, read_cstring(fcinfo, read_specs));
-SQL_FUNCTION(specs_out, CStringGetDatum(normal_list(fcinfo, 0)));
-SQL_FUNCTION(specs_recv, read_binary(fcinfo, read_specs));
-SQL_FUNCTION(specs_send, binary_of(normal_list(fcinfo, 0)));
-SQL_FUNCTION(specs_from_text, read_text(fcinfo, read_specs));
-SQL_FUNCTION(specs_to_text, PointerGetDatum(cstring_to_text(normal_list(fcinfo, 0))));
+TEXT_FUNCTIONS(specs, read_specs, normal_list(fcinfo, 0));
 
 PG_FUNCTION_INFO_V1(specs_valid);
 Datum specs_valid(PG_FUNCTION_ARGS)
@@ -157,13 +155,8 @@ static int order_of_lists(FunctionCallInfo fcinfo)
     return order;
 }
 
-SQL_FUNCTION(specs_lt, BoolGetDatum(order_of_lists(fcinfo) < 0));
-SQL_FUNCTION(specs_le, BoolGetDatum(order_of_lists(fcinfo) <= 0));
-SQL_FUNCTION(specs_eq, BoolGetDatum(order_of_lists(fcinfo) == 0));
-SQL_FUNCTION(specs_ge, BoolGetDatum(order_of_lists(fcinfo) >= 0));
-SQL_FUNCTION(specs_gt, BoolGetDatum(order_of_lists(fcinfo) > 0));
+COMPARISONS(specs_, , order_of_lists(fcinfo));
 SQL_FUNCTION(specs_ne, BoolGetDatum(order_of_lists(fcinfo) != 0));
-
 SQL_FUNCTION(specs_cmp, Int32GetDatum(order_of_lists(fcinfo)));
 
 static Datum hash_of_list(FunctionCallInfo fcinfo)
@@ -306,10 +299,25 @@ bool is_in_cover(const Cover *cover, Bytes key)
     return false;
 }
 
-/* Whether the version is in the cover of the list: by the first bytes of its key, where these decide. */
-static bool is_covered(const Kept *kept, const struct varlena *stored)
+/* These two are functions of their own, since a function with room for a version takes longer to begin and to end. */
+static pg_noinline bool has_key_of(const Cover *cover, const struct varlena *stored)
 {
     VersionBuffer buffer;
+    return is_in_cover(cover, version_of(stored, &buffer).key);
+}
+
+static pg_noinline bool allows(Bytes list, const struct varlena *stored)
+{
+    VersionBuffer buffer;
+    uint8_t allowed;
+    Version version = version_of(stored, &buffer);
+    expect_ok(pep440_allows(list.bytes, list.length, version.bytes.bytes, version.bytes.length, PEP440_ALL_PRERELEASES, &allowed));
+    return allowed != 0;
+}
+
+/* Whether the version is in the cover of the list: by the first bytes of its key, where these decide. */
+static inline bool is_covered(const Kept *kept, const struct varlena *stored)
+{
     uint64 sought = first_of_version(stored);
     size_t first = 0, end = kept->cover.count;
     while (first < end) {
@@ -320,7 +328,7 @@ static bool is_covered(const Kept *kept, const struct varlena *stored)
         else if (sought > firsts.high)
             first = middle + 1;
         else
-            return (sought > firsts.low && sought < firsts.high) || is_in_cover(&kept->cover, version_of(stored, &buffer).key);
+            return (sought > firsts.low && sought < firsts.high) || has_key_of(&kept->cover, stored);
     }
     return false;
 }
@@ -347,12 +355,10 @@ const Cover *known_cover(FmgrInfo *function, Bytes list)
 }
 
 /* What is known of the list that is this argument: of a constant all, from the first call on. */
-static const Kept *known_argument(FunctionCallInfo fcinfo, int list_at)
+static pg_noinline const Kept *know_argument(FunctionCallInfo fcinfo, int list_at)
 {
     FmgrInfo *function = fcinfo->flinfo;
-    Kept *kept = function == NULL ? NULL : function->fn_extra;
-    if (kept != NULL && kept->is_constant && kept->is_known)
-        return kept;
+    Kept *kept;
     if (function == NULL || !is_constant(function, list_at))
         return known_list(function, GET_LIST(list_at));
     kept = keep_list(function, GET_LIST(list_at));
@@ -361,25 +367,18 @@ static const Kept *known_argument(FunctionCallInfo fcinfo, int list_at)
     return kept;
 }
 
-/* Whether the list or the set contains the version, pre-releases like others: by its key where this decides, else by the library. */
-static bool contains(FunctionCallInfo fcinfo, int list_at, const struct varlena *stored)
+static inline const Kept *known_argument(FunctionCallInfo fcinfo, int list_at)
 {
-    VersionBuffer buffer;
-    uint8_t allowed;
+    const Kept *kept = fcinfo->flinfo == NULL ? NULL : fcinfo->flinfo->fn_extra;
+    return kept != NULL && kept->is_constant ? kept : know_argument(fcinfo, list_at);
+}
+
+/* Whether the list or the set contains the version, pre-releases like others: by its key where this decides, else by the library. */
+static inline bool contains(FunctionCallInfo fcinfo, int list_at, const struct varlena *stored)
+{
     const Kept *known = known_argument(fcinfo, list_at);
-    if (known != NULL) {
-        bool found = is_covered(known, stored);
-        if (!found || known->cover.is_exact)
-            return found;
-    }
-    Bytes list = GET_LIST(list_at);
-    Version version = version_of(stored, &buffer);
-    if (list.length > 0 && list.bytes[0] == SET_FORMAT) {
-        Cover cover = cover_of(list);
-        return is_in_cover(&cover, version.key);
-    }
-    expect_ok(pep440_allows(list.bytes, list.length, version.bytes.bytes, version.bytes.length, PEP440_ALL_PRERELEASES, &allowed));
-    return allowed != 0;
+    bool is_in = known != NULL && is_covered(known, stored);
+    return known != NULL && (!is_in || known->cover.is_exact) ? is_in : allows(GET_LIST(list_at), stored);
 }
 
 SQL_FUNCTION(specs_contains, BoolGetDatum(contains(fcinfo, 0, GET_STORED(1))));

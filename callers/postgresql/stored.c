@@ -9,18 +9,18 @@
    one, which ends with the format of members. So each value shows how it is stored. */
 #include "extension.h"
 
-/* No local part, no dev release, no post-release, and that it is no pre-release: what ends a sort key, and follows the numbers of a release alone. */
+/* No local part, no dev release, no post-release, and that it is no pre-release: what ends a sort key, and follows the numbers of a release alone; also as the
+   first bytes of a number. */
 static const struct {
+    uint64 first;
     uint8_t length;
     uint8_t bytes[5];
-} ENDS[] = {{5, {0, 0x50, 0, 0x10, 0}}, {3, {0, 0x10, 0}}, {2, {0x10, 0}}, {1, {0}}};
+} ENDS[] = {{0x0050001000000000, 5, {0, 0x50, 0, 0x10, 0}}, {0x0010000000000000, 3, {0, 0x10, 0}}, {0x1000000000000000, 2, {0x10, 0}}, {0, 1, {0}}};
 
 enum { RELEASE_ALONE = 0, SHORT = 0x80, MOST_SHORT = 0x7f, MOST_FIRST = 7, MOST_ZEROS = 3, MOST_END = 3, ZEROS_SHIFT = 3, END_SHIFT = 5, ZERO = 1 };
 
-Bytes bytes_of(const struct varlena *stored)
-{
-    return (Bytes){(const uint8_t *)VARDATA_ANY(stored), VARSIZE_ANY_EXHDR(stored)};
-}
+/* Of eight bytes of a value those of the key: of the first one the lower bits. */
+static const uint64 FIRST_BYTES = PG_UINT64_MAX >> 5;
 
 static uint8_t last_of(Bytes bytes)
 {
@@ -71,14 +71,30 @@ static Version short_version(Bytes value, VersionBuffer *buffer)
     return (Version){.key = {buffer->bytes + 1, length - 1}, .bytes = {buffer->bytes, length + zeros}};
 }
 
-/* Most numbers have one or two digits. */
-static char *put_number(char *out, uint64 number)
+/* Numbers of one byte, as nearly all are, as they are printed: their digits, and a dot. */
+static struct {
+    char text[4];
+    int length;
+} printed_bytes[UINT8_MAX + 1];
+
+void _PG_init(void)
 {
-    if (number >= 100)
-        return out + pg_ulltoa_n(number, out);
-    if (number >= 10)
-        *out++ = (char)('0' + number / 10);
-    *out++ = (char)('0' + number % 10);
+    for (int number = 0; number <= UINT8_MAX; number++) {
+        char text[8] = "";
+        printed_bytes[number].length = snprintf(text, sizeof text, "%d.", number);
+        memcpy(printed_bytes[number].text, text, sizeof printed_bytes->text);
+    }
+}
+
+/* Writes a number and a dot, and what follows is overwritten: up to two characters. */
+static inline char *put_number(char *out, uint64 number)
+{
+    if (number <= UINT8_MAX) {
+        memcpy(out, printed_bytes[number].text, sizeof printed_bytes->text);
+        return out + printed_bytes[number].length;
+    }
+    out += pg_ulltoa_n(number, out);
+    *out++ = '.';
     return out;
 }
 
@@ -115,62 +131,71 @@ typedef struct {
     uint64 number;
 } Part;
 
-enum { DEV_STAGE = 1, FINAL_STAGE = 5, NO_POST = 0, HAS_POST = 1, HAS_DEV = 0, NO_DEV = 1, STRING_SEGMENT = 1, NUMBER_BASE = 2 };
+enum { NO_PART = -1, DEV_STAGE = 1, ALPHA_STAGE = 2, RC_STAGE = 4, FINAL_STAGE = 5, NO_POST = 0, HAS_POST = 1, HAS_DEV = 0, NO_DEV = 1, STRING_SEGMENT = 1, NUMBER_BASE = 2 };
 
-/* What follows a release in a key: stage, post-release and dev release, and then the local part. */
+/* Three parts beyond the end of a key have no more bytes. */
+enum { MOST_BEYOND = 32 };
+
+/* What follows a release in a key: stage, post-release and dev release, and then the local part. Behind its end are zeros, so that parts need not look for it. */
 typedef struct {
     Part stage;
     Part post;
     Part dev;
     const uint8_t *local;
     const uint8_t *end;
-    uint8_t bytes[MOST_SHORT + sizeof ENDS->bytes];
+    uint8_t bytes[MOST_SHORT + sizeof ENDS->bytes + MOST_BEYOND];
 } Suffix;
 
-static bool read_part(Suffix *suffix, Part *part)
+static inline Part read_part(const uint8_t **at)
 {
-    if (suffix->local >= suffix->end)
-        return false;
-    part->rank = *suffix->local >> 4;
-    int bytes = *suffix->local++ & 0xf;
-    return read_number(&suffix->local, suffix->end, bytes, &part->number);
+    int rank = **at >> 4, bytes = *(*at)++ & 0xf;
+    uint64 number = 0;
+    if (bytes == 1 && **at != 0)
+        number = *(*at)++;
+    else if (bytes != 0 && !read_number(at, *at + sizeof number, bytes, &number))
+        rank = NO_PART;
+    return (Part){rank, number};
 }
 
 /* Reads what follows the 0 behind a release, with the end that is not stored; false if it is of no version. */
 static bool read_suffix(Bytes value, const uint8_t *at, Suffix *suffix)
 {
     size_t rest = (size_t)(value.bytes + value.length - at);
-    memcpy(suffix->bytes, at, rest);
-    memcpy(suffix->bytes + rest, ENDS[end_of(value)].bytes, sizeof ENDS->bytes);
+    uint8_t *end = (uint8_t *)memcpy(suffix->bytes, at, rest) + rest;
+    memcpy(end, ENDS[end_of(value)].bytes, sizeof ENDS->bytes);
+    end += ENDS[end_of(value)].length;
+    memset(end, 0, MOST_BEYOND);
+    suffix->end = end;
     suffix->local = suffix->bytes;
-    suffix->end = suffix->bytes + rest + ENDS[end_of(value)].length;
-    if (!read_part(suffix, &suffix->stage) || !read_part(suffix, &suffix->post) || !read_part(suffix, &suffix->dev))
+    Part stage = read_part(&suffix->local), post = read_part(&suffix->local), dev = read_part(&suffix->local);
+    suffix->stage = stage, suffix->post = post, suffix->dev = dev;
+    if (suffix->local >= end || stage.rank < DEV_STAGE || stage.rank > FINAL_STAGE || post.rank < NO_POST || post.rank > HAS_POST || dev.rank < HAS_DEV || dev.rank > NO_DEV)
         return false;
-    int stage = suffix->stage.rank, post = suffix->post.rank, dev = suffix->dev.rank;
-    if (stage < DEV_STAGE || stage > FINAL_STAGE || post > HAS_POST || dev > NO_DEV)
+    bool is_plain = stage.rank == DEV_STAGE || stage.rank == FINAL_STAGE;
+    if ((is_plain && stage.number != 0) || (post.rank == NO_POST && post.number != 0) || (dev.rank == NO_DEV && dev.number != 0))
         return false;
-    if (((stage == DEV_STAGE || stage == FINAL_STAGE) && suffix->stage.number != 0) || (post == NO_POST && suffix->post.number != 0) || (dev == NO_DEV && suffix->dev.number != 0))
-        return false;
-    return stage == DEV_STAGE ? post == NO_POST && dev == HAS_DEV : stage != FINAL_STAGE || post == HAS_POST || dev == NO_DEV;
+    return stage.rank == DEV_STAGE ? post.rank == NO_POST && dev.rank == HAS_DEV : stage.rank != FINAL_STAGE || post.rank == HAS_POST || dev.rank == NO_DEV;
 }
 
-/* Reads the numbers of the release, of which the last is above 0, and writes them with a dot behind each, unless `out` is NULL. Returns where the suffix
-   begins, or the end of a release alone; NULL where the value is of no version. */
-static const uint8_t *read_release(Bytes value, char **out)
+/* Writes the numbers of the release, of which the last is above 0, with a dot behind each. Returns where the suffix begins, or the end of a release alone;
+   NULL where the value is of no version. */
+static inline const uint8_t *put_release(Bytes value, bool is_alone, char **out)
 {
     const uint8_t *at = value.bytes + 1, *end = value.bytes + value.length;
-    bool is_alone = end_of(value) == RELEASE_ALONE, has_end = !is_alone;
-    uint64 number = 1;
-    for (int length = value.bytes[0] & MOST_FIRST; length > 0; length = has_end ? *at++ : 0) {
-        if (!read_number(&at, end, length - 1, &number))
+    int length = value.bytes[0] & MOST_FIRST;
+    uint64 number = 0;
+    if (length == 0)
+        return is_alone && at != end ? NULL : at;
+    for (; length > 0; length = *at++) {
+        if (length == 2 && at < end && *at != 0)
+            number = *at++;
+        else if (!read_number(&at, end, length - 1, &number))
             return NULL;
-        if (out != NULL) {
-            *out = put_number(*out, number);
-            *(*out)++ = '.';
-        }
-        has_end = at < end;
+        *out = put_number(*out, number);
+        if (at == end)
+            return is_alone && number != 0 ? at : NULL;
     }
-    return number == 0 || has_end == is_alone || (is_alone && at != end) ? NULL : at;
+    return is_alone || number == 0 ? NULL : at;
 }
 
 VersionKind kind_of(const struct varlena *stored)
@@ -191,11 +216,11 @@ VersionKind kind_of(const struct varlena *stored)
     return suffix.dev.rank == HAS_DEV ? PRERELEASE_KIND : FINAL_KIND;
 }
 
-static char *put_word(char *out, const char *word, uint64 number)
+static inline char *put_word(char *out, const char *word, uint64 number)
 {
-    while (*word != 0)
-        *out++ = *word++;
-    return put_number(out, number);
+    size_t length = strlen(word);
+    memcpy(out, word, length);
+    return put_number(out + length, number) - 1;
 }
 
 /* Writes the local part; NULL if it is none, or has a string without a letter. */
@@ -214,19 +239,19 @@ static char *put_local(char *out, const uint8_t *at, const uint8_t *end)
         if (kind == STRING_SEGMENT ? !has_letter || at++ >= end : !read_number(&at, end, kind - NUMBER_BASE, &number))
             return NULL;
         if (kind != STRING_SEGMENT)
-            out = put_number(out, number);
+            out = put_number(out, number) - 1;
     }
     return at + 1 == end ? out : NULL;
 }
 
 static char *put_suffix(char *out, Bytes value, const uint8_t *at)
 {
-    static const char *const stages[] = {NULL, NULL, "a", "b", "rc", NULL};
     Suffix suffix;
     if (!read_suffix(value, at, &suffix))
         return NULL;
-    if (stages[suffix.stage.rank] != NULL)
-        out = put_word(out, stages[suffix.stage.rank], suffix.stage.number);
+    int stage = suffix.stage.rank;
+    if (stage > DEV_STAGE && stage < FINAL_STAGE)
+        out = stage == RC_STAGE ? put_word(out, "rc", suffix.stage.number) : put_word(out, stage == ALPHA_STAGE ? "a" : "b", suffix.stage.number);
     if (suffix.post.rank == HAS_POST)
         out = put_word(out, ".post", suffix.post.number);
     if (suffix.dev.rank == HAS_DEV)
@@ -240,13 +265,14 @@ char *short_text(const struct varlena *stored)
     if (!is_short(value))
         return NULL;
     char *text = palloc(4 * (value.length + sizeof ENDS->bytes) + 2 * MOST_ZEROS + sizeof "rc.post.dev"), *out = text;
-    const uint8_t *at = read_release(value, &out);
+    bool is_alone = end_of(value) == RELEASE_ALONE;
+    const uint8_t *at = put_release(value, is_alone, &out);
     for (size_t zeros = zeros_of(value); zeros > 0; zeros--)
         *out++ = '0', *out++ = '.';
     if (at == NULL || out == text)
         return NULL;
     out--;
-    if (end_of(value) != RELEASE_ALONE)
+    if (!is_alone)
         out = put_suffix(out, value, at);
     if (out == NULL)
         return NULL;
@@ -289,35 +315,54 @@ uint64 first_of_key(Bytes key)
     return pg_ntoh64(first);
 }
 
+/* Two to eight bytes as the first ones of a number: by two halves, which have bytes in common where these are fewer than eight, or four. */
+static inline uint64 read_first(const uint8_t *bytes, size_t length)
+{
+    int unused = 8 * (int)(sizeof(uint64) - length);
+    uint32 high, low;
+    uint16 short_high, short_low;
+    if (length >= sizeof high) {
+        memcpy(&high, bytes, sizeof high);
+        memcpy(&low, bytes + length - sizeof low, sizeof low);
+        return (uint64)pg_ntoh32(high) << 32 | (uint64)pg_ntoh32(low) << unused;
+    }
+    memcpy(&short_high, bytes, sizeof short_high);
+    memcpy(&short_low, bytes + length - sizeof short_low, sizeof short_low);
+    return (uint64)pg_ntoh16(short_high) << 48 | (uint64)pg_ntoh16(short_low) << unused;
+}
+
+/* These two are functions of their own, since a function with room for a version takes longer to begin and to end. */
+static pg_noinline uint64 first_of_rare_version(const struct varlena *stored)
+{
+    VersionBuffer buffer;
+    return first_of_key(version_of(stored, &buffer).key);
+}
+
+static pg_noinline int compare_keys(const struct varlena *left, const struct varlena *right)
+{
+    VersionBuffer buffers[2];
+    return compare_bytes(version_of(left, &buffers[0]).key, version_of(right, &buffers[1]).key);
+}
+
 uint64 first_of_version(const struct varlena *stored)
 {
     Bytes value = bytes_of(stored);
-    VersionBuffer buffer;
-    if (!is_short(value))
-        return first_of_key(version_of(stored, &buffer).key);
-    const uint8_t *end = ENDS[end_of(value)].bytes;
-    uint64 first = value.bytes[0] & MOST_FIRST;
-    int room = first != 0 || end_of(value) != RELEASE_ALONE ? sizeof first - 1 : sizeof first;
-    for (size_t each = 1; each < value.length && room > 0; each++, room--)
-        first = first << 8 | value.bytes[each];
-    for (size_t each = 0; each < sizeof ENDS->bytes && room > 0; each++, room--)
-        first = first << 8 | end[each];
-    return first << (8 * room);
+    if (!is_short(value) || value.length == 1 || (value.bytes[0] & MOST_FIRST) == 0)
+        return first_of_rare_version(stored);
+    size_t length = Min(value.length, sizeof(uint64));
+    uint64 first = read_first(value.bytes, length) & FIRST_BYTES;
+    return length == sizeof first ? first : first | ENDS[end_of(value)].first >> (8 * length);
 }
 
 int compare_versions(const struct varlena *left, const struct varlena *right)
 {
-    Bytes one = bytes_of(left), other = bytes_of(right);
-    VersionBuffer buffers[2];
-    if (one.length == other.length && memcmp(one.bytes, other.bytes, one.length) == 0)
-        return 0;
-    bool are_releases = is_short(one) && is_short(other) && end_of(one) == RELEASE_ALONE && end_of(other) == RELEASE_ALONE;
-    if (are_releases && (one.bytes[0] & MOST_FIRST) == (other.bytes[0] & MOST_FIRST))
-        return compare_bytes((Bytes){one.bytes + 1, one.length - 1}, (Bytes){other.bytes + 1, other.length - 1});
     uint64 first = first_of_version(left), second = first_of_version(right);
     if (first != second)
         return first < second ? -1 : 1;
-    return compare_bytes(version_of(left, &buffers[0]).key, version_of(right, &buffers[1]).key);
+    Bytes one = bytes_of(left), other = bytes_of(right);
+    if (one.length == other.length && memcmp(one.bytes, other.bytes, one.length) == 0)
+        return 0;
+    return compare_keys(left, right);
 }
 
 static bool ends_with(Bytes key, int end)

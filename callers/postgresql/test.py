@@ -11,7 +11,6 @@ import pathlib
 import random
 import re
 import signal
-import statistics
 import subprocess
 import sys
 import threading
@@ -21,8 +20,9 @@ import test_hostile
 import test_plans
 import test_values
 from libpq import Refused
-from server import (FOLDER, HERE, INVALID_REGULAR_EXPRESSION, LISTS, NARROW, NO_INDEX, NO_TABLE, OUT_OF_MEMORY, PREFIX, PROGRAM, RECHECKED, ROWS, SMALL, STRINGS, USER, Server, copied, fill,
-                    instructions, milliseconds, plan_of, time_of, version)
+from server import (FOLDER, HERE, INVALID_REGULAR_EXPRESSION, LISTS, NARROW, NO_INDEX, NO_TABLE, OUT_OF_MEMORY, PREFIX, PROGRAM, RECHECKED, ROWS, SMALL, STRINGS, USER, Server, both_ways, copied, fill,
+                    instructions, milliseconds, plan_of, version)
+from test_values import refused
 
 # ---- what a running server is asked
 
@@ -35,12 +35,22 @@ def test_installcheck(server):
     return re.search(r"All \d+ tests passed", ran.stdout)[0]
 
 
+def run_commands(server, block):
+    """Runs the page's commands, but for the one that installs packages, in a copy of the folder, for this server and its database `page`."""
+    commands = re.sub(r"^sudo apt-get .*$|^sudo ", "", block, flags=re.M).replace("/usr/local", PREFIX)
+    ran = subprocess.run(USER + ["sh", "-e"], input=f"cp -r src page && cd page && make -s clean PEP440={PREFIX}\n{commands}", cwd=FOLDER, capture_output=True, text=True, check=False,
+                         env={**os.environ, **server.environment("page"), "PATH": f"{FOLDER}/bin:{os.environ['PATH']}"})
+    assert ran.returncode == 0 and ran.stdout.endswith("CREATE EXTENSION\n"), ran.stdout[-1000:] + ran.stderr[-1000:]
+
+
 def test_page(server):
-    """Each query of the page gives what stands under it."""
+    """The page's commands install the extension, and each query gives what stands under it."""
     server.connect().rows("CREATE DATABASE page")
+    page = (HERE / "README.md").read_text(encoding="utf-8")
+    (block,) = re.findall(r"```sh\n(.*?)```", page, re.S)
+    run_commands(server, block)
     db, count = server.connect("page"), 0
-    db.rows("CREATE EXTENSION pep440")
-    for block in re.findall(r"```sql\n(.*?)```", (HERE / "README.md").read_text(encoding="utf-8"), re.S):
+    for block in re.findall(r"```sql\n(.*?)```", page, re.S):
         for query in re.findall(r"(?:^[^-\n].*\n)+(?:^-- .*\n)*", block, re.M):
             wanted = re.findall(r"^-- (.*)$", query, re.M)
             found = ["|".join(value or "" for value in row) for row in db.rows(re.sub(r"^-- .*$", "", query, flags=re.M))]
@@ -48,7 +58,7 @@ def test_page(server):
             count += bool(wanted)
     db.close()
     assert count == 4, count
-    return f"{count} queries"
+    return f"4 commands, {count} queries"
 
 
 def test_lists(server):
@@ -97,12 +107,9 @@ def test_order(server):
             db.rows("RESET ALL;" + setting)
             answers.append(db.rows(query))
         assert answers[0] == answers[1] == answers[2], (query, answers)
-    db.rows("RESET ALL; DROP INDEX by_version;" + NO_TABLE)
+    db.rows("RESET ALL; DROP INDEX by_version")
     for _ in range(60):
-        query = f"SELECT count(*), sum(id) FROM releases WHERE version = '{version(rng)}'"
-        assert "by_hash" in plan_of(db, query)
-        by_hash = db.rows(query)
-        assert by_hash == db.rows(NO_INDEX + "SET enable_seqscan = on;" + query) and db.rows("RESET ALL;" + NO_TABLE + "SELECT 1"), query
+        both_ways(db, f"SELECT count(*), sum(id) FROM releases WHERE version = '{version(rng)}'", "by_hash")
     db.rows("RESET ALL; CREATE INDEX by_version ON releases (version); ANALYZE releases")
     db.close()
     return f"{len(queries)} queries by an index as without, 60 by the hash index"
@@ -210,24 +217,14 @@ def test_encodings(server):
     other.rows("CREATE EXTENSION pep440; SET client_encoding = 'UTF8'")
     assert other.value("SELECT ' v1.0+A '::pep440") == "1.0+a"
     for text in ("1.0+é", "é"):
-        try:
-            other.rows(f"SELECT '{text}'::pep440")
-        except Refused as error:
-            assert error.code == "22P02" and text in str(error), error
-        else:
-            raise AssertionError(text)
+        assert text in refused(other, f"SELECT '{text}'::pep440", "22P02")
     other.close()
     db.rows("CREATE DATABASE no_encoding ENCODING 'SQL_ASCII' LC_COLLATE 'C' LC_CTYPE 'C' TEMPLATE template0")
     other = server.connect("no_encoding")
     other.rows("CREATE EXTENSION pep440; SET client_encoding = 'SQL_ASCII'")
     assert other.rows("SELECT pep440_valid(E'caf\\xe9'), pep440_specs_valid(E'>=1\\xe9'), pep440_valid('1.0')") == [("f", "f", "t")]
     for kind, text in (("pep440", "caf\\xe9"), ("pep440_specs", ">=1\\xe9")):
-        try:
-            other.rows(f"SELECT E'{text}'::{kind}")
-        except Refused as error:
-            assert error.code == "22P02", error
-        else:
-            raise AssertionError(text)
+        refused(other, f"SELECT E'{text}'::{kind}", "22P02")
     other.close()
     db.close()
     return "LATIN1, SQL_ASCII"
@@ -308,18 +305,32 @@ def test_speed(server):
     by_index = min(milliseconds(db, newest) for _ in range(50))
     db.rows(NO_INDEX)
     without = min(milliseconds(db, newest) for _ in range(5))
-    ratios = [f"ORDER BY with LIMIT {without / by_index:.0f} times faster by the index"]
-    matches = []
-    conditions = {f"`{specs}`": f"'{specs}' @> version" for specs in (">=1.0", ">=1.0,<2.0,!=1.5.*", "~=1.4.2")}
-    conditions |= {"pep440_is_prerelease": "pep440_is_prerelease(version)", "a comparison": "version >= '1.0'", "a set": "version <@ '{[1, 1.5), [1.6, 2.dev0)}'::pep440_set"}
-    for name, condition in conditions.items():
-        match, like = (f"SELECT count(*) FROM releases WHERE {it}" for it in (condition, "written LIKE '1.%'"))
-        # The median, since a processor is slow while its neighbour works.
-        matches.append(statistics.median(time_of(db, match) / time_of(db, like) for _ in range(15)))
-        ratios.append(f"{name} over all rows {matches[-1]:.2f} of a LIKE")
     db.close()
-    assert without / by_index >= 1000 and max(matches) <= 1.75, ratios
-    return "; ".join(ratios)
+    assert without / by_index >= 1000, (without, by_index)
+    return f"ORDER BY with LIMIT {without / by_index:.0f} times faster by the index"
+
+
+# The conditions of filters, with the most that they may execute of a prefix LIKE's instructions.
+FILTERS = {
+    "'>=1.0' @> version": 1.0, "'>=1.0,<2.0,!=1.5.*' @> version": 1.0, "version <@ '~=1.4.2'": 1.0, "version <@ '{[1, 1.5), [1.6, 2.dev0)}'::pep440_set": 1.0,
+    "version >= '1.0'": 1.1, "pep440_is_prerelease(version)": 1.1,
+}
+
+
+def test_filters(server):
+    """What filters execute of the instructions of a prefix LIKE, with all else that a row takes."""
+    if SMALL:
+        return "left out"
+    db = server.connect()
+    db.rows("CREATE TABLE filtered AS SELECT written, version FROM releases WHERE id <= 20000")
+    db.rows("VACUUM FREEZE ANALYZE filtered")
+    db.close()
+    server.stop()
+    counts = [instructions(server, f"SELECT count(*) FROM filtered WHERE {condition}") for condition in ("written LIKE '1.%'", *FILTERS)]
+    server.start()
+    ratios = {condition: count / counts[0] for condition, count in zip(FILTERS, counts[1:])}
+    assert all(ratio <= FILTERS[condition] for condition, ratio in ratios.items()), ratios
+    return "; ".join(f"{condition} {ratio:.2f}" for condition, ratio in ratios.items())
 
 
 # ---- refused memory, in servers of their own
@@ -480,8 +491,7 @@ def test_killed(unused):
                 written[int(client)] = int(found)
             db.rows("SELECT bt_index_check('by_version', true)")
             for condition in ("version <@ '~=1.7'", "version = '2.8.1'", "specs @> '1.9.3'", "versions @> '1.9.3'::pep440", "versions && '==3.*'"):
-                query = f"SELECT count(*), sum(number) FROM kept WHERE {condition}"
-                assert db.rows("RESET ALL;" + NO_TABLE + query) == db.rows("RESET ALL;" + NO_INDEX + query), condition
+                both_ways(db, f"SELECT count(*), sum(number) FROM kept WHERE {condition}", "by_")
             db.close()
     finally:
         server.stop()
@@ -492,8 +502,33 @@ HELD = ["SELECT * FROM kept ORDER BY version, number", "SELECT count(*), sum(num
         "SELECT count(*), sum(number) FROM kept WHERE versions && '==1.*'", "SELECT count(*) FROM kept WHERE version = '1.8.1.dev1'", "SELECT versions - '>=1.5' FROM kept ORDER BY versions, 1 LIMIT 50"]
 
 
+def upgrade(old, new):
+    """The tables of a server in those of another one, by pg_upgrade; the errors, where it ends with some."""
+    try:
+        new.run("pg_upgrade", "-b", old.home / "bin", "-B", new.home / "bin", "-d", old.data, "-D", new.data, "-U", "tester", "-s", new.folder)
+    except AssertionError as failure:
+        logs = "".join(file.read_text(errors="replace") for file in new.data.glob("pg_upgrade_output.d/*/log/*"))
+        errors = set(re.findall(r"(?:ERROR|error|FATAL): +(.*)", logs))
+        assert errors, failure
+        return errors
+    return set()
+
+
+def upgrade_without_extension(home):
+    """The errors where a table has none but the server's own types."""
+    old, new = Server("plain", "-k", home=home), Server("plainly", "-k")
+    try:
+        old.start()
+        db = old.connect()
+        db.rows("CREATE TABLE plain (number int)")
+        db.close()
+    finally:
+        old.stop()
+    return upgrade(old, new)
+
+
 def test_pg_upgrade(unused):
-    """The tables and indexes of another server, by pg_upgrade."""
+    """The tables and indexes of another server, by pg_upgrade; left out where that ends with the same errors without the extension."""
     homes = [pathlib.Path(word[7:]) for word in sys.argv if word.startswith("--from=")]
     if not homes:
         return "left out"
@@ -505,7 +540,11 @@ def test_pg_upgrade(unused):
         held, version = [db.rows(query) for query in HELD], db.value("SHOW server_version_num")
         db.close()
         old.stop()
-        new.run("pg_upgrade", "-b", homes[0] / "bin", "-B", FOLDER / "bin", "-d", old.data, "-D", new.data, "-U", "tester", "-s", new.folder)
+        errors = upgrade(old, new)
+        if errors:
+            others = upgrade_without_extension(homes[0])
+            assert errors == others, (errors, others)
+            return f"left out: without the extension, too, pg_upgrade ends with: {min(errors)}"
         new.start()
         db = new.connect()
         for setting in (NO_TABLE, NO_INDEX):

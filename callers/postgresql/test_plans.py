@@ -2,9 +2,10 @@
 import json
 import random
 import re
+import unittest
 
-from server import NO_INDEX, NO_TABLE, SMALL, copied, plan_of, version
-from test_values import database, refused, specifiers
+from server import NO_INDEX, NO_TABLE, SMALL, both_ways, plan_of, version
+from test_values import database, peer_of_26, refused, specifiers
 
 PACKAGES = 300 if SMALL else 1000
 EXCLUSION_VIOLATION, INVALID_TEXT, TOO_LONG = "23P01", "22P02", "54000"
@@ -84,17 +85,12 @@ def test_packages(server):
 def test_list_index(server):
     """An index on lists finds which ones contain a version, or have one in common with another list, as a scan does; and an exclusion constraint has it."""
     db, rng = server.connect("packages"), random.Random(913)
-    db.folder = server.folder
     db.rows("CREATE INDEX by_list ON requires USING gist (specs)")
     lists = ["", ">2,<1", "===1.0", "!=1.0", "==1.0+" + "a" * 300, f"<1.{'1.' * 100}1", ">=1!0"] + [f"{specifiers(rng)}" for _ in range(30)]
     db.rows("INSERT INTO requires VALUES " + ",".join(f"('p0', '{it}')" for it in lists) + ", ('p0', NULL); ANALYZE requires")
     conditions = [f"specs @> '{version(rng)}'" for _ in range(10)] + [f"specs && '{it}'" for it in lists[:15]] + ["specs @> '1!1.0'", "'1.0+" + "a" * 300 + "'::pep440 <@ specs"]
     for condition in conditions:
-        query = f"SELECT dep, specs FROM requires WHERE {condition} ORDER BY 1, 2"
-        db.rows("RESET ALL;" + NO_INDEX)
-        alone = copied(db, query, "alone")
-        db.rows("RESET ALL;" + NO_TABLE)
-        assert "by_list" in plan_of(db, query) and copied(db, query, "by_index") == alone, condition
+        both_ways(db, f"SELECT dep, specs FROM requires WHERE {condition}", "by_list")
     db.rows("SET enable_hashjoin = off; SET enable_mergejoin = off")
     query = "SELECT r.version, count(*) FROM releases r JOIN requires s ON r.version <@ s.specs WHERE r.name = 'p1' AND s.dep < 'p2' GROUP BY 1 ORDER BY 1"
     plan = plan_of(db, query)
@@ -111,10 +107,11 @@ def test_list_index(server):
 def test_set_index(server):
     """Sets find versions by an index on these, and are found by one on sets, as by a scan; what all lists of a package allow is one query."""
     db, rng = server.connect("packages"), random.Random(915)
+    db.rows("CREATE INDEX by_dep ON requires (dep)")
     wrong = db.value("""SELECT count(*) FROM allowed s JOIN releases r ON r.name = s.dep JOIN LATERAL (SELECT bool_and(t.specs @> r.version) AS all_of, bool_or(t.specs @> r.version) AS one_of
         FROM requires t WHERE t.dep = s.dep) AS t ON true WHERE s.dep BETWEEN 'p1' AND 'p3' AND (s.shared @> r.version <> all_of OR s.either @> r.version <> one_of)""")
     assert wrong == "0", wrong
-    db.rows("SET enable_seqscan = off; SET enable_bitmapscan = off")
+    db.rows("DROP INDEX by_dep; SET enable_seqscan = off; SET enable_bitmapscan = off")
     query = "SELECT max(version) FROM releases WHERE name = 'p7' AND version <@ (SELECT intersect_agg(specs) FROM requires WHERE dep = 'p7')"
     plan = plan_of(db, query)
     assert re.search(r"Index Cond: [^\n]*version >= pep440_cover_start", plan), plan
@@ -124,16 +121,59 @@ def test_set_index(server):
             "(SELECT specs FROM requires OFFSET 90 LIMIT 30) c; INSERT INTO unlike VALUES (NULL), ('{}'), ('{(*, *)}'), ('{(1.post*, 2+a]}'); CREATE INDEX by_set ON unlike USING gist (versions); ANALYZE unlike")
     conditions = [f"versions @> '{version(rng)}'::pep440" for _ in range(10)] + [f"versions && '{specifiers(rng).replace('===', '==')}'" for _ in range(15)] + ["'1.5'::pep440 <@ versions"]
     for condition in conditions:
-        query = f"SELECT versions FROM unlike WHERE {condition} ORDER BY 1"
-        alone = db.rows("RESET ALL;" + NO_INDEX + query)
-        db.rows("RESET ALL;" + NO_TABLE)
-        assert "by_set" in plan_of(db, query) and db.rows(query) == alone, condition
+        both_ways(db, f"SELECT versions FROM unlike WHERE {condition}", "by_set")
     assert set(re.findall(r"Scan on (parts_\d)\b", plan_of(db, "SELECT * FROM parts WHERE version <@ '{[1.4, 1.5), [1.6, 1.9)}'::pep440_set"))) == {"parts_1"}
     db.rows("RESET ALL; CREATE TABLE rules (name text, versions pep440_set, EXCLUDE USING gist (name WITH =, versions WITH &&)); INSERT INTO rules VALUES ('a', '<1'), ('a', '{[1, 2)}')")
     refused(db, "INSERT INTO rules VALUES ('a', '{[1.5, *)}')", EXCLUSION_VIOLATION)
     count = db.value("SELECT count(*) FROM unlike")
     db.close()
     return f"{len(conditions)} conditions over {count} sets by the index as without"
+
+
+MATCHES = "SELECT a.number, string_agg(o.number::text, ' ' ORDER BY o.number) FROM asked a JOIN offered o ON o.version <@ a.specs GROUP BY 1 ORDER BY 1"
+# What makes each plan, and what the plan has.
+PLANS = [
+    (NO_INDEX, r"Join Filter: \(o\.version <@ a\.specs\)"), ("CREATE INDEX by_offered ON offered (version);" + NO_TABLE, r"by_offered[\s\S]*Index Cond: \(+version >= pep440_cover_start\(a\.specs"),
+    ("DROP INDEX by_offered; CREATE INDEX by_asked ON asked USING gist (specs);" + NO_TABLE, r"by_asked[\s\S]*Index Cond: \(specs @> o\.version\)"),
+]
+
+
+def wide_specifier(rng):
+    """A specifier of any version; only two operators take one with a local part."""
+    operator, text = rng.choice([">=", "<", "!=", "<=", ">", "=="]), version(rng)
+    return operator + (text if operator in ("==", "!=") else text.partition("+")[0])
+
+
+def test_matches(server):
+    """Each of many lists beside each of many versions: by a scan, by an index on the versions, by one on the lists, and by `packaging`."""
+    db, rng = database(server, "matched"), random.Random(917)
+    lists, versions = 200 if SMALL else 2000, 100 if SMALL else 1000
+    asked = [*dict.fromkeys(",".join(filter(None, (specifiers(rng), wide_specifier(rng)))) for _ in range(2 * lists))][:lists]
+    offered = [version(rng) for _ in range(versions)]
+    for table, column, values in (("asked", "specs pep440_specs", asked), ("offered", "version pep440", offered)):
+        db.rows(f"CREATE TABLE {table} (number int, {column}); INSERT INTO {table} VALUES " + ",".join(f"({number}, '{it}')" for number, it in enumerate(values)) + f"; ANALYZE {table}")
+    found = []
+    for setting, wanted in PLANS:
+        db.rows("RESET ALL; SET enable_material = off; SET enable_bitmapscan = off;" + setting)
+        plan = plan_of(db, MATCHES)
+        assert re.search(wanted, plan), plan
+        found.append(db.rows(MATCHES))
+    db.close()
+    assert len(asked) == lists and found[0] == found[1] == found[2]
+    return f"{lists * versions} pairs in 3 plans, {sum(len(those.split()) for _, those in found[0])} match{compare_matches(asked, offered, found[0])}"
+
+
+def compare_matches(asked, offered, found):
+    """Whether the same lists match the same versions in `packaging`."""
+    try:
+        versions, specifiers_of, name = peer_of_26()
+    except unittest.SkipTest:
+        return ""
+    found, parsed = {int(number): those for number, those in found}, [versions.Version(it) for it in offered]
+    for number, specs in enumerate(asked):
+        those = specifiers_of.SpecifierSet(specs, prereleases=True)
+        assert found.get(number, "") == " ".join(str(place) for place, it in enumerate(parsed) if those.contains(it)), specs
+    return f", as in {name}"
 
 
 def test_partitions(server):

@@ -74,6 +74,7 @@ uint8_t write_all(Writer call, Bytes read, Bytes *out)
     uint8_t *bytes = palloc(room + 1);
     uint8_t status = call(read.bytes, read.length, bytes, room, &out->length);
     if (status == PEP440_NO_ROOM) {
+        CHECK_FOR_INTERRUPTS();
         pfree(bytes);
         room = out->length;
         bytes = palloc(room + 1);
@@ -138,20 +139,20 @@ struct varlena *read_version(Bytes text, Node *context)
     return make_version((Bytes){buffer.bytes, length});
 }
 
+static pg_noinline char *normal_text_of(const struct varlena *stored)
+{
+    VersionBuffer buffer;
+    return normal_text(pep440_normalize, version_of(stored, &buffer).bytes);
+}
+
 char *normal_argument(FunctionCallInfo fcinfo)
 {
     const struct varlena *stored = GET_STORED(0);
-    VersionBuffer buffer;
     char *text = short_text(stored);
-    return text != NULL ? text : normal_text(pep440_normalize, version_of(stored, &buffer).bytes);
+    return text != NULL ? text : normal_text_of(stored);
 }
 
-SQL_FUNCTION(version_in, read_cstring(fcinfo, read_version));
-SQL_FUNCTION(version_out, CStringGetDatum(normal_argument(fcinfo)));
-SQL_FUNCTION(version_recv, read_binary(fcinfo, read_version));
-SQL_FUNCTION(version_send, binary_of(normal_argument(fcinfo)));
-SQL_FUNCTION(version_from_text, read_text(fcinfo, read_version));
-SQL_FUNCTION(version_to_text, PointerGetDatum(cstring_to_text(normal_argument(fcinfo))));
+TEXT_FUNCTIONS(version, read_version, normal_argument(fcinfo));
 
 PG_FUNCTION_INFO_V1(version_valid);
 Datum version_valid(PG_FUNCTION_ARGS)
@@ -193,23 +194,10 @@ static int order_of_key(FunctionCallInfo fcinfo, int version_at)
     return version_at == 0 ? order : -order;
 }
 
-SQL_FUNCTION(version_lt, BoolGetDatum(order_of(fcinfo) < 0));
-SQL_FUNCTION(version_le, BoolGetDatum(order_of(fcinfo) <= 0));
-SQL_FUNCTION(version_eq, BoolGetDatum(order_of(fcinfo) == 0));
-SQL_FUNCTION(version_ge, BoolGetDatum(order_of(fcinfo) >= 0));
-SQL_FUNCTION(version_gt, BoolGetDatum(order_of(fcinfo) > 0));
+COMPARISONS(version_, , order_of(fcinfo));
+COMPARISONS(version_, _key, order_of_key(fcinfo, 0));
+COMPARISONS(key_, _version, order_of_key(fcinfo, 1));
 SQL_FUNCTION(version_ne, BoolGetDatum(order_of(fcinfo) != 0));
-SQL_FUNCTION(version_lt_key, BoolGetDatum(order_of_key(fcinfo, 0) < 0));
-SQL_FUNCTION(key_lt_version, BoolGetDatum(order_of_key(fcinfo, 1) < 0));
-SQL_FUNCTION(version_le_key, BoolGetDatum(order_of_key(fcinfo, 0) <= 0));
-SQL_FUNCTION(key_le_version, BoolGetDatum(order_of_key(fcinfo, 1) <= 0));
-SQL_FUNCTION(version_eq_key, BoolGetDatum(order_of_key(fcinfo, 0) == 0));
-SQL_FUNCTION(key_eq_version, BoolGetDatum(order_of_key(fcinfo, 1) == 0));
-SQL_FUNCTION(version_ge_key, BoolGetDatum(order_of_key(fcinfo, 0) >= 0));
-SQL_FUNCTION(key_ge_version, BoolGetDatum(order_of_key(fcinfo, 1) >= 0));
-SQL_FUNCTION(version_gt_key, BoolGetDatum(order_of_key(fcinfo, 0) > 0));
-SQL_FUNCTION(key_gt_version, BoolGetDatum(order_of_key(fcinfo, 1) > 0));
-
 SQL_FUNCTION(version_cmp, Int32GetDatum(order_of(fcinfo)));
 SQL_FUNCTION(version_cmp_key, Int32GetDatum(order_of_key(fcinfo, 0)));
 SQL_FUNCTION(key_cmp_version, Int32GetDatum(order_of_key(fcinfo, 1)));

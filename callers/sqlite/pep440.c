@@ -63,17 +63,6 @@ static int is_text(sqlite3_value *value, Text *text)
     return bytes != NULL;
 }
 
-/* Says in an error why the string is no list. The lines with the caret stand as the library writes them. */
-static void fail_list(sqlite3_context *context, Text list)
-{
-    Written why;
-    if (write_all(pep440_list_error, list, &why) == PEP440_OK)
-        sqlite3_result_error(context, (const char *)why.bytes, (int)why.length);
-    else
-        sqlite3_result_error_nomem(context);
-    release(&why);
-}
-
 /* The number that a call told; NULL where a text is no version. */
 static void give_number(sqlite3_context *context, uint8_t status, int number)
 {
@@ -227,33 +216,31 @@ static int read_interval(Text *rest, Interval *found)
     return read_sized(rest, &found->low) && read_sized(rest, &found->high);
 }
 
-static void match_set(sqlite3_context *context, Text set, Text version)
+/* Why there is no list or no set, which SQLite frees; null where memory is out. Of a set that is damaged the status may name the other side. The lines with
+   the caret stand as the library writes them. */
+static char *reason_of(uint8_t status, Text list)
 {
-    Text rest = {set.bytes + 1, set.length - 1};
-    Interval interval;
-    Written key;
-    int is_inside = 0;
-    uint8_t status = write_all(pep440_sort_key, version, &key);
-    Text sought = {key.bytes, key.length};
-    while (status == PEP440_OK && !is_inside && read_interval(&rest, &interval) && compare_bytes(interval.low, sought) <= 0)
-        is_inside = interval.high.length == 0 || compare_bytes(sought, interval.high) < 0;
-    give_number(context, status, is_inside);
-    release(&key);
+    Written why;
+    if (status == PEP440_OUT_OF_MEMORY)
+        return NULL;
+    if (status == PEP440_NO_SET)
+        return sqlite3_mprintf("a list with === has no set");
+    if (list.bytes[0] == SET_FORMAT)
+        return sqlite3_mprintf("not a set");
+    status = write_all(pep440_list_error, list, &why);
+    char *made = status != PEP440_OK ? NULL : why.length == 0 ? sqlite3_mprintf("not a set") : sqlite3_mprintf("%.*s", (int)why.length, (const char *)why.bytes);
+    release(&why);
+    return made;
 }
 
-/* Says in an error why there is no set, as of the list that is invalid. Of a set that is damaged the status may name the other side. */
-static void fail_set(sqlite3_context *context, uint8_t status, Text list)
+static void fail_list(sqlite3_context *context, uint8_t status, Text list)
 {
-    size_t length;
-    uint8_t nothing[1];
-    if (status == PEP440_OUT_OF_MEMORY)
-        sqlite3_result_error_nomem(context);
-    else if (status == PEP440_NO_SET)
-        sqlite3_result_error(context, "a list with === has no set", -1);
-    else if (list.bytes[0] == SET_FORMAT || pep440_list_error(list.bytes, list.length, nothing, 0, &length) == PEP440_OK)
-        sqlite3_result_error(context, "not a set", -1);
+    char *why = reason_of(status, list);
+    if (why != NULL)
+        sqlite3_result_error(context, why, -1);
     else
-        fail_list(context, list);
+        sqlite3_result_error_nomem(context);
+    sqlite3_free(why);
 }
 
 /* Ends with the set, or with the error of its status. */
@@ -262,7 +249,7 @@ static void give_set(sqlite3_context *context, uint8_t status, Text left, Text r
     if (status == PEP440_OK)
         sqlite3_result_blob64(context, set->bytes, set->length, SQLITE_TRANSIENT);
     else
-        fail_set(context, status, status == PEP440_INVALID_RIGHT ? right : left);
+        fail_list(context, status, status == PEP440_INVALID_RIGHT ? right : left);
     release(set);
 }
 
@@ -316,7 +303,7 @@ static void is_subset(sqlite3_context *context, int count, sqlite3_value **value
     if (status == PEP440_OK)
         sqlite3_result_int(context, inside);
     else
-        fail_set(context, status, status == PEP440_INVALID_RIGHT ? right : left);
+        fail_list(context, status, status == PEP440_INVALID_RIGHT ? right : left);
 }
 
 /* The set of the rows so far; no bytes before the first one. */
@@ -346,7 +333,7 @@ static void add_row(sqlite3_context *context, int count, sqlite3_value **values)
         total->length = set.length;
     } else {
         total->has_failed = 1;
-        fail_set(context, status == PEP440_OK ? PEP440_OUT_OF_MEMORY : status, given);
+        fail_list(context, status == PEP440_OK ? PEP440_OUT_OF_MEMORY : status, given);
     }
     release(&set);
 }
@@ -460,7 +447,7 @@ static const Compiled *compiled_list(sqlite3_context *context, sqlite3_value *va
     if (status == PEP440_OK)
         *made = sqlite3_malloc64(sizeof **made + out.length);
     if (status == PEP440_INVALID_LIST || status == PEP440_NO_LIST)
-        fail_list(context, list);
+        fail_list(context, status, list);
     else if (*made == NULL)
         sqlite3_result_error_nomem(context);
     else {
@@ -481,20 +468,19 @@ static void keep_list(sqlite3_context *context, Compiled *made)
 /* pep440_match(specs, v): whether the list, or the set, has the version, 1 or 0. Pre-releases are versions like others. */
 static void match(sqlite3_context *context, int count, sqlite3_value **values)
 {
-    Compiled *made;
+    Compiled *made = NULL;
     Text text, set;
     uint8_t allowed = 0;
     (void)count;
     if (sqlite3_value_type(values[1]) == SQLITE_NULL)
         return;
-    if (sqlite3_value_type(values[0]) == SQLITE_BLOB) {
-        if (is_set(values[0], &set) && is_text(values[1], &text))
-            match_set(context, set, text);
+    if (sqlite3_value_type(values[0]) != SQLITE_BLOB) {
+        const Compiled *list = compiled_list(context, values[0], &made);
+        set = list == NULL ? (Text){NULL, 0} : (Text){list->bytes, list->length};
+    } else if (!is_set(values[0], &set))
         return;
-    }
-    const Compiled *list = compiled_list(context, values[0], &made);
-    if (list != NULL && is_text(values[1], &text)) {
-        uint8_t status = pep440_allows(list->bytes, list->length, text.bytes, text.length, PEP440_ALL_PRERELEASES, &allowed);
+    if (set.bytes != NULL && is_text(values[1], &text)) {
+        uint8_t status = pep440_allows(set.bytes, set.length, text.bytes, text.length, PEP440_ALL_PRERELEASES, &allowed);
         give_number(context, status, allowed);
     }
     keep_list(context, made);
@@ -544,7 +530,7 @@ static sqlite3_int64 count_intervals(sqlite3_index_info *info, int constraint)
     Text list;
     size_t bytes, keys, none[1];
     uint8_t nothing[1];
-    if (sqlite3_libversion_number() >= 3038000 && sqlite3_vtab_rhs_value(info, constraint, &value) == SQLITE_OK && is_text(value, &list) &&
+    if (sqlite3_libversion_number() >= 3038000 && sqlite3_vtab_rhs_value(info, constraint, &value) == SQLITE_OK && is_set(value, &list) &&
         pep440_boundaries(list.bytes, list.length, nothing, 0, none, 0, &bytes, &keys) == PEP440_NO_ROOM)
         return (sqlite3_int64)keys / 2;
 #else
@@ -601,22 +587,12 @@ static int intervals_close(sqlite3_vtab_cursor *cursor)
     return SQLITE_OK;
 }
 
-/* Says why there are no intervals; what the table's message is, SQLite frees. */
+/* Says why there are no intervals, in what SQLite frees. */
 static int no_intervals(sqlite3_vtab_cursor *cursor, Text list, uint8_t status)
 {
-    Written why;
-    if (status == PEP440_OUT_OF_MEMORY)
-        return SQLITE_NOMEM;
-    char **message = &cursor->pVtab->zErrMsg;
-    sqlite3_free(*message);
-    *message = NULL;
-    if (list.bytes[0] == SET_FORMAT)
-        *message = sqlite3_mprintf("not a set");
-    else if (write_all(pep440_list_error, list, &why) == PEP440_OK)
-        *message = sqlite3_mprintf("%.*s", (int)why.length, (const char *)why.bytes);
-    if (list.bytes[0] != SET_FORMAT)
-        release(&why);
-    return *message == NULL ? SQLITE_NOMEM : SQLITE_ERROR;
+    sqlite3_free(cursor->pVtab->zErrMsg);
+    cursor->pVtab->zErrMsg = reason_of(status, list);
+    return cursor->pVtab->zErrMsg == NULL ? SQLITE_NOMEM : SQLITE_ERROR;
 }
 
 /* The set of the list. */

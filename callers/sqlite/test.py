@@ -1,11 +1,13 @@
-"""Holds the extension against the page, against itself without an index, and against refused memory: python3 test.py EXTENSION [PROGRAM|--small]
+"""Holds the extension against the page, against itself without an index, and against refused memory: python3 test.py EXTENSION PREFIX [PROGRAM] [--small]
 
-EXTENSION is the built pep440.so; PROGRAM, if given, is `pyver`, whose `filter --pre` must print what `pep440_match` does. It wants a Python whose
-sqlite3 loads extensions. With --small there are fewer rows, and no time is compared. The last line is `N passed, M failed`.
+EXTENSION is the built pep440.so, and PREFIX that of the C library; PROGRAM, if given, is `pyver`, whose `filter --pre` must print what `pep440_match`
+does. It wants a Python whose sqlite3 loads extensions. With --small there are fewer rows, and no time is compared. The last line is `N passed, M failed`.
 """
+import os
 import pathlib
 import random
 import re
+import shutil
 import sqlite3
 import subprocess
 import sys
@@ -15,7 +17,8 @@ import time
 HERE = pathlib.Path(__file__).resolve().parent
 SMALL = "--small" in sys.argv
 ROWS = 5_000 if SMALL else 1_000_000
-PROGRAM = sys.argv[2] if len(sys.argv) > 2 and not sys.argv[2].startswith("--") else None
+EXTENSION, PREFIX, PROGRAM = ([word for word in sys.argv[1:] if not word.startswith("--")] + [None])[:3]
+PAGE = (HERE / "README.md").read_text(encoding="utf-8")
 LISTS = ["", ">=1.0,<2.0,!=1.5.*", "==2.1.0+cu118", "<=2.1.0", "<1.0.post1,>=1.0", "~=1.4.2", "!=1.0", ">2.0,<1.0", "==1.*", ">1!0", ">1.2rc1,<=1.2.post2", "<1.3.post2,!=1.1,>1"]
 # of these the intervals hold more than the list matches
 EXACT = ["===1.10", "===1.4+cu7,>=1"]
@@ -24,7 +27,7 @@ EXACT = ["===1.10", "===1.4+cu7,>=1"]
 def database(file=":memory:"):
     made = sqlite3.connect(file, isolation_level=None)
     made.enable_load_extension(True)
-    made.load_extension(sys.argv[1])
+    made.load_extension(EXTENSION)
     return made
 
 
@@ -230,9 +233,22 @@ def test_hidden_column():
     return f"{len(joins)} joins, {sum(map(bool, found[0]))} with rows"
 
 
-def page():
-    """The blocks of SQL on the page."""
-    return re.findall(r"```sql\n(.*?)```", (HERE / "README.md").read_text(encoding="utf-8"), re.S)
+def page(kind="sql"):
+    """The blocks of this kind on the page."""
+    return re.findall(rf"```{kind}\n(.*?)```", PAGE, re.S)
+
+
+def test_commands():
+    """The page's commands, but for the one that installs packages, build the extension and print what stands beside the last one."""
+    (block,) = page("sh")
+    environment = {name: it for name, it in os.environ.items() if name != "LD_PRELOAD"}
+    with tempfile.TemporaryDirectory() as work:
+        for name in ("Makefile", "pep440.c"):
+            shutil.copy(HERE / name, work)
+        commands = re.sub(r"^sudo .*$", "", block, flags=re.M).replace("/usr/local", PREFIX)
+        ran = subprocess.run(["sh", "-e"], input=commands, cwd=work, env=environment, capture_output=True, text=True, check=True)
+    assert ran.stdout.split()[-1] == re.findall(r"# (\S+)$", block, re.M)[-1] == "1.0a2", ran.stdout
+    return "2 commands"
 
 
 def test_page():
@@ -253,8 +269,8 @@ def test_page():
 
 def test_python():
     """The page's lines of Python print what stands beside the last one."""
-    (block,) = re.findall(r"```python\n(.*?)```", (HERE / "README.md").read_text(encoding="utf-8"), re.S)
-    ran = subprocess.run([sys.executable, "-c", block.replace("./pep440", sys.argv[1])], capture_output=True, text=True, check=True)
+    (block,) = page("python")
+    ran = subprocess.run([sys.executable, "-c", block.replace("./pep440", EXTENSION)], capture_output=True, text=True, check=True)
     assert ran.stdout.split() == re.findall(r"# (\S+)$", block, re.M) == ["1.0a2"], ran.stdout
     return "6 lines"
 
@@ -305,16 +321,16 @@ def test_collation():
 
 
 def test_without_extension():
-    """What the page says of a reader without the extension, of its first table and of the one with plain columns."""
+    """What the page says of a reader without the extension, of its first table and of the one with plain columns; and once it is uninstalled."""
     with tempfile.TemporaryDirectory() as work:
         writer = database(f"{work}/all.db")
-        for block in page():
-            if "CREATE TABLE" in block:
-                writer.executescript(block)
+        *blocks, uninstall = [block for block in page() if "TABLE" in block]
+        for block in blocks:
+            writer.executescript(block)
         writer.execute("CREATE TABLE given (text TEXT COLLATE pep440)")
         reader = sqlite3.connect(f"{work}/all.db", isolation_level=None)
         changes = ["INSERT INTO {0} (name, version{1}) SELECT 'gamma', version{1} FROM plain LIMIT 2", "UPDATE {0} SET name = 'delta' WHERE name = 'beta'"]
-        upkeep = ["PRAGMA integrity_check", "PRAGMA quick_check", "VACUUM", f"VACUUM INTO '{work}/{{0}}.db'"]
+        upkeep = ["PRAGMA integrity_check", "PRAGMA quick_check", "VACUUM", f"VACUUM INTO '{work}/{{0}}{{1}}.db'"]
         for query in changes + upkeep:
             assert "pep440" in refused(reader, query.format("releases", "")), query
         for query in ("SELECT * FROM given ORDER BY text", "SELECT * FROM given WHERE text = '1.0'", "CREATE INDEX by_text ON given (text)"):
@@ -323,11 +339,37 @@ def test_without_extension():
             in_order = rows(reader, f"SELECT version FROM {table} WHERE name = 'alpha' ORDER BY key")
             assert in_order == [("1.9",), ("1.9.post1",), ("1.10rc1",), ("1.10",)], in_order
             rows(reader, f"DELETE FROM {table} WHERE name = 'beta' AND version = '0.1'")
-        writer.executescript("DROP TABLE releases; DROP TABLE given")
-        for query in changes + upkeep:
-            assert rows(reader, query.format("plain", ", key")) in ([], [("ok",)]), query
         refused(writer, "INSERT INTO plain VALUES ('alpha', 'latest', pep440_key('latest'))", sqlite3.IntegrityError)
-    return f"{len(changes + upkeep)} statements fail where keys are generated, none where they are plain"
+        reader.executescript("DROP TABLE given;" + uninstall)
+        for query in changes + upkeep:
+            assert rows(reader, query.format("releases", ", key").replace("plain", "releases")) in ([], [("ok",)]), query
+        assert not rows(reader, "SELECT sql FROM sqlite_schema WHERE sql LIKE '%pep440%'")
+    return f"{len(changes + upkeep)} statements fail where keys are generated, none where it is uninstalled"
+
+
+GAPS = ">=1" + "".join(f",!={number % 300}.{number}" for number in range(5_200))
+# What takes the longest, of many rows and of long texts.
+LONG = [
+    f"SELECT count(*) FROM releases WHERE pep440_match('{GAPS}', version)", "SELECT count(*) FROM releases WHERE pep440_match('!=' || version, '1.5')", "SELECT pep440_union_agg('==' || version) FROM releases",
+    f"SELECT count(version) FROM pep440_intervals('{GAPS}') JOIN releases ON key >= low AND key < ifnull(high, x'ff')", "SELECT count(*) FROM releases JOIN pep440_intervals('!=' || version)",
+    "SELECT pep440_valid(replace(hex(zeroblob(1000000)), '00', '1.'))", "SELECT pep440_specs_valid(replace(hex(zeroblob(200000)), '00', '>=1,') || '>1')", f"SELECT length(pep440_set('{GAPS}'))",
+]
+
+
+def test_time_limit():
+    """A statement that is to end after a time, of many rows or of long texts, ends soon after it: of the processor's, since on a loaded machine all waits."""
+    db, limit, longest = filled(ROWS), [0.0], (0, "")
+    db.set_progress_handler(lambda: time.process_time() > limit[0], 1000)
+    for query in LONG:
+        begun = time.process_time()
+        limit[0] = begun + 0.1
+        try:
+            rows(db, query)
+        except sqlite3.OperationalError as error:
+            assert str(error) == "interrupted", error
+        longest = max(longest, (time.process_time() - begun, query[:60]))
+    assert longest[0] < 3, longest
+    return f"{len(LONG)} statements over {ROWS} rows, the longest {longest[0]:.2f} s under a limit of 0.1 s"
 
 
 def test_speed():
@@ -405,7 +447,7 @@ def test_memory():
         file = f"{work}/all.db"
         filled(300, file)
         kept = rows(database(file), "SELECT * FROM releases")
-        ran = subprocess.run([sys.executable, __file__, sys.argv[1], "--less-memory", file], capture_output=True, text=True, check=False)
+        ran = subprocess.run([sys.executable, __file__, EXTENSION, PREFIX, file, "--less-memory"], capture_output=True, text=True, check=False)
         assert ran.returncode == 0 and ran.stdout.strip().isdigit() and int(ran.stdout) > 20, (ran.returncode, ran.stdout, ran.stderr[-300:])
         assert rows(database(file), "SELECT * FROM releases") == kept
         assert value(database(file), "PRAGMA integrity_check") == "ok"
@@ -414,7 +456,7 @@ def test_memory():
 
 def main():
     if "--less-memory" in sys.argv:
-        turns_with_less_memory(sys.argv[-1])
+        turns_with_less_memory(PROGRAM)
         return
     failed = passed = 0
     for name, test in [(name, test) for name, test in globals().items() if name.startswith("test_")]:
