@@ -1,6 +1,6 @@
 //! The sort key of a version, in three words as far as it fits.
-use crate::bytes::{self, FINAL};
-use crate::parts::{Release, Suffix};
+use crate::bytes::FINAL;
+use crate::parts::Suffix;
 use core::array;
 use core::num::NonZeroU64;
 
@@ -183,11 +183,6 @@ impl Sections {
     #[inline]
     pub(crate) fn block(&self, place: usize) -> &[u8; SHORT] {
         self.room[place..].first_chunk().expect("a place in the key")
-    }
-
-    #[inline]
-    pub(crate) fn release(&self) -> Release {
-        bytes::read_release(&self.room[self.epoch_end()..self.release_end], self.zeros)
     }
 
     /// Whether the release has more than one number, of which the first begins with how many bytes it takes.
