@@ -23,11 +23,11 @@ macro_rules! declare {
 }
 
 declare! {
-    (bytes: *const u8, length: usize, out: *mut u8, size: usize, written: *mut usize): pep440_compile pep440_normalize;
+    (bytes: *const u8, length: usize, out: *mut u8, size: usize, written: *mut usize): pep440_compile pep440_normalize pep440_normalize_list;
     (
         list: *const u8, length: usize,
         out: *mut u8, size: usize, ends: *mut usize, ends_size: usize, written: *mut usize, count: *mut usize
-    ): pep440_specifiers_of pep440_range_bounds pep440_release_range_bounds;
+    ): pep440_range_bounds pep440_release_range_bounds;
     (pattern: *const u8, length: usize, out: *mut u8, size: usize, written: *mut usize, star: *mut u8): pep440_pattern;
     (kind: u8, bytes: *const u8, length: usize, out: *mut u8, size: usize, written: *mut usize): pep440_error;
     (
@@ -95,7 +95,7 @@ fn bytes_of(string: &str) -> Result<&[u8], Invalid> {
 const STACK: usize = 128;
 /// As many bytes of a compiled version.
 const STACK_OF_VERSION: usize = 64;
-/// As many ends of strings, two for each specifier.
+/// As many ends of bounds.
 const STACK_OF_ENDS: usize = 16;
 
 #[inline]
@@ -159,9 +159,9 @@ pub(crate) fn pattern<T>(pattern: &str, read: impl FnOnce(&str, bool) -> T) -> R
     Ok(read(&version, star == 1))
 }
 
-/// Calls `read` with operator and version of each specifier of a list, as `>=` and `1.16`, in the order of the versions.
-pub(crate) fn specifiers<T>(list: &str, read: impl FnOnce(Pairs) -> T) -> Result<T, Invalid> {
-    pairs(pep440_specifiers_of, bytes_of(list)?, read).map_err(invalid)
+/// Calls `read` with the normalized form of a list, as `>=1.16, <2.0`.
+pub(crate) fn normalize_list<T>(list: &str, read: impl FnOnce(&str) -> T) -> Result<T, Invalid> {
+    written_to_room::<STACK, _>(writer(pep440_normalize_list, bytes_of(list)?), |room, length| read(as_text(&room[..length])))
 }
 
 /// What a string was to be, by the numbers of the library.

@@ -1,6 +1,6 @@
 //! Specifiers: an operator and a version.
 use crate::bytes;
-use crate::calls::{self, Pairs, WRITTEN};
+use crate::calls::{self, WRITTEN};
 use crate::range;
 use crate::{Operator, RangeError, Segment, Version, VersionPattern, VersionSpecifierBuildError, VersionSpecifierParseError};
 use alloc::vec::Vec;
@@ -347,9 +347,15 @@ pub(crate) fn is_next_minor(low: &Version, high: &Version) -> bool {
     }
 }
 
-/// The specifier of an operator and a version that the library wrote.
-pub(crate) fn read(strings: [&[u8]; 2]) -> VersionSpecifier {
-    let [symbol, version] = strings.map(calls::as_text);
+/// The specifiers of the normalized form of a list.
+pub(crate) fn read_list(list: &str) -> impl Iterator<Item = VersionSpecifier> {
+    list.split(", ").filter(|member| !member.is_empty()).map(read)
+}
+
+/// The specifier of a normalized form: an operator, a version, and `.*` behind it or nothing.
+fn read(specifier: &str) -> VersionSpecifier {
+    let start = specifier.bytes().position(|byte| byte.is_ascii_digit()).expect(WRITTEN);
+    let (symbol, version) = specifier.split_at(start);
     let operator = Operator::from_symbol(symbol).expect(WRITTEN);
     let (operator, version) = match version.strip_suffix(".*") {
         Some(version) => (operator.to_star().expect(WRITTEN), version),
@@ -364,8 +370,8 @@ impl FromStr for VersionSpecifier {
     /// Parses a specifier, as `>= 1.19`, `== 1.1.*` or `<=1!2012.2`.
     fn from_str(specifier: &str) -> Result<VersionSpecifier, VersionSpecifierParseError> {
         // A specifier is a list of one; a list of several has a comma.
-        let only = |mut members: Pairs| members.next().filter(|_| members.next().is_none()).map(read);
-        let Ok(Some(found)) = calls::specifiers(specifier, only) else {
+        let only = |list: &str| (!list.is_empty() && !list.contains(',')).then(|| read(list));
+        let Ok(Some(found)) = calls::normalize_list(specifier, only) else {
             return Err(VersionSpecifierParseError::new(specifier));
         };
         #[cfg(feature = "tracing")]

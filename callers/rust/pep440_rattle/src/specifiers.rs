@@ -3,7 +3,7 @@ use crate::bytes;
 use crate::calls;
 use crate::lazy::Lazy;
 use crate::range;
-use crate::specifier::{self, is_next_minor};
+use crate::specifier::{is_next_minor, read_list};
 use crate::{RangeError, Segment, Version, VersionSpecifier, VersionSpecifiersParseError};
 use alloc::vec;
 use alloc::vec::Vec;
@@ -162,7 +162,7 @@ impl FromStr for VersionSpecifiers {
 
     /// Parses specifiers with commas between them; the empty string is the empty list.
     fn from_str(list: &str) -> Result<VersionSpecifiers, VersionSpecifiersParseError> {
-        let members = calls::specifiers(list, |members| members.map(specifier::read).collect());
+        let members = calls::normalize_list(list, |list| read_list(list).collect());
         let members = members.map_err(|_| VersionSpecifiersParseError::new(list))?;
         let list = VersionSpecifiers { members, compiled: Lazy::new() };
         #[cfg(feature = "tracing")]

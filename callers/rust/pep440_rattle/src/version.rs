@@ -251,7 +251,7 @@ impl Version {
     /// ```
     #[inline]
     pub fn any_prerelease(&self) -> bool {
-        !self.key.is_final() && self.suffix().is_early()
+        !self.key.is_final() && if self.key.is_told() { self.key.is_early() } else { self.parts().suffix.is_early() }
     }
 
     /// Whether there is neither a pre-release nor a developmental part.
