@@ -2,13 +2,14 @@
 //!
 //! A version is 4, its sort key, and a byte 1 for each zero that ends its release. A list is 5, and each member: 16 and the number of its
 //! operator, then key and zeros of its version. In a key a number is a base and how many bytes follow, and then these, the
-//! greatest first. Before a list without `===` the library writes its set: 6, how many bytes it takes, and these. It is not kept here.
+//! greatest first.
 //!
 //! A version that no string parses to has a key, too, with a sentinel in place of its stage or its post-release, and with 255 after
 //! each zero byte of a local string. The library rejects such bytes wherever it reads the whole of them.
+use crate::calls::WRITTEN;
 use crate::key::{Key, ROOM, Room, SHORT, Sections};
 use crate::parts::{Parts, Release, Suffix};
-use crate::{LocalSegment, Operator, Version, VersionSpecifier};
+use crate::{LocalSegment, Operator, VersionSpecifier};
 use alloc::borrow::ToOwned;
 use alloc::vec;
 use alloc::vec::Vec;
@@ -16,7 +17,6 @@ use core::borrow::Borrow;
 
 pub(crate) const VERSION: u8 = 4;
 const LIST: u8 = 5;
-const SET: u8 = 6;
 const OPERATOR: u8 = 16;
 /// What follows the release of a version that is nothing else: stage, post-release, developmental and local part.
 pub(crate) const FINAL: [u8; 4] = [80, 0, 16, 0];
@@ -210,47 +210,18 @@ pub(crate) fn list(members: &[VersionSpecifier]) -> Vec<u8> {
 
 /// The parts of the version of this key, with the zeros after it.
 pub(crate) fn read_parts(bytes: &[u8]) -> Parts {
-    Rest(bytes).parts()
-}
-
-/// The numbers of a release, and so many zeros after them.
-pub(crate) fn read_release(bytes: &[u8], zeros: usize) -> Release {
-    let mut release = Rest(bytes).release();
-    (0..zeros).for_each(|_| release.push(0));
-    release
-}
-
-/// The list in what the library compiled, without the set before it.
-pub(crate) fn without_set(compiled: &[u8]) -> &[u8] {
-    let [SET, bytes @ ..] = compiled else { return compiled };
     let mut rest = Rest(bytes);
-    let count = rest.byte();
-    let length = rest.number(count);
-    rest.take(length.try_into().expect(WRITTEN));
-    rest.0
-}
-
-/// The members of the list that the bytes denote.
-pub(crate) fn read_list(bytes: &[u8]) -> Vec<VersionSpecifier> {
-    let mut rest = Rest(bytes);
-    assert_eq!(rest.byte(), LIST, "{WRITTEN}");
-    let mut members = Vec::new();
-    while !rest.0.is_empty() {
-        let operator = rest.operator();
-        members.push(VersionSpecifier::unchecked(operator, Version::from_bytes(rest.version())));
+    let ((_, epoch), mut release, mut local) = (rest.ranked(), Release::EMPTY, Vec::new());
+    while let Some(first) = rest.first() {
+        release.push(rest.number(first - 1));
     }
-    members
+    let suffix = Suffix::from_ranks([(); 3].map(|()| rest.ranked()));
+    while let Some(first) = rest.first() {
+        local.push(rest.segment(first));
+    }
+    rest.0.iter().for_each(|_| release.push(0));
+    Parts { epoch, release, suffix, local }
 }
-
-/// The one member of the list that the bytes denote.
-pub(crate) fn read_member(bytes: &[u8]) -> VersionSpecifier {
-    let mut rest = Rest(bytes);
-    assert_eq!(rest.byte(), LIST, "{WRITTEN}");
-    let operator = rest.operator();
-    VersionSpecifier::unchecked(operator, Version::from_bytes(rest.0))
-}
-
-const WRITTEN: &str = "the library wrote these bytes";
 
 /// What is not read yet of bytes that the library wrote.
 struct Rest<'a>(&'a [u8]);
@@ -268,10 +239,6 @@ impl<'a> Rest<'a> {
         self.take(1)[0]
     }
 
-    fn operator(&mut self) -> Operator {
-        self.byte().checked_sub(OPERATOR).and_then(Operator::from_number).expect(WRITTEN)
-    }
-
     #[inline]
     fn number(&mut self, count: u8) -> u64 {
         self.take(count.into()).iter().fold(0, |number, byte| number << 8 | u64::from(*byte))
@@ -283,68 +250,20 @@ impl<'a> Rest<'a> {
         (first / 16, self.number(first % 16))
     }
 
-    fn text(&mut self) -> &'a str {
-        let end = self.0.iter().position(|byte| *byte == 0).expect(WRITTEN);
-        let text = core::str::from_utf8(self.take(end)).expect(WRITTEN);
-        self.byte();
-        text
-    }
-
     /// The byte that begins a number or a segment; None at the byte 0 after the last one.
     #[inline]
     fn first(&mut self) -> Option<u8> {
         Some(self.byte()).filter(|first| *first != 0)
     }
 
-    fn suffix(&mut self) -> Suffix {
-        Suffix::from_ranks([(); 3].map(|()| self.ranked()))
-    }
-
-    /// How many bytes 1 begin the rest, which are left out.
-    fn zeros(&mut self) -> usize {
-        let count = self.0.iter().take_while(|byte| **byte == 1).count();
-        self.take(count).len()
-    }
-
-    /// The bytes of the version that begins the rest.
-    fn version(&mut self) -> &'a [u8] {
-        let start = self.0;
-        self.ranked();
-        while let Some(first) = self.first() {
-            self.take((first - 1).into());
+    /// The segment behind its first byte.
+    fn segment(&mut self, first: u8) -> LocalSegment {
+        if first != 1 {
+            return LocalSegment::Number(self.number(first - 2));
         }
-        self.suffix();
-        while let Some(first) = self.first() {
-            if first == 1 {
-                self.text();
-            } else {
-                self.take((first - 2).into());
-            }
-        }
-        self.zeros();
-        &start[..start.len() - self.0.len()]
-    }
-
-    /// The numbers up to a byte 0.
-    fn release(&mut self) -> Release {
-        let mut release = Release::EMPTY;
-        while let Some(first) = self.first() {
-            release.push(self.number(first - 1));
-        }
-        release
-    }
-
-    fn parts(&mut self) -> Parts {
-        let (_, epoch) = self.ranked();
-        let (mut release, suffix, mut local) = (self.release(), self.suffix(), Vec::new());
-        while let Some(first) = self.first() {
-            local.push(if first == 1 {
-                LocalSegment::String(self.text().to_owned())
-            } else {
-                LocalSegment::Number(self.number(first - 2))
-            });
-        }
-        (0..self.zeros()).for_each(|_| release.push(0));
-        Parts { epoch, release, suffix, local }
+        let end = self.0.iter().position(|byte| *byte == 0).expect(WRITTEN);
+        let text = core::str::from_utf8(self.take(end)).expect(WRITTEN);
+        self.byte();
+        LocalSegment::String(text.to_owned())
     }
 }

@@ -5,38 +5,37 @@
 //! its alignment. The library has no state and keeps no pointer, so any thread may call.
 #![allow(unsafe_code)]
 
-use crate::bytes;
+use crate::RangeError;
 use alloc::alloc::handle_alloc_error;
 use alloc::boxed::Box;
 use alloc::vec;
+use alloc::vec::Vec;
 use core::alloc::Layout;
+use core::slice::ChunksExact;
 
 type Writer = unsafe extern "C" fn(*const u8, usize, *mut u8, usize, *mut usize) -> u8;
 
-unsafe extern "C" {
-    fn pep440_compile(version: *const u8, length: usize, out: *mut u8, size: usize, written: *mut usize) -> u8;
-    fn pep440_compile_list(list: *const u8, length: usize, out: *mut u8, size: usize, written: *mut usize) -> u8;
-    fn pep440_compile_specifier(specifier: *const u8, length: usize, out: *mut u8, size: usize, written: *mut usize) -> u8;
-    fn pep440_pattern(pattern: *const u8, length: usize, out: *mut u8, size: usize, written: *mut usize, star: *mut u8) -> u8;
-    fn pep440_error(kind: u8, bytes: *const u8, length: usize, out: *mut u8, size: usize, written: *mut usize) -> u8;
-    fn pep440_build_error(
-        operator: u8,
-        version: *const u8,
-        length: usize,
-        star: u8,
-        out: *mut u8,
-        size: usize,
-        written: *mut usize,
-    ) -> u8;
-    fn pep440_normalize(compiled: *const u8, length: usize, out: *mut u8, size: usize, written: *mut usize) -> u8;
-    fn pep440_contains(
-        list: *const u8,
-        list_length: usize,
-        version: *const u8,
-        length: usize,
-        contained: *mut u8,
-        prerelease: *mut u8,
-    ) -> u8;
+type WriterWithEnds = unsafe extern "C" fn(*const u8, usize, *mut u8, usize, *mut usize, usize, *mut usize, *mut usize) -> u8;
+
+/// Declares calls of the same arguments.
+macro_rules! declare {
+    ($($arguments:tt: $($name:ident)*;)*) => { unsafe extern "C" { $($(fn $name $arguments -> u8;)*)* } };
+}
+
+declare! {
+    (bytes: *const u8, length: usize, out: *mut u8, size: usize, written: *mut usize): pep440_compile pep440_normalize pep440_normalize_list;
+    (
+        list: *const u8, length: usize,
+        out: *mut u8, size: usize, ends: *mut usize, ends_size: usize, written: *mut usize, count: *mut usize
+    ): pep440_range_bounds pep440_release_range_bounds;
+    (pattern: *const u8, length: usize, out: *mut u8, size: usize, written: *mut usize, star: *mut u8): pep440_pattern;
+    (kind: u8, bytes: *const u8, length: usize, out: *mut u8, size: usize, written: *mut usize): pep440_error;
+    (
+        operator: u8, version: *const u8, length: usize, star: u8, out: *mut u8, size: usize, written: *mut usize
+    ): pep440_build_error;
+    (
+        list: *const u8, list_length: usize, version: *const u8, length: usize, contained: *mut u8, prerelease: *mut u8
+    ): pep440_contains;
 }
 
 const OK: u8 = 0;
@@ -44,6 +43,10 @@ const INVALID_VERSION: u8 = 1;
 const INVALID_LIST: u8 = 2;
 const OUT_OF_MEMORY: u8 = 3;
 const NO_ROOM: u8 = 4;
+const NUMBER_AT_MAX: u8 = 5;
+
+/// What holds of each result of a call.
+pub(crate) const WRITTEN: &str = "the library wrote these bytes";
 
 /// The string or the compiled bytes are no version, or no list.
 #[derive(Debug)]
@@ -59,6 +62,16 @@ fn invalid(status: u8) -> Invalid {
         OUT_OF_MEMORY => handle_alloc_error(Layout::new::<u8>()),
         _ => panic!("the library returns a status that its header does not name: {status}"),
     }
+}
+
+/// What the status of a range means that is not written.
+#[cold]
+fn range_error(status: u8) -> RangeError {
+    if status == NUMBER_AT_MAX {
+        return RangeError::NumberAtMax;
+    }
+    let Invalid = invalid(status);
+    RangeError::NotParsed
 }
 
 /// An error of the compiler as soon as code is made, which `cargo check` and `cargo doc` do not do.
@@ -82,14 +95,8 @@ fn bytes_of(string: &str) -> Result<&[u8], Invalid> {
 const STACK: usize = 128;
 /// As many bytes of a compiled version.
 const STACK_OF_VERSION: usize = 64;
-/// As many bytes of a compiled list.
-const STACK_OF_LIST: usize = 256;
-
-/// Calls `read` with what `call` writes of `input`.
-#[inline]
-fn written<T>(call: Writer, input: &[u8], read: impl FnOnce(&[u8]) -> T) -> Result<T, Invalid> {
-    written_to_room::<STACK, _>(writer(call, input), |room, length| read(&room[..length]))
-}
+/// As many ends of bounds.
+const STACK_OF_ENDS: usize = 16;
 
 #[inline]
 fn writer(call: Writer, input: &[u8]) -> impl FnMut(&mut [u8], &mut usize) -> u8 {
@@ -126,8 +133,13 @@ fn written_to_heap<T>(
     }
 }
 
-fn as_text(bytes: &[u8]) -> &str {
+pub(crate) fn as_text(bytes: &[u8]) -> &str {
     core::str::from_utf8(bytes).expect("the library writes UTF-8")
+}
+
+/// The text that `call` writes.
+fn text(call: impl FnMut(&mut [u8], &mut usize) -> u8) -> Result<Box<str>, Invalid> {
+    written_to_room::<STACK, _>(call, |room, length| as_text(&room[..length]).into())
 }
 
 /// Calls `read` with room that compiled bytes of a version begin, and how many they are; zero bytes follow.
@@ -143,40 +155,32 @@ pub(crate) fn pattern<T>(pattern: &str, read: impl FnOnce(&str, bool) -> T) -> R
         // SAFETY: as the module says.
         unsafe { pep440_pattern(bytes.as_ptr(), bytes.len(), out.as_mut_ptr(), out.len(), length, &raw mut star) }
     };
-    let text = written_to_room::<STACK, _>(call, |room, length| Box::from(as_text(&room[..length])))?;
-    Ok(read(&text, star == 1))
+    let version = text(call)?;
+    Ok(read(&version, star == 1))
 }
 
-/// Calls `read` with the compiled bytes of a list.
-pub(crate) fn compile_list<T>(list: &str, read: impl FnOnce(&[u8]) -> T) -> Result<T, Invalid> {
-    compiled(pep440_compile_list, list, read)
+/// Calls `read` with the normalized form of a list, as `>=1.16, <2.0`.
+pub(crate) fn normalize_list<T>(list: &str, read: impl FnOnce(&str) -> T) -> Result<T, Invalid> {
+    written_to_room::<STACK, _>(writer(pep440_normalize_list, bytes_of(list)?), |room, length| read(as_text(&room[..length])))
 }
 
-/// Calls `read` with the compiled bytes of the list of one specifier.
-pub(crate) fn compile_specifier<T>(specifier: &str, read: impl FnOnce(&[u8]) -> T) -> Result<T, Invalid> {
-    compiled(pep440_compile_specifier, specifier, read)
+/// What a string was to be, by the numbers of the library.
+#[derive(Clone, Copy)]
+pub(crate) enum Kind {
+    Version,
+    Pattern,
+    Specifier,
+    List,
 }
-
-/// Calls `read` with the list that `call` compiles, without its set.
-fn compiled<T>(call: Writer, list: &str, read: impl FnOnce(&[u8]) -> T) -> Result<T, Invalid> {
-    written_to_room::<STACK_OF_LIST, _>(writer(call, bytes_of(list)?), |room, length| read(bytes::without_set(&room[..length])))
-}
-
-// What bytes were to be.
-const A_VERSION: u8 = 0;
-const A_PATTERN: u8 = 1;
-const A_SPECIFIER: u8 = 2;
-const A_LIST: u8 = 3;
 
 /// Why a string is none of this kind; empty where it is one.
-fn error(kind: u8, string: &str) -> Box<str> {
+pub(crate) fn error(kind: Kind, string: &str) -> Box<str> {
     let said = |string: &[u8]| {
         let call = |out: &mut [u8], length: &mut usize| {
             // SAFETY: as the module says.
-            unsafe { pep440_error(kind, string.as_ptr(), string.len(), out.as_mut_ptr(), out.len(), length) }
+            unsafe { pep440_error(kind as u8, string.as_ptr(), string.len(), out.as_mut_ptr(), out.len(), length) }
         };
-        written_to_room::<STACK, Box<str>>(call, |room, length| as_text(&room[..length]).into())
-            .expect("any string has an answer")
+        text(call).expect("any string has an answer")
     };
     match bytes_of(string) {
         Ok(bytes) => said(bytes),
@@ -185,39 +189,73 @@ fn error(kind: u8, string: &str) -> Box<str> {
     }
 }
 
-/// Why the string is no version; empty where it is one.
-pub(crate) fn version_error(version: &str) -> Box<str> {
-    error(A_VERSION, version)
-}
-
-/// Why the string is no pattern; empty where it is one.
-pub(crate) fn pattern_error(pattern: &str) -> Box<str> {
-    error(A_PATTERN, pattern)
-}
-
-/// Why the string is no specifier; empty where it is one.
-pub(crate) fn specifier_error(specifier: &str) -> Box<str> {
-    error(A_SPECIFIER, specifier)
-}
-
 /// Why the operator of this number and the compiled version make no specifier, `.*` behind the version or not; empty where they do.
 pub(crate) fn build_error(operator: u8, version: &[u8], star: bool) -> Box<str> {
     let call = |out: &mut [u8], length: &mut usize| {
         // SAFETY: as the module says.
         unsafe { pep440_build_error(operator, version.as_ptr(), version.len(), star.into(), out.as_mut_ptr(), out.len(), length) }
     };
-    written_to_room::<STACK, _>(call, |room, length| as_text(&room[..length]).into())
-        .expect("an operator and compiled bytes have an answer")
-}
-
-/// Why the string is no list; empty where it is one.
-pub(crate) fn list_error(list: &str) -> Box<str> {
-    error(A_LIST, list)
+    text(call).expect("an operator and compiled bytes have an answer")
 }
 
 /// Calls `read` with the normalized form of a compiled version.
 pub(crate) fn normalize<T>(version: &[u8], read: impl FnOnce(&str) -> T) -> T {
-    written(pep440_normalize, version, |bytes| read(as_text(bytes))).expect("compiled bytes have a normalized form")
+    written_to_room::<STACK, _>(writer(pep440_normalize, version), |room, length| read(as_text(&room[..length])))
+        .expect("compiled bytes have a normalized form")
+}
+
+/// Calls `read` with the bounds of each segment of the range of a compiled list.
+pub(crate) fn range_bounds<T>(list: &[u8], read: impl FnOnce(Pairs) -> T) -> Result<T, RangeError> {
+    pairs(pep440_range_bounds, list, read).map_err(range_error)
+}
+
+/// Calls `read` with those of its release-only range.
+pub(crate) fn release_range_bounds<T>(list: &[u8], read: impl FnOnce(Pairs) -> T) -> Result<T, RangeError> {
+    pairs(pep440_release_range_bounds, list, read).map_err(range_error)
+}
+
+/// What a call writes one after the other, two at a time.
+pub(crate) struct Pairs<'a> {
+    bytes: &'a [u8],
+    ends: ChunksExact<'a, usize>,
+    start: usize,
+}
+
+impl<'a> Iterator for Pairs<'a> {
+    type Item = [&'a [u8]; 2];
+
+    fn next(&mut self) -> Option<Self::Item> {
+        let [middle, end] = *self.ends.next()? else { return None };
+        let start = core::mem::replace(&mut self.start, end);
+        Some([&self.bytes[start..middle], &self.bytes[middle..end]])
+    }
+
+    fn size_hint(&self) -> (usize, Option<usize>) {
+        self.ends.size_hint()
+    }
+}
+
+/// Calls `read` with what `call` writes of `input`, or returns its status.
+fn pairs<T>(call: WriterWithEnds, input: &[u8], read: impl FnOnce(Pairs) -> T) -> Result<T, u8> {
+    let (mut stack, mut heap, mut length) = ([0; STACK], Vec::new(), 0);
+    let (mut stack_of_ends, mut heap_of_ends, mut count) = ([0; STACK_OF_ENDS], Vec::new(), 0);
+    let call = |out: &mut [u8], ends: &mut [usize], length: &mut usize, count: &mut usize| {
+        let (size, ends_size) = (out.len(), ends.len());
+        // SAFETY: as the module says.
+        unsafe { call(input.as_ptr(), input.len(), out.as_mut_ptr(), size, ends.as_mut_ptr(), ends_size, length, count) }
+    };
+    let (mut room, mut ends) = (stack.as_mut_slice(), stack_of_ends.as_mut_slice());
+    let mut status = call(room, ends, &mut length, &mut count);
+    if status == NO_ROOM {
+        heap.resize(length, 0);
+        heap_of_ends.resize(count, 0);
+        (room, ends) = (&mut heap, &mut heap_of_ends);
+        status = call(room, ends, &mut length, &mut count);
+    }
+    if status != OK {
+        return Err(status);
+    }
+    Ok(read(Pairs { bytes: &room[..length], ends: ends[..count].chunks_exact(2), start: 0 }))
 }
 
 /// Whether a compiled list contains a compiled version. Not specified where no string parses to a version of either.

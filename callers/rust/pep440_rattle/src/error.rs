@@ -1,6 +1,7 @@
 //! Errors. What the library finds wrong with a string it says in words, when it is asked to.
+use crate::calls::{self, Kind};
 use crate::version::write_local;
-use crate::{Operator, Version, calls};
+use crate::{Operator, Version};
 use alloc::borrow::ToOwned;
 use alloc::boxed::Box;
 use alloc::string::String;
@@ -62,7 +63,7 @@ impl VersionParseError {
     }
 
     fn text(&self) -> Box<str> {
-        calls::version_error(&self.string)
+        calls::error(Kind::Version, &self.string)
     }
 }
 
@@ -77,24 +78,23 @@ impl VersionParseError {
 #[derive(Clone)]
 pub struct VersionPatternParseError {
     string: Box<str>,
-    /// Says why the string is none.
-    say: fn(&str) -> Box<str>,
+    kind: Kind,
 }
 
 impl VersionPatternParseError {
     #[cold]
     pub(crate) fn new(string: &str) -> VersionPatternParseError {
-        VersionPatternParseError { string: string.into(), say: calls::pattern_error }
+        VersionPatternParseError { string: string.into(), kind: Kind::Pattern }
     }
 
     fn text(&self) -> Box<str> {
-        (self.say)(&self.string)
+        calls::error(self.kind, &self.string)
     }
 }
 
 impl From<VersionParseError> for VersionPatternParseError {
     fn from(error: VersionParseError) -> VersionPatternParseError {
-        VersionPatternParseError { string: error.string, say: calls::version_error }
+        VersionPatternParseError { string: error.string, kind: Kind::Version }
     }
 }
 
@@ -118,7 +118,7 @@ impl VersionSpecifierParseError {
     }
 
     fn text(&self) -> Box<str> {
-        calls::specifier_error(&self.string)
+        calls::error(Kind::Specifier, &self.string)
     }
 }
 
@@ -178,7 +178,7 @@ impl VersionSpecifiersParseError {
     }
 
     fn text(&self) -> Box<str> {
-        calls::list_error(&self.line)
+        calls::error(Kind::List, &self.line)
     }
 
     /// The string that is no list.

@@ -1,6 +1,6 @@
 //! The sort key of a version, in three words as far as it fits.
-use crate::bytes::{self, FINAL};
-use crate::parts::{Release, Suffix};
+use crate::bytes::FINAL;
+use crate::parts::Suffix;
 use core::array;
 use core::num::NonZeroU64;
 
@@ -113,6 +113,11 @@ impl Key {
         self.counts() >> 1 & 31
     }
 
+    #[inline]
+    fn release_end(&self) -> usize {
+        self.counts() >> 10 & 31
+    }
+
     /// The words without the counts.
     #[inline]
     pub(crate) fn words(&self) -> (u64, u64, u64) {
@@ -143,6 +148,22 @@ impl Key {
         self.counts() >> 15 == 1
     }
 
+    #[inline]
+    fn byte(&self, place: usize) -> u8 {
+        [self.first, self.second, self.third.get()][place / 8].to_be_bytes()[place % 8]
+    }
+
+    /// Whether there is a pre-release or a developmental part in what the words tell. A stage from 1 to 4 is of one; behind a post-release,
+    /// which has stage 5, rank 0 is of a developmental part.
+    #[inline]
+    pub(crate) fn is_early(&self) -> bool {
+        let place = self.release_end();
+        match self.byte(place) / 16 {
+            5 => self.byte(place + 2 + usize::from(self.byte(place + 1) % 16)) < 16,
+            stage => stage != 0,
+        }
+    }
+
     /// Calls `read` with `start`, and the bytes of the version that the words tell.
     #[inline]
     pub(crate) fn with_bytes<T>(&self, start: [u8; 2], read: impl FnOnce(&[u8]) -> T) -> T {
@@ -163,7 +184,7 @@ impl Key {
         for (place, word) in [self.first, self.second, self.third.get() >> 16 << 16].into_iter().enumerate() {
             room[8 * place..][..8].copy_from_slice(&word.to_be_bytes());
         }
-        Sections { room, release_end: self.counts() >> 10 & 31, length: self.length(), zeros: self.zeros() }
+        Sections { room, release_end: self.release_end(), length: self.length(), zeros: self.zeros() }
     }
 }
 
@@ -183,11 +204,6 @@ impl Sections {
     #[inline]
     pub(crate) fn block(&self, place: usize) -> &[u8; SHORT] {
         self.room[place..].first_chunk().expect("a place in the key")
-    }
-
-    #[inline]
-    pub(crate) fn release(&self) -> Release {
-        bytes::read_release(&self.room[self.epoch_end()..self.release_end], self.zeros)
     }
 
     /// Whether the release has more than one number, of which the first begins with how many bytes it takes.

@@ -1,10 +1,9 @@
 //! Versions and specifiers of Python packages ([PEP 440](https://peps.python.org/pep-0440)), by a proved library.
 //!
 //! The names and the behaviour are those of the crate `pep440_rs` 0.7.3, but for the departures that the README lists.
-//! Parsing, normalized forms and matching are calls of the library `pep440`, whose functions are proved to do what
-//! PEP 440 says, and its sort keys to have the order of versions. This crate is tested, not proved. It changes versions and makes ranges
-//! by their keys, and reads and writes operators, what stands between the specifiers of a list, and single segments itself; its tests
-//! compare these with what the library does.
+//! Parsing, normalized forms, matching and ranges are calls of the library `pep440`, whose functions are proved to do what
+//! PEP 440 says. This crate is tested, not proved. It keeps a version as its sort key, which the library's are proved to order as
+//! versions, and changes and reads parts in it; that and what it says of operators its tests compare with the library.
 //!
 //! ```
 //! use pep440_rattle::{Version, VersionSpecifiers};

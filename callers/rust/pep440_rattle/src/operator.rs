@@ -38,10 +38,6 @@ use Operator::{
     Equal, EqualStar, ExactEqual, GreaterThan, GreaterThanEqual, LessThan, LessThanEqual, NotEqual, NotEqualStar, TildeEqual,
 };
 
-/// In the order of the enum, which is that of their numbers in compiled lists.
-const ALL: [Operator; 10] =
-    [Equal, EqualStar, ExactEqual, NotEqual, NotEqualStar, TildeEqual, LessThan, LessThanEqual, GreaterThan, GreaterThanEqual];
-
 impl Operator {
     /// The operator of the opposite meaning; None of `~=`, which has none. `===` gives `!=`, and that gives `==`.
     ///
@@ -111,10 +107,6 @@ impl Operator {
             TildeEqual => !version.is_local() && version.has_two_numbers(),
             _ => !version.is_local(),
         }
-    }
-
-    pub(crate) fn from_number(number: u8) -> Option<Operator> {
-        ALL.get(usize::from(number)).copied()
     }
 
     fn symbol(self) -> &'static str {

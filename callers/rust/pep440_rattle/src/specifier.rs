@@ -1,6 +1,6 @@
 //! Specifiers: an operator and a version.
 use crate::bytes;
-use crate::calls;
+use crate::calls::{self, WRITTEN};
 use crate::range;
 use crate::{Operator, RangeError, Segment, Version, VersionPattern, VersionSpecifierBuildError, VersionSpecifierParseError};
 use alloc::vec::Vec;
@@ -246,7 +246,7 @@ impl VersionSpecifier {
     ///
     /// As [`VersionSpecifiers::ranges`](crate::VersionSpecifiers::ranges).
     pub fn ranges(&self) -> Result<Vec<Segment>, RangeError> {
-        range::of_list(core::slice::from_ref(self))
+        self.with_list(range::of_list)
     }
 
     /// The range of the specifier by releases alone; see
@@ -264,7 +264,7 @@ impl VersionSpecifier {
     ///
     /// As [`VersionSpecifiers::ranges`](crate::VersionSpecifiers::ranges).
     pub fn release_ranges(&self) -> Result<Vec<Segment>, RangeError> {
-        range::of_releases(core::slice::from_ref(self))
+        self.with_list(range::of_releases)
     }
 
     /// Calls `read` with the compiled bytes of a list of this specifier alone.
@@ -347,32 +347,21 @@ pub(crate) fn is_next_minor(low: &Version, high: &Version) -> bool {
     }
 }
 
-/// The specifiers with commas between them, spelled as nearly all are; None where the library has to parse them.
-pub(crate) fn parse_plain_list(list: &str) -> Option<Vec<VersionSpecifier>> {
-    let (mut members, mut rest) = (Vec::new(), list);
-    while let Some(end) = rest.bytes().position(|byte| byte == b',') {
-        members.push(parse_plain(&rest[..end])?);
-        rest = &rest[end + 1..];
-    }
-    members.push(parse_plain(rest)?);
-    Some(members)
+/// The specifiers of the normalized form of a list.
+pub(crate) fn read_list(list: &str) -> impl Iterator<Item = VersionSpecifier> {
+    list.split(", ").filter(|member| !member.is_empty()).map(read)
 }
 
-/// The specifier, of an operator and a version with blanks of ASCII around each. The library parses the version; None where it has to parse all.
-#[inline]
-fn parse_plain(text: &str) -> Option<VersionSpecifier> {
-    let text = text.trim_ascii();
-    let is_symbol = |byte: &u8| matches!(byte, b'=' | b'!' | b'~' | b'<' | b'>');
-    let (symbol, rest) = text.split_at(text.as_bytes().iter().take_while(|byte| is_symbol(byte)).count());
-    let (operator, text) = (Operator::from_symbol(symbol)?, rest.trim_ascii_start());
-    let Some(base) = text.strip_suffix(".*") else {
-        let version = Version::parse(text).ok()?;
-        return operator.takes(&version).then(|| VersionSpecifier::unchecked(operator, version));
+/// The specifier of a normalized form: an operator, a version, and `.*` behind it or nothing.
+fn read(specifier: &str) -> VersionSpecifier {
+    let start = specifier.bytes().position(|byte| byte.is_ascii_digit()).expect(WRITTEN);
+    let (symbol, version) = specifier.split_at(start);
+    let operator = Operator::from_symbol(symbol).expect(WRITTEN);
+    let (operator, version) = match version.strip_suffix(".*") {
+        Some(version) => (operator.to_star().expect(WRITTEN), version),
+        None => (operator, version),
     };
-    // A version with a blank behind it parses, but not before a star.
-    let is_release = |version: &Version| version.is_final() && base.ends_with(|last: char| last.is_ascii_digit());
-    let version = Version::parse(base).ok().filter(is_release)?;
-    Some(VersionSpecifier::unchecked(operator.to_star()?, version))
+    VersionSpecifier { operator, version: Version::parse(version).expect(WRITTEN) }
 }
 
 impl FromStr for VersionSpecifier {
@@ -380,15 +369,14 @@ impl FromStr for VersionSpecifier {
 
     /// Parses a specifier, as `>= 1.19`, `== 1.1.*` or `<=1!2012.2`.
     fn from_str(specifier: &str) -> Result<VersionSpecifier, VersionSpecifierParseError> {
-        let read = match parse_plain(specifier) {
-            Some(read) => read,
-            None => {
-                calls::compile_specifier(specifier, bytes::read_member).map_err(|_| VersionSpecifierParseError::new(specifier))?
-            }
+        // A specifier is a list of one; a list of several has a comma.
+        let only = |list: &str| (!list.is_empty() && !list.contains(',')).then(|| read(list));
+        let Ok(Some(found)) = calls::normalize_list(specifier, only) else {
+            return Err(VersionSpecifierParseError::new(specifier));
         };
         #[cfg(feature = "tracing")]
-        crate::logged::exact_equality([read.operator]);
-        Ok(read)
+        crate::logged::exact_equality([found.operator]);
+        Ok(found)
     }
 }
 

@@ -3,7 +3,7 @@ use crate::bytes;
 use crate::calls;
 use crate::lazy::Lazy;
 use crate::range;
-use crate::specifier::{is_next_minor, parse_plain_list};
+use crate::specifier::{is_next_minor, read_list};
 use crate::{RangeError, Segment, Version, VersionSpecifier, VersionSpecifiersParseError};
 use alloc::vec;
 use alloc::vec::Vec;
@@ -93,7 +93,7 @@ impl VersionSpecifiers {
     /// [`RangeError::NumberAtMax`] where a bound would need a number above `u64::MAX`; [`RangeError::NotParsed`] where no string parses
     /// to the version of a specifier.
     pub fn ranges(&self) -> Result<Vec<Segment>, RangeError> {
-        range::of_list(self)
+        range::of_list(&bytes::list(self))
     }
 
     /// The range of the list by releases alone, meant for versions that are a release and nothing else, as those of Python itself:
@@ -111,7 +111,7 @@ impl VersionSpecifiers {
     ///
     /// As [`VersionSpecifiers::ranges`].
     pub fn release_ranges(&self) -> Result<Vec<Segment>, RangeError> {
-        range::of_releases(self)
+        range::of_releases(&bytes::list(self))
     }
 
     /// The list that a sorted sequence of ranges of releases is: the outer bounds, and a specifier `!=` for a gap of one
@@ -162,11 +162,9 @@ impl FromStr for VersionSpecifiers {
 
     /// Parses specifiers with commas between them; the empty string is the empty list.
     fn from_str(list: &str) -> Result<VersionSpecifiers, VersionSpecifiersParseError> {
-        let members = match parse_plain_list(list) {
-            Some(members) => members,
-            None => calls::compile_list(list, bytes::read_list).map_err(|_| VersionSpecifiersParseError::new(list))?,
-        };
-        let list = VersionSpecifiers::from_unsorted(members);
+        let members = calls::normalize_list(list, |list| read_list(list).collect());
+        let members = members.map_err(|_| VersionSpecifiersParseError::new(list))?;
+        let list = VersionSpecifiers { members, compiled: Lazy::new() };
         #[cfg(feature = "tracing")]
         crate::logged::exact_equality(list.iter().map(|member| *member.operator()));
         Ok(list)

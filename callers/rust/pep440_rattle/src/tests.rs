@@ -94,9 +94,6 @@ fn list_bytes() {
             .collect();
     let wanted = [5, 25, 0, 2, 1, 0, 80, 0, 16, 0, 1, 22, 1, 1, 2, 1, 0, 80, 0, 16, 0, 1];
     assert_eq!(bytes::list(&list), wanted);
-    let members = bytes::read_list(&wanted);
-    assert_eq!((*members[0].operator(), *members[1].operator()), (Operator::GreaterThanEqual, Operator::LessThan));
-    assert_eq!(bytes::list(&members), wanted);
     assert_eq!(bytes::list(&[]), [5]);
     let one = VersionSpecifier::unchecked(Operator::TildeEqual, low);
     assert_eq!(one.with_list(<[u8]>::to_vec), bytes::list(&[one]));

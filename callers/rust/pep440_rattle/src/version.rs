@@ -164,23 +164,6 @@ impl Version {
         self.sections().map_or_else(|| self.parts().suffix, |sections| sections.suffix())
     }
 
-    /// The version whose release ends so many numbers earlier, with the last one raised; None where there is no such number.
-    pub(crate) fn raised(self, dropped: usize) -> Option<Version> {
-        let release = match self.sections() {
-            Some(sections) => sections.release(),
-            None => self.parts().release.clone(),
-        };
-        let (last, front) = release[..release.len() - dropped].split_last()?;
-        let next = last.checked_add(1)?;
-        Some(self.with_release(front.iter().chain([&next])))
-    }
-
-    /// Whether the version is known to be a release alone, with an epoch or without one.
-    #[inline]
-    pub(crate) fn is_final(&self) -> bool {
-        self.key.is_final()
-    }
-
     /// Whether the release has more than one number.
     pub(crate) fn has_two_numbers(&self) -> bool {
         self.sections().map_or_else(|| self.release().len() > 1, |sections| sections.has_two_numbers())
@@ -268,7 +251,7 @@ impl Version {
     /// ```
     #[inline]
     pub fn any_prerelease(&self) -> bool {
-        !self.key.is_final() && self.suffix().is_early()
+        !self.key.is_final() && if self.key.is_told() { self.key.is_early() } else { self.parts().suffix.is_early() }
     }
 
     /// Whether there is neither a pre-release nor a developmental part.

@@ -1,99 +1,18 @@
 //! Compares random pairs of versions by their compiled bytes, by their strings and by the ported crate; batches of them, by their sort keys
-//! and as sorted; edited ones with what the ported crate makes; ranges of lists, which the crate makes itself, with those of the library; and
-//! whether lists contain versions, as strings, with their sets and without. Then gives random and changed byte strings to `pep440_normalize`: it
-//! rejects them, or they are what the printed version is compiled to.
+//! and as sorted; edited ones with what the ported crate makes; and whether lists contain versions, as strings, with their sets and without.
+//! Then gives random and changed byte strings to `pep440_normalize`: it rejects them, or they are what the printed version is compiled to.
 //!
 //! Usage: bytes [COUNT [SEED]]    (1,000,000 of each, of lists twice as many, seed 440)
 use against_pep440_rs::chance::Chance;
 use against_pep440_rs::departures::{self, is_misordered};
+use against_pep440_rs::library::{compare, compile, compile_list, contains, edit, normalize, sort, sort_keys, INVALID_VERSION};
 use against_pep440_rs::views::{ours, theirs};
 use std::cmp::Ordering;
-use std::ops::Bound;
 
-/// A `pep440_string`.
-#[repr(C)]
-struct Borrowed {
-    bytes: *const u8,
-    length: usize,
-}
-
-type Writer = unsafe extern "C" fn(*const u8, usize, *mut u8, usize, *mut usize) -> u8;
-type Comparer = unsafe extern "C" fn(*const u8, usize, *const u8, usize, *mut i8) -> u8;
-
-unsafe extern "C" {
-    fn pep440_compile(version: *const u8, length: usize, out: *mut u8, size: usize, written: *mut usize) -> u8;
-    fn pep440_normalize(version: *const u8, length: usize, out: *mut u8, size: usize, written: *mut usize) -> u8;
-    fn pep440_compare(left: *const u8, left_length: usize, right: *const u8, right_length: usize, order: *mut i8) -> u8;
-    fn pep440_compile_list(list: *const u8, length: usize, out: *mut u8, size: usize, written: *mut usize) -> u8;
-    fn pep440_contains(
-        list: *const u8,
-        list_length: usize,
-        version: *const u8,
-        length: usize,
-        contained: *mut u8,
-        prerelease: *mut u8,
-    ) -> u8;
-    fn pep440_sort(strings: *const Borrowed, count: usize, indices: *mut usize, size: usize, index: *mut usize) -> u8;
-    fn pep440_sort_keys(
-        strings: *const Borrowed,
-        count: usize,
-        out: *mut u8,
-        size: usize,
-        ends: *mut usize,
-        ends_size: usize,
-        written: *mut usize,
-        index: *mut usize,
-    ) -> u8;
-    fn pep440_ranges(list: *const u8, length: usize, out: *mut u8, size: usize, written: *mut usize) -> u8;
-    fn pep440_release_range_bounds(
-        list: *const u8,
-        length: usize,
-        out: *mut u8,
-        size: usize,
-        ends: *mut usize,
-        ends_size: usize,
-        written: *mut usize,
-        count: *mut usize,
-    ) -> u8;
-    fn pep440_edit(
-        version: *const u8,
-        length: usize,
-        changes: *const Borrowed,
-        count: usize,
-        out: *mut u8,
-        size: usize,
-        written: *mut usize,
-    ) -> u8;
-}
-
-const OK: u8 = 0;
-const INVALID_VERSION: u8 = 1;
-const NUMBER_AT_MAX: u8 = 5;
 /// What a compiled version begins with.
 const VERSION: u8 = 4;
 /// What the members of a compiled list begin with.
 const MEMBERS: u8 = 5;
-
-/// What the call writes of the bytes, or its status.
-fn write(call: Writer, bytes: &[u8]) -> Result<Vec<u8>, u8> {
-    let (mut out, mut written) = (vec![0; 8192], 0);
-    // SAFETY: both vectors have as many bytes as is said, and a slice's pointer is never null.
-    match unsafe { call(bytes.as_ptr(), bytes.len(), out.as_mut_ptr(), out.len(), &mut written) } {
-        OK => {
-            out.truncate(written);
-            Ok(out)
-        }
-        other => Err(other),
-    }
-}
-
-fn compare(call: Comparer, left: &[u8], right: &[u8]) -> Ordering {
-    let mut order = 0;
-    // SAFETY: as in `write`.
-    let status = unsafe { call(left.as_ptr(), left.len(), right.as_ptr(), right.len(), &mut order) };
-    assert_eq!(status, OK, "{left:?} {right:?}");
-    order.cmp(&0)
-}
 
 /// The sort key: all but the first byte and the bytes 1 at the end.
 fn key(compiled: &[u8]) -> &[u8] {
@@ -106,7 +25,7 @@ fn some_version(chance: &mut Chance) -> (String, Vec<u8>, theirs::Version) {
     loop {
         let text = chance.version();
         if let Some(other) = theirs::version(&text) {
-            let compiled = write(pep440_compile, text.as_bytes()).unwrap_or_else(|status| panic!("{text:?}: {status}"));
+            let compiled = compile(text.as_bytes()).unwrap_or_else(|status| panic!("{text:?}: {status}"));
             return (text, compiled, other);
         }
     }
@@ -120,8 +39,8 @@ fn compare_pairs(chance: &mut Chance, count: u64) -> (u64, u64) {
         let (right, right_bytes, right_theirs) = some_version(chance);
         let order = key(&left_bytes).cmp(key(&right_bytes));
         let asked = format!("{left:?} {right:?}");
-        assert_eq!(compare(pep440_compare, &left_bytes, &right_bytes), order, "{asked}");
-        assert_eq!(compare(pep440_compare, left.as_bytes(), right.as_bytes()), order, "{asked}");
+        assert_eq!(compare(&left_bytes, &right_bytes), order, "{asked}");
+        assert_eq!(compare(left.as_bytes(), right.as_bytes()), order, "{asked}");
         assert_eq!(ours::version(&left).cmp(&ours::version(&right)), order, "{asked}");
         equal += u64::from(order == Ordering::Equal);
         if is_misordered(&left_theirs, &right_theirs) {
@@ -133,29 +52,14 @@ fn compare_pairs(chance: &mut Chance, count: u64) -> (u64, u64) {
     (equal, misordered)
 }
 
-fn borrow_all(texts: &[String]) -> Vec<Borrowed> {
-    texts.iter().map(|text| Borrowed { bytes: text.as_ptr(), length: text.len() }).collect()
-}
-
 /// A batch of as many versions: the sort key of each is in its compiled bytes, and they are sorted by these keys.
 fn sort_batch(chance: &mut Chance, count: usize) {
     let (texts, compiled): (Vec<String>, Vec<Vec<u8>>) = (0..count).map(|_| some_version(chance)).map(|it| (it.0, it.1)).unzip();
-    let (strings, mut out, mut written, mut index) = (borrow_all(&texts), vec![0; 1024 * count], 0, 0);
-    let (mut ends, mut indices) = (vec![0; count], vec![0; count]);
-    let (keys, size) = (out.as_mut_ptr(), out.len());
-    // SAFETY: as in `write`; the strings of the batch live on in `texts`.
-    let status =
-        unsafe { pep440_sort_keys(strings.as_ptr(), count, keys, size, ends.as_mut_ptr(), count, &mut written, &mut index) };
-    assert_eq!((status, ends.last()), (OK, Some(&written)), "{texts:?}");
-    let starts = std::iter::once(&0).chain(&ends);
-    let found: Vec<&[u8]> = starts.zip(&ends).map(|(start, end)| &out[*start..*end]).collect();
     let wanted: Vec<&[u8]> = compiled.iter().map(|bytes| key(bytes)).collect();
-    assert_eq!(found, wanted, "{texts:?}");
-    // SAFETY: as above.
-    assert_eq!(unsafe { pep440_sort(strings.as_ptr(), count, indices.as_mut_ptr(), count, &mut index) }, OK, "{texts:?}");
+    assert_eq!(sort_keys(&texts), wanted, "{texts:?}");
     let mut by_key: Vec<usize> = (0..count).collect();
     by_key.sort_by_key(|index| wanted[*index]);
-    assert_eq!(indices, by_key, "{texts:?}");
+    assert_eq!(sort(&texts), by_key, "{texts:?}");
 }
 
 /// A change, made by an edit and by the ported crate.
@@ -169,93 +73,8 @@ fn edit_version(chance: &mut Chance) {
         4 => ("without-local".to_owned(), version.without_local()),
         _ => ("only-release".to_owned(), version.only_release()),
     };
-    let (changes, mut out, mut written) = (borrow_all(std::slice::from_ref(&change)), vec![0; 1024], 0);
-    // SAFETY: as in `sort_batch`.
-    let status =
-        unsafe { pep440_edit(text.as_ptr(), text.len(), changes.as_ptr(), 1, out.as_mut_ptr(), out.len(), &mut written) };
-    assert_eq!((status, std::str::from_utf8(&out[..written])), (OK, Ok(wanted.to_string().as_str())), "{text:?} {change}");
-}
-
-/// The bounds of each segment, a segment a line, as `pep440_ranges` writes them, or `empty`.
-fn show_range(segments: &[ours::Segment]) -> String {
-    let sentinel = |name: &str, number: Option<u64>| number.map(|number| format!("~{name}{number}")).unwrap_or_default();
-    let shown = |version: &ours::Version| {
-        format!("{version}{}{}", sentinel("min", ours::Version::min(version)), sentinel("max", ours::Version::max(version)))
-    };
-    let line = |(low, high): &ours::Segment| {
-        let low = match low {
-            Bound::Unbounded => "(*".to_owned(),
-            Bound::Included(version) => format!("[{}", shown(version)),
-            Bound::Excluded(version) => format!("({}", shown(version)),
-        };
-        let high = match high {
-            Bound::Unbounded => "*)".to_owned(),
-            Bound::Included(version) => format!("{}]", shown(version)),
-            Bound::Excluded(version) => format!("{})", shown(version)),
-        };
-        format!("{low}, {high}\n")
-    };
-    if segments.is_empty() {
-        "empty\n".to_owned()
-    } else {
-        segments.iter().map(line).collect()
-    }
-}
-
-fn said(found: Result<Vec<ours::Segment>, ours::RangeError>) -> Result<String, u8> {
-    found.map(|segments| show_range(&segments)).map_err(|error| match error {
-        ours::RangeError::NumberAtMax => NUMBER_AT_MAX,
-        _ => panic!("a string parses to each version"),
-    })
-}
-
-/// The release-only range that the library writes, as `pep440_ranges` writes the other one.
-fn release_range(list: &str) -> Result<String, u8> {
-    let (mut out, mut ends, mut written, mut count) = (vec![0; 8192], vec![0; 64], 0, 0);
-    let (bytes, size) = (out.as_mut_ptr(), out.len());
-    // SAFETY: as in `write`.
-    let status = unsafe {
-        pep440_release_range_bounds(list.as_ptr(), list.len(), bytes, size, ends.as_mut_ptr(), 64, &mut written, &mut count)
-    };
-    let (mut start, mut range) = (0, Vec::new());
-    for end in &ends[..count] {
-        let version = |compiled: &[u8]| {
-            let text = write(pep440_normalize, compiled).expect("a compiled version");
-            ours::version(std::str::from_utf8(&text).expect("text")).expect("a version")
-        };
-        range.push(match &out[start..*end] {
-            [1, compiled @ ..] => Bound::Included(version(compiled)),
-            [2, compiled @ ..] => Bound::Excluded(version(compiled)),
-            _ => Bound::Unbounded,
-        });
-        start = *end;
-    }
-    let segments: Vec<ours::Segment> = range.chunks_exact(2).map(|pair| (pair[0].clone(), pair[1].clone())).collect();
-    if status == OK {
-        Ok(show_range(&segments))
-    } else {
-        Err(status)
-    }
-}
-
-/// A list whose ranges the library and the crate make alike; whether there is one.
-fn compare_ranges(chance: &mut Chance) -> bool {
-    let text = chance.list();
-    let Ok(list) = text.parse::<ours::VersionSpecifiers>() else { return false };
-    let wanted = write(pep440_ranges, text.as_bytes()).map(|range| String::from_utf8(range).expect("text"));
-    assert_eq!(said(list.ranges()), wanted, "{text:?}");
-    assert_eq!(said(list.release_ranges()), release_range(&text), "{text:?}");
-    true
-}
-
-/// Whether the list contains the version, and whether this is a pre-release.
-fn contains(list: &[u8], version: &[u8]) -> (bool, bool) {
-    let (mut contained, mut early) = (7, 7);
-    let (list_start, start) = (list.as_ptr(), version.as_ptr());
-    // SAFETY: as in `write`.
-    let status = unsafe { pep440_contains(list_start, list.len(), start, version.len(), &mut contained, &mut early) };
-    assert_eq!(status, OK, "{list:?} {version:?}");
-    (contained == 1, early == 1)
+    let wanted = Ok(wanted.to_string().into_bytes());
+    assert_eq!(edit(text.as_bytes(), std::slice::from_ref(&change)), wanted, "{text:?} {change}");
 }
 
 /// The members of a compiled list, with their format byte: after the set and how many bytes it has, if it has one.
@@ -274,7 +93,7 @@ fn ask_lists(chance: &mut Chance, count: u64) -> (u64, u64) {
         let text = chance.list();
         let Ok(list) = text.parse::<theirs::VersionSpecifiers>() else { continue };
         let (version, bytes, version_theirs) = some_version(chance);
-        let compiled = write(pep440_compile_list, text.as_bytes()).unwrap_or_else(|status| panic!("{text:?}: {status}"));
+        let compiled = compile_list(text.as_bytes()).unwrap_or_else(|status| panic!("{text:?}: {status}"));
         let found = contains(text.as_bytes(), version.as_bytes());
         for form in [text.as_bytes(), &compiled, members(&compiled)] {
             assert_eq!(contains(form, &bytes), found, "{text:?} {version:?} {form:?}");
@@ -319,11 +138,11 @@ fn read_bytes(chance: &mut Chance, count: u64) -> u64 {
     let mut printed = 0;
     for _ in 0..count {
         let bytes = some_bytes(chance);
-        match write(pep440_normalize, &bytes) {
+        match normalize(&bytes) {
             Ok(print) => {
                 // Bytes of another format are a string.
-                let compiled = if bytes[0] == VERSION { Ok(bytes) } else { write(pep440_compile, &bytes) };
-                assert_eq!(write(pep440_compile, &print), compiled, "{}", String::from_utf8_lossy(&print));
+                let compiled = if bytes[0] == VERSION { Ok(bytes) } else { compile(&bytes) };
+                assert_eq!(compile(&print), compiled, "{}", String::from_utf8_lossy(&print));
                 printed += 1;
             }
             Err(status) => assert_eq!(status, INVALID_VERSION, "{bytes:?}"),
@@ -339,13 +158,11 @@ fn main() {
     let (equal, misordered) = compare_pairs(&mut chance, count);
     (0..count / 100).for_each(|_| sort_batch(&mut chance, 100));
     (0..count).for_each(|_| edit_version(&mut chance));
-    let ranges = (0..count).filter(|_| compare_ranges(&mut chance)).count();
     let (contained, unordered) = ask_lists(&mut chance, 2 * count);
     let printed = read_bytes(&mut chance, count);
     println!(
         "{count} pairs have one order by bytes, by strings and by the ported crate ({equal} equal; {misordered} that it orders wrongly); \
-         as many are sorted by their keys, and edited as it edits them; {ranges} lists have the ranges of the library; of {} lists \
-         {contained} contain a version by all, {unordered} have versions that it orders wrongly; of {count} byte strings {printed} are \
+         as many are sorted by their keys, and edited as it edits them; of {} lists {contained} contain a version by all, {unordered} have versions that it orders wrongly; of {count} byte strings {printed} are \
          what they print as, the others are rejected",
         2 * count
     );

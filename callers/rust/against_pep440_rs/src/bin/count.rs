@@ -1,10 +1,12 @@
-//! One call of either crate, many times over, for a count of its instructions: count CRATE CALL ARGUMENT [ARGUMENT] COUNT
+//! Calls of either crate, many times over, for counts of their instructions: count rows, or count WORD.. COUNT
 //!
-//! CRATE is `ours` or `theirs`. A call named `with_..` changes a copy. `parse_..` of a part also parses the version, each time. `ranges` of a list
-//! is the range as either crate offers it without another crate. `parse_and_sort COUNT` sorts COUNT versions, and `made COUNT` makes their strings alone.
+//! `rows` reads lines, a call and its arguments with bars between them, and makes each 100 and 1,100 times, first of this crate and then of the
+//! ported one. A call named `with_..` changes a copy. `parse_..` of a part also parses the version, each time. `ranges` of a list
+//! is the range as either crate offers it without another crate. `theirs parse_and_sort COUNT` sorts COUNT versions, `made COUNT` makes their strings.
 use std::collections::hash_map::DefaultHasher;
 use std::hash::{Hash, Hasher};
 use std::hint::black_box;
+use std::io::stdin;
 
 /// Versions of three numbers, scrambled: one in eight each with a pre-release, a post-release and a dev.
 fn strings(count: usize) -> Vec<String> {
@@ -21,7 +23,9 @@ fn strings(count: usize) -> Vec<String> {
     (0..count).map(string).collect()
 }
 
-fn repeat<T>(count: usize, call: impl Fn() -> T) {
+/// What is counted.
+#[inline(never)]
+fn repeat_call<T>(count: usize, call: impl Fn() -> T) {
     for _ in 0..count {
         black_box(call());
     }
@@ -51,31 +55,31 @@ macro_rules! calls {
                 let one: Version = parsed(text);
                 let copy = || black_box(&one).clone();
                 match call {
-                    "parse" => repeat(count, || parsed::<Version>(black_box(text))),
-                    "parse_release" => repeat(count, || parsed::<Version>(black_box(text)).release().len()),
-                    "parse_any_prerelease" => repeat(count, || parsed::<Version>(black_box(text)).any_prerelease()),
-                    "display" => repeat(count, || black_box(&one).to_string()),
-                    "hash" => repeat(count, || hash(black_box(&one))),
-                    "clone" => repeat(count, copy),
-                    "epoch" => repeat(count, || black_box(&one).epoch()),
-                    "release" => repeat(count, || black_box(&one).release().len()),
-                    "pre" => repeat(count, || black_box(&one).pre()),
-                    "any_prerelease" => repeat(count, || black_box(&one).any_prerelease()),
-                    "is_local" => repeat(count, || black_box(&one).is_local()),
-                    "local" => repeat(count, || black_box(&one).local().len()),
-                    "new" => repeat(count, || Version::new(black_box([1, 2, 3]))),
-                    "with_release" => repeat(count, || copy().with_release(black_box([1, 2, 3]))),
-                    "with_epoch" => repeat(count, || copy().with_epoch(black_box(1))),
+                    "parse" => repeat_call(count, || parsed::<Version>(black_box(text))),
+                    "parse_release" => repeat_call(count, || parsed::<Version>(black_box(text)).release().len()),
+                    "parse_any_prerelease" => repeat_call(count, || parsed::<Version>(black_box(text)).any_prerelease()),
+                    "display" => repeat_call(count, || black_box(&one).to_string()),
+                    "hash" => repeat_call(count, || hash(black_box(&one))),
+                    "clone" => repeat_call(count, copy),
+                    "epoch" => repeat_call(count, || black_box(&one).epoch()),
+                    "release" => repeat_call(count, || black_box(&one).release().len()),
+                    "pre" => repeat_call(count, || black_box(&one).pre()),
+                    "any_prerelease" => repeat_call(count, || black_box(&one).any_prerelease()),
+                    "is_local" => repeat_call(count, || black_box(&one).is_local()),
+                    "local" => repeat_call(count, || black_box(&one).local().len()),
+                    "new" => repeat_call(count, || Version::new(black_box([1, 2, 3]))),
+                    "with_release" => repeat_call(count, || copy().with_release(black_box([1, 2, 3]))),
+                    "with_epoch" => repeat_call(count, || copy().with_epoch(black_box(1))),
                     "with_pre" => {
                         let pre = Prerelease { kind: PrereleaseKind::Rc, number: 1 };
-                        repeat(count, || copy().with_pre(black_box(Some(pre))))
+                        repeat_call(count, || copy().with_pre(black_box(Some(pre))))
                     }
-                    "with_post" => repeat(count, || copy().with_post(black_box(Some(4)))),
-                    "with_dev" => repeat(count, || copy().with_dev(black_box(Some(0)))),
-                    "with_local" => repeat(count, || copy().with_local(black_box(vec![LocalSegment::Number(5)]))),
-                    "with_min" => repeat(count, || copy().with_min(black_box(Some(0)))),
-                    "without_local" => repeat(count, || copy().without_local()),
-                    "only_release" => repeat(count, || black_box(&one).only_release()),
+                    "with_post" => repeat_call(count, || copy().with_post(black_box(Some(4)))),
+                    "with_dev" => repeat_call(count, || copy().with_dev(black_box(Some(0)))),
+                    "with_local" => repeat_call(count, || copy().with_local(black_box(vec![LocalSegment::Number(5)]))),
+                    "with_min" => repeat_call(count, || copy().with_min(black_box(Some(0)))),
+                    "without_local" => repeat_call(count, || copy().without_local()),
+                    "only_release" => repeat_call(count, || black_box(&one).only_release()),
                     _ => panic!("no call {call}"),
                 }
             }
@@ -83,8 +87,8 @@ macro_rules! calls {
             fn of_versions(call: &str, left: &str, right: &str, count: usize) {
                 let (left, right): (Version, Version) = (parsed(left), parsed(right));
                 match call {
-                    "cmp" => repeat(count, || black_box(&left).cmp(black_box(&right))),
-                    "eq" => repeat(count, || black_box(&left) == black_box(&right)),
+                    "cmp" => repeat_call(count, || black_box(&left).cmp(black_box(&right))),
+                    "eq" => repeat_call(count, || black_box(&left) == black_box(&right)),
                     _ => panic!("no call {call}"),
                 }
             }
@@ -92,8 +96,10 @@ macro_rules! calls {
             fn of_specifier(call: &str, text: &str, count: usize) {
                 let (operator, version) = parsed::<VersionSpecifier>(text).into_parts();
                 match call {
-                    "parse_specifier" => repeat(count, || parsed::<VersionSpecifier>(black_box(text))),
-                    "from_version" => repeat(count, || VersionSpecifier::from_version(operator, black_box(&version).clone())),
+                    "parse_specifier" => repeat_call(count, || parsed::<VersionSpecifier>(black_box(text))),
+                    "from_version" => {
+                        repeat_call(count, || VersionSpecifier::from_version(operator, black_box(&version).clone()))
+                    }
                     _ => panic!("no call {call}"),
                 }
             }
@@ -101,29 +107,29 @@ macro_rules! calls {
             fn of_list(call: &str, text: &str, count: usize) {
                 let one: VersionSpecifiers = parsed(text);
                 match call {
-                    "parse_list" => repeat(count, || parsed::<VersionSpecifiers>(black_box(text))),
-                    "clone_list" => repeat(count, || black_box(&one).clone()),
-                    "display_list" => repeat(count, || black_box(&one).to_string()),
-                    "ranges" => repeat(count, || $ranges(black_box(&one))),
-                    "Ranges" => repeat(count, || Ranges::<Version>::from(black_box(&one).clone())),
+                    "parse_list" => repeat_call(count, || parsed::<VersionSpecifiers>(black_box(text))),
+                    "clone_list" => repeat_call(count, || black_box(&one).clone()),
+                    "display_list" => repeat_call(count, || black_box(&one).to_string()),
+                    "ranges" => repeat_call(count, || $ranges(black_box(&one))),
+                    "Ranges" => repeat_call(count, || Ranges::<Version>::from(black_box(&one).clone())),
                     _ => panic!("no call {call}"),
                 }
             }
 
             fn of_string(call: &str, text: &str, count: usize) {
                 match call {
-                    "operator" => repeat(count, || Operator::from_str(black_box(text))),
-                    "pattern" => repeat(count, || VersionPattern::from_str(black_box(text))),
-                    "rejected" => repeat(count, || Version::from_str(black_box(text)).is_err()),
-                    "rejected_list" => repeat(count, || VersionSpecifiers::from_str(black_box(text)).is_err()),
-                    "error" => repeat(count, || Version::from_str(black_box(text)).map_err(|error| error.to_string())),
+                    "operator" => repeat_call(count, || Operator::from_str(black_box(text))),
+                    "pattern" => repeat_call(count, || VersionPattern::from_str(black_box(text))),
+                    "rejected" => repeat_call(count, || Version::from_str(black_box(text)).is_err()),
+                    "rejected_list" => repeat_call(count, || VersionSpecifiers::from_str(black_box(text)).is_err()),
+                    "error" => repeat_call(count, || Version::from_str(black_box(text)).map_err(|error| error.to_string())),
                     _ => panic!("no call {call}"),
                 }
             }
 
             fn contains(text: &str, candidate: &str, count: usize) {
                 let (list, version): (VersionSpecifiers, Version) = (parsed(text), parsed(candidate));
-                repeat(count, || black_box(&list).contains(black_box(&version)));
+                repeat_call(count, || black_box(&list).contains(black_box(&version)));
             }
 
             pub fn parse_and_sort(count: usize) {
@@ -134,7 +140,6 @@ macro_rules! calls {
 
             pub fn run(words: &[&str], count: usize) {
                 match words {
-                    ["parse_and_sort"] => parse_and_sort(count),
                     [call @ ("parse_list" | "clone_list" | "display_list" | "ranges" | "Ranges"), text] => {
                         of_list(call, text, count)
                     }
@@ -155,14 +160,24 @@ macro_rules! calls {
 calls!(ours, stand_in::Ranges, |list: &VersionSpecifiers| list.ranges());
 calls!(theirs, against_pep440_rs::version_ranges::Ranges, |list: &VersionSpecifiers| Ranges::<Version>::from(list.clone()));
 
+fn count_rows() {
+    for line in stdin().lines() {
+        let line = line.expect("a line");
+        let words: Vec<&str> = line.split('|').collect();
+        for run in [ours::run, theirs::run] {
+            [100, 1100].iter().for_each(|count| run(&words, *count));
+        }
+    }
+}
+
 fn main() {
     let words: Vec<String> = std::env::args().skip(1).collect();
-    let mut words: Vec<&str> = words.iter().map(String::as_str).collect();
-    let count: usize = words.pop().expect("a count").parse().expect("a count");
-    match words.as_slice() {
-        ["ours", rest @ ..] => ours::run(rest, count),
-        ["theirs", rest @ ..] => theirs::run(rest, count),
-        ["made"] => drop(black_box(strings(count))),
-        _ => panic!("no crate {words:?}"),
+    let count = || words.last().expect("a count").parse().expect("a count");
+    match words.iter().map(String::as_str).collect::<Vec<_>>().as_slice() {
+        ["rows"] => count_rows(),
+        ["ours", "parse_and_sort", _] => ours::parse_and_sort(count()),
+        ["theirs", "parse_and_sort", _] => theirs::parse_and_sort(count()),
+        ["made", _] => drop(black_box(strings(count()))),
+        _ => panic!("no call {words:?}"),
     }
 }
