@@ -12,8 +12,7 @@ use Rattle.pyver_findings.proofs.SmallestLists.{is_nil}
 use Rattle.pyver_findings.specs.FindingLaws.{AreParts, FitsUrl, HasMarker}
 use Rattle.pyver_findings.specs.LineMeanings.{IsPlain, has_right_url}
 use Rattle.pyver_findings.specs.StringGrammar.{AreSpaces, DerivesString, IsLinked, IsMarkerPart, IsUrl, StringsHaveGrammar}
-use Rattle.pyver_requirements.proofs.MarkerDerivations.{read_markers_are_derived}
-use Rattle.pyver_requirements.proofs.MarkerReadings.{markers_are_read}
+use Rattle.pyver_requirements.proofs.MarkerReadings.{markers_are_read, read_markers_are_derived}
 use Rattle.pyver_requirements.specs.LineParts.{LineParts, behind_url, is_blank_byte, is_list_byte, is_url_byte, line_parts, parts_before, parts_behind, skip_blanks, url_parts}
 use Rattle.pyver_requirements.specs.MarkerGrammar.{DenotesMarker, Marker, terms}
 use Rattle.pyver_requirements.specs.MarkerReading.{marker}
