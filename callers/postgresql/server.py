@@ -130,7 +130,7 @@ def instructions(server, query):
     settings = ("work_mem=1GB", "jit=off", "max_parallel_workers_per_gather=0")
     counts = []
     for turns in (1, 2):
-        command = USER + ["valgrind", "--tool=callgrind", "--callgrind-out-file=/dev/null", str(FOLDER / "bin" / "postgres"), "--single", "-D", str(server.data)]
+        command = USER + ["valgrind", "--vgdb=no", "--tool=callgrind", "--callgrind-out-file=/dev/null", str(FOLDER / "bin" / "postgres"), "--single", "-D", str(server.data)]
         ran = subprocess.run(command + [word for setting in settings for word in ("-c", setting)] + ["postgres"], cwd=FOLDER, env={**os.environ, "LC_ALL": "C"},
                              input=(query + "\n") * turns, capture_output=True, text=True, check=True)
         counts.append(int(re.search(r"Collected : (\d+)", ran.stderr)[1]))

@@ -565,7 +565,7 @@ def test_valgrind(unused):
     failing = ["SELECT '1.0.x'::text::pep440", "SELECT '=<1'::text::pep440_specs", f"SELECT ('1+' || repeat('a', 3000))::pep440 <> '{'1' + '.1' * 1000}'"]
     rows = [f"INSERT INTO kept SELECT n, ('{'1!' if epoch else ''}1.' || n || '{suffix}')::pep440 FROM generate_series(1, 50) AS n" for epoch, suffix in enumerate(("", ".0rc1+ubuntu.7", ".0.0"))]
     queries = ["CREATE EXTENSION pep440", *SMALL_TABLE.split(";")[:2], *rows, *LIST_TABLE, "ANALYZE", "SET enable_seqscan = off", *QUERIES, *failing, "ANALYZE kept", "SELECT * FROM kept WHERE version <@ '~=1.5' ORDER BY version"]
-    command = USER + ["valgrind", f"--log-file={log}", "--num-callers=30", str(FOLDER / "bin" / "postgres"), "--single", "-D", str(server.data), "postgres"]
+    command = USER + ["valgrind", "--vgdb=no", f"--log-file={log}", "--num-callers=30", str(FOLDER / "bin" / "postgres"), "--single", "-D", str(server.data), "postgres"]
     subprocess.run(command, cwd=FOLDER, env={**os.environ, "LC_ALL": "C"}, input="\n".join(queries) + "\n", capture_output=True, text=True, check=True)
     found = [block for block in log.read_text().split("== \n") if re.search(r"pep440|\((version|stored|specs|set|parts|plan|estimate|gist)\.c", block) and "Command:" not in block]
     assert not found, found[0]
