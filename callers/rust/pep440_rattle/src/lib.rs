@@ -2,8 +2,8 @@
 //!
 //! The names and the behaviour are those of the crate `pep440_rs` 0.7.3, but for the departures that the README lists.
 //! Parsing, normalized forms, matching and ranges are calls of the library `pep440`, whose functions are proved to do what
-//! PEP 440 says. This crate is tested, not proved. It keeps a version as its sort key, which the library's are proved to order as
-//! versions, and changes and reads parts in it; that and what it says of operators its tests compare with the library.
+//! PEP 440 says. This crate is tested, not proved. It keeps a version as its sort key, and changes, reads and compares that; the keys
+//! of the library are proved to have the order of versions. The README names what is tested alone.
 //!
 //! ```
 //! use pep440_rattle::{Version, VersionSpecifiers};
