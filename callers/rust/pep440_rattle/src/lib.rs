@@ -37,8 +37,6 @@ mod calls;
 mod error;
 mod key;
 mod lazy;
-#[cfg(feature = "tracing")]
-mod logged;
 mod operator;
 mod parts;
 mod pattern;
@@ -67,3 +65,22 @@ pub use specifiers::VersionSpecifiers;
 pub use version::{MIN_VERSION, MinVersion, Version};
 #[cfg(feature = "version-ranges")]
 pub use version_ranges::{release_specifier_to_range, release_specifiers_to_ranges};
+
+/// What is logged with the feature `tracing`, in the words of the ported crate.
+#[cfg(feature = "tracing")]
+mod logged {
+    use crate::{Operator, Version};
+    use core::ops::Bound;
+
+    /// Warns of each `===`.
+    pub(crate) fn exact_equality(operators: impl IntoIterator<Item = Operator>) {
+        for _ in operators.into_iter().filter(|operator| *operator == Operator::ExactEqual) {
+            tracing::warn!("Using arbitrary equality (`===`) is discouraged");
+        }
+    }
+
+    /// Warns of a gap that no specifier leaves out.
+    pub(crate) fn unsupported_gap(end: &Bound<Version>, start: &Bound<Version>) {
+        tracing::warn!("Ignoring unsupported gap in `requires-python` version: {end:?} -> {start:?}");
+    }
+}
