@@ -17,7 +17,7 @@ pub enum HeldFile<'a> {
 }
 
 /// Files of versions.
-pub const VERSIONS: [(&str, HeldFile<'static>); 12] = [
+pub const VERSIONS: [(&str, HeldFile<'static>); 11] = [
     ("a.txt", HeldFile::Text(b"1.0\n2.0rc1\n0.9\n")),
     ("b.txt", HeldFile::Text(b"\xEF\xBB\xBF1.5\r\n\r\n3.0")),
     ("c.csv", HeldFile::Text(b"name,version\na,1.9\n")),
