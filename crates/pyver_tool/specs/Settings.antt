@@ -37,6 +37,14 @@ with_line_option lines name value =
     else if bytes_eq name (codes "--invalid") then option_map (λ i. record lines { invalid = i }) (invalid_lines_of value)
     else None
 
+-- what an option of `check` or of lines sets, if its value is right
+abbrev pub with_check_option : Settings → List ℕ → List ℕ → Option Settings
+with_check_option settings name value =
+    if bytes_eq name (codes "--each") then Some (record settings { each = true })
+    else if bytes_eq name (codes "--format") then option_map (λ kind. record settings { kind = kind }) (file_kind_of value)
+    else if bytes_eq name (codes "--output") then option_map (λ form. record settings { output = form }) (output_form_of value)
+    else option_map (λ lines. record settings { lines = lines }) (with_line_option settings.lines name value)
+
 -- what an option sets, if its value is right
 abbrev pub with_option : Settings → List ℕ → List ℕ → Option Settings
 with_option settings name value =
@@ -50,10 +58,7 @@ with_option settings name value =
     else if bytes_eq name (codes "--json") then Some (record settings { format = format.Json; output = output_form.Json })
     else if bytes_eq name (codes "--part") then option_map (λ part. record settings { format = format.Part part }) (part_of value)
     else if bytes_eq name (codes "--to") then option_map (λ n. record settings { to = Some n }) (word_number value)
-    else if bytes_eq name (codes "--each") then Some (record settings { each = true })
-    else if bytes_eq name (codes "--format") then option_map (λ kind. record settings { kind = kind }) (file_kind_of value)
-    else if bytes_eq name (codes "--output") then option_map (λ form. record settings { output = form }) (output_form_of value)
-    else option_map (λ lines. record settings { lines = lines }) (with_line_option settings.lines name value)
+    else with_check_option settings name value
 
 -- without an option
 abbrev pub no_settings : Settings

@@ -1,6 +1,6 @@
 //! What options set.
 ghost use Rattle.std.specs.Prelude.{◌≡◌};
-ghost use Rattle.pyver_tool.specs.Settings.{delimiter_of, field_number_of, no_settings, with_line_option, with_option};
+ghost use Rattle.pyver_tool.specs.Settings.{delimiter_of, field_number_of, no_settings, with_check_option, with_line_option, with_option};
 
 use crate::file_kind::{FileKind, parse_file_kind};
 use crate::output_form::{OutputForm, parse_output_form};
@@ -81,6 +81,20 @@ impl Settings {
         }
     }
 
+    // With this option of `check` or of lines, if the value is one of it.
+    fn with_check_option(self, name: &str, value: &str) -> Option<Settings>
+        ensures { result ≡ with_check_option self name.now value.now }
+    {
+        let mut settings = self;
+        match name {
+            "--each" => settings.each = true,
+            "--format" => settings.kind = parse_file_kind(value)?,
+            "--output" => settings.output = parse_output_form(value)?,
+            _ => settings.lines = with_line_option(settings.lines, name, value)?,
+        }
+        Some(settings)
+    }
+
     // With this option, if the value is one of it.
     pub(crate) fn with_option(self, name: &str, value: &str) -> Option<Settings>
         ensures { result ≡ with_option self name.now value.now }
@@ -100,10 +114,7 @@ impl Settings {
             }
             "--part" => settings.format = ShowFormat::Part(parse_part(value)?),
             "--to" => settings.to = Some(parse_number(value)?),
-            "--each" => settings.each = true,
-            "--format" => settings.kind = parse_file_kind(value)?,
-            "--output" => settings.output = parse_output_form(value)?,
-            _ => settings.lines = with_line_option(settings.lines, name, value)?,
+            _ => return settings.with_check_option(name, value),
         }
         Some(settings)
     }
