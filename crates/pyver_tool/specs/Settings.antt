@@ -38,7 +38,7 @@ with_line_option lines name value =
     else None
 
 -- what an option of `check` or of lines sets, if its value is right
-abbrev pub with_check_option : Settings → List ℕ → List ℕ → Option Settings
+unfoldable pub with_check_option : Settings → List ℕ → List ℕ → Option Settings
 with_check_option settings name value =
     if bytes_eq name (codes "--each") then Some (record settings { each = true })
     else if bytes_eq name (codes "--format") then option_map (λ kind. record settings { kind = kind }) (file_kind_of value)

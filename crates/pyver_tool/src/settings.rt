@@ -81,6 +81,7 @@ impl Settings {
         }
     }
 
+    #[tactic(auto, unfolding(crate::specs::Settings::with_check_option))]
     // With this option of `check` or of lines, if the value is one of it.
     fn with_check_option(self, name: &str, value: &str) -> Option<Settings>
         ensures { result ≡ with_check_option self name.now value.now }
