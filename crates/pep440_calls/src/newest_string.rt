@@ -44,7 +44,7 @@ fn find(alloc: Global, list: &[u8], texts: &[&[u8]]) -> Result<Option<usize>, Fa
 }
 
 // The version that the bytes denote, if the list matches it.
-fn read_matched(
+fn parse_if_matched(
     alloc: Global,
     list: &VersionSpecifiers,
     bytes: &[u8],
@@ -85,7 +85,7 @@ fn find_newest(
 {
     let mut newest: Option<(usize, Version)> = None;
     for (position, text) in texts.iter().enumerate() {
-        let Some(version) = read_matched(alloc, list, text)? else {
+        let Some(version) = parse_if_matched(alloc, list, text)? else {
             continue;
         };
         if is_above(takes, &newest, &version) {

@@ -6,7 +6,7 @@ use std::alloc::Global;
 use std::str;
 use testing::CaseError;
 
-fn read_wanted(word: &str) -> Result<bool, CaseError> {
+fn parse_wanted(word: &str) -> Result<bool, CaseError> {
     match word {
         "true" => Ok(true),
         "false" => Ok(false),
@@ -34,7 +34,7 @@ fn print_box(alloc: Global, environments: &EnvironmentBox<'_>) -> Result<String,
 /// The boxes in which the marker has the wanted value, with ` | ` between them.
 pub fn print_boxes(alloc: Global, wanted: &str, marker: &str) -> Result<String, CaseError> {
     let marker = parse_marker(alloc, marker)?;
-    let Some(boxes) = marker.to_boxes(alloc, read_wanted(wanted)?)? else {
+    let Some(boxes) = marker.to_boxes(alloc, parse_wanted(wanted)?)? else {
         return Ok(String::from_str(alloc, "undecided")?);
     };
     let mut text = String::new(alloc);
@@ -50,7 +50,7 @@ pub fn print_boxes(alloc: Global, wanted: &str, marker: &str) -> Result<String, 
 /// Whether it is known that the marker never has the wanted value.
 pub fn print_never(alloc: Global, wanted: &str, marker: &str) -> Result<String, CaseError> {
     let marker = parse_marker(alloc, marker)?;
-    let never = marker.is_never(alloc, read_wanted(wanted)?)?;
+    let never = marker.is_never(alloc, parse_wanted(wanted)?)?;
     Ok(String::from_str(alloc, if never { "never" } else { "unknown" })?)
 }
 

@@ -107,7 +107,7 @@ fn place_groups<'a>(
 }
 
 // Each group stands before all that it includes.
-fn are_ordered(places: &HashMap<&[u8], usize>, inclusions: &[Inclusion]) -> bool
+fn is_ordered(places: &HashMap<&[u8], usize>, inclusions: &[Inclusion]) -> bool
     ensures { result ≡ list_all (stands_before (rank_of places.now)) (map inclusion_of inclusions.now) }
 {
     for inclusion in inclusions {
@@ -128,7 +128,7 @@ impl<'a> GroupOrder<'a> {
         ensures { IfOk result (IsGroupOrder (inclusions_of index.now)) }
     {
         let places = place_groups(alloc, index)?;
-        let is_right = are_ordered(&places, index.inclusions);
+        let is_right = is_ordered(&places, index.inclusions);
         Ok(GroupOrder { places, is_right })
     }
 

@@ -27,7 +27,7 @@ fn push_new<'a>(
 }
 
 // Adds the groups that these inclusions include.
-fn push_included<'a>(
+fn push_inclusions<'a>(
     names: &mut HashMap<&'a [u8], ()>,
     found: &mut Vec<&'a [u8]>,
     inclusions: &[&'a Inclusion],
@@ -53,7 +53,7 @@ fn push_of_group<'a>(
     ensures found { IfOk result (λ _. (before : List ℕ → Bool) → IsFound before names.old found.old.items → IsFound before names.new found.new.items) }
 {
     match index.of_group(group) {
-        Some(inclusions) => push_included(names, found, inclusions.as_slice()),
+        Some(inclusions) => push_inclusions(names, found, inclusions.as_slice()),
         None => Ok(()),
     }
 }

@@ -137,7 +137,7 @@ fn check_known<'a>(name: &'a [u8], value: Option<&'a [u8]>) -> WordStep<'a>
     }
 }
 
-fn check_named<'a>(name: &'a [u8], value: Option<&'a [u8]>) -> WordStep<'a>
+fn check_name<'a>(name: &'a [u8], value: Option<&'a [u8]>) -> WordStep<'a>
     ensures { word_step_of result ≡ named_step name.now (option_map (λ x. x.now) value.entry) (name_fault name.now) }
 {
     match name_fault(name) {
@@ -157,7 +157,7 @@ fn check_option(word: &[u8]) -> WordStep<'_>
     } else if has_shell_byte(option_name(word)) {
         WordStep::Ends
     } else {
-        check_named(option_name(word), word_value(word))
+        check_name(option_name(word), word_value(word))
     }
 }
 

@@ -16,7 +16,7 @@ returns-in-Some-clause-names c =
     let old = c.args.names.now in
     let same : (q : List ℕ) → list_any (λ (i : Inclusion). bytes_eq q i.included) (map view c.as_slice.result.now) ≡ list_any (λ (i : Inclusion). bytes_eq q i.included && bytes_eq group i.group) is =
     λ q. ap (λ xs. list_any (λ (i : Inclusion). bytes_eq q i.included) (map view xs)) c.as_slice.ensures.value ∙ ap (list_any (λ (i : Inclusion). bytes_eq q i.included)) c.in-Some.ensures ∙ of_group q group is in
-    IfOk-weaker c.push_included.result _ _ (λ _ e q. e q ∙ ap (λ b. has_key old q || b) (same q)) c.push_included.ensures.names
+    IfOk-weaker c.push_inclusions.result _ _ (λ _ e q. e q ∙ ap (λ b. has_key old q || b) (same q)) c.push_inclusions.ensures.names
 
 pub returns-in-None-clause-names : goal.returns-in-None-clause-names
 returns-in-None-clause-names c =

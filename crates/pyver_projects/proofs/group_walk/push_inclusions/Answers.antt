@@ -4,7 +4,7 @@ use Rattle.pyver_projects.specs.Groups.{Inclusion}
 use Rattle.pyver_projects.specs.NameMaps.{has_key}
 use Rattle.pyver_projects.specs.ProjectViews.{inclusion_of}
 use Rattle.pyver_projects.specs.declared.groups.Inclusion.{Inclusion as InclusionValue}
-use Rattle.pyver_projects.proofs.group_walk.push_included.Goals as goal
+use Rattle.pyver_projects.proofs.group_walk.push_inclusions.Goals as goal
 
 pub loop-inclusion-preserved : goal.loop-inclusion-preserved
 loop-inclusion-preserved c = record {

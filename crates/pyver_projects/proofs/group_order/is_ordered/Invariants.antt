@@ -2,7 +2,7 @@ use Rattle.std.proofs.Common.{◌≡◌, drop, map}
 use Rattle.std.specs.List.{list_all}
 use Rattle.pyver_projects.specs.NameMaps.{stands_before, rank_of}
 use Rattle.pyver_projects.specs.ProjectViews.{inclusion_of}
-use Rattle.pyver_projects.proofs.group_order.are_ordered.Given as goal
+use Rattle.pyver_projects.proofs.group_order.is_ordered.Given as goal
 
 abbrev pub invariant-loop-inclusion : goal.invariant-loop-inclusion
 invariant-loop-inclusion l =

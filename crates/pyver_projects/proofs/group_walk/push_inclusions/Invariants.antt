@@ -2,7 +2,7 @@ use Rattle.std.proofs.Common.{◌≡◌, ◌||◌, Bool, List, ℕ, bytes_eq, dr
 use Rattle.std.specs.List.{list_any}
 use Rattle.pyver_projects.specs.NameMaps.{IsFound, has_key}
 use Rattle.pyver_projects.specs.ProjectViews.{inclusion_of}
-use Rattle.pyver_projects.proofs.group_walk.push_included.Given as goal
+use Rattle.pyver_projects.proofs.group_walk.push_inclusions.Given as goal
 
 abbrev pub invariant-loop-inclusion : goal.invariant-loop-inclusion
 invariant-loop-inclusion l = record {
