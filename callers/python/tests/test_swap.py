@@ -2,6 +2,7 @@
 import collections
 import json
 import os
+import re
 import shutil
 import subprocess
 import sys
@@ -421,9 +422,10 @@ class Programs(unittest.TestCase):
         self.assertEqual((status, "Traceback" in errors, f"ERROR: {said}" in errors), (1, False, True), errors)
 
     def results(self, words, folder):
-        """What the program says, and what it leaves of the project's files."""
+        """What the program says, without the seconds that it took, and what it leaves of the project's files."""
         make_project(folder)
-        done, left = run(words, folder), {}
+        status, said, errors = run(words, folder)
+        done, left = (status, *(re.sub("[0-9]:[0-9]{2}:[0-9]{2} ", "", it) for it in (said, errors))), {}
         for name in [*FILES, "pdm.lock"]:
             if os.path.exists(os.path.join(folder, name)):
                 with open(os.path.join(folder, name), encoding="utf-8") as it:
