@@ -120,7 +120,7 @@ if len(sys.argv) > 3:
         print(shown(it)[:-1] if isinstance(it, Exception) else shown(it))
 else:
     # copyreg has no slots before protocol 2
-    print(*(pickle.dumps([it for it in objects() if protocol > 1 or "__slots__" not in vars(type(it))], protocol).hex() for protocol in range(5)), sep="\n")
+    print(*(pickle.dumps([it for it in objects() if protocol > 1 or not vars(type(it)).get("__slots__")], protocol).hex() for protocol in range(5)), sep="\n")
 """
 
 # What is pickled by one release, with the swap or without, and read by another one: words are whether it is swapped, the folder of `packaging` and, to
