@@ -1,5 +1,6 @@
 """The other modules of `packaging` over these two, beside themselves over their own, in processes of their own; and programs of others."""
 import collections
+import functools
 import json
 import os
 import re
@@ -392,11 +393,19 @@ class OtherModules(unittest.TestCase):
         return [it.split("': ")[0].replace("'", "") if isinstance(it, str) and "nvalid" in it else it for it in said] if isinstance(said, list) else said
 
 
+@functools.cache
+def is_there(module):
+    """Whether a program is there, and of pip whether its own `packaging` is replaced: most have an older one."""
+    if module == "pip":
+        return peer.is_fit(run(["-c", peer.TOLD_BY_PIP])[1].partition(" ")[0])
+    return 0 in (run(["-c", f"import {module}.__main__"])[0], run(["-c", f"import {module}"])[0])
+
+
 class Programs(unittest.TestCase):
     def test_programs(self):
         same, left_out = [], []
         for module, words in PROGRAMS:
-            if run(["-c", f"import {module}.__main__"])[0] and run(["-c", f"import {module}"])[0]:
+            if not is_there(module):
                 left_out.append(module)
                 continue
             with self.subTest(words=words), tempfile.TemporaryDirectory() as work:
