@@ -73,18 +73,6 @@ static PyObject *behave(PyObject *module, PyObject *flag)
 
 static PyObject *get_behaviour(PyObject *module, PyObject *unused) { return PyBool_FromLong(follows_26); }
 
-/* use(member_class, set_class, reader_of_others, sorter_of_members) */
-static PyObject *use(PyObject *module, PyObject *const *args, Py_ssize_t count)
-{
-    if (!has_count("use", count, 4))
-        return NULL;
-    call_quickly((PyTypeObject *)kept_in(&member_class, Py_NewRef(args[0])), specifier_call, (destructor)specifiers_free);
-    call_quickly((PyTypeObject *)kept_in(&set_class, Py_NewRef(args[1])), set_call, (destructor)specifiers_free);
-    kept_in(&reader_of_others, Py_NewRef(args[2]));
-    kept_in(&sorter_of_members, Py_NewRef(args[3]));
-    Py_RETURN_NONE;
-}
-
 #define CALL(function) (PyCFunction)(void (*)(void))function
 #define CONTAINS_HEAD(more) "contains($self, /, item, prereleases=None" more ")\n--\n\n"
 
@@ -111,11 +99,34 @@ static PyMethodDef set_calls[] = {
     FILTERED,
     {NULL, NULL, 0, NULL}};
 
+/* Gives a class the calls of its base as its own: CPython calls these in fewer steps than those that a class inherits. 0, or -1 with an error. */
+static int have_own(PyObject *class, PyMethodDef *calls)
+{
+    int done = 0;
+    for (; done == 0 && calls->ml_name; calls++) {
+        PyObject *own = PyDescr_NewMethod((PyTypeObject *)class, calls);
+        done = own ? PyObject_SetAttrString(class, calls->ml_name, own) : -1;
+        Py_XDECREF(own);
+    }
+    return done;
+}
+
+/* use(member_class, set_class, reader_of_others, sorter_of_members) */
+static PyObject *use(PyObject *module, PyObject *const *args, Py_ssize_t count)
+{
+    if (!has_count("use", count, 4) || have_own(args[0], specifier_calls) < 0 || have_own(args[1], set_calls) < 0)
+        return NULL;
+    call_quickly((PyTypeObject *)kept_in(&member_class, Py_NewRef(args[0])), specifier_call, (destructor)specifiers_free);
+    call_quickly((PyTypeObject *)kept_in(&set_class, Py_NewRef(args[1])), set_call, (destructor)specifiers_free);
+    kept_in(&reader_of_others, Py_NewRef(args[2]));
+    kept_in(&sorter_of_members, Py_NewRef(args[3]));
+    Py_RETURN_NONE;
+}
+
 #define PRERELEASES \
     {"prereleases", (getter)get_prereleases, (setter)set_prereleases, "Whether pre-releases are allowed. May be set.", NULL}, \
     {"_prereleases", (getter)get_said, (setter)set_prereleases, "What was said of pre-releases, or None.", NULL}, \
-    {"_compiled", (getter)get_compiled, NULL, "The compiled list, of all but what Python is to compare.", NULL}, \
-    {"__dict__", PyObject_GenericGetDict, PyObject_GenericSetDict, NULL, NULL}
+    {"_compiled", (getter)get_compiled, NULL, "The compiled list, of all but what Python is to compare.", NULL}
 
 static PyGetSetDef specifier_values[] = {
     PRERELEASES,
@@ -131,10 +142,8 @@ static PyGetSetDef set_values[] = {
     {"_sorted_specs", (getter)get_sorted, NULL, "The members as they are compared.", NULL},
     {NULL, NULL, NULL, NULL, NULL}};
 
-/* Their attributes and weak references, for which a class in Python would take blocks of its own. */
-static PyMemberDef places[] = {{"__dictoffset__", T_PYSSIZET, offsetof(Specifiers, attributes), READONLY, NULL},
-                               {"__weaklistoffset__", T_PYSSIZET, offsetof(Specifiers, references), READONLY, NULL},
-                               {NULL, 0, 0, 0, NULL}};
+/* Their weak references. */
+static PyMemberDef places[] = {{"__weaklistoffset__", T_PYSSIZET, offsetof(Specifiers, references), READONLY, NULL}, {NULL, 0, 0, 0, NULL}};
 
 /* None has a `tp_new` of its own, so that `object.__new__` makes one, as copyreg does for pickles. */
 static PyType_Slot specifier_slots[] = {{Py_tp_init, specifier_init},

@@ -12,6 +12,8 @@ static int is_changed(Specifiers *self)
     Py_XDECREF(flag);
     if (changed == 0 && is_arbitrary(self))
         changed = 1;
+    if (changed == 0 && has_arbitrary(self) && !made_members(self))
+        changed = -1;
     if (changed == 0 && !is_specifier(self) && self->members) {
         all = PyObject_GetIter(self->members);
         while (all && changed == 0 && (each = PyIter_Next(all))) {
@@ -154,21 +156,31 @@ static PyObject *contains_of(Specifiers *self, PyObject *const *args, Py_ssize_t
     return answer;
 }
 
+/* The same of the item alone with nothing said of pre-releases, which most calls ask for: 1 or 0, or -1 where its word does not say it. */
+static inline int contains_quickly(const Specifiers *self, PyObject *item)
+{
+    return self->words.count > 0 && self->changed == 0 && follows_26 && self->said != Py_False ? contains_by_word(self, item) : -1;
+}
+
 static PyObject *specifier_contains(PyObject *self, PyObject *const *args, Py_ssize_t count, PyObject *named)
 {
-    return contains_of((Specifiers *)self, args, count, named, 2);
+    int contained = count == 1 && !named ? contains_quickly((Specifiers *)self, args[0]) : -1;
+    return contained < 0 ? contains_of((Specifiers *)self, args, count, named, 2) : Py_NewRef(contained ? Py_True : Py_False);
 }
 
 static PyObject *set_contains(PyObject *self, PyObject *const *args, Py_ssize_t count, PyObject *named)
 {
-    return contains_of((Specifiers *)self, args, count, named, 3);
+    int contained = count == 1 && !named ? contains_quickly((Specifiers *)self, args[0]) : -1;
+    return contained < 0 ? contains_of((Specifiers *)self, args, count, named, 3) : Py_NewRef(contained ? Py_True : Py_False);
 }
 
 /* `item in self` */
 static int has(PyObject *self, PyObject *item)
 {
-    PyObject *answer = contains_of((Specifiers *)self, &item, 1, NULL, 1);
-    int found = answer ? PyObject_IsTrue(answer) : -1;
+    int found = contains_quickly((Specifiers *)self, item);
+    PyObject *answer = found < 0 ? contains_of((Specifiers *)self, &item, 1, NULL, 1) : NULL;
+    if (answer)
+        found = PyObject_IsTrue(answer);
     Py_XDECREF(answer);
     return found;
 }

@@ -74,12 +74,12 @@ static int compile_source(Specifiers *self)
 
 static int compile_members(Specifiers *self)
 {
-    PyObject *members = self->members ? PySequence_Tuple(self->members) : NULL;
+    PyObject *given = has_arbitrary(self) ? made_members(self) : self->members, *members = given ? PySequence_Tuple(given) : NULL;
     size_t all = members ? (size_t)PyTuple_Size(members) : 0, length;
     Placed few[FEW_MEMBERS], *placed = all <= FEW_MEMBERS ? few : PyMem_Calloc(all, sizeof *placed);
     Py_ssize_t count = -1;
-    if (!self->members)
-        return compile_source(self);
+    if (!given)
+        return PyErr_Occurred() ? -1 : compile_source(self);
     if (!placed)
         PyErr_NoMemory();
     else if (members)
@@ -160,6 +160,7 @@ static int has_known_pieces(PyObject *given)
 {
     Py_ssize_t length = 0;
     const char *at = PyUnicode_CheckExact(given) ? PyUnicode_AsUTF8AndSize(given, &length) : NULL, *end, *comma;
+    pep440_string piece;
     if (!at || length != PyUnicode_GetLength(given)) {
         PyErr_Clear();
         return 0;
@@ -169,7 +170,8 @@ static int has_known_pieces(PyObject *given)
         while (*at == ' ')
             at++;
         comma = memchr(at, ',', (size_t)(end - at));
-        if (!is_known((pep440_string){(const uint8_t *)at, (size_t)((comma ? comma : end) - at)}, 1))
+        piece = (pep440_string){(const uint8_t *)at, (size_t)((comma ? comma : end) - at)};
+        if (!is_known(piece, 1) && !is_known_arbitrary(piece))
             return 0;
         at = comma ? comma + 1 : end;
     } while (comma);

@@ -6,7 +6,6 @@ static PyObject *member_class, *set_class;
 /* A specifier, or a set of them, and once it was asked for its compiled list. */
 typedef struct {
     PyObject_HEAD
-    PyObject *attributes; /* `__dict__`, once asked for */
     PyObject *references; /* the weak ones */
     PyObject *text;       /* of a specifier as it prints, else NULL */
     PyObject *members;    /* once asked for: of a set a tuple, and by 25 then a frozenset; of a specifier (operator, version) */
@@ -46,6 +45,15 @@ static int is_read(const Specifiers *self)
         PyErr_Format(PyExc_AttributeError, "%R was made without its __init__", Py_TYPE((PyObject *)self));
     return self->said != NULL;
 }
+
+/* Whether the string of a set whose members are not made yet has a `===`, which the library would compile as a comparison of versions. */
+static int has_arbitrary(const Specifiers *self)
+{
+    const char *text = is_specifier(self) || self->members ? NULL : PyUnicode_AsUTF8AndSize(self->source, NULL);
+    return text && strstr(text, "===");
+}
+
+static PyObject *made_members(Specifiers *self);
 
 static int is_empty_set(const Specifiers *self) { return !is_specifier(self) && self->members && PyObject_Size(self->members) == 0; }
 
@@ -101,7 +109,6 @@ static inline void take(Specifiers *self, PyObject *text, PyObject *members, PyO
 static int specifiers_traverse(Specifiers *self, visitproc visit, void *arg)
 {
     Py_VISIT(Py_TYPE((PyObject *)self));
-    Py_VISIT(self->attributes);
     Py_VISIT(self->members);
     Py_VISIT(self->said);
     return 0;
@@ -109,7 +116,6 @@ static int specifiers_traverse(Specifiers *self, visitproc visit, void *arg)
 
 static int specifiers_clear(Specifiers *self)
 {
-    Py_CLEAR(self->attributes);
     drop_read(self);
     return 0;
 }
@@ -124,7 +130,6 @@ static void specifiers_free(Specifiers *self)
     if (self->references)
         PyObject_ClearWeakRefs((PyObject *)self);
     /* one by one, which is quicker: nobody has it any more */
-    Py_CLEAR(self->attributes);
     drop_list(self);
     Py_CLEAR(self->said);
     Py_CLEAR(self->text);
@@ -143,7 +148,7 @@ static inline Specifiers *new_specifiers(PyObject *class)
     if (made)
         Py_SET_TYPE((PyObject *)made, (PyTypeObject *)Py_NewRef(class));
     else if ((made = PyObject_GC_New(Specifiers, (PyTypeObject *)class)))
-        memset(&made->attributes, 0, offsetof(Specifiers, few) - offsetof(Specifiers, attributes));
+        memset(&made->references, 0, offsetof(Specifiers, few) - offsetof(Specifiers, references));
     if (made)
         PyObject_GC_Track(made);
     return made;
@@ -294,6 +299,17 @@ static inline int is_known(pep440_string text, int is_of_set)
         return has_two_numbers(version) && is_version(version, 0);
     version.length -= star_length(at, version);
     return (at[0] == '=' || at[0] == '!') && is_version(version, 1);
+}
+
+/* Whether a piece of a set is `===` with characters of ASCII behind it that may stand there, so that it is a specifier. */
+static int is_known_arbitrary(pep440_string text)
+{
+    size_t at = ARBITRARY;
+    if (text.length <= ARBITRARY || memcmp(text.bytes, "===", ARBITRARY))
+        return 0;
+    while (at < text.length && text.bytes[at] > ' ' && text.bytes[at] <= '~' && text.bytes[at] != ';' && text.bytes[at] != ')')
+        at++;
+    return at == text.length;
 }
 
 /* Compiles a specifier as the list of it alone, and one with `===` as the list of nothing, since any text may stand there: Python compares it. */
@@ -626,9 +642,9 @@ static int some_allows(Specifiers *self)
     long asked_at = times_set;
     if (self->allows >= 0 && self->asked_at == asked_at)
         return self->allows;
+    if (!self->members && compile_list_of(self) < 0) /* which makes members with `===` */
+        return -1;
     if (!self->members) {
-        if (compile_list_of(self) < 0)
-            return -1;
         self->asked_at = asked_at;
         return self->allows = (signed char)list_names_prerelease(list_of(self));
     }

@@ -24,7 +24,7 @@ typedef struct {
     uint8_t few[29];  /* so that it takes 112 bytes */
 } Held;
 
-/* The forms (docs/PROMISES.md, "Compiled versions"): a version is a byte, its sort key, and a byte 1 for each zero that ends its release; a list is a
+/* The forms (crates/pep440_compiled/src/lib.rt): a version is a byte, its sort key, and a byte 1 for each zero that ends its release; a list is a
    byte, and for each member its operator, and key and zeros of its version. The library writes a set before the list, which is not kept here. */
 enum { VERSION = 4, LIST = 5, SET = 6, SET_ALONE = 7, LIST_HEAD = 1, OPERATOR = 16, MEMBER_HEAD = 2 };
 

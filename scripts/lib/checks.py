@@ -280,21 +280,22 @@ def check_english():
 
 # ---- words
 
-# The most words of a page, blocks of code and a manual's macros aside, and of all.
+PLAY = "docs/play/index.html"
+# The most words of a page, as `wc -w` counts, of the page in the browser without its marks, and of all.
 MOST_WORDS = {
     "README.md": 800, "CONTRIBUTING.md": 900, "CHANGELOG.md": 500, "docs/CALLING.md": 1_100, "docs/DECISIONS.md": 1_000, "docs/DEFINITIONS.md": 350,
     "docs/DIFFERENCES.md": 800, "docs/PROMISES.md": 1_000, "docs/SPEED.md": 900, "docs/pyver.1": 1_800, "docs/pyver-check.1": 1_200,
     "docs/pep440.1": 1_200, "callers/README.md": 250, "callers/c/pep440.3": 1_200, "callers/js/README.md": 400, "callers/postgresql/README.md": 800,
     "callers/python/README.md": 1_000, "callers/rust/pep440_rattle/README.md": 700, "callers/sqlite/README.md": 500,
+    "docs/archives/library.md": 130, "docs/archives/page.md": 65, "docs/archives/programs.md": 155, PLAY: 150,
 }
 ALL_WORDS = 16_000
-NO_WORDS = re.compile(r"^```.*?^```$|^\.Bd -literal.*?^\.Ed$|^\.[A-Z][a-z] ?", re.M | re.S)
 
 
 def check_lengths():
     """No page is longer than its readers have time for, nor are all."""
-    its = {name: NO_WORDS.sub("", text_of(name)) for name in MOST_WORDS}
-    counts = {name: sum(bool(re.search(r"\w", word)) for word in re.sub(r"\]\([^)]*\)", "]", text).split()) for name, text in its.items()}
+    texts = {name: text_of(name) for name in MOST_WORDS} | {PLAY: re.sub(r"(?s)^.*<body>|<[^>]*>", " ", text_of(PLAY))}
+    counts = {name: len(text.split()) for name, text in texts.items()}
     yield from (f"{name} has {count:,} words, at most {MOST_WORDS[name]:,}" for name, count in counts.items() if count > MOST_WORDS[name])
     if sum(counts.values()) > ALL_WORDS:
         yield f"the pages have {sum(counts.values()):,} words, at most {ALL_WORDS:,}"

@@ -40,6 +40,11 @@ print(json.dumps([shown(text) for text in json.load(sys.stdin)]))
 """
 # Rows that the README leaves out.
 MORE = [
+    ('len(SpecifierSet(">=1,>=1.0"))', '1', '2'),
+    ('Marker("extra == \'a\'").evaluate(context="requirement")', 'KeyError', 'UndefinedEnvironmentName'),
+    ('Requirement("a\\n")', "<Requirement('a')>", 'InvalidRequirement'),
+    ('parse_sdist_filename("-1.tar.gz")', "('', <Version('1')>)", 'InvalidSdistFilename'),
+    ('str(Marker("os_name == \'a\' and extra == \'B_c\'"))', '\'os_name == "a" and extra == "B_c"\'', '\'os_name == "a" and extra == "b-c"\''),
     ('list(SpecifierSet(">=1").filter(["2a1"]))', '[]', "['2a1']"),
     ('SpecifierSet(">=1").contains("1a1", True, installed=True)', 'True', 'False'),
     ('Specifier(">1a1").contains("1.post1", True)', 'False', 'True'),

@@ -75,15 +75,12 @@ class Departures(unittest.TestCase):
         self.assertFalse(SpecifierSet(">1.0.post1").contains("1.0.post1+x"))
 
     def test_held(self):
-        version = Version("1.0")
-        with self.assertRaises(AttributeError):
-            version.note = "mine"
-        class Mine(Version):
-            pass
-
-        mine = Mine("1.0")
-        mine.note = "mine"
-        self.assertEqual((copy.deepcopy(mine).note, mine), ("mine", version))
+        for kind, text in ((Version, "1.0"), (Specifier, ">=1.0"), (SpecifierSet, ">=1.0")):
+            held, mine = kind(text), type("Mine", (kind,), {})(text)
+            with self.assertRaises(AttributeError):
+                held.note = "mine"
+            mine.note = "mine"
+            self.assertEqual((copy.deepcopy(mine).note, mine), ("mine", held))
 
     def test_properties(self):
         class Later(Version):

@@ -1,7 +1,9 @@
 """The other modules of `packaging` over these two, beside themselves over their own, in processes of their own; and programs of others."""
 import collections
+import functools
 import json
 import os
+import re
 import shutil
 import subprocess
 import sys
@@ -119,7 +121,7 @@ if len(sys.argv) > 3:
         print(shown(it)[:-1] if isinstance(it, Exception) else shown(it))
 else:
     # copyreg has no slots before protocol 2
-    print(*(pickle.dumps([it for it in objects() if protocol > 1 or "__slots__" not in vars(type(it))], protocol).hex() for protocol in range(5)), sep="\n")
+    print(*(pickle.dumps([it for it in objects() if protocol > 1 or not vars(type(it)).get("__slots__")], protocol).hex() for protocol in range(5)), sep="\n")
 """
 
 # What is pickled by one release, with the swap or without, and read by another one: words are whether it is swapped, the folder of `packaging` and, to
@@ -391,11 +393,19 @@ class OtherModules(unittest.TestCase):
         return [it.split("': ")[0].replace("'", "") if isinstance(it, str) and "nvalid" in it else it for it in said] if isinstance(said, list) else said
 
 
+@functools.cache
+def is_there(module):
+    """Whether a program is there, and of pip whether its own `packaging` is replaced: most have an older one."""
+    if module == "pip":
+        return peer.is_fit(run(["-c", peer.TOLD_BY_PIP])[1].partition(" ")[0])
+    return 0 in (run(["-c", f"import {module}.__main__"])[0], run(["-c", f"import {module}"])[0])
+
+
 class Programs(unittest.TestCase):
     def test_programs(self):
         same, left_out = [], []
         for module, words in PROGRAMS:
-            if run(["-c", f"import {module}.__main__"])[0] and run(["-c", f"import {module}"])[0]:
+            if not is_there(module):
                 left_out.append(module)
                 continue
             with self.subTest(words=words), tempfile.TemporaryDirectory() as work:
@@ -421,9 +431,10 @@ class Programs(unittest.TestCase):
         self.assertEqual((status, "Traceback" in errors, f"ERROR: {said}" in errors), (1, False, True), errors)
 
     def results(self, words, folder):
-        """What the program says, and what it leaves of the project's files."""
+        """What the program says, without the seconds that it took, and what it leaves of the project's files."""
         make_project(folder)
-        done, left = run(words, folder), {}
+        status, said, errors = run(words, folder)
+        done, left = (status, *(re.sub("[0-9]:[0-9]{2}:[0-9]{2} ", "", it) for it in (said, errors))), {}
         for name in [*FILES, "pdm.lock"]:
             if os.path.exists(os.path.join(folder, name)):
                 with open(os.path.join(folder, name), encoding="utf-8") as it:

@@ -140,6 +140,7 @@ def _shown(specifier: Specifier | SpecifierSet, name: str) -> str:
 class BaseSpecifier(metaclass=abc.ABCMeta):
     """What a specifier and a set of specifiers have in common."""
 
+    __slots__ = ()
     __match_args__ = ("_str",)
 
     @property
@@ -311,6 +312,7 @@ class Specifier(_core.HeldSpecifier, BaseSpecifier, metaclass=_Called):
     True
     """
 
+    __slots__ = ()
     # The operators, where pip looks for them, and what a subclass names its own comparison: `_compare_equal` and the like.
     _operators = {
         "~=": "compatible",
@@ -455,6 +457,7 @@ class SpecifierSet(_core.HeldSet, BaseSpecifier, metaclass=_Called):
     '!=2.2.*,<3,>2.1'
     """
 
+    __slots__ = ()
     # Whether this is a class with properties of its own, for which `_contains` answers.
     _is_changed = False
 
