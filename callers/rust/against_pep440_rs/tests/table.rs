@@ -123,3 +123,9 @@ fn cases_call_each_function() {
     let uncalled: Vec<Item> = surface().into_iter().filter(|(_, name)| !is_called(name)).collect();
     assert!(uncalled.is_empty(), "in no case: {uncalled:?}");
 }
+
+/// The examples in the documentation of the ported crate, with no more than the crate's name changed.
+#[allow(unused_variables)]
+mod examples {
+    include!(concat!(env!("OUT_DIR"), "/examples.rs"));
+}

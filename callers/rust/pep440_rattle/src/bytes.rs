@@ -200,7 +200,8 @@ pub(crate) fn list_start(operator: Operator) -> [u8; 2] {
 
 /// The bytes of a list of these members, of which none has a version below that of the one before it.
 pub(crate) fn list(members: &[VersionSpecifier]) -> Vec<u8> {
-    let mut bytes = vec![LIST];
+    let mut bytes = Vec::with_capacity(1 + members.len() * (1 + SHORT));
+    bytes.push(LIST);
     for member in members {
         bytes.push(OPERATOR + *member.operator() as u8);
         member.version().with_bytes(|version| bytes.extend_from_slice(version));

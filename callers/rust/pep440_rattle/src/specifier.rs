@@ -349,7 +349,8 @@ pub(crate) fn is_next_minor(low: &Version, high: &Version) -> bool {
 
 /// The specifiers of the normalized form of a list.
 pub(crate) fn read_list(list: &str) -> impl Iterator<Item = VersionSpecifier> {
-    list.split(", ").filter(|member| !member.is_empty()).map(read)
+    // (a blank follows each comma; to search for both takes longer)
+    list.split(',').map(|member| member.strip_prefix(' ').unwrap_or(member)).filter(|member| !member.is_empty()).map(read)
 }
 
 /// The specifier of a normalized form: an operator, a version, and `.*` behind it or nothing.
