@@ -9,7 +9,7 @@ ghost use Rattle.pyver_projects.specs.Soundness.{IsSoundDocument, IsSoundString}
 ghost use Rattle.pyver_projects.specs.Together.{project_conflicts};
 ghost use Rattle.pyver_projects.specs.ProjectViews.{document_of, document_reading_of, locked_reading_of, string_reading_of};
 
-use crate::document::Document;
+use crate::document_kind::Document;
 use crate::document_reading::{DocumentReading, read_document};
 use crate::lock_comparison::{push_beside_all, push_unmet_requirements};
 use crate::locked_reading::LockedReading;

@@ -7,8 +7,8 @@ ghost use Rattle.pyver_projects.specs.ProjectViews.{document_reading_of, project
 ghost use Rattle.pyver_projects.specs.QuotedStrings.{HasQuotedLines};
 
 use crate::document_reading::DocumentReading;
-use crate::project_string::ProjectString;
 use crate::quoted_lines::{QuotedLines, line_after, line_number};
+use crate::section::ProjectString;
 use pyver_findings::{FileLine, Finding};
 use std::alloc::{AllocError, Global};
 
