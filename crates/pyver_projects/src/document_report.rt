@@ -22,6 +22,7 @@ use std::alloc::{AllocError, Global};
 fn push_string(report: &mut Report, string: StringReading) -> Result<(), AllocError>
     ensures findings { IfOk result (λ _. map finding_of report.new.findings.items ≡ map finding_of report.old.findings.items ++ invalid_string (string_reading_of string)) }
     ensures left_out { IfOk result (λ _. report.new.left_out.items ≡ report.old.left_out.items ++ left_out_string (string_reading_of string)) }
+    ensures ignored { report.new.ignored ≡ report.old.ignored }
     ensures lines { report.new.lines ≡ report.old.lines }
     ensures files { report.new.files ≡ report.old.files }
 {
