@@ -1,6 +1,6 @@
 -- Smallest lists by halves, with the sets of the versions that the other lines allow.
 use Rattle.std.proofs.Common.{arith, ◌≡◌, ◌≢◌, ◌==◌, ◌-◌, ◌/◌, ◌<◌, ◌≤◌, ◌∙◌, ℕ, List, [], ◌∷◌, ◌++◌, ◌&&◌, Bool, true, false, drop, get_or, length, length-drop, map, refl, sym, ap, reverse, subst, take}
-use Rattle.std.proofs.lemmas.Bool.{true≢false}
+use Rattle.std.proofs.lemmas.Bool.{true_from_ne_false, true≢false}
 use Rattle.std.proofs.lemmas.List.{append-nil, append_assoc, length-take-le, map-append, take-append-drop, take_rest}
 use Rattle.std.proofs.lemmas.List.Elements.{All-append, All-nil}
 use Rattle.std.specs.List.{All}
@@ -21,15 +21,11 @@ false_by : (b : Bool) → (b ≡ true → ⊥) → b ≡ false
 false_by true never = absurd (never refl)
 false_by false never = refl
 
-true_by : (b : Bool) → (b ≡ false → ⊥) → b ≡ true
-true_by true never = refl
-true_by false never = absurd (never refl)
-
 -- ---- what a set says of the lines whose versions it has
 
 none_left : (set : Segments) (lines : List Demand) → All IsSound lines → HoldsListMatches (specifiers_of lines) set → HasNoVersion set → have_none lines ≡ true
 none_left set lines sound holds empty =
-    true_by (have_none lines) (λ some. let found = some_allowed lines sound some in true≢false (sym (holds found.0 found.1 ∙ allowed found.0 lines found.2) ∙ empty found.0 found.1))
+    true_from_ne_false (have_none lines) (λ some. let found = some_allowed lines sound some in true≢false (sym (holds found.0 found.1 ∙ allowed found.0 lines found.2) ∙ empty found.0 found.1))
 
 some_left : (set : Segments) (lines : List Demand) → All IsSound lines → HoldsListMatches (specifiers_of lines) set → (HasNoVersion set → ⊥) → have_none lines ≡ false
 some_left set lines sound holds some =

@@ -1,5 +1,5 @@
 -- A line that ought to be a requirement and is none is reported.
-use Rattle.std.proofs.Common.{arith, ◌≡◌, ◌==◌, ◌<◌, ◌∙◌, ℕ, List, [], ◌∷◌, Bool, true, false, Option, Some, None, Result, Ok, Err, ap, get_or, length, option_map, refl, sym, subst, inl, inr, suc, zero, if◌then◌else◌}
+use Rattle.std.proofs.Common.{arith, ◌≡◌, ◌<◌, ◌∙◌, ℕ, List, [], ◌∷◌, Bool, true, false, Option, Some, None, Result, Ok, Err, ap, get_or, length, option_map, refl, sym, subst, inl, inr, suc, zero, if◌then◌else◌}
 use Rattle.std.specs.List.{AllZip, flat_map}
 use Rattle.pep440_pick.specs.RequirementGrammar.{DerivesRequirement, Needed}
 use Rattle.pyver_findings.proofs.Found.{Some_is, any_is, in_left, in_right}

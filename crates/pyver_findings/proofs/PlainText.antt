@@ -1,6 +1,6 @@
 -- Strings of tabs and printable ASCII are UTF-8.
-use Rattle.std.proofs.Common.{arith, ◌≡◌, ◌==◌, ◌<◌, ◌≤◌, ◌∙◌, ◌&&◌, ℕ, List, [], ◌∷◌, Bool, true, false, length, refl, sym}
-use Rattle.std.proofs.lemmas.Bool.{true≢false}
+use Rattle.std.proofs.Common.{arith, ◌≡◌, ◌==◌, ◌<◌, ◌≤◌, ◌∙◌, ℕ, List, [], ◌∷◌, Bool, true, false, length, sym}
+use Rattle.std.proofs.lemmas.Bool.{and_parts, true≢false}
 use Rattle.std.proofs.lemmas.List.Elements.{All-cons, All-nil}
 use Rattle.std.proofs.lemmas.List.Sums.{prefix_len-le-length}
 use Rattle.std.proofs.lemmas.Str.{IsUtf8-from_ascii}
@@ -13,15 +13,10 @@ use Rattle.pyver_findings.specs.LineMeanings.{IsPlain, is_plain_byte}
 plain_is_ascii : (b : ℕ) → is_plain_byte b ≡ true → b < 128
 plain_is_ascii b e = grind arith
 
-both : (a b : Bool) → (a && b) ≡ true → (a ≡ true) × (b ≡ true)
-both true true e = (refl, refl)
-both true false e = absurd (true≢false (sym e))
-both false b e = absurd (true≢false (sym e))
-
 all_ascii : (text : List ℕ) → IsPlain text → All (λ b. b < 128) text
 all_ascii [] plain = All-nil (λ b. b < 128)
 all_ascii (b ∷ text) plain =
-    let (here, later) = both (is_plain_byte b) (list_all is_plain_byte text) plain in
+    let (here, later) = and_parts (is_plain_byte b) (list_all is_plain_byte text) plain in
     All-cons (λ c. c < 128) b text (plain_is_ascii b here) (all_ascii text later)
 
 pub plain_utf8 : (text : List ℕ) → IsPlain text → IsUtf8 text

@@ -1,5 +1,5 @@
 -- The rounds in which a smallest list of lines is found.
-use Rattle.std.proofs.Common.{arith, ◌≡◌, ◌+◌, ◌<◌, ◌∙◌, ℕ, List, [], ◌∷◌, ◌++◌, true, false, drop, get_or, length, map, refl, reverse, sym, ap, subst, take, take_all, if◌then◌else◌}
+use Rattle.std.proofs.Common.{◌≡◌, ◌+◌, ◌<◌, ◌∙◌, ℕ, List, [], ◌∷◌, ◌++◌, true, false, drop, get_or, length, map, refl, reverse, sym, ap, subst, take, if◌then◌else◌}
 use Rattle.std.proofs.lemmas.List.{append_assoc, map-append, reverse-append, reverse-reverse, take-append-drop, take_more}
 use Rattle.std.proofs.lemmas.List.Elements.{All-append, All-cons, All-head, All-nil, All-tail}
 use Rattle.std.specs.List.{All}
@@ -67,10 +67,6 @@ module _ {X : Type 0} (view : X → Demand) where
         kept_sound = All-cons IsSound (view x) k (All-head IsSound (view x) [] (right_all IsSound before (view x ∷ []) front_sound)) r.kept_sound;
         rest_sound = left_all IsSound before (view x ∷ []) front_sound;
       }
-
-  -- all of them are enough
-  pub all_enough : (xs : List X) (kept : List Demand) → have_none (map view xs ++ kept) ≡ true → have_none (map view (take (length xs) xs) ++ kept) ≡ true
-  all_enough xs kept none = ap (λ l. have_none (map view l ++ kept)) (take_all (length xs) xs (omega arith)) ∙ none
 
   -- those that are kept have none
   pub last_round : (total : List Demand) (kept rest : List X) → have_none (map view kept) ≡ true → IsRound total kept rest → map view kept ≡ total

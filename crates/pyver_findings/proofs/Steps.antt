@@ -1,6 +1,6 @@
 -- Steps of loops over lists that make something of each element.
-use Rattle.std.proofs.Common.{◌≡◌, ◌+◌, ◌<◌, ◌≤◌, ◌∙◌, ℕ, List, [], ◌∷◌, ◌++◌, Bool, true, false, length, get_or, take, drop, map, refl, sym, ap, if◌then◌else◌}
-use Rattle.std.proofs.lemmas.List.{append-nil, append_assoc, drop_all, drop_more, map-append, take_more}
+use Rattle.std.proofs.Common.{◌≡◌, ◌+◌, ◌<◌, ◌∙◌, ℕ, List, [], ◌∷◌, ◌++◌, Bool, true, false, length, get_or, take, drop, map, refl, sym, ap, if◌then◌else◌}
+use Rattle.std.proofs.lemmas.List.{append-nil, append_assoc, drop_more, map-append, take_more}
 use Rattle.std.proofs.lemmas.List.Concat.{flat_map-append}
 use Rattle.std.specs.List.{flat_map, list_any}
 use Rattle.pyver_findings.specs.Demands.{Demand}
@@ -16,10 +16,6 @@ pub one_more : {X A B : Type 0} (view : X → A) (f : A → List B) (xs : List X
 one_more view f xs i x old new total inside is more so =
     ap (λ n. n ++ flat_map f (map view (drop (i + 1) xs))) more ∙ append_assoc old (f (view x)) (flat_map f (map view (drop (i + 1) xs)))
     ∙ ap (λ r. old ++ flat_map f (map view r)) (sym (rest_at xs i x inside is)) ∙ so
-
--- what is made of all elements
-pub all_made : {X A B : Type 0} (view : X → A) (f : A → List B) (xs : List X) (i : ℕ) (old total : List B) → length xs ≤ i → old ++ flat_map f (map view (drop i xs)) ≡ total → old ≡ total
-all_made view f xs i old total end so = sym (append-nil old) ∙ ap (λ r. old ++ flat_map f (map view r)) (sym (drop_all i xs end)) ∙ so
 
 -- ---- first mentions
 
@@ -44,11 +40,6 @@ first_more view same f xs i x old new total inside is more so =
     let split : flat_map f (one ++ rest) ≡ made_first same f before (view x) ++ flat_map f rest = flat_map-append f one rest ∙ ap (λ m. m ++ flat_map f rest) (made_is (list_any (same (view x)) before) f (view x)) in
     (λ j. more j ++ flat_map f (first_mentions same (taken j) after)) ∙ append_assoc old (made_first same f before (view x)) (flat_map f rest) ∙ ap (λ r. old ++ r) (sym split)
     ∙ ap (λ r. old ++ flat_map f (first_mentions same before (map view r))) (sym (rest_at xs i x inside is)) ∙ so
-
--- what is made of all first mentions
-pub all_firsts : {X B : Type 0} (view : X → Demand) (same : Demand → Demand → Bool) (f : Demand → List B) (xs : List X) (i : ℕ) (old total : List B) → length xs ≤ i
-    → old ++ flat_map f (first_mentions same (map view (take i xs)) (map view (drop i xs))) ≡ total → old ≡ total
-all_firsts view same f xs i old total end so = sym (append-nil old) ∙ ap (λ r. old ++ flat_map f (first_mentions same (map view (take i xs)) (map view r))) (sym (drop_all i xs end)) ∙ so
 
 -- one blank more
 pub blanks_more : (xs : List ℕ) (i : ℕ) (old new total : List ℕ) → i < length xs → new ≡ old ++ 32 ∷ [] → old ++ map (λ _. 32) (drop i xs) ≡ total → new ++ map (λ _. 32) (drop (i + 1) xs) ≡ total

@@ -1,7 +1,7 @@
 -- A string has the parts of a requirement if and only if the grammar derives it.
-use Rattle.std.proofs.Common.{◌≡◌, ◌⊎◌, ◌∙◌, ◌==◌, ◌||◌, ◌&&◌, ℕ, List, [], ◌∷◌, ◌++◌, Bool, true, false, not, Option, Some, None, Result, Ok, length, option_map, refl, sym, ap, subst, inl, inr, if◌then◌else◌}
-use Rattle.std.proofs.lemmas.Bool.{and_parts, eqb-true, or_cases, or_parts, true≢false}
-use Rattle.std.proofs.lemmas.List.{append-nil, append_assoc}
+use Rattle.std.proofs.Common.{◌≡◌, ◌⊎◌, ◌∙◌, ◌==◌, ◌||◌, ◌&&◌, ℕ, List, [], ◌∷◌, ◌++◌, Bool, true, false, not, Option, Some, None, Ok, length, option_map, refl, sym, ap, subst, inl, inr, if◌then◌else◌}
+use Rattle.std.proofs.lemmas.Bool.{and_parts, eqb-true, not-false, not-true, or_cases, or_parts, true≢false}
+use Rattle.std.proofs.lemmas.List.{append-nil}
 use Rattle.std.specs.List.{list_all, list_any}
 use Rattle.pep440_pick.specs.RequirementGrammar.{DerivesRequirement, Needed, has_byte}
 use Rattle.pep440_version.proofs.Reading.Prefixes.{lead-all, lead-run, past-run, past-stops}
@@ -20,14 +20,6 @@ use Rattle.pyver_requirements.specs.MarkerTerms.{terms_text}
 
 -- ---- bytes
 
-not_true : (b : Bool) → not b ≡ true → b ≡ false
-not_true true e = sym e
-not_true false e = refl
-
-not_false : (b : Bool) → not b ≡ false → b ≡ true
-not_false true e = refl
-not_false false e = sym e
-
 -- what has neither `;` nor `@` goes on as a list
 list_bytes : (text : List ℕ) → has_byte 59 text ≡ false → has_byte 64 text ≡ false → list_all is_list_byte text ≡ true
 list_bytes [] a b = refl
@@ -44,7 +36,7 @@ no_blank : (url : List ℕ) → list_all is_url_byte url ≡ true → list_any i
 no_blank [] all = refl
 no_blank (x ∷ url) all =
     let both = and_parts (is_url_byte x) (list_all is_url_byte url) all in
-    let here = not_true (is_blank_byte x) both.0 in
+    let here = not-true (is_blank_byte x) both.0 in
     let later = no_blank url both.1 in
     λ j. here j || later j
 
@@ -73,7 +65,7 @@ listed front rest n plain d (inr (text, m, is, denotes)) =
 
 starts_url : (url later : List ℕ) → IsUrl url → starts is_blank_byte (url ++ later) ≡ false
 starts_url [] later (some, all) = absurd (some refl)
-starts_url (x ∷ url) later (some, all) = not_true (is_blank_byte x) (and_parts (is_url_byte x) (list_all is_url_byte url) all).0
+starts_url (x ∷ url) later (some, all) = not-true (is_blank_byte x) (and_parts (is_url_byte x) (list_all is_url_byte url) all).0
 
 module _ (front blanks url more rest : List ℕ) (n : Needed) (plain : IsPlain front) (d : DerivesRequirement front n) (lists : n.specifiers ≡ []) (before : AreSpaces blanks) (is_url : IsUrl url) (behind : AreSpaces more) where
   abbrev tail : List ℕ
@@ -132,7 +124,7 @@ denoted_by rest (Some normal) has = let read : marker rest ≡ Ok normal = cc ha
 
 -- a byte that ends a list and is no `@` is `;`
 semicolon_is : (b : ℕ) → is_list_byte b ≡ false → (b == 64) ≡ false → b ≡ 59
-semicolon_is b ends other = elim (or_cases (b == 64) (b == 59) (not_false ((b == 64) || (b == 59)) ends)) [
+semicolon_is b ends other = elim (or_cases (b == 64) (b == 59) (not-false ((b == 64) || (b == 59)) ends)) [
   | inl is ↦ absurd (true≢false (sym is ∙ other))
   | inr is ↦ eqb-true b 59 is
 ]
@@ -194,7 +186,7 @@ module _ (text : List ℕ) where
           inr (some_more b last is (ap is_url_byte semicolon), inr (last, m.0, ap (λ c. c ∷ last) semicolon, m.1)),
         )
     by_semicolon false b last e is (plain, (n, d, ((k, has), (some, right)))) =
-        let whole = not_true (list_any is_blank_byte rest) (and_parts (length n.specifiers == 0) (not (list_any is_blank_byte rest)) right).1 in
+        let whole = not-true (list_any is_blank_byte rest) (and_parts (length n.specifiers == 0) (not (list_any is_blank_byte rest)) right).1 in
         let none : past is_url_byte rest ≡ [] = sym (ap (past is_url_byte) (append-nil rest)) ∙ past-run is_url_byte rest [] (all_url rest whole) refl in
         let empty : behind_url rest ≡ [] = ap skip_blanks none in
         let same : [] ≡ b ∷ last = sym empty ∙ is in

@@ -8,15 +8,16 @@ pub record File : Type 0 where
   pub name : List ℕ
   pub text : List ℕ
 
--- a logical line: the name of its file, the number of its first physical line, and its text
+-- a logical line: the name of its file, the number of its first physical line, its text, and its comment
 pub record FileLine : Type 0 where
   pub file : List ℕ
   pub number : ℕ
   pub text : List ℕ
+  pub comment : List ℕ
 
 -- a line of the file with this name
 abbrev pub file_line : List ℕ → Line → FileLine
-file_line file l = record { file = file; number = l.number; text = l.text }
+file_line file l = record { file = file; number = l.number; text = l.text; comment = l.comment }
 
 -- the lines of a file
 abbrev pub file_lines : File → List FileLine

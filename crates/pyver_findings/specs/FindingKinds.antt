@@ -1,6 +1,9 @@
--- The kinds of findings, each with a code and a word.
-use Rattle.std.specs.Prelude.{ℕ, List, codes}
+-- The kinds of findings, each with a code and a word, and the comments that ignore them.
+use Rattle.std.specs.Prelude.{ℕ, List, ◌++◌, Bool, codes}
+use Rattle.std.specs.List.{list_any}
+use Rattle.pyver_findings.specs.FileLines.{FileLine}
 use Rattle.pyver_findings.specs.Findings.{Conflicting, Finding, NoRequirement}
+use Rattle.pyver_findings.specs.LineMeanings.{has_part}
 use Rattle.pyver_findings.specs.declared.finding.Conflict.{Conflict}
 use Rattle.pyver_findings.specs.declared.finding.Conflict.TheVariants.{NoVersion, PinOutside, TwoPins}
 use Rattle.pyver_findings.specs.declared.finding.FindingKind.{FindingKind}
@@ -32,3 +35,18 @@ kind_word kind.NoRequirement = codes "no-requirement"
 kind_word kind.NoVersion = codes "no-version"
 kind_word kind.PinOutside = codes "pin-outside"
 kind_word kind.TwoPins = codes "two-pins"
+
+-- ---- comments
+
+-- the comment that ignores findings of a kind
+abbrev pub ignore_comment : FindingKind → List ℕ
+ignore_comment k = codes "# pyver: ignore[" ++ (kind_code k ++ codes "]")
+
+-- the line has this comment
+abbrev pub ignores : FindingKind → FileLine → Bool
+ignores k l = has_part (ignore_comment k) l.comment
+
+-- the line has the comment for this kind, or one of the lines that cannot be satisfied together
+abbrev pub is_ignored : Finding → Bool
+is_ignored (NoRequirement l reason column) = ignores kind.NoRequirement l
+is_ignored (Conflicting conflict lines) = list_any (ignores (conflict_kind_of conflict)) lines

@@ -31,10 +31,14 @@ pub data LineMeaning : Type 0 where
 
 -- ---- another file
 
+-- this part stands somewhere in the string
+abbrev pub has_part : List ℕ → List ℕ → Bool
+has_part part [] = false
+has_part part (b ∷ rest) = starts_with nat_eq (b ∷ rest) part || has_part part rest
+
 -- a URL's `://` stands somewhere in the string
 abbrev pub has_scheme : List ℕ → Bool
-has_scheme [] = false
-has_scheme (b ∷ rest) = starts_with nat_eq (b ∷ rest) (codes "://") || has_scheme rest
+has_scheme text = has_part (codes "://") text
 
 -- the line that names this file
 abbrev pub names_file : List ℕ → LineMeaning

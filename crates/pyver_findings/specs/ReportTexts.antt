@@ -110,6 +110,11 @@ counted count noun = decimal count ++ (codes " " ++ (noun ++ (if count == 1 then
 abbrev pub problems_text : ℕ → ℕ → List ℕ
 problems_text found files = codes "pyver: " ++ (counted found (codes "problem") ++ (codes " in " ++ (counted files (codes "file") ++ codes "\n")))
 
--- how many lines were read, how many were left out, and how many findings there are in how many files
+-- how many findings comments ignore; nothing if there are none
+abbrev pub ignored_text : ℕ → List ℕ
+ignored_text count = if count == 0 then [] else count_text (codes "pyver: findings ignored: ") count
+
+-- how many lines were read, how many were left out, how many findings are ignored, and how many there are else in how many files
 abbrev pub summary_text : Report → List ℕ
-summary_text r = count_text (codes "pyver: lines read: ") r.lines ++ (left_out_texts r.left_out ++ problems_text (length r.findings) r.files)
+summary_text r = count_text (codes "pyver: lines read: ") r.lines ++ (left_out_texts r.left_out
+    ++ (ignored_text (length r.ignored) ++ problems_text (length r.findings) r.files))

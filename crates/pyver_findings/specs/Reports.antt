@@ -1,16 +1,18 @@
 -- What the check of requirements files reports.
 use Rattle.std.specs.Prelude.{◌≡◌, ℕ, ◌+◌, ◌-◌, ◌^◌, List, [], ◌∷◌, ◌++◌, Bool, false, bytes_eq, length, min, not}
-use Rattle.std.specs.List.{AllZip, flat_map, list_any}
+use Rattle.std.specs.List.{AllZip, filter, flat_map, list_any}
 use Rattle.pyver_findings.specs.Demands.{Demand}
 use Rattle.pyver_findings.specs.Conflicts.{conflicts}
 use Rattle.pyver_findings.specs.FileLines.{File, FileLine, all_lines}
+use Rattle.pyver_findings.specs.FindingKinds.{is_ignored}
 use Rattle.pyver_findings.specs.Findings.{Conflicting, Finding, NoRequirement}
 use Rattle.pyver_findings.specs.LineMeanings.{Asks, IsNone, LeftOut, LineMeaning, AsksNothing, IsMeaning}
 use Rattle.pyver_findings.specs.declared.cause.Cause.{Cause}
 
--- the findings, the number of lines and of files, and for each line that was left out why
+-- the findings, those that a comment ignores, the number of lines and of files, and for each line that was left out why
 pub record Report : Type 0 where
   pub findings : List Finding
+  pub ignored : List Finding
   pub lines : ℕ
   pub files : ℕ
   pub left_out : List Cause
@@ -40,14 +42,14 @@ left_out_in AsksNothing = []
 abbrev pub found_in : List LineMeaning → List Finding
 found_in xs = flat_map invalid_in xs ++ conflicts (flat_map demands_in xs)
 
--- the report of the files
+-- the report of the files, whatever comments ignore
 abbrev pub IsReport : List File → Report → Type 0
 IsReport files r = (xs : List LineMeaning) × AllZip IsMeaning (all_lines files) xs
-    × (r ≡ record { findings = found_in xs; lines = length (all_lines files); files = length files; left_out = flat_map left_out_in xs })
+    × (r ≡ record { findings = found_in xs; ignored = []; lines = length (all_lines files); files = length files; left_out = flat_map left_out_in xs })
 
 -- the report of no files
 abbrev pub empty_report : Report
-empty_report = record { findings = []; lines = 0; files = 0; left_out = [] }
+empty_report = record { findings = []; ignored = []; lines = 0; files = 0; left_out = [] }
 
 -- both counts together, up to 2^64 - 1
 abbrev pub both_counts : ℕ → ℕ → ℕ
@@ -55,7 +57,23 @@ both_counts a b = min (a + b) (2 ^ 64 - 1)
 
 -- two reports as one, the first one's findings first
 abbrev pub joined_report : Report → Report → Report
-joined_report a b = record { findings = a.findings ++ b.findings; lines = both_counts a.lines b.lines; files = both_counts a.files b.files; left_out = a.left_out ++ b.left_out }
+joined_report a b = record {
+  findings = a.findings ++ b.findings;
+  ignored = a.ignored ++ b.ignored;
+  lines = both_counts a.lines b.lines;
+  files = both_counts a.files b.files;
+  left_out = a.left_out ++ b.left_out;
+}
+
+-- the report whose findings are those that no comment ignores
+abbrev pub without_ignored : Report → Report
+without_ignored r = record {
+  findings = filter (λ f. not (is_ignored f)) r.findings;
+  ignored = r.ignored ++ filter is_ignored r.findings;
+  lines = r.lines;
+  files = r.files;
+  left_out = r.left_out;
+}
 
 -- the lines are of two files, or more
 abbrev pub are_of_several : List FileLine → Bool

@@ -6,7 +6,7 @@ use Rattle.std.specs.List.{flat_map}
 use Rattle.cli_io.specs.Escapes.{hex_digits}
 use Rattle.pep440_rs.specs.Blanks.{opens}
 use Rattle.pyver_findings.specs.FileLines.{FileLine}
-use Rattle.pyver_findings.specs.FindingKinds.{finding_kind, kind_code, kind_summary, kind_word}
+use Rattle.pyver_findings.specs.FindingKinds.{finding_kind, is_ignored, kind_code, kind_summary, kind_word}
 use Rattle.pyver_findings.specs.Findings.{Conflicting, Finding, NoRequirement}
 use Rattle.pyver_findings.specs.JsonStrings.{json_string}
 use Rattle.pyver_findings.specs.ReportTexts.{finding_message}
@@ -67,11 +67,16 @@ finding_location (Conflicting conflict lines) = first_location lines
 
 -- ---- results
 
--- a finding: its code, the message and the location
+-- the suppression of a finding that a comment ignores; of another none
+abbrev pub suppression : Bool → List ℕ
+suppression ignored = if ignored then codes "{\"kind\":\"inSource\"}" else []
+
+-- a finding: its code, the message, the location and the suppression
 unfoldable pub finding_result : Finding → List ℕ
 finding_result f =
     codes "{\"ruleId\":\"" ++ (kind_code (finding_kind f) ++ (codes "\",\"level\":\"error\",\"message\":{\"text\":"
-    ++ (json_string (finding_message f) ++ (codes "},\"locations\":[" ++ (finding_location f ++ codes "]}")))))
+    ++ (json_string (finding_message f) ++ (codes "},\"locations\":[" ++ (finding_location f
+    ++ (codes "],\"suppressions\":[" ++ (suppression (is_ignored f) ++ codes "]}")))))))
 
 abbrev pub next_result : Finding → List ℕ
 next_result f = codes "," ++ finding_result f
@@ -94,11 +99,11 @@ abbrev pub all_rules : List ℕ
 all_rules =
     rule kind.NoRequirement ++ (codes "," ++ (rule kind.NoVersion ++ (codes "," ++ (rule kind.PinOutside ++ (codes "," ++ rule kind.TwoPins)))))
 
--- the run of the tool
+-- the run of the tool, with the findings that comments ignore
 abbrev pub log_run : Report → List ℕ
 log_run r =
     codes "{\"tool\":{\"driver\":{\"name\":\"pyver\",\"rules\":["
-    ++ (all_rules ++ (codes "]}},\"columnKind\":\"utf16CodeUnits\",\"results\":[" ++ (finding_results r.findings ++ codes "]}")))
+    ++ (all_rules ++ (codes "]}},\"columnKind\":\"utf16CodeUnits\",\"results\":[" ++ (finding_results (r.findings ++ r.ignored) ++ codes "]}")))
 
 -- all kinds and all findings, and a newline
 abbrev pub report_log : Report → List ℕ

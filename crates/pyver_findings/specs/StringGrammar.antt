@@ -1,5 +1,5 @@
 -- The grammar of strings that are requirements (PEP 508, "Grammar"), and that it is what is read.
-use Rattle.std.specs.Prelude.{◌≡◌, ◌⊎◌, ℕ, List, [], ◌∷◌, ◌++◌, Option, Some, None, true}
+use Rattle.std.specs.Prelude.{◌≡◌, ◌⊎◌, ℕ, List, [], ◌∷◌, ◌++◌, true}
 use Rattle.std.specs.List.{list_all}
 use Rattle.pep440_pick.specs.RequirementGrammar.{DerivesRequirement, Needed}
 use Rattle.pyver_findings.specs.FindingLaws.{AreParts}

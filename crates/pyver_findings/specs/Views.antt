@@ -25,7 +25,7 @@ abbrev pub file_of : SourceFile → File
 file_of f = record { name = f.name.items; text = f.text.items }
 
 abbrev pub file_line_of : FileLineValue → FileLine
-file_line_of l = record { file = l.file.items; number = l.number; text = l.text.items }
+file_line_of l = record { file = l.file.items; number = l.number; text = l.text.items; comment = l.comment.items }
 
 abbrev pub position_of : PositionValue → Position
 position_of p = record { file = p.file.items; line = p.line; column = p.column }
@@ -63,4 +63,4 @@ line_meaning_of (reading.LeftOut c) = LeftOut c
 line_meaning_of reading.AsksNothing = AsksNothing
 
 abbrev pub report_of : ReportValue → Report
-report_of r = record { findings = map finding_of r.findings.items; lines = r.lines; files = r.files; left_out = r.left_out.items }
+report_of r = record { findings = map finding_of r.findings.items; ignored = map finding_of r.ignored.items; lines = r.lines; files = r.files; left_out = r.left_out.items }

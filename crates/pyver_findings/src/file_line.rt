@@ -23,6 +23,8 @@ pub struct FileLine {
     /// The number of its first physical line, from 1.
     pub number: u64,
     pub text: Vec<u8>,
+    /// The comment behind the text, or nothing.
+    pub comment: Vec<u8>,
 }
 
 impl Clone for FileLine {
@@ -35,6 +37,7 @@ impl Clone for FileLine {
             file: self.file.clone()?,
             number: self.number,
             text: self.text.clone()?,
+            comment: self.comment.clone()?,
         })
     }
 }
@@ -53,6 +56,7 @@ fn push_line(
         file,
         number: line.number,
         text: line.text,
+        comment: line.comment,
     })?;
     Ok(())
 }

@@ -1,11 +1,12 @@
 //! What is reported.
 ghost use Rattle.std.specs.Prelude.{◌≡◌, bytes_eq, map, not};
 ghost use Rattle.std.specs.List.{list_any};
-ghost use Rattle.pyver_findings.specs.FindingKinds.{conflict_kind_of, finding_kind, kind_code, kind_summary, kind_word};
+ghost use Rattle.pyver_findings.specs.FindingKinds.{conflict_kind_of, finding_kind, ignore_comment, ignores, is_ignored, kind_code, kind_summary, kind_word};
 ghost use Rattle.pyver_findings.specs.Reports.{are_of_several, spans_files};
 ghost use Rattle.pyver_findings.specs.Views.{file_line_of, finding_of};
 
 use crate::file_line::FileLine;
+use crate::line_meaning::has_part;
 
 /// Why lines cannot be satisfied together.
 #[derive(Clone, Copy, Debug, PartialEq, Eq)]
@@ -75,6 +76,35 @@ impl FindingKind {
             FindingKind::TwoPins => "two-pins",
         }
     }
+
+    // The comment that ignores findings of the kind.
+    fn ignore_comment(self) -> &'static str
+        ensures { result.now ≡ ignore_comment self }
+    {
+        match self {
+            FindingKind::NoRequirement => "# pyver: ignore[PV001]",
+            FindingKind::NoVersion => "# pyver: ignore[PV002]",
+            FindingKind::PinOutside => "# pyver: ignore[PV003]",
+            FindingKind::TwoPins => "# pyver: ignore[PV004]",
+        }
+    }
+}
+
+fn ignores(line: &FileLine, kind: FindingKind) -> bool
+    ensures { result ≡ ignores kind (file_line_of line.now) }
+{
+    has_part(line.comment.as_slice(), kind.ignore_comment())
+}
+
+fn has_ignoring(lines: &[FileLine], kind: FindingKind) -> bool
+    ensures { result ≡ list_any (ignores kind) (map file_line_of lines.now) }
+{
+    for line in lines {
+        if ignores(line, kind) {
+            return true;
+        }
+    }
+    false
 }
 
 fn conflict_kind_of(conflict: Conflict) -> FindingKind
@@ -126,6 +156,20 @@ impl Finding {
         match self {
             Finding::NoRequirement(_, _, _) => FindingKind::NoRequirement,
             Finding::Conflicting(conflict, _) => conflict_kind_of(*conflict),
+        }
+    }
+
+    /// Whether a comment `# pyver: ignore[CODE]` with its code stands in its line, or in one of its lines.
+    ///
+    /// Allocates nothing.
+    pub fn is_ignored(&self) -> bool
+        ensures { result ≡ is_ignored (finding_of self.now) }
+    {
+        match self {
+            Finding::NoRequirement(line, _, _) => ignores(line, FindingKind::NoRequirement),
+            Finding::Conflicting(conflict, lines) => {
+                has_ignoring(lines.as_slice(), conflict_kind_of(*conflict))
+            }
         }
     }
 

@@ -35,4 +35,5 @@ pub use line_meaning::LineMeaning;
 pub use named_files::{NamedFile, Position, push_named_files};
 pub use normal_name::normalize_name;
 pub use report::{Report, find_problems};
+pub use report_text::{push_number, push_text};
 pub use requirement_line::{parse_requirement, parse_specifiers};

@@ -1,6 +1,6 @@
 //! What a line of a requirements file is to the check.
 ghost use Rattle.std.specs.Prelude.{◌≡◌, IfOk};
-ghost use Rattle.pyver_findings.specs.LineMeanings.{IsKindMeaning, IsMeaning, fault_reason, has_scheme, names_file};
+ghost use Rattle.pyver_findings.specs.LineMeanings.{IsKindMeaning, IsMeaning, fault_reason, has_part, has_scheme, names_file};
 ghost use Rattle.pyver_findings.specs.Views.{file_line_of, line_meaning_of};
 ghost use Rattle.pyver_requirements.specs.LineViews.{line_kind_of};
 
@@ -25,18 +25,25 @@ pub enum LineMeaning {
     AsksNothing,
 }
 
-// `://` stands somewhere in the text.
-pub(crate) fn has_scheme(text: &[u8]) -> bool
-    ensures { result ≡ has_scheme text.now }
+// The part stands somewhere in the text.
+pub(crate) fn has_part(text: &[u8], part: &str) -> bool
+    ensures { result ≡ has_part part.now text.now }
 {
     let mut rest = text;
     while let [_, later @ ..] = rest {
-        if rest.starts_with("://".as_bytes()) {
+        if rest.starts_with(part.as_bytes()) {
             return true;
         }
         rest = later;
     }
     false
+}
+
+// `://` stands somewhere in the text.
+pub(crate) fn has_scheme(text: &[u8]) -> bool
+    ensures { result ≡ has_scheme text.now }
+{
+    has_part(text, "://")
 }
 
 fn name_file(path: &[u8]) -> LineMeaning

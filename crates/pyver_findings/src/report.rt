@@ -1,8 +1,10 @@
 //! The report of requirements files.
-ghost use Rattle.std.specs.Prelude.{◌≡◌, ◌++◌, IfOk, map};
+ghost use Rattle.std.specs.Prelude.{◌≡◌, ◌++◌, IfOk, map, not};
+ghost use Rattle.std.specs.List.{filter};
+ghost use Rattle.pyver_findings.specs.FindingKinds.{is_ignored};
 ghost use Rattle.pyver_findings.specs.ReadingViews.{KeepsReadings};
-ghost use Rattle.pyver_findings.specs.Reports.{IsReport, demands_in, empty_report, invalid_in, joined_report, left_out_in};
-ghost use Rattle.pyver_findings.specs.Views.{demand_of, file_line_of, file_of, finding_of, line_meaning_of, report_of};
+ghost use Rattle.pyver_findings.specs.Reports.{IsReport, demands_in, empty_report, invalid_in, joined_report, left_out_in, without_ignored};
+ghost use Rattle.pyver_findings.specs.Views.{AddsFindings, demand_of, file_line_of, file_of, finding_of, line_meaning_of, report_of};
 
 use crate::cause::Cause;
 use crate::conflicts::push_conflicts;
@@ -17,6 +19,8 @@ use std::alloc::{AllocError, Global};
 pub struct Report {
     /// First the lines that are no requirements, in order; then what is wrong with lines together, by name.
     pub findings: Vec<Finding>,
+    /// Those that comments ignore, once `leave_out_ignored` has moved them here.
+    pub ignored: Vec<Finding>,
     /// How many lines were read that are neither empty nor comments.
     pub lines: usize,
     /// How many files were read.
@@ -87,10 +91,31 @@ pub fn find_problems(alloc: Global, files: &[SourceFile]) -> Result<Report, Allo
     push_conflicts(alloc, &mut findings, readings.demands.as_slice())?;
     Ok(Report {
         findings,
+        ignored: Vec::new(alloc),
         lines: lines.len(),
         files: files.len(),
         left_out: readings.left_out,
     })
+}
+
+// The findings that no comment ignores; the others follow those that are ignored.
+fn split_ignored(
+    alloc: Global,
+    findings: Vec<Finding>,
+    ignored: &mut Vec<Finding>,
+) -> Result<Vec<Finding>, AllocError>
+    ensures left { IfOk result (λ left. map finding_of left.items ≡ filter (λ f. not (is_ignored f)) (map finding_of findings.items)) }
+    ensures ignored { IfOk result (λ _. AddsFindings ignored.old.items ignored.new.items (filter is_ignored (map finding_of findings.items))) }
+{
+    let mut left = Vec::new(alloc);
+    for finding in findings {
+        if finding.is_ignored() {
+            ignored.push(finding)?;
+        } else {
+            left.push(finding)?;
+        }
+    }
+    Ok(left)
 }
 
 impl Report {
@@ -102,6 +127,7 @@ impl Report {
     {
         Report {
             findings: Vec::new(alloc),
+            ignored: Vec::new(alloc),
             lines: 0,
             files: 0,
             left_out: Vec::new(alloc),
@@ -117,9 +143,27 @@ impl Report {
     {
         let mut other = other;
         self.findings.append(&mut other.findings)?;
+        self.ignored.append(&mut other.ignored)?;
         self.left_out.append(&mut other.left_out)?;
         self.lines = self.lines.saturating_add(other.lines);
         self.files = self.files.saturating_add(other.files);
         Ok(())
+    }
+
+    /// The report without the findings that comments ignore, which follow those in `ignored`.
+    ///
+    /// Allocates.
+    pub fn leave_out_ignored(self, alloc: Global) -> Result<Report, AllocError>
+        ensures { IfOk result (λ r. report_of r ≡ without_ignored (report_of self)) }
+    {
+        let mut ignored = self.ignored;
+        let findings = split_ignored(alloc, self.findings, &mut ignored)?;
+        Ok(Report {
+            findings,
+            ignored,
+            lines: self.lines,
+            files: self.files,
+            left_out: self.left_out,
+        })
     }
 }

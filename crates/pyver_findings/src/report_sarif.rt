@@ -4,7 +4,7 @@ ghost use Rattle.std.specs.Fmt.{decimal};
 ghost use Rattle.std.specs.List.{flat_map};
 ghost use Rattle.pyver_findings.specs.JsonStrings.{json_string};
 ghost use Rattle.pyver_findings.specs.ReportTexts.{finding_message};
-ghost use Rattle.pyver_findings.specs.SarifLogs.{begins_character, begins_pair, file_uri, finding_location, finding_result, finding_results, first_location, is_path_byte, all_rules, line_location, line_start, log_run, next_result, path_byte, report_log, rule, scheme, utf16_length};
+ghost use Rattle.pyver_findings.specs.SarifLogs.{begins_character, begins_pair, file_uri, finding_location, finding_result, finding_results, first_location, is_path_byte, all_rules, line_location, line_start, log_run, next_result, path_byte, report_log, rule, scheme, suppression, utf16_length};
 ghost use Rattle.pyver_findings.specs.Views.{file_line_of, finding_of, report_of};
 
 use crate::file_line::FileLine;
@@ -159,6 +159,16 @@ fn push_message_string(
     push_json_string(bytes, message.as_slice())
 }
 
+fn suppression(is_ignored: bool) -> &'static str
+    ensures { result.now ≡ suppression is_ignored }
+{
+    if is_ignored {
+        "{\"kind\":\"inSource\"}"
+    } else {
+        ""
+    }
+}
+
 fn push_result(alloc: Global, bytes: &mut Vec<u8>, finding: &Finding) -> Result<(), AllocError>
     ensures { IfOk result (λ _. bytes.new.items ≡ bytes.old.items ++ finding_result (finding_of finding.now)) }
 {
@@ -168,6 +178,8 @@ fn push_result(alloc: Global, bytes: &mut Vec<u8>, finding: &Finding) -> Result<
     push_message_string(alloc, bytes, finding)?;
     push_text(bytes, "},\"locations\":[")?;
     push_location(alloc, bytes, finding)?;
+    push_text(bytes, "],\"suppressions\":[")?;
+    push_text(bytes, suppression(finding.is_ignored()))?;
     push_text(bytes, "]}")?;
     Ok(())
 }
@@ -200,6 +212,25 @@ fn push_results(alloc: Global, bytes: &mut Vec<u8>, findings: &[Finding]) -> Res
         [first, rest @ ..] => {
             push_result(alloc, bytes, first)?;
             push_next_results(alloc, bytes, rest)
+        }
+    }
+}
+
+// The findings, and those that comments ignore.
+fn push_all_results(
+    alloc: Global,
+    bytes: &mut Vec<u8>,
+    findings: &[Finding],
+    ignored: &[Finding],
+) -> Result<(), AllocError>
+    ensures { IfOk result (λ _. bytes.new.items ≡ bytes.old.items
+        ++ finding_results (map finding_of findings.now ++ map finding_of ignored.now)) }
+{
+    match findings {
+        [] => push_results(alloc, bytes, ignored),
+        [_, ..] => {
+            push_results(alloc, bytes, findings)?;
+            push_next_results(alloc, bytes, ignored)
         }
     }
 }
@@ -239,14 +270,20 @@ fn push_log_run(alloc: Global, bytes: &mut Vec<u8>, report: &Report) -> Result<(
     )?;
     push_rules(bytes)?;
     push_text(bytes, "]}},\"columnKind\":\"utf16CodeUnits\",\"results\":[")?;
-    push_results(alloc, bytes, report.findings.as_slice())?;
+    push_all_results(
+        alloc,
+        bytes,
+        report.findings.as_slice(),
+        report.ignored.as_slice(),
+    )?;
     push_text(bytes, "]}")?;
     Ok(())
 }
 
 impl Report {
     /// The findings as a log of SARIF 2.1.0, and a newline: its rules are the kinds by their codes, and each result has the code, what
-    /// `to_text` says, and the position, whose column counts code units of UTF-16. A file with an absolute path has an absolute URI.
+    /// `to_text` says, and the position, whose column counts code units of UTF-16. A finding that a comment
+    /// ignores has the suppression `inSource`. A file with an absolute path has an absolute URI.
     ///
     /// Allocates.
     pub fn to_sarif(&self, alloc: Global) -> Result<Vec<u8>, AllocError>

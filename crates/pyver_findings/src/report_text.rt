@@ -2,7 +2,7 @@
 ghost use Rattle.std.specs.Prelude.{◌≡◌, ◌+◌, ◌++◌, IfOk, count_by, map, take};
 ghost use Rattle.std.specs.Fmt.{decimal};
 ghost use Rattle.std.specs.List.{flat_map};
-ghost use Rattle.pyver_findings.specs.ReportTexts.{caret_text, cause_text, column_position_text, conflict_text, count_text, counted, finding_caret, finding_message, finding_position, finding_text, first_position_text, left_out_text, left_out_texts, more_text, line_position_text, problems_text, quoted_line, quoted_lines, report_text, same_cause, summary_text};
+ghost use Rattle.pyver_findings.specs.ReportTexts.{caret_text, cause_text, column_position_text, conflict_text, count_text, counted, finding_caret, finding_message, finding_position, finding_text, first_position_text, ignored_text, left_out_text, left_out_texts, more_text, line_position_text, problems_text, quoted_line, quoted_lines, report_text, same_cause, summary_text};
 ghost use Rattle.pyver_findings.specs.Views.{file_line_of, finding_of, report_of};
 
 use crate::cause::Cause;
@@ -12,15 +12,19 @@ use crate::report::Report;
 use cli_io::push_escaped;
 use std::alloc::{AllocError, Global};
 
-// The string at the end.
-pub(crate) fn push_text(bytes: &mut Vec<u8>, text: &str) -> Result<(), AllocError>
+/// Appends the text.
+///
+/// Allocates.
+pub fn push_text(bytes: &mut Vec<u8>, text: &str) -> Result<(), AllocError>
     ensures { IfOk result (λ _. bytes.new.items ≡ bytes.old.items ++ text.now) }
 {
     bytes.extend_from_slice(text.as_bytes())
 }
 
-// The number at the end.
-pub(crate) fn push_number(alloc: Global, bytes: &mut Vec<u8>, number: u64) -> Result<(), AllocError>
+/// Appends the number.
+///
+/// Allocates.
+pub fn push_number(alloc: Global, bytes: &mut Vec<u8>, number: u64) -> Result<(), AllocError>
     ensures { IfOk result (λ _. bytes.new.items ≡ bytes.old.items ++ decimal number) }
 {
     push_text(bytes, number.to_string(alloc)?.as_str())
@@ -318,6 +322,16 @@ fn push_all_left_out(alloc: Global, bytes: &mut Vec<u8>, causes: &[Cause]) -> Re
     push_left_out(alloc, bytes, causes, Cause::OtherSyntax)
 }
 
+// How many findings comments ignore, if any.
+fn push_ignored(alloc: Global, bytes: &mut Vec<u8>, count: usize) -> Result<(), AllocError>
+    ensures { IfOk result (λ _. bytes.new.items ≡ bytes.old.items ++ ignored_text count) }
+{
+    if count == 0 {
+        return Ok(());
+    }
+    push_count(alloc, bytes, "pyver: findings ignored: ", count)
+}
+
 fn push_counted(
     alloc: Global,
     bytes: &mut Vec<u8>,
@@ -361,7 +375,8 @@ impl Report {
         Ok(bytes)
     }
 
-    /// How many lines were read, how many were left out, by cause, and how many findings there are in how many files, each on a line.
+    /// How many lines were read, how many were left out, by cause, how many findings comments ignore, and how many there are else in how
+    /// many files, each on a line.
     ///
     /// Allocates.
     pub fn summarize(&self, alloc: Global) -> Result<Vec<u8>, AllocError>
@@ -370,6 +385,7 @@ impl Report {
         let mut bytes = Vec::new(alloc);
         push_count(alloc, &mut bytes, "pyver: lines read: ", self.lines)?;
         push_all_left_out(alloc, &mut bytes, self.left_out.as_slice())?;
+        push_ignored(alloc, &mut bytes, self.ignored.len())?;
         push_problems(alloc, &mut bytes, self.findings.len(), self.files)?;
         Ok(bytes)
     }

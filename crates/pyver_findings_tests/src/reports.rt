@@ -24,6 +24,11 @@ fn source_file(alloc: Global, name: &str, text: &str) -> Result<SourceFile, Allo
     Ok(SourceFile { name, text })
 }
 
+// The report of the files without what comments ignore.
+fn report_files(alloc: Global, files: &[SourceFile]) -> Result<Report, AllocError> {
+    find_problems(alloc, files)?.leave_out_ignored(alloc)
+}
+
 // The report of the files between bars, of which each is named `a.txt`, `b.txt` and so on.
 fn report_of(alloc: Global, texts: &str) -> Result<Report, AllocError> {
     let mut files = Vec::new(alloc);
@@ -31,7 +36,7 @@ fn report_of(alloc: Global, texts: &str) -> Result<Report, AllocError> {
     for (at, text) in texts.split('|').enumerate() {
         files.push(source_file(alloc, names[at % 4], text)?)?;
     }
-    find_problems(alloc, files.as_slice())
+    report_files(alloc, files.as_slice())
 }
 
 fn print_form(alloc: Global, report: &Report, form: Form) -> Result<String, CaseError> {
@@ -60,7 +65,7 @@ pub fn print_report_of(
 ) -> Result<String, CaseError> {
     let mut files = Vec::new(alloc);
     files.push(source_file(alloc, name, text)?)?;
-    let report = find_problems(alloc, files.as_slice())?;
+    let report = report_files(alloc, files.as_slice())?;
     print_form(alloc, &report, form)
 }
 
@@ -107,7 +112,7 @@ pub fn print_each(alloc: Global, texts: &str) -> Result<String, CaseError> {
     let names = ["a.txt", "b.txt", "c.txt", "d.txt"];
     for (at, text) in texts.split('|').enumerate() {
         let file = [source_file(alloc, names[at % 4], text)?];
-        report.append(find_problems(alloc, &file)?)?;
+        report.append(report_files(alloc, &file)?)?;
     }
     let mut printed = print_form(alloc, &report, Form::Text)?;
     printed.push_str(print_form(alloc, &report, Form::Counts)?.as_str())?;

@@ -11,6 +11,7 @@ fn line(alloc: Global, string: &str) -> Result<FileLine, AllocError> {
         file: Vec::new(alloc),
         number: 1,
         text: Vec::from_slice(alloc, string.as_bytes())?,
+        comment: Vec::new(alloc),
     })
 }
 

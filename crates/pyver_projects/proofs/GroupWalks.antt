@@ -1,6 +1,6 @@
 -- Groups that are found step by step are those that a group includes.
 use Rattle.std.proofs.Common.{arith, ◌≡◌, ◌≤◌, ◌<◌, ◌+◌, ◌-◌, ◌∙◌, ◌||◌, ◌&&◌, ℕ, List, [], ◌∷◌, ◌++◌, Bool, true, false, Option, Some, None, bytes_eq, cond, drop, get_or, is_some, length, map, refl, sym, ap, suc, zero}
-use Rattle.std.proofs.lemmas.Bool.{true≢false}
+use Rattle.std.proofs.lemmas.Bool.{and_parts, or_left, or_right, true≢false}
 use Rattle.std.proofs.lemmas.List.{drop_all, drop_more, map-append}
 use Rattle.std.proofs.lemmas.List.Elements.{All-contains, All-contains_itself, All-head, All-tail, All-weaker}
 use Rattle.std.proofs.lemmas.List.Folds.{list_any-append}
@@ -15,14 +15,6 @@ use Rattle.pyver_projects.specs.Groups.{Inclusion, includes, includes_by, includ
 pub or_false : (a : Bool) → (a || false) ≡ a
 or_false true = refl
 or_false false = refl
-
-or_right : (a b : Bool) → b ≡ true → (a || b) ≡ true
-or_right true b e = refl
-or_right false b e = e
-
-or_left : (a b : Bool) → a ≡ true → (a || b) ≡ true
-or_left true b e = refl
-or_left false b e = absurd (true≢false (sym e))
 
 pub or_assoc : (a b c : Bool) → ((a || b) || c) ≡ (a || (b || c))
 or_assoc true b c = refl
@@ -118,22 +110,14 @@ module _ (is : List Inclusion) where
       wider true b c h = refl
       wider false b c h = or_right b c h
 
-      first : (b c : Bool) → (b && c) ≡ true → b ≡ true
-      first true c h = refl
-      first false c h = h
-
-      second : (b c : Bool) → (b && c) ≡ true → c ≡ true
-      second true c h = h
-      second false c h = absurd (true≢false (sym h))
-
       here_by : (f : Bool) → front i.group ≡ f → includes_by known q i ≡ true → (known q || list_any (includes_by front q) (i ∷ here)) ≡ true
       here_by true f hit =
           or_right (known q) (list_any (includes_by front q) (i ∷ here))
-          (or_left (includes_by front q i) (list_any (includes_by front q) here) ((λ j. first (bytes_eq q i.included) (known i.group) hit j && f j)))
+          (or_left (includes_by front q i) (list_any (includes_by front q) here) ((λ j. (and_parts (bytes_eq q i.included) (known i.group) hit).0 j && f j)))
       here_by false f hit =
           or_left (known q) (list_any (includes_by front q) (i ∷ here))
-          (ap known ((bytes_eq-Decides q i.included).0 (first (bytes_eq q i.included) (known i.group) hit))
-          ∙ All-head (λ (k : Inclusion). known k.group ≡ true → (front k.group ≡ false) → known k.included ≡ true) i here taken (second (bytes_eq q i.included) (known i.group) hit) f)
+          (ap known ((bytes_eq-Decides q i.included).0 ((and_parts (bytes_eq q i.included) (known i.group) hit).0))
+          ∙ All-head (λ (k : Inclusion). known k.group ≡ true → (front k.group ≡ false) → known k.included ≡ true) i here taken ((and_parts (bytes_eq q i.included) (known i.group) hit).1) f)
 
   -- what is included by those in front is included by known groups
   from : (known front : List ℕ → Bool) → ((q : List ℕ) → front q ≡ true → known q ≡ true) → (q : List ℕ) (here : List Inclusion) → list_any (includes_by front q) here ≡ true → list_any (includes_by known q) here ≡ true
@@ -200,14 +184,6 @@ module _ (is : List Inclusion) where
     }
 
 -- ---- names that are added
-
-by_name : (has : List ℕ → Bool) (name q : List ℕ) (b : Bool) → bytes_eq q name ≡ b → has name ≡ true → has q ≡ (has q || b)
-by_name has name q true e known = let here : has q ≡ true = ap has ((bytes_eq-Decides q name).0 e) ∙ known in here ∙ sym (ap (λ b. b || true) here)
-by_name has name q false e known = sym (or_false (has q))
-
--- a name that is known
-pub known_name : (has : List ℕ → Bool) (name q : List ℕ) → has name ≡ true → has q ≡ (has q || bytes_eq q name)
-known_name has name q known = by_name has name q (bytes_eq q name) refl known
 
 by_key : {X : Type 0} (b : Bool) (x : X) (old : Option X) → is_some (cond b (Some x) old) ≡ (is_some old || b)
 by_key true x None = refl

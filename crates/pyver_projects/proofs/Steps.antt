@@ -2,6 +2,7 @@
 use Rattle.std.proofs.Common.{◌≡◌, ◌+◌, ◌<◌, ◌≤◌, ◌∙◌, ℕ, List, [], ◌∷◌, ◌++◌, Option, Some, None, IfOk, IfSome, Result, Ok, Err, ◌⊎◌, false, inr, is_none, length, get_or, take, take_all, map, refl, sym, ap, subst, suc, String}
 use Rattle.std.proofs.lemmas.Bool.{true≢false}
 use Rattle.std.proofs.lemmas.List.{map-append, take_more}
+use Rattle.std.proofs.lemmas.Slice.Zip.{all_zipped_more}
 use Rattle.std.specs.List.{AllZip}
 use Rattle.pep440_version.specs.ErrorTexts.{error_text, rejection_text}
 use Rattle.pep440_version.specs.Rejections.{Rejection, Rejects}
@@ -24,19 +25,13 @@ pub members_length : (es : List (String Global × Value)) → length (members_li
 members_length [] = refl
 members_length (e ∷ es) = ap suc (members_length es)
 
-all_more : {A B : Type 0} (R : A → B → Type 0) (xs : List A) (ys : List B) (x : A) (y : B) → AllZip R xs ys → R x y → AllZip R (xs ++ x ∷ []) (ys ++ y ∷ [])
-all_more R [] [] x y h r = (r, tt)
-all_more R [] (z ∷ ys) x y h r = absurd h
-all_more R (z ∷ xs) [] x y h r = absurd h
-all_more R (z ∷ xs) (u ∷ ys) x y h r = (h.0, all_more R xs ys x y h.1 r)
-
 -- one more was read
 pub read_more : {L M A B : Type 0} (view : L → A) (show : M → B) (R : A → B → Type 0) (xs : List L) (i : ℕ) (x : L) (old new : List M) (y : M) → i < length xs → x ≡ get_or xs i x
     → new ≡ old ++ y ∷ [] → R (view x) (show y) → AllZip R (map view (take i xs)) (map show old) → AllZip R (map view (take (i + 1) xs)) (map show new)
 read_more view show R xs i x old new y inside is more reads h =
     let taken : map view (take (i + 1) xs) ≡ map view (take i xs) ++ view x ∷ [] = ap (map view) (take_more xs i x inside ∙ ap (λ z. take i xs ++ z ∷ []) (sym is)) ∙ map-append view (take i xs) (x ∷ []) in
     let shown : map show new ≡ map show old ++ show y ∷ [] = ap (map show) more ∙ map-append show old (y ∷ []) in
-    subst (λ ls. AllZip R ls (map show new)) (sym taken) (subst (λ ms. AllZip R (map view (take i xs) ++ view x ∷ []) ms) (sym shown) (all_more R (map view (take i xs)) (map show old) (view x) (show y) h reads))
+    subst (λ ls. AllZip R ls (map show new)) (sym taken) (subst (λ ms. AllZip R (map view (take i xs) ++ view x ∷ []) ms) (sym shown) (all_zipped_more R (map view (take i xs)) (map show old) (view x) (show y) h reads))
 
 -- all were read
 pub read_all : {L M A B : Type 0} (view : L → A) (show : M → B) (R : A → B → Type 0) (xs : List L) (i : ℕ) (ys : List M) → length xs ≤ i → AllZip R (map view (take i xs)) (map show ys) → AllZip R (map view xs) (map show ys)

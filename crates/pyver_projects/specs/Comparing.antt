@@ -52,9 +52,9 @@ unmet ys m = flat_map (λ a. flat_map (excluded a) ys) (demands_in m)
 
 -- the report of a document by itself: the strings or the packages count as lines
 abbrev pub own_report : DocumentReading → Report
-own_report (IsProject xs) = record { findings = flat_map invalid_string xs ++ project_conflicts xs; lines = length xs; files = 1; left_out = flat_map left_out_string xs }
-own_report (IsLock ys ms) = record { findings = flat_map invalid_package ys ++ flat_map (unmet ys) ms; lines = length ys; files = 1; left_out = flat_map left_out_in ms }
-own_report (IsBroken f) = record { findings = f ∷ []; lines = 0; files = 1; left_out = [] }
+own_report (IsProject xs) = record { findings = flat_map invalid_string xs ++ project_conflicts xs; ignored = []; lines = length xs; files = 1; left_out = flat_map left_out_string xs }
+own_report (IsLock ys ms) = record { findings = flat_map invalid_package ys ++ flat_map (unmet ys) ms; ignored = []; lines = length ys; files = 1; left_out = flat_map left_out_in ms }
+own_report (IsBroken f) = record { findings = f ∷ []; ignored = []; lines = 0; files = 1; left_out = [] }
 
 -- a report, and after it those of documents
 abbrev pub with_own_reports : Report → List DocumentReading → Report
@@ -103,7 +103,7 @@ beside_all others x = flat_map (found_beside x) others
 
 -- a report with more findings
 abbrev pub with_findings : Report → List Finding → Report
-with_findings a found = record { findings = a.findings ++ found; lines = a.lines; files = a.files; left_out = a.left_out }
+with_findings a found = record { findings = a.findings ++ found; ignored = a.ignored; lines = a.lines; files = a.files; left_out = a.left_out }
 
 -- the report of documents that were read: of each by itself, in order, and then of each project beside each lock
 abbrev pub documents_report : List DocumentReading → Report

@@ -30,7 +30,7 @@ use Rattle.pyver_projects.specs.declared.document_kind.DocumentKind.TheVariants.
 
 -- a string as a line of the file
 abbrev pub string_line : File → ProjectString → FileLine
-string_line file s = record { file = file.name; number = number_or_one (first_line file.text s.text); text = s.text }
+string_line file s = record { file = file.name; number = number_or_one (first_line file.text s.text); text = s.text; comment = [] }
 
 -- what a string of this line is that is to be a version
 abbrev pub IsVersionMeaning : FileLine → List ℕ → LineMeaning → Type 0
@@ -66,7 +66,7 @@ pub record LockedReading : Type 0 where
 
 -- a package as a line of the file with this name
 abbrev pub package_line : List ℕ → LockedPackage → FileLine
-package_line file p = record { file = file; number = p.line; text = package_text p.name p.version }
+package_line file p = record { file = file; number = p.line; text = package_text p.name p.version; comment = [] }
 
 -- a package on this line with this name and version
 abbrev pub IsVersionReading : FileLine → List ℕ → Option (List ℕ) → LockedReading → Type 0
@@ -81,7 +81,7 @@ IsLockedReading file p y = IsVersionReading (package_line file p) p.name p.versi
 
 -- a requirement as a line of the file with this name
 abbrev pub requirement_line : List ℕ → LockedRequirement → FileLine
-requirement_line file q = record { file = file; number = q.line; text = q.requirer ++ (codes " requires " ++ (q.name ++ (codes " " ++ q.list))) }
+requirement_line file q = record { file = file; number = q.line; text = q.requirer ++ (codes " requires " ++ (q.name ++ (codes " " ++ q.list))); comment = [] }
 
 -- what it is: a name with a list, or left out, if the list is none of PEP 440
 abbrev pub IsRequirementReading : List ℕ → LockedRequirement → LineMeaning → Type 0

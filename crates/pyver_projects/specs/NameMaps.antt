@@ -21,6 +21,14 @@ has_key names name = is_some (get_by (λ k. bytes_eq name k.now) names)
 abbrev pub IsFound : {X S : Type 0} → (List ℕ → Bool) → HashMap (Bor (List ℕ)) X S → List (Bor (List ℕ)) → Type 0
 IsFound before names found = (q : List ℕ) → has_key names q ≡ (before q || list_any (bytes_eq q) (map (λ n. n.now) found))
 
+-- the names with this property were added
+abbrev pub GainsNames : {X S : Type 0} → HashMap (Bor (List ℕ)) X S → HashMap (Bor (List ℕ)) X S → (List ℕ → Bool) → Type 0
+GainsNames old new more = (q : List ℕ) → has_key new q ≡ (has_key old q || more q)
+
+-- what was added is found, too
+abbrev pub KeepsFound : {X S : Type 0} → HashMap (Bor (List ℕ)) X S → HashMap (Bor (List ℕ)) X S → List (Bor (List ℕ)) → List (Bor (List ℕ)) → Type 0
+KeepsFound old new found more = (before : List ℕ → Bool) → IsFound before old found → IsFound before new more
+
 -- ---- repeated names
 
 -- what is kept of a name that stands there so often: whether it is repeated

@@ -4,7 +4,7 @@ use Rattle.pyver_findings.specs.Views.{file_line_of, file_of, finding_of, line_m
 use Rattle.pyver_projects.specs.Groups.{Inclusion}
 use Rattle.pyver_projects.specs.Meanings.{Document, DocumentReading, IsBroken, IsLock, IsProject, LockedReading, StringReading}
 use Rattle.pyver_projects.specs.ProjectStrings.{Build, Dependencies, Extra, Group, Include, Invalid, LockContents, LockedPackage, LockedRequirement, Section, Python, ProjectString, Version}
-use Rattle.pyver_projects.specs.declared.document.Document.{Document as DocumentValue}
+use Rattle.pyver_projects.specs.declared.document_kind.Document.{Document as DocumentValue}
 use Rattle.pyver_projects.specs.declared.document_reading.DocumentReading.{DocumentReading as DocumentReadingValue}
 use Rattle.pyver_projects.specs.declared.document_reading.DocumentReading.TheVariants as reading
 use Rattle.pyver_projects.specs.declared.groups.Inclusion.{Inclusion as InclusionValue}
@@ -12,7 +12,7 @@ use Rattle.pyver_projects.specs.declared.locked_package.LockContents.{LockConten
 use Rattle.pyver_projects.specs.declared.locked_package.LockedPackage.{LockedPackage as LockedValue}
 use Rattle.pyver_projects.specs.declared.locked_package.LockedRequirement.{LockedRequirement as RequirementValue}
 use Rattle.pyver_projects.specs.declared.locked_reading.LockedReading.{LockedReading as LockedReadingValue}
-use Rattle.pyver_projects.specs.declared.project_string.ProjectString.{ProjectString as SourceValue}
+use Rattle.pyver_projects.specs.declared.section.ProjectString.{ProjectString as SourceValue}
 use Rattle.pyver_projects.specs.declared.section.Section.{Section as SectionValue}
 use Rattle.pyver_projects.specs.declared.section.Section.TheVariants as section
 use Rattle.pyver_projects.specs.declared.string_reading.StringReading.{StringReading as StringReadingValue}

@@ -1,6 +1,8 @@
-//! The kinds of documents, by their paths and by words.
+//! Documents, and their kinds by paths and by words.
 ghost use Rattle.std.specs.Prelude.{◌≡◌, ◌==◌, count_by};
 ghost use Rattle.pyver_projects.specs.DocumentKinds.{ends_path, has_slash, is_document_path, is_named_pylock, kind_of_path, kind_of_word, last_section};
+
+use pyver_findings::SourceFile;
 
 /// The kinds of locks.
 #[derive(Clone, Copy, Debug, PartialEq, Eq)]
@@ -24,6 +26,13 @@ pub enum DocumentKind {
     Project,
     /// A lock.
     Lock(LockKind),
+}
+
+/// A document that is checked: its kind, its name in findings and its text.
+#[derive(Debug, Drop)]
+pub struct Document {
+    pub kind: DocumentKind,
+    pub file: SourceFile,
 }
 
 // The path is this name, or ends with it after a `/`.

@@ -7,8 +7,7 @@ ghost use Rattle.pyver_projects.specs.declared.document_kind.DocumentKind.TheVar
 ghost use Rattle.pyver_projects.specs.declared.document_kind.LockKind.TheVariants as lock_kind;
 ghost use Rattle.toml.specs.View.{table_view};
 
-use crate::document::Document;
-use crate::document_kind::{DocumentKind, LockKind};
+use crate::document_kind::{Document, DocumentKind, LockKind};
 use crate::groups::{Groups, group_names, string_inclusions};
 use crate::locked_package::LockContents;
 use crate::locked_reading::{LockedReading, read_packages};

@@ -9,7 +9,7 @@ ghost use Rattle.pyver_projects.specs.Soundness.{IsSoundDocument, IsSoundString}
 ghost use Rattle.pyver_projects.specs.Together.{project_conflicts};
 ghost use Rattle.pyver_projects.specs.ProjectViews.{document_of, document_reading_of, locked_reading_of, string_reading_of};
 
-use crate::document::Document;
+use crate::document_kind::Document;
 use crate::document_reading::{DocumentReading, read_document};
 use crate::lock_comparison::{push_beside_all, push_unmet_requirements};
 use crate::locked_reading::LockedReading;
@@ -22,6 +22,7 @@ use std::alloc::{AllocError, Global};
 fn push_string(report: &mut Report, string: StringReading) -> Result<(), AllocError>
     ensures findings { IfOk result (λ _. map finding_of report.new.findings.items ≡ map finding_of report.old.findings.items ++ invalid_string (string_reading_of string)) }
     ensures left_out { IfOk result (λ _. report.new.left_out.items ≡ report.old.left_out.items ++ left_out_string (string_reading_of string)) }
+    ensures ignored { report.new.ignored ≡ report.old.ignored }
     ensures lines { report.new.lines ≡ report.old.lines }
     ensures files { report.new.files ≡ report.old.files }
 {

@@ -26,50 +26,7 @@ fn rank_of(numbers: &HashMap<&[u8], usize>, name: &[u8]) -> usize
     }
 }
 
-// How often each group is included.
-fn count_inclusions<'a>(
-    alloc: Global,
-    inclusions: &'a [Inclusion],
-) -> Result<HashMap<&'a [u8], usize>, AllocError> {
-    let mut counts: HashMap<&'a [u8], usize> = HashMap::new(alloc);
-    for inclusion in inclusions {
-        let name = inclusion.included.as_slice();
-        let count = rank_of(&counts, name);
-        counts.insert(name, count.saturating_add(1))?;
-    }
-    Ok(counts)
-}
-
-// The groups that no other includes.
-fn first_groups<'a>(
-    alloc: Global,
-    counts: &HashMap<&'a [u8], usize>,
-    inclusions: &'a [Inclusion],
-) -> Result<Vec<&'a [u8]>, AllocError> {
-    let mut found: Vec<&'a [u8]> = Vec::new(alloc);
-    for inclusion in inclusions {
-        let name = inclusion.group.as_slice();
-        if rank_of(counts, name) == 0 {
-            found.push(name)?;
-        }
-    }
-    Ok(found)
-}
-
-// Takes an inclusion of the group. After the last the group can be placed.
-fn take_inclusion<'a>(
-    counts: &mut HashMap<&'a [u8], usize>,
-    ready: &mut Vec<&'a [u8]>,
-    name: &'a [u8],
-) -> Result<(), AllocError> {
-    let count = rank_of(counts, name);
-    if count == 1 {
-        ready.push(name)?;
-    }
-    counts.insert(name, count.saturating_sub(1))?;
-    Ok(())
-}
-
+// Takes the inclusions of a group that is placed. Another can be placed after the last group that includes it.
 fn take_inclusions<'a>(
     counts: &mut HashMap<&'a [u8], usize>,
     ready: &mut Vec<&'a [u8]>,
@@ -79,20 +36,37 @@ fn take_inclusions<'a>(
         return Ok(());
     };
     for inclusion in inclusions.as_slice() {
-        take_inclusion(counts, ready, inclusion.included.as_slice())?;
+        let name = inclusion.included.as_slice();
+        let count = rank_of(counts, name);
+        if count == 1 {
+            ready.push(name)?;
+        }
+        counts.insert(name, count.saturating_sub(1))?;
     }
     Ok(())
 }
 
-// Places the groups, each after all that include it. Groups that include themselves, and what only they include, get no place.
+// Places the groups, each after all that include it. Groups that include themselves, and what only they include, get no place. No clause
+// is needed: `is_ordered` checks the positions.
 fn place_groups<'a>(
     alloc: Global,
     index: &InclusionIndex<'a>,
 ) -> Result<HashMap<&'a [u8], usize>, AllocError>
     requires { IsInclusionIndex index.now }
 {
-    let mut counts = count_inclusions(alloc, index.inclusions)?;
-    let mut ready = first_groups(alloc, &counts, index.inclusions)?;
+    let mut counts: HashMap<&'a [u8], usize> = HashMap::new(alloc);
+    for inclusion in index.inclusions {
+        let name = inclusion.included.as_slice();
+        let count = rank_of(&counts, name);
+        counts.insert(name, count.saturating_add(1))?;
+    }
+    let mut ready: Vec<&'a [u8]> = Vec::new(alloc);
+    for inclusion in index.inclusions {
+        let name = inclusion.group.as_slice();
+        if rank_of(&counts, name) == 0 {
+            ready.push(name)?;
+        }
+    }
     let mut places: HashMap<&'a [u8], usize> = HashMap::new(alloc);
     for place in 0..index.inclusions.len().saturating_mul(2) {
         let Some(name) = ready.pop() else {

@@ -1,8 +1,8 @@
 //! The groups that a group includes, itself or through others.
-ghost use Rattle.std.specs.Prelude.{◌≡◌, ◌&&◌, ◌||◌, Bool, IfOk, List, bytes_eq, map, ℕ};
+ghost use Rattle.std.specs.Prelude.{◌≡◌, ◌&&◌, IfOk, List, bytes_eq, map, ℕ};
 ghost use Rattle.std.specs.List.{list_any};
 ghost use Rattle.pyver_projects.specs.Groups.{includes, includes_by};
-ghost use Rattle.pyver_projects.specs.NameMaps.{IsFound, IsInclusionIndex, has_key, inclusions_of};
+ghost use Rattle.pyver_projects.specs.NameMaps.{GainsNames, IsFound, IsInclusionIndex, KeepsFound, has_key, inclusions_of};
 ghost use Rattle.pyver_projects.specs.ProjectViews.{inclusion_of};
 
 use crate::groups::Inclusion;
@@ -16,8 +16,8 @@ fn push_new<'a>(
     found: &mut Vec<&'a [u8]>,
     name: &'a [u8],
 ) -> Result<(), AllocError>
-    ensures names { IfOk result (λ _. (q : List ℕ) → has_key names.new q ≡ has_key names.old q || bytes_eq q name.now) }
-    ensures found { IfOk result (λ _. (before : List ℕ → Bool) → IsFound before names.old found.old.items → IsFound before names.new found.new.items) }
+    ensures names { IfOk result (λ _. GainsNames names.old names.new (λ q. bytes_eq q name.now)) }
+    ensures found { IfOk result (λ _. KeepsFound names.old names.new found.old.items found.new.items) }
 {
     if !names.contains_key(name) {
         names.insert(name, ())?;
@@ -32,8 +32,9 @@ fn push_inclusions<'a>(
     found: &mut Vec<&'a [u8]>,
     inclusions: &[&'a Inclusion],
 ) -> Result<(), AllocError>
-    ensures names { IfOk result (λ _. (q : List ℕ) → has_key names.new q ≡ has_key names.old q || list_any (λ i. bytes_eq q i.included) (map (λ i. inclusion_of i.now) inclusions.now)) }
-    ensures found { IfOk result (λ _. (before : List ℕ → Bool) → IsFound before names.old found.old.items → IsFound before names.new found.new.items) }
+    ensures names { IfOk result (λ _. GainsNames names.old names.new
+        (λ q. list_any (λ i. bytes_eq q i.included) (map (λ i. inclusion_of i.now) inclusions.now))) }
+    ensures found { IfOk result (λ _. KeepsFound names.old names.new found.old.items found.new.items) }
 {
     for inclusion in inclusions {
         push_new(names, found, inclusion.included.as_slice())?;
@@ -49,8 +50,9 @@ fn push_of_group<'a>(
     group: &[u8],
 ) -> Result<(), AllocError>
     requires { IsInclusionIndex index.now }
-    ensures names { IfOk result (λ _. (q : List ℕ) → has_key names.new q ≡ has_key names.old q || list_any (λ i. bytes_eq q i.included && bytes_eq group.now i.group) (inclusions_of index.now)) }
-    ensures found { IfOk result (λ _. (before : List ℕ → Bool) → IsFound before names.old found.old.items → IsFound before names.new found.new.items) }
+    ensures names { IfOk result (λ _. GainsNames names.old names.new
+        (λ q. list_any (λ i. bytes_eq q i.included && bytes_eq group.now i.group) (inclusions_of index.now))) }
+    ensures found { IfOk result (λ _. KeepsFound names.old names.new found.old.items found.new.items) }
 {
     match index.of_group(group) {
         Some(inclusions) => push_inclusions(names, found, inclusions.as_slice()),
@@ -66,7 +68,8 @@ fn next_groups<'a>(
     groups: &[&'a [u8]],
 ) -> Result<Vec<&'a [u8]>, AllocError>
     requires { IsInclusionIndex index.now }
-    ensures names { IfOk result (λ _. (q : List ℕ) → has_key names.new q ≡ has_key names.old q || list_any (includes_by (λ n. list_any (bytes_eq n) (map (λ m. m.now) groups.now)) q) (inclusions_of index.now)) }
+    ensures names { IfOk result (λ _. GainsNames names.old names.new
+        (λ q. list_any (includes_by (λ n. list_any (bytes_eq n) (map (λ m. m.now) groups.now)) q) (inclusions_of index.now))) }
     ensures found { IfOk result (λ found. IsFound (has_key names.old) names.new found.items) }
 {
     let mut found = Vec::new(alloc);

@@ -3,7 +3,6 @@
 //! In reading order: `DocumentKind`, `kind_of_path` and `kind_of_word`; `Document` and `find_document_problems`; and `laws`.
 #![tactic(auto)]
 
-mod document;
 mod document_kind;
 mod document_reading;
 mod document_report;
@@ -21,7 +20,6 @@ mod package_requirements;
 mod pipfile_lock;
 mod place;
 mod project;
-mod project_string;
 mod quoted_lines;
 mod requirement_reading;
 mod section;
@@ -31,6 +29,7 @@ mod together;
 mod toml_lock;
 mod version_reason;
 
-pub use document::Document;
-pub use document_kind::{DocumentKind, LockKind, is_document_path, kind_of_path, kind_of_word};
+pub use document_kind::{
+    Document, DocumentKind, LockKind, is_document_path, kind_of_path, kind_of_word,
+};
 pub use document_report::find_document_problems;

@@ -44,6 +44,7 @@ fn package_line(alloc: Global, file: &[u8], locked: &LockedPackage) -> Result<Fi
         file: Vec::from_slice(alloc, file)?,
         number: locked.line,
         text: package_text(alloc, locked.name.as_str(), version_text(&locked.version))?,
+        comment: Vec::new(alloc),
     })
 }
 

@@ -7,8 +7,8 @@ ghost use Rattle.pyver_projects.specs.ProjectViews.{document_reading_of, project
 ghost use Rattle.pyver_projects.specs.QuotedStrings.{HasQuotedLines};
 
 use crate::document_reading::DocumentReading;
-use crate::project_string::ProjectString;
 use crate::quoted_lines::{QuotedLines, line_after, line_number};
+use crate::section::ProjectString;
 use pyver_findings::{FileLine, Finding};
 use std::alloc::{AllocError, Global};
 
@@ -26,6 +26,7 @@ pub(crate) fn string_line(
         file: Vec::from_slice(alloc, name)?,
         number: line_number(lines, string.text.as_bytes()),
         text: Vec::from_slice(alloc, string.text.as_bytes())?,
+        comment: Vec::new(alloc),
     })
 }
 
@@ -117,6 +118,7 @@ pub(crate) fn reject_document(
         file: Vec::from_slice(alloc, name)?,
         number: line_after(before) as u64,
         text: Vec::from_slice(alloc, line)?,
+        comment: Vec::new(alloc),
     };
     let reason = String::from_str(alloc, reason)?;
     Ok(DocumentReading::Broken(Finding::NoRequirement(line, reason, column)))

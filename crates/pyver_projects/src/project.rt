@@ -11,8 +11,7 @@ ghost use Rattle.toml.specs.View.{table_view, view};
 
 use crate::groups::group_names;
 use crate::name_index::NameIndex;
-use crate::project_string::ProjectString;
-use crate::section::Section;
+use crate::section::{ProjectString, Section};
 use crate::table::{inside, is_array_or_none, is_table_or_none, items, table, text, top};
 use pyver_findings::normalize_name;
 use std::alloc::{AllocError, Global};

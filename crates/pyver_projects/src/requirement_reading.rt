@@ -34,6 +34,7 @@ fn requirement_line(
         file: Vec::from_slice(alloc, file)?,
         number: requirement.line,
         text,
+        comment: Vec::new(alloc),
     })
 }
 

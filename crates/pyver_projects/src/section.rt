@@ -1,4 +1,4 @@
-//! The parts of `pyproject.toml` whose strings are checked.
+//! The strings of `pyproject.toml` that are checked, and where they stand.
 ghost use Rattle.std.specs.Prelude.{◌≡◌};
 ghost use Rattle.pyver_projects.specs.ProjectViews.{section_of};
 
@@ -23,6 +23,13 @@ pub(crate) enum Section {
     Python,
     // `project.version`.
     Version,
+}
+
+// A string of `pyproject.toml` that is to be a requirement, a list of specifiers or a version.
+#[derive(Drop)]
+pub(crate) struct ProjectString {
+    pub(crate) section: Section,
+    pub(crate) text: String,
 }
 
 impl Clone for Section {

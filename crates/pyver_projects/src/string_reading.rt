@@ -15,9 +15,8 @@ ghost use Rattle.pyver_projects.specs.QuotedStrings.{HasQuotedLines};
 
 use crate::groups::Groups;
 use crate::place::string_line;
-use crate::project_string::ProjectString;
 use crate::quoted_lines::QuotedLines;
-use crate::section::Section;
+use crate::section::{ProjectString, Section};
 use crate::version_reason::version_reason;
 use pep440_rs::{Version, VersionParseError};
 use pyver_findings::{FileLine, Finding, LineMeaning, parse_requirement, parse_specifiers};

@@ -6,13 +6,13 @@ use Rattle.std.proofs.lemmas.List.Elements.{filter-append}
 use Rattle.std.specs.List.{filter}
 use Rattle.std.specs.Option.{option_map_or}
 use Rattle.pyver_requirements.specs.LineViews.{logical_line_of, lines_with}
-use Rattle.pyver_requirements.specs.LogicalLines.{Line, added, content, continues, filled, joined_from, physical_lines, prefixed}
+use Rattle.pyver_requirements.specs.LogicalLines.{JoinedLine, Line, added, continues, filled, joined_from, physical_lines, prefixed, split_joined}
 use Rattle.pyver_requirements.specs.declared.logical_line.LineJoiner.{LineJoiner}
 
-abbrev pub line : ℕ → List ℕ → Line
+abbrev pub line : ℕ → List ℕ → JoinedLine
 line number text = record { number = number; text = text }
 
-prefixed_twice : (n m : ℕ) (s t : List ℕ) (lines : List Line) → prefixed n s (prefixed m t lines) ≡ prefixed n (s ++ t) lines
+prefixed_twice : (n m : ℕ) (s t : List ℕ) (lines : List JoinedLine) → prefixed n s (prefixed m t lines) ≡ prefixed n (s ++ t) lines
 prefixed_twice n m s t [] = refl
 prefixed_twice n m s t (l ∷ later) = ap (λ x. line n x ∷ later) (sym (append_assoc s t l.text))
 
@@ -32,18 +32,17 @@ prefixed_none n (text ∷ rest) = elim (cases_Bool (continues text)) [
       ap (λ l. filled (prefixed n [] l)) (joined_end n text rest h) ∙ ap filled (sym (joined_end n text rest h))
 ]
 
-filled-append : (xs ys : List Line) → filled (xs ++ ys) ≡ filled xs ++ filled ys
+filled-append : (xs ys : List JoinedLine) → filled (xs ++ ys) ≡ filled xs ++ filled ys
 filled-append xs ys =
-    let read = λ (l : Line). line l.number (content l.text) in
     let test = λ (l : Line). not (length l.text == 0) in
-    ap (filter test) (map-append read xs ys) ∙ filter-append test (map read xs) (map read ys)
+    ap (filter test) (map-append split_joined xs ys) ∙ filter-append test (map split_joined xs) (map split_joined ys)
 
 -- a line that ends its logical line
 pub push_end : (a b : LineJoiner) (text : List ℕ) → continues text ≡ false → map logical_line_of b.lines.items ≡ map logical_line_of a.lines.items ++ filled (line a.first (a.text.items ++ added text) ∷ [])
     → b.text.items ≡ [] → b.first ≡ a.next + 1 → b.next ≡ a.next + 1 → (rest : List (List ℕ)) → lines_with b rest ≡ lines_with a (text ∷ rest)
 push_end a b text ended lines none first next rest =
-    let whole : Line = line a.first (a.text.items ++ added text) in
-    let later : List Line = joined_from (a.next + 1) rest in
+    let whole : JoinedLine = line a.first (a.text.items ++ added text) in
+    let later : List JoinedLine = joined_from (a.next + 1) rest in
     (λ i. lines i ++ filled (prefixed (first i) (none i) (joined_from (next i) rest)))
     ∙ ap (λ l. (map logical_line_of a.lines.items ++ filled (whole ∷ [])) ++ l) (prefixed_none (a.next + 1) rest)
     ∙ append_assoc (map logical_line_of a.lines.items) (filled (whole ∷ [])) (filled later)

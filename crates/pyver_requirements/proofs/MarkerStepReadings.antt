@@ -1,10 +1,10 @@
 -- The steps of what the grammar derives are read.
-use Rattle.std.proofs.Common.{◌≡◌, ◌∙◌, ◌+◌, ◌<◌, ◌≤◌, ℕ, suc, List, [], ◌∷◌, ◌++◌, Bool, true, false, Ok, Err, Result, ap, append_assoc, arith, length, nat_lt, refl, subst, sym, if◌then◌else◌}
+use Rattle.std.proofs.Common.{◌≡◌, ◌∙◌, ◌+◌, ◌<◌, ◌≤◌, ℕ, List, [], ◌∷◌, ◌++◌, Bool, true, false, Ok, ap, append_assoc, arith, length, nat_lt, refl, sym}
 use Rattle.std.proofs.lemmas.Bool.Decides.{nat_tests}
 use Rattle.std.proofs.lemmas.List.{append-nil}
 use Rattle.pyver_requirements.specs.MarkerGrammar.{Conjunction, Denotes, Disjunction, Marker, Operand, alone, at, both, compared, either, enclosed, one}
 use Rattle.pyver_requirements.specs.MarkerSteps.{Compare, Group, OpenGroups, JoinBoth, JoinEither, Step, StepsAreRead, join_alternatives, join_chain, marker_steps, read_tokens, steps}
-use Rattle.pyver_requirements.specs.MarkerTokens.{And, Close, Compares, Faulty, Lexeme, Open, Or, Side, Token, lexemes}
+use Rattle.pyver_requirements.specs.MarkerTokens.{And, Close, Compares, Lexeme, Open, Or, Side, lexemes}
 use Rattle.pyver_requirements.specs.declared.marker_operator.MarkerOperator.{MarkerOperator}
 
 -- ---- what the grammar derives

@@ -54,11 +54,6 @@ split_word b rest h =
     first_word b rest h ∙ ap (λ (ws : List OptionWord). record { text = shell_word Plain (b ∷ rest); left = length (b ∷ rest) } ∷ ws)
     (ap (λ (k : ℕ). option_words k rest) count ∙ skipped (length word) rest ∙ ap (λ (w : List ℕ). option_words 0 (drop (length w) (b ∷ rest))) (sym (word_here b rest h)))
 
--- a word has a byte, at least
-pub some_word : (text : List ℕ) → 0 < length text → starts is_ascii_whitespace text ≡ false → 0 < length (shell_word Plain text)
-some_word [] some filled = absurd (omega (arith, some))
-some_word (b ∷ rest) some filled = let is = ap length (word_here b rest (sym filled)) in omega (arith, is)
-
 read_word : (awaited : Option (List ℕ)) (w : OptionWord) (ws : List OptionWord) → words_fault awaited (w ∷ ws) ≡ step_fault w.left (word_step awaited w.text) (λ next. words_fault next ws)
 unfolding words_fault
 read_word awaited w ws = refl

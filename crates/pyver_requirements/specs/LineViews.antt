@@ -14,7 +14,7 @@ use Rattle.pyver_requirements.specs.declared.option_fault.WordStep.{WordStep as 
 use Rattle.pyver_requirements.specs.declared.option_fault.WordStep.TheVariants as step
 
 abbrev pub logical_line_of : LogicalLine → Line
-logical_line_of l = record { number = l.number; text = l.text.items }
+logical_line_of l = record { number = l.number; text = l.text.items; comment = l.comment.items }
 
 -- the lines so far, and those that come of the one that has begun and of these physical lines
 abbrev pub lines_with : LineJoiner → List (List ℕ) → List Line

@@ -1,5 +1,5 @@
 -- The logical lines of a requirements file (pip, "Requirements File Format").
-use Rattle.std.specs.Prelude.{ℕ, zero, suc, ◌+◌, ◌-◌, ◌==◌, ◌&&◌, ◌||◌, List, [], ◌∷◌, ◌++◌, Bool, true, false, length, map, nat_le, not, take, if◌then◌else◌}
+use Rattle.std.specs.Prelude.{ℕ, zero, suc, ◌+◌, ◌-◌, ◌==◌, ◌&&◌, ◌||◌, List, [], ◌∷◌, ◌++◌, Bool, true, false, drop, length, map, nat_le, not, take, if◌then◌else◌}
 use Rattle.std.specs.Char.{is_ascii_whitespace}
 use Rattle.std.specs.List.{filter, slice_split, suffix_len}
 use Rattle.pep440_rs.specs.Blanks.{opens, trim_blanks}
@@ -7,10 +7,16 @@ use Rattle.pep440_version.specs.Grammar.{starts}
 use Rattle.pep440_version.specs.Reading.{past}
 use Rattle.pep440_version.specs.Rejections.{ends}
 
--- a line, and the number of the first physical line of it
+-- physical lines that are joined, and the number of the first of them
+pub record JoinedLine : Type 0 where
+  pub number : ℕ
+  pub text : List ℕ
+
+-- a logical line: the number of its first physical line, what stands before its comment, and the comment
 pub record Line : Type 0 where
   pub number : ℕ
   pub text : List ℕ
+  pub comment : List ℕ
 
 -- ---- physical lines
 
@@ -69,30 +75,38 @@ abbrev pub added : List ℕ → List ℕ
 added line = if is_comment_line line then [] else (if ends (λ b. b == 92) line then trim_backslashes line else line)
 
 -- the lines with this text in front of the first, which then has this number; only the text where there are none
-abbrev pub prefixed : ℕ → List ℕ → List Line → List Line
+abbrev pub prefixed : ℕ → List ℕ → List JoinedLine → List JoinedLine
 prefixed number text [] = record { number = number; text = text } ∷ []
 prefixed number text (line ∷ later) = record { number = number; text = text ++ line.text } ∷ later
 
 -- the physical lines, counted from this number, with each that continues in front of the next
-abbrev pub joined_from : ℕ → List (List ℕ) → List Line
+abbrev pub joined_from : ℕ → List (List ℕ) → List JoinedLine
 joined_from number [] = []
 joined_from number (line ∷ rest) = if continues line then prefixed number (added line) (joined_from (number + 1) rest)
     else record { number = number; text = added line } ∷ joined_from (number + 1) rest
 
 -- ---- comments
 
--- what stands before the comment, which begins with a `#` after a blank, or here if it may
-abbrev pub before_comment : Bool → List ℕ → List ℕ
-before_comment here [] = []
-before_comment here (b ∷ rest) = if here && (b == 35) then [] else b ∷ before_comment (is_ascii_whitespace b) rest
+-- how many bytes stand before the comment, which begins with a `#` after a blank, or here if it may
+abbrev pub comment_start : Bool → List ℕ → ℕ
+comment_start here [] = 0
+comment_start here (b ∷ rest) = if here && (b == 35) then 0 else suc (comment_start (is_ascii_whitespace b) rest)
 
 -- the line without its comment, and without blanks at both ends; a comment may begin at the start
 abbrev pub content : List ℕ → List ℕ
-content text = trim_blanks (before_comment true text)
+content text = trim_blanks (take (comment_start true text) text)
 
--- the contents of the lines, but for those that have none
-abbrev pub filled : List Line → List Line
-filled lines = filter (λ (l : Line). not (length l.text == 0)) (map (λ (l : Line). record { number = l.number; text = content l.text }) lines)
+-- the comment of a line, or nothing
+abbrev pub comment : List ℕ → List ℕ
+comment text = drop (comment_start true text) text
+
+-- joined lines as a logical line
+abbrev pub split_joined : JoinedLine → Line
+split_joined l = record { number = l.number; text = content l.text; comment = comment l.text }
+
+-- the logical lines of these, but for those without content
+abbrev pub filled : List JoinedLine → List Line
+filled lines = filter (λ (l : Line). not (length l.text == 0)) (map split_joined lines)
 
 -- the logical lines of a string in UTF-8
 abbrev pub joined_lines : List ℕ → List Line
@@ -100,4 +114,4 @@ joined_lines text = filled (joined_from 1 (physical_lines (after_mark text)))
 
 -- the logical lines of a file; of one in UTF-16 only its mark
 abbrev pub logical_lines : List ℕ → List Line
-logical_lines text = if is_utf16 text then record { number = 1; text = take 2 text } ∷ [] else joined_lines text
+logical_lines text = if is_utf16 text then record { number = 1; text = take 2 text; comment = [] } ∷ [] else joined_lines text

@@ -3,16 +3,19 @@ ghost use Rattle.std.specs.Prelude.{◌≡◌, ◌∷◌, ◌++◌, ◌+◌, ◌
 ghost use Rattle.pyver_requirements.specs.LineViews.{logical_line_of, lines_with};
 ghost use Rattle.pyver_requirements.specs.LogicalLines.{filled, joined_from, joined_lines, logical_lines};
 
-use crate::comment::content;
+use crate::comment::split_comment;
 use crate::physical_line::{after_mark, opens_with_mark, split_continuation, split_line};
 use std::alloc::{AllocError, Global};
 
-/// A line of a requirements file: physical lines joined, without comment and without blanks at both ends.
+/// A line of a requirements file: physical lines joined.
 #[derive(Debug, Drop)]
 pub struct LogicalLine {
     /// The number of its first physical line, from 1.
     pub number: u64,
+    /// What stands before the comment, without blanks at both ends.
     pub text: Vec<u8>,
+    /// The comment from its `#` on, or nothing.
+    pub comment: Vec<u8>,
 }
 
 // The logical lines so far, and the one that has begun.
@@ -46,12 +49,14 @@ impl LineJoiner {
         ensures first { IfOk result (λ _. self.new.first ≡ self.old.next) }
         ensures next { IfOk result (λ _. self.new.next ≡ self.old.next) }
     {
-        let text = content(self.text.as_slice());
+        let (text, comment) = split_comment(self.text.as_slice());
         if !text.is_empty() {
             let text = Vec::from_slice(alloc, text)?;
+            let comment = Vec::from_slice(alloc, comment)?;
             self.lines.push(LogicalLine {
                 number: self.first,
                 text,
+                comment,
             })?;
         }
         self.text.clear();
@@ -85,12 +90,13 @@ impl LineJoiner {
 
 // Only the mark that the text begins with.
 fn mark_line(alloc: Global, text: &[u8]) -> Result<Vec<LogicalLine>, AllocError>
-    ensures { IfOk result (λ lines. map logical_line_of lines.items ≡ record { number = 1; text = take 2 text.now } ∷ []) }
+    ensures { IfOk result (λ lines. map logical_line_of lines.items ≡ record { number = 1; text = take 2 text.now; comment = [] } ∷ []) }
 {
     let mut lines = Vec::new(alloc);
     lines.push(LogicalLine {
         number: 1,
         text: Vec::from_slice(alloc, first_two(text))?,
+        comment: Vec::new(alloc),
     })?;
     Ok(lines)
 }
@@ -115,7 +121,7 @@ fn join_lines(alloc: Global, text: &[u8]) -> Result<Vec<LogicalLine>, AllocError
     joiner.finish(alloc)
 }
 
-/// The logical lines of a requirements file: lines that end with `\` are joined with the next one, comments are left out, and so
+/// The logical lines of a requirements file: lines that end with `\` are joined with the next one, comments are split off, and left out
 /// are blanks at both ends, a byte order mark at the start and lines that are then empty.
 ///
 /// This is how pip reads, if its page is silent: lines end as for Python's `splitlines`, in UTF-8; a line that continues loses all `\`

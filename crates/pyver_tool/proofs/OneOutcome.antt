@@ -25,7 +25,7 @@ use Rattle.pyver_commands.specs.NewestOutcomes.{FindsNewest, FindsNewestBy, Find
 use Rattle.pyver_tool.specs.CheckLaws.{ChecksOnce}
 use Rattle.pyver_tool.specs.Checks.{with_report}
 use Rattle.pyver_findings.proofs.Once.{reports_once}
-use Rattle.pyver_findings.specs.Reports.{joined_report}
+use Rattle.pyver_findings.specs.Reports.{joined_report, without_ignored}
 use Rattle.pyver_projects.proofs.Once.{document_reports_once}
 use Rattle.pyver_tool.specs.OneOutcome.{OutcomesOnce}
 use Rattle.cli_io.specs.Runs.{Outcome}
@@ -191,4 +191,4 @@ pub checks_once : ChecksOnce
 checks_once read a b c readable (q, d, hq, hd, is) (p, e, hp, he, so) =
     let of_lines = reports_once read.requirements q p hq hp in
     let of_documents = document_reports_once read.documents d e readable hd he in
-    is ∙ ap (with_report read.unopened a) (λ j. joined_report (of_lines j) (of_documents j)) ∙ sym so
+    is ∙ ap (with_report read.unopened a) (λ j. without_ignored (joined_report (of_lines j) (of_documents j))) ∙ sym so

@@ -1,5 +1,5 @@
 -- How runs end, by what was written.
-use Rattle.std.proofs.Common.{◌≡◌, ◌⊎◌, ◌∙◌, ◌≤◌, ℕ, List, [], ◌++◌, Option, None, Some, inl, inr, refl, sym, ap, subst, append_assoc, Bor, true, false, drop}
+use Rattle.std.proofs.Common.{◌≡◌, ◌⊎◌, ◌∙◌, ℕ, List, [], ◌++◌, Option, None, Some, inl, inr, refl, sym, ap, subst, append_assoc, Bor, true, false, drop}
 use Rattle.std.proofs.KnownBytes.{Appends-trans}
 use Rattle.std.specs.Io.KnownBytes.{Appends}
 use Rattle.std.specs.Prelude.{Bool, Err, IfErr, IfOk, Ok, Result}

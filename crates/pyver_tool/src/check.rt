@@ -1,6 +1,5 @@
 //! The command `check`: what is wrong in requirements files and documents of a project.
 ghost use Rattle.std.specs.Prelude.{◌≡◌, ◌≤◌, ◌∷◌, ◌++◌, [], IfErr, IfOk, map, option_map, string_bytes, if◌then◌else◌};
-ghost use Rattle.std.specs.Fmt.{decimal};
 ghost use Rattle.std.specs.List.{flat_map, list_any};
 ghost use Rattle.pyver_commands.specs.AnswerViews.{outcome_of};
 ghost use Rattle.pyver_tool.specs.CheckViews.{check_result_of};
@@ -16,7 +15,7 @@ use crate::output_form::OutputForm;
 use crate::requirement_files::{UnopenedFile, read_files};
 use cli_io::push_escaped;
 use pyver_commands::{Answer, Files, RunFailure};
-use pyver_findings::{Finding, Position, Report, find_problems};
+use pyver_findings::{Finding, Position, Report, find_problems, push_number, push_text};
 use pyver_projects::find_document_problems;
 use std::alloc::{AllocError, Global};
 use std::io::Read;
@@ -49,18 +48,6 @@ fn check_status(unopened: &[UnopenedFile], findings: &[Finding]) -> u8
         ([], [_, ..]) => 1,
         ([_, ..], _) => 2,
     }
-}
-
-fn push_text(bytes: &mut Vec<u8>, text: &str) -> Result<(), AllocError>
-    ensures { IfOk result (λ _. bytes.new.items ≡ bytes.old.items ++ text.now) }
-{
-    bytes.extend_from_slice(text.as_bytes())
-}
-
-fn push_number(alloc: Global, bytes: &mut Vec<u8>, number: u64) -> Result<(), AllocError>
-    ensures { IfOk result (λ _. bytes.new.items ≡ bytes.old.items ++ decimal number) }
-{
-    push_text(bytes, number.to_string(alloc)?.as_str())
 }
 
 fn push_position(
@@ -216,7 +203,7 @@ impl CheckResult {
         let read = read_files(alloc, kind, words, files, input)?;
         let mut report = find_problems(alloc, read.requirements.as_slice())?;
         report.append(find_document_problems(alloc, read.documents.as_slice())?)?;
-        Ok(self.push(report, read.unopened)?)
+        Ok(self.push(report.leave_out_ignored(alloc)?, read.unopened)?)
     }
 
     // Reads the files that each word names, with those that their lines name, and finds what is wrong in them, word by word.

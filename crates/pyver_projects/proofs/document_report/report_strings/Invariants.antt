@@ -1,4 +1,4 @@
-use Rattle.std.proofs.Common.{◌≡◌, ◌++◌, length, map}
+use Rattle.std.proofs.Common.{◌≡◌, ◌++◌, [], length, map}
 use Rattle.std.specs.List.{flat_map}
 use Rattle.std.specs.Vec.Iter.{into_iter_items}
 use Rattle.pyver_findings.specs.Views.{finding_of}
@@ -11,3 +11,4 @@ invariant-loop-string l =
     (map finding_of l.report.findings.items ++ flat_map invalid_string (map string_reading_of (into_iter_items l.string-iterator)) ≡ flat_map invalid_string (map string_reading_of (into_iter_items l.initial.string-iterator)))
     × (l.report.left_out.items ++ flat_map left_out_string (map string_reading_of (into_iter_items l.string-iterator)) ≡ flat_map left_out_string (map string_reading_of (into_iter_items l.initial.string-iterator)))
     × (l.report.lines ≡ length (into_iter_items l.initial.string-iterator)) × (l.report.files ≡ 1)
+    × (map finding_of l.report.ignored.items ≡ [])
