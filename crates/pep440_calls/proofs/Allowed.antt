@@ -1,9 +1,9 @@
 -- What a list allows, and what a set by itself does, of bytes that were read and of compiled bytes as they lie.
 use Rattle.std.proofs.Common.{◌≡◌, ◌∙◌, ◌&&◌, ◌||◌, ◌≤◌, ℕ, zero, suc, List, [], Bool, true, true≢false, false, ap, arith, inl, inr, refl, sym}
-use Rattle.std.specs.Prelude.{◌==◌, Err, Ok, Result, not, unwrap_or}
+use Rattle.std.specs.Prelude.{◌==◌, Err, Ok, Result, not}
 use Rattle.pep440_compiled.proofs.SetKeys.{set_matches}
-use Rattle.pep440_compiled.specs.Lists.{DenotesList, DenotesWithSet, HasSetFormat}
-use Rattle.pep440_compiled.specs.SetForms.{DenotesSet, HasFormatOfSets, HasLoneSetFormat, HasSet}
+use Rattle.pep440_compiled.specs.Lists.{DenotesList, HasSetFormat}
+use Rattle.pep440_compiled.specs.SetForms.{HasFormatOfSets, HasLoneSetFormat, HasSet}
 use Rattle.pep440_compiled.specs.Version.{DenotesVersion, HasVersionFormat}
 use Rattle.pep440_ranges.specs.RangeSegments.{contains}
 use Rattle.pep440_rs.specs.Bounds.{Segments}
@@ -14,7 +14,7 @@ use Rattle.pep440_rs.specs.Specifiers.{Spec}
 use Rattle.pep440_sets.specs.Sets.{list_set}
 use Rattle.pep440_version.specs.Key.{record_cmp}
 use Rattle.pep440_version.specs.Record.{Record}
-use Rattle.pep440_calls.proofs.Forms.{as_compiled, as_compiled_list, as_set_list, never_lone, no_compiled_list, no_set_list}
+use Rattle.pep440_calls.proofs.Forms.{as_compiled, as_compiled_list, as_set_list, never_lone, no_set_list}
 use Rattle.pep440_calls.proofs.Once.{never_both, one_bytes_list, one_version}
 use Rattle.pep440_calls.proofs.SetForming.{set_format}
 use Rattle.pep440_calls.specs.CallResults.{AllowFaults, Allows, AsksSet, RejectsSet, Selects, takes}

@@ -57,8 +57,8 @@ same_members (s ∷ l) (t ∷ m) p q e =
 pub one_denoted_members : (bytes : List ℕ) (l m : List Spec) → DenotesMembers bytes l → DenotesMembers bytes m → l ≡ m
 one_denoted_members bytes l m d e = same_members l m (recursion_from_All _ l d.members) (recursion_from_All _ m e.members) (ap (drop 1) (sym d.same ∙ e.same))
 
-not_other : (a b : ℕ) (s t : List ℕ) → a ∷ s ≡ b ∷ t → a ≡ b
-not_other a b s t e = ap (λ l. get_or l 0 0) e
+pub first_byte : (a b : ℕ) (s t : List ℕ) → a ∷ s ≡ b ∷ t → a ≡ b
+first_byte a b s t e = ap (λ l. get_or l 0 0) e
 
 one_with_set : (bytes : List ℕ) (l m : List Spec) → DenotesWithSet bytes l → DenotesWithSet bytes m → l ≡ m
 one_with_set bytes l m d e =
@@ -68,12 +68,12 @@ one_with_set bytes l m d e =
 pub one_denoted_list : (bytes : List ℕ) (l m : List Spec) → DenotesList bytes l → DenotesList bytes m → l ≡ m
 one_denoted_list bytes l m (inl d) (inl e) = one_denoted_members bytes l m d e
 one_denoted_list bytes l m (inr d) (inr e) = one_with_set bytes l m d e
-one_denoted_list bytes l m (inl d) (inr e) = absurd (omega (arith, not_other 5 6 _ _ (sym d.same ∙ e.same)))
-one_denoted_list bytes l m (inr d) (inl e) = absurd (omega (arith, not_other 6 5 _ _ (sym d.same ∙ e.same)))
+one_denoted_list bytes l m (inl d) (inr e) = absurd (omega (arith, first_byte 5 6 _ _ (sym d.same ∙ e.same)))
+one_denoted_list bytes l m (inr d) (inl e) = absurd (omega (arith, first_byte 6 5 _ _ (sym d.same ∙ e.same)))
 
 -- members alone do not begin with the byte of sets
 pub never_members : (bytes later : List ℕ) (l : List Spec) → bytes ≡ 6 ∷ later → DenotesMembers bytes l → ⊥
-never_members bytes later l e d = omega (arith, not_other 6 5 _ _ (sym e ∙ d.same))
+never_members bytes later l e d = omega (arith, first_byte 6 5 _ _ (sym e ∙ d.same))
 
 -- ---- what a list compiles to
 
@@ -94,17 +94,3 @@ form_denotes bytes l p = go (has_set l) p
 
 pub set_is_form : (bytes : List ℕ) (l : List Spec) → DenotesWithSet bytes l → IsListForm bytes l
 set_is_form bytes l d = subst (λ e. IsFormBy e bytes l) (sym d.given) d
-
-pub members_are_form : (bytes : List ℕ) (l : List Spec) → has_set l ≡ false → DenotesMembers bytes l → IsListForm bytes l
-members_are_form bytes l e d = subst (λ e. IsFormBy e bytes l) (sym e) d
-
--- bytes that begin with the byte of sets and are a form, are that of a list with its set
-pub form_with_set : (later : List ℕ) (l : List Spec) → IsListForm (6 ∷ later) l → DenotesWithSet (6 ∷ later) l
-form_with_set later l p = go (has_set l) p
-  where
-    go : (e : Bool) → IsFormBy e (6 ∷ later) l → DenotesWithSet (6 ∷ later) l
-    go true d = d
-    go false d = absurd (omega (arith, not_other 6 5 _ _ d.same))
-
-pub without_set : (members : List ℕ) (l : List Spec) → DenotesMembers members l → DenotesMembers (members_bytes l) l
-without_set members l d = record { members = d.members; order = d.order; same = refl }

@@ -23,11 +23,6 @@ module _ {A : Type 0} {code : A → List ℕ} (o : (a : A) → Opens (code a)) w
       let first : 0 ≡ w.first = ap (λ l. get_or l 0 0) (e ∙ ap (λ l. l ++ more) w.is) in
       omega (arith, first, w.above)
 
-  -- at the 0
-  pub leads_end : (later rest : List ℕ) (ys : List A) → 0 ∷ later ≡ flat_map code ys ++ 0 ∷ rest → later ≡ rest
-  leads_end later rest [] e = ap (drop 1) e
-  leads_end later rest (y ∷ ys) e = absurd (no_item y later (flat_map code ys ++ 0 ∷ rest) (e ∙ append_assoc (code y) (flat_map code ys) (0 ∷ rest)))
-
   -- before it
   pub leads_on : (P : A → Type 0) (first : ℕ) (later rest : List ℕ) (ys : List A) → 0 < first → AllByRecursion P ys → first ∷ later ≡ flat_map code ys ++ 0 ∷ rest
       → (y : A) × (more : List A) × P y × AllByRecursion P more × (ys ≡ y ∷ more) × (first ∷ later ≡ code y ++ (flat_map code more ++ 0 ∷ rest))
@@ -166,9 +161,6 @@ ends_before last left front key [] e one f =
     absurd (omega (arith, zero, one))
 ends_before last left front key (y ∷ ys) e one f = (ys, (last_one (key ++ 0 ∷ []) front last y ys (sym e ∙ f)).0)
 
-pub never_empty : (left key ys : List ℕ) → length left ≡ 0 → left ≡ (key ++ 0 ∷ []) ++ ones ys → ⊥
-never_empty left key ys n e = omega (arith, n, ap length e, length-append (key ++ 0 ∷ []) (ones ys), length-append key (0 ∷ []))
-
 -- ---- local segments
 
 pub end_of_segments : (first : ℕ) (left later rest : List ℕ) (ys : List LocalSegmentValue) → left ≡ first ∷ later → first ≡ 0 → left ≡ flat_map segment_bytes ys ++ 0 ∷ rest → (ys ≡ []) × (later ≡ rest)
@@ -183,7 +175,3 @@ next_segment P first left later rest ys all e other f = leads_on segment_opens P
 pub after_text : (first : ℕ) (later rest : List ℕ) (s : LocalSegmentValue) → HasNoZero s → first ≡ 1 → first ∷ later ≡ segment_bytes s ++ rest → (text : List ℕ) × All (λ b. 0 < b) text × (s ≡ Text text) × (later ≡ text ++ 0 ∷ rest)
 after_text first later rest (Text t) h one e = (t, h, refl, ap (drop 1) e ∙ append_assoc t (0 ∷ []) rest)
 after_text first later rest (Number n) h one e = absurd (let same : first ≡ 2 + length (needed_bytes n) = ap (λ l. get_or l 0 0) e in omega (arith, same, one))
-
-pub after_number : (first : ℕ) (later rest : List ℕ) (s : LocalSegmentValue) → (first ≡ 1 → ⊥) → first ∷ later ≡ segment_bytes s ++ rest → (n : ℕ) × (s ≡ Number n) × (first ≡ 2 + length (needed_bytes n)) × (later ≡ needed_bytes n ++ rest)
-after_number first later rest (Text t) other e = absurd (other (ap (λ l. get_or l 0 0) e))
-after_number first later rest (Number n) other e = (n, refl, ap (λ l. get_or l 0 0) e, ap (drop 1) e)

@@ -1,27 +1,16 @@
 -- The members of compiled lists.
-use Rattle.std.proofs.Common.{◌≡◌, ◌∙◌, ℕ, ◌+◌, ◌<◌, List, [], ◌∷◌, ◌++◌, All, ap, arith, get_or, length, refl, subst, sym, take}
-use Rattle.std.proofs.lemmas.List.{append-nil, take_more}
-use Rattle.std.proofs.lemmas.List.Concat.{flat_map-append}
+use Rattle.std.proofs.Common.{◌≡◌, ℕ, ◌+◌, ◌<◌, List, [], ◌∷◌, ◌++◌, All, ap, arith, get_or, length, refl, subst, sym, take}
+use Rattle.std.proofs.lemmas.List.{take_more}
 use Rattle.std.proofs.lemmas.List.Elements.{All-push}
 use Rattle.std.specs.List.{AllByRecursion, flat_map}
 use Rattle.pep440_compiled.specs.KeyParts.{BeginsOtherwise}
 use Rattle.pep440_compiled.specs.Lists.{IsParsedMember, member_bytes}
-use Rattle.pep440_version.specs.RoundTrip.{IsParsed}
 use Rattle.pep440_rs.proofs.Arranging.Arranged.{arranged_again, one_arrangement}
 use Rattle.pep440_rs.specs.Arrangement.{Arranges, IsArranged}
 use Rattle.pep440_rs.specs.Specifiers.{Spec}
 
 pub more_holds : {A : Type 0} (P : A → Type 0) (xs : List A) (i : ℕ) (x : A) → x ≡ get_or xs i x → i < length xs → All P (take i xs) → P x → All P (take (i + 1) xs)
 more_holds P xs i x is inside all h = subst (All P) (sym (take_more xs i x inside)) (All-push P (take i xs) (get_or xs i x) all (subst P is h))
-
--- one item more is written
-pub more_written : {A : Type 0} (f : A → List ℕ) (xs : List A) (i : ℕ) (x : A) → x ≡ get_or xs i x → i < length xs → flat_map f (take (i + 1) xs) ≡ flat_map f (take i xs) ++ f x
-more_written f xs i x is inside =
-    ap (flat_map f) (take_more xs i x inside) ∙ flat_map-append f (take i xs) (get_or xs i x ∷ [])
-    ∙ ap (λ l. flat_map f (take i xs) ++ l) (append-nil (f (get_or xs i x)) ∙ ap f (sym is))
-
-pub one_version : (list : List Spec) (i : ℕ) (s : Spec) → s ≡ get_or list i s → i < length list → All (λ (s : Spec). IsParsed s.version) list → IsParsed s.version
-one_version list i s is inside all = subst (λ (s : Spec). IsParsed s.version) (sym is) (all i s inside)
 
 -- ---- from the first of the members on
 

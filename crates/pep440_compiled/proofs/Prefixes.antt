@@ -7,7 +7,7 @@ use Rattle.std.specs.Cmp.Lexicographic.{pointwise, slice_cmp}
 use Rattle.std.specs.FinMap.{nat_cmp-IsAntisymmetric}
 use Rattle.std.specs.List.{AllByRecursion, flat_map, list_all, starts_with}
 use Rattle.std.specs.Ordering.{nat_cmp}
-use Rattle.std.specs.Prelude.{◌⊎◌, drop, nat_le, replicate, if◌then◌else◌}
+use Rattle.std.specs.Prelude.{drop, nat_le, replicate, if◌then◌else◌}
 use Rattle.pep440_compiled.proofs.Fronts.{both_tie, itself, starts_from}
 use Rattle.pep440_compiled.specs.KeyParts.{begins_with_ones, continues_with_zeros}
 use Rattle.pep440_keys.proofs.Bytes.{zero_bytes}
@@ -76,9 +76,6 @@ ones_step k b bytes =
     turned true y z = refl
     turned false true z = refl
     turned false false z = refl
-
-zero_first : (x : ℕ) → ((x == 0) ≡ true) ⊎ ((x == 0) ≡ false)
-zero_first x = cases_Bool (x == 0)
 
 -- a release that has numbers begins with k zeros exactly if its first k bytes are ones
 none_asked : (bytes : List ℕ) → begins_with_ones 0 bytes ≡ true

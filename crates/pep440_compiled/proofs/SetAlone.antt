@@ -1,10 +1,11 @@
 -- Sets by themselves and sets of lists: what is made of them is a set, and one is in another exactly if nothing of it is outside.
-use Rattle.std.proofs.Common.{◌≡◌, ◌∙◌, ◌==◌, ◌&&◌, ◌↔◌, ℕ, Bool, true, false, true≢false, not, IsTrue, List, [], ◌∷◌, ◌++◌, inl, inr, arith, get_or, length, refl, sym, ap, subst}
+use Rattle.std.proofs.Common.{◌≡◌, ◌∙◌, ◌==◌, ◌&&◌, ◌↔◌, ℕ, Bool, true, false, true≢false, not, IsTrue, List, [], ◌∷◌, ◌++◌, inl, inr, arith, length, refl, sym, ap, subst}
 use Rattle.std.proofs.lemmas.Bool.{eqb-true}
 use Rattle.std.proofs.lemmas.Result.{err_from_is_err_and}
-use Rattle.std.specs.Prelude.{IfErr, IsErrAnd, Result, drop}
+use Rattle.std.specs.Prelude.{IfErr, IsErrAnd, Result}
 use Rattle.pep440_compiled.specs.declared.error.CompiledError.{CompiledError}
 use Rattle.pep440_compiled.specs.declared.error.CompiledError.TheVariants.{NotCompiled}
+use Rattle.pep440_compiled.proofs.Listed.{first_byte}
 use Rattle.pep440_compiled.proofs.SetKeys.{denotable}
 use Rattle.pep440_compiled.proofs.SetMerging.{gaps_fit, overlaps_fit}
 use Rattle.pep440_compiled.specs.Lists.{DenotesWithSet}
@@ -15,12 +16,11 @@ use Rattle.pep440_ranges.specs.Complement.{gaps}
 use Rattle.pep440_ranges.specs.Intersection.{overlaps}
 use Rattle.pep440_ranges.specs.RangeSegments.{contains}
 use Rattle.pep440_rs.specs.Bounds.{Segments}
-use Rattle.pep440_rs.specs.Denoted.{IsDenoted}
 use Rattle.pep440_rs.specs.Specifiers.{Spec}
 use Rattle.pep440_sets.proofs.Lists.{empty_has_none, list_is_set, none_is_empty}
 use Rattle.pep440_sets.proofs.SetBoundaries.{gaps_set, overlaps_set}
 use Rattle.pep440_sets.specs.Boundaries.{IsVersionSet}
-use Rattle.pep440_sets.specs.Emptiness.{HasNoVersion, IsSubset}
+use Rattle.pep440_sets.specs.Emptiness.{IsSubset}
 use Rattle.pep440_sets.specs.Sets.{list_set}
 use Rattle.pep440_version.specs.Key.{record_cmp}
 use Rattle.pep440_version.specs.Key.KeyLaws.{record_total}
@@ -28,26 +28,13 @@ use Rattle.pep440_version.specs.Record.{Record}
 
 -- ---- the keys of a set
 
-first_byte : (a b : ℕ) (s t : List ℕ) → a ∷ s ≡ b ∷ t → a ≡ b
-first_byte a b s t e = ap (λ l. get_or l 0 0) e
-
 pub keys_of_list : (bytes keys : List ℕ) (list : List Spec) → DenotesWithSet bytes list → keys ≡ set_bytes (list_set list) → IsBytesOf keys (list_set list)
 keys_of_list bytes keys list d e = record { valid = list_is_set list (denotable list d.members.members d.given); sizes = d.sizes; same = e }
-
--- after the format byte 7 stand the keys
-pub keys_alone : (bytes keys : List ℕ) (s : Segments) → bytes ≡ 7 ∷ keys → HasSet bytes s → IsBytesOf keys s
-keys_alone bytes keys s e (inl (k, h, is)) = subst (λ l. IsBytesOf l s) (ap (drop 1) (sym is ∙ e)) h
-keys_alone bytes keys s e (inr (l, d, is)) = absurd (omega (arith, first_byte 7 6 _ _ (sym e ∙ d.same)))
 
 -- after the format byte 6 stand those of a list
 pub keys_before : (bytes later keys : List ℕ) (s : Segments) → bytes ≡ 6 ∷ later → ((l : List Spec) → DenotesWithSet bytes l → keys ≡ set_bytes (list_set l)) → HasSet bytes s → IsBytesOf keys s
 keys_before bytes later keys s e found (inl (k, h, is)) = absurd (omega (arith, first_byte 6 7 _ _ (sym e ∙ is)))
 keys_before bytes later keys s e found (inr (l, d, is)) = subst (IsBytesOf keys) (sym is) (keys_of_list bytes keys l d (found l d))
-
--- other bytes have none
-pub no_keys : (bytes : List ℕ) (s : Segments) → ((k : List ℕ) → bytes ≡ 7 ∷ k → ⊥) → ((l : List Spec) → DenotesWithSet bytes l → ⊥) → HasSet bytes s → ⊥
-no_keys bytes s alone before (inl (k, h, is)) = alone k is
-no_keys bytes s alone before (inr (l, d, is)) = before l d
 
 pub valid_set : (bytes : List ℕ) (s : Segments) → HasSet bytes s → IsVersionSet s
 valid_set bytes s (inl (k, h, is)) = h.valid

@@ -9,7 +9,7 @@ use Rattle.std.specs.declared.ops.Bound.{Bound}
 use Rattle.std.specs.declared.ops.Bound.TheVariants.{Included, Excluded, Unbounded}
 use Rattle.pep440_compiled.proofs.Fronts.{keyed}
 use Rattle.pep440_compiled.specs.Lists.{IsParsedMember, has_set, is_bare, may_stand}
-use Rattle.pep440_compiled.specs.SetBytes.{IsSized, IsSizedInterval, high_bytes, low_bytes, set_bytes, sized_bytes}
+use Rattle.pep440_compiled.specs.SetBytes.{IsSized, high_bytes, low_bytes, set_bytes, sized_bytes}
 use Rattle.pep440_keys.proofs.Membership.{in_range}
 use Rattle.pep440_keys.specs.RangeKeys.{HasKeys, IsKeyedBound, IsKeyedSegment, high_key, is_below_key, is_within, low_key, segment_interval}
 use Rattle.pep440_keys.specs.SortKeys.{HasNoZero, IsKeyed, key_bytes}
@@ -55,14 +55,6 @@ first_interval left (s ∷ set) some all e = record {
 pub none_left : (left : List ℕ) (set : Segments) → length left ≡ 0 → left ≡ set_bytes set → set ≡ []
 none_left left [] none e = refl
 none_left left (s ∷ set) none e = absurd (omega (arith, none, ap length e))
-
--- the intervals of segments are sized if the segments are
-pub sized_segments : (set : Segments) → All IsSizedInterval (map segment_interval set) → All IsSized set
-sized_segments set all = All-from_recursion IsSized set (each set (recursion_from_All IsSizedInterval (map segment_interval set) all))
-  where
-    each : (set : Segments) → AllByRecursion IsSizedInterval (map segment_interval set) → AllByRecursion IsSized set
-    each [] h = tt
-    each (s ∷ set) h = (h.0, each set h.1)
 
 -- ---- what an interval holds
 
@@ -195,18 +187,3 @@ pub set_matches : (list : List Spec) (r : Record) → All IsParsedMember list �
 set_matches list r parsed given p =
     let all = denotable list parsed given in
     list_holds list all (not_exact list given) r (parsed_denoted r p)
-
--- ---- whether a list has a set
-
-pub no_operands : (list : List Spec) → list_all stands list ≡ false → has_set list ≡ false
-no_operands list h = go (not (has_exact list)) (list_all stands list) h
-  where
-    go : (a b : Bool) → b ≡ false → a && b ≡ false
-    go true b h = h
-    go false b h = refl
-
-pub exact_has_none : (list : List Spec) → has_exact list ≡ true → has_set list ≡ false
-exact_has_none list h = ap (λ b. not b && list_all stands list) h
-
-pub both_given : (list : List Spec) → has_exact list ≡ false → list_all stands list ≡ true → has_set list ≡ true
-both_given list none h = ap (λ b. not b && list_all stands list) none ∙ h

@@ -1,12 +1,11 @@
 -- Complement and intersection of sets, as bytes: their keys are in the order of the boundaries that they are of.
-use Rattle.std.proofs.Common.{Bor, ◌≡◌, ◌∙◌, ◌==◌, ◌||◌, ℕ, ◌<◌, Bool, true, false, cond, if◌then◌else◌, List, [], ◌∷◌, ◌++◌, ◌⊎◌, inl, inr, append_assoc, arith, length, map, refl, sym, ap, subst}
+use Rattle.std.proofs.Common.{Bor, ◌≡◌, ◌∙◌, ◌==◌, ◌||◌, ℕ, ◌<◌, Bool, true, false, cond, if◌then◌else◌, List, [], ◌∷◌, ◌++◌, ◌⊎◌, inl, inr, append_assoc, arith, length, map, refl, sym, ap}
 use Rattle.std.proofs.Math.Dec.{eqb-suc-zero}
 use Rattle.std.proofs.lemmas.List.{append-nil, map-append}
 use Rattle.std.proofs.lemmas.List.Concat.{flat_map-append}
 use Rattle.std.proofs.lemmas.List.Elements.{All-from_recursion, recursion_from_All}
-use Rattle.std.specs.Cmp.Lexicographic.{slice_cmp}
 use Rattle.std.specs.List.{All, AllByRecursion}
-use Rattle.std.specs.Ordering.{is_le, is_lt, nat_cmp, ordering_then}
+use Rattle.std.specs.Ordering.{is_le, is_lt, ordering_then}
 use Rattle.std.specs.Prelude.{Err, Ok, OnOk, Result, unwrap_or}
 use Rattle.std.specs.declared.cmp.Ordering.{Ordering}
 use Rattle.std.specs.declared.cmp.Ordering.TheVariants.{Less, Equal, Greater}
@@ -21,9 +20,10 @@ use Rattle.pep440_keys.specs.SortKeys.{IsKeyed, key_bytes}
 use Rattle.pep440_ranges.proofs.Merging.{merge_done, merge_left, merge_right, tail_range}
 use Rattle.pep440_ranges.specs.BoundOrder.{ends_before, flipped_bound, is_valid, starts_before}
 use Rattle.pep440_ranges.specs.Complement.{gap_after, gap_before, gaps, gaps_after}
-use Rattle.pep440_ranges.specs.Intersection.{is_valid_segment, overlap, overlaps, overlaps_with}
+use Rattle.pep440_ranges.specs.Intersection.{overlap, overlaps}
 use Rattle.pep440_ranges.specs.RangeSegments.{IsRange, Segment, one_segment}
 use Rattle.pep440_rs.specs.Bounds.{Segments}
+use Rattle.pep440_sets.proofs.SetBoundaries.{each_gap, each_overlap}
 use Rattle.pep440_version.specs.Key.{record_cmp}
 use Rattle.pep440_version.specs.Key.KeyLaws.{record_total}
 use Rattle.pep440_version.specs.Record.{Fits, Record}
@@ -119,71 +119,30 @@ valid_in_order (Excluded x) (Excluded y) h k = between (key_bytes x ++ 0 ∷ [])
 
 -- ---- keys that fit in memory
 
-abbrev Each : Segments → Type 0
-Each set = AllByRecursion IsSized set
-
-each_append : (a b : Segments) → Each a → Each b → Each (a ++ b)
-each_append [] b h k = k
-each_append (x ∷ a) b h k = (h.0, each_append a b h.1 k)
-
 none_fits : Fits 0
 none_fits = grind arith
 
-turned_start : (start : Bound Record) → Fits (length (start_bytes start)) → Fits (length (end_bytes (flipped_bound start)))
+abbrev StartFits : Bound Record → Type 0
+StartFits start = Fits (length (start_bytes start))
+
+abbrev EndFits : Bound Record → Type 0
+EndFits end = Fits (length (end_bytes end))
+
+turned_start : (start : Bound Record) → StartFits start → EndFits (flipped_bound start)
 turned_start Unbounded h = h
 turned_start (Included v) h = h
 turned_start (Excluded v) h = h
 
-turned_end : (end : Bound Record) → Fits (length (end_bytes end)) → Fits (length (start_bytes (flipped_bound end)))
+turned_end : (end : Bound Record) → EndFits end → StartFits (flipped_bound end)
 turned_end Unbounded h = h
 turned_end (Included v) h = h
 turned_end (Excluded v) h = h
 
-before_fits : (start : Bound Record) → Fits (length (start_bytes start)) → Each (gap_before start)
-before_fits Unbounded h = tt
-before_fits (Included v) h = ((none_fits, h), tt)
-before_fits (Excluded v) h = ((none_fits, h), tt)
-
-after_fits : (end : Bound Record) → Fits (length (end_bytes end)) → Each (gap_after end)
-after_fits Unbounded h = tt
-after_fits (Included v) h = ((h, none_fits), tt)
-after_fits (Excluded v) h = ((h, none_fits), tt)
-
-rest_fits : (end : Bound Record) (set : Segments) → Fits (length (end_bytes end)) → Each set → Each (gaps_after end set)
-rest_fits end [] h k = after_fits end h
-rest_fits end (s ∷ set) h k = ((turned_end end h, turned_start s.0 k.0.0), rest_fits s.1 set k.0.1 k.1)
-
-each_gap : (set : Segments) → Each set → Each (gaps set)
-each_gap [] h = ((none_fits, none_fits), tt)
-each_gap (s ∷ set) h = each_append (gap_before s.0) (gaps_after s.1 set) (before_fits s.0 h.0.0) (rest_fits s.1 set h.0.1 h.1)
-
 pub gaps_fit : (set : Segments) → All IsSized set → All IsSized (gaps set)
-gaps_fit set all = All-from_recursion IsSized (gaps set) (each_gap set (recursion_from_All IsSized set all))
-
-one_of : (P : Bound Record → Type 0) (b : Bool) (x y : Bound Record) → P x → P y → P (cond b x y)
-one_of P true x y h k = h
-one_of P false x y h k = k
-
-overlap_fits : (s t : Segment Record) → IsSized s → IsSized t → IsSized (overlap record_cmp s t)
-overlap_fits s t h k = (
-  one_of (λ b. Fits (length (start_bytes b))) (starts_before record_cmp s.0 t.0) t.0 s.0 k.0 h.0,
-  one_of (λ b. Fits (length (end_bytes b))) (ends_before record_cmp t.1 s.1) t.1 s.1 k.1 h.1,
-)
-
-kept_fits : (b : Bool) (s : Segment Record) (rest : Segments) → IsSized s → Each rest → Each (cond b (s ∷ rest) rest)
-kept_fits true s rest h k = (h, k)
-kept_fits false s rest h k = k
-
-with_fits : (s : Segment Record) (ts : Segments) → IsSized s → Each ts → Each (overlaps_with record_cmp s ts)
-with_fits s [] h k = tt
-with_fits s (t ∷ ts) h k = kept_fits (is_valid_segment record_cmp (overlap record_cmp s t)) (overlap record_cmp s t) (overlaps_with record_cmp s ts) (overlap_fits s t h k.0) (with_fits s ts h k.1)
-
-each_overlap : (ss ts : Segments) → Each ss → Each ts → Each (overlaps record_cmp ss ts)
-each_overlap [] ts h k = tt
-each_overlap (s ∷ ss) ts h k = each_append (overlaps_with record_cmp s ts) (overlaps record_cmp ss ts) (with_fits s ts h.0 k) (each_overlap ss ts h.1 k)
+gaps_fit set all = All-from_recursion IsSized (gaps set) (each_gap StartFits EndFits none_fits none_fits turned_start turned_end set (recursion_from_All IsSized set all))
 
 pub overlaps_fit : (a b : Segments) → All IsSized a → All IsSized b → All IsSized (overlaps record_cmp a b)
-overlaps_fit a b h k = All-from_recursion IsSized (overlaps record_cmp a b) (each_overlap a b (recursion_from_All IsSized a h) (recursion_from_All IsSized b k))
+overlaps_fit a b h k = All-from_recursion IsSized (overlaps record_cmp a b) (each_overlap StartFits EndFits a b (recursion_from_All IsSized a h) (recursion_from_All IsSized b k))
 
 -- ---- what is left of a set
 

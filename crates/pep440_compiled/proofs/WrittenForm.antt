@@ -29,9 +29,6 @@ pub record AreWritten (text rest old form : List ℕ) : Type 0 where
   pub whole : (later : List LocalSegmentValue) → AreSegments rest later → AreSegments text (seen ++ later)
   pub written : form ≡ old ++ flat_map segment_bytes seen
 
-pub none_written : (text old : List ℕ) → AreWritten text text old old
-none_written text old = record { seen = []; whole = λ later h. h; written = sym (append-nil old) }
-
 one_written : (old form new : List ℕ) (seen : List LocalSegmentValue) (s : LocalSegmentValue) → form ≡ old ++ flat_map segment_bytes seen → new ≡ form ++ segment_bytes s → new ≡ old ++ flat_map segment_bytes (seen ++ s ∷ [])
 one_written old form new seen s before next =
     next ∙ ap (λ l. l ++ segment_bytes s) before ∙ append_assoc old (flat_map segment_bytes seen) (segment_bytes s)

@@ -1,16 +1,17 @@
 //! Sets as bytes: the sort keys of their intervals, written and searched.
-ghost use Rattle.std.specs.Prelude.{◌≡◌, ◌<◌, ◌++◌, ◌&&◌, ◌||◌, ◌==◌, List, ℕ, IfOk, IfSome, MatchOption, OnOk, Some, length, not};
+ghost use Rattle.std.specs.Prelude.{◌≡◌, ◌<◌, ◌++◌, ◌&&◌, ◌||◌, ◌==◌, [], List, ℕ, IfOk, IfSome, MatchOption, OnOk, Some, length, not, unwrap_or};
 ghost use Rattle.std.specs.List.{All, list_any};
-ghost use Rattle.pep440_compiled.specs.SetBytes.{IsSized, IsSizedInterval, interval_bytes, set_bytes, sized_bytes};
-ghost use Rattle.pep440_keys.specs.RangeKeys.{is_below_key, is_within, segment_interval};
+ghost use Rattle.pep440_compiled.specs.SetBytes.{IsSized, interval_bytes, set_bytes, sized_bytes};
+ghost use Rattle.pep440_keys.specs.RangeKeys.{high_key, is_below_key, is_within, low_key, segment_interval};
 ghost use Rattle.pep440_rs.specs.Bounds.{Segments};
 ghost use Rattle.pep440_version.specs.Record.{Fits};
 
 use crate::byte_order::is_below;
 use crate::decode::{read_short_number, read_whole_number};
-use pep440_keys::{KeyInterval, push_number, range_keys};
+use pep440_keys::{push_number, push_sort_key};
 use pep440_rs::{Ranges, Version};
 use std::alloc::{AllocError, Global};
+use std::ops::Bound;
 
 // How many bytes there are, and these.
 pub(crate) fn push_with_length(bytes: &mut Vec<u8>, item: &[u8]) -> Result<(), AllocError>
@@ -21,12 +22,52 @@ pub(crate) fn push_with_length(bytes: &mut Vec<u8>, item: &[u8]) -> Result<(), A
     bytes.extend_from_slice(item)
 }
 
-fn push_interval(bytes: &mut Vec<u8>, interval: &KeyInterval) -> Result<(), AllocError>
-    ensures bytes { OnOk result (bytes.new.items ≡ bytes.old.items ++ interval_bytes interval.now) }
-    ensures sizes { OnOk result (IsSizedInterval interval.now) }
+// Overwrites `key` with the key of a start: a byte 0 is appended to that of an excluded version, and no bytes stand for no version.
+fn write_low_key(key: &mut Vec<u8>, start: &Bound<Version>) -> Result<(), AllocError>
+    ensures { OnOk result (key.new.items ≡ unwrap_or (low_key start.now) []) }
 {
-    push_with_length(bytes, interval.low().unwrap_or(&[]))?;
-    push_with_length(bytes, interval.high().unwrap_or(&[]))
+    key.clear();
+    match start {
+        Bound::Included(version) => push_sort_key(key, version),
+        Bound::Excluded(version) => {
+            push_sort_key(key, version)?;
+            key.push(0)?;
+            Ok(())
+        }
+        Bound::Unbounded => Ok(()),
+    }
+}
+
+// Overwrites `key` with the key of an end, in the same way if its version is included.
+fn write_high_key(key: &mut Vec<u8>, end: &Bound<Version>) -> Result<(), AllocError>
+    ensures { OnOk result (key.new.items ≡ unwrap_or (high_key end.now) []) }
+{
+    key.clear();
+    match end {
+        Bound::Included(version) => {
+            push_sort_key(key, version)?;
+            key.push(0)?;
+            Ok(())
+        }
+        Bound::Excluded(version) => push_sort_key(key, version),
+        Bound::Unbounded => Ok(()),
+    }
+}
+
+// Appends both keys of an interval; `key` is overwritten, so that one allocation serves for all keys.
+fn push_interval(
+    bytes: &mut Vec<u8>,
+    key: &mut Vec<u8>,
+    start: &Bound<Version>,
+    end: &Bound<Version>,
+) -> Result<(), AllocError>
+    ensures bytes { OnOk result (bytes.new.items ≡ bytes.old.items ++ interval_bytes (segment_interval (start.now, end.now))) }
+    ensures sizes { OnOk result (IsSized (start.now, end.now)) }
+{
+    write_low_key(key, start)?;
+    push_with_length(bytes, key.as_slice())?;
+    write_high_key(key, end)?;
+    push_with_length(bytes, key.as_slice())
 }
 
 /// The sort keys of the intervals, in order, each after how many bytes it has.
@@ -34,10 +75,11 @@ pub(crate) fn set_bytes(alloc: Global, set: &Ranges<Version>) -> Result<Vec<u8>,
     ensures bytes { IfOk result (λ bytes. bytes.items ≡ set_bytes set.now) }
     ensures sizes { IfOk result (λ _. All IsSized set.now) }
 {
-    let intervals = range_keys(alloc, set)?;
-    let mut bytes = Vec::with_capacity(alloc, intervals.len().saturating_mul(24))?;
-    for interval in &intervals {
-        push_interval(&mut bytes, interval)?;
+    // Estimates: more bytes allocate again.
+    let mut key = Vec::with_capacity(alloc, 32)?;
+    let mut bytes = Vec::with_capacity(alloc, 64)?;
+    for (start, end) in set.iter() {
+        push_interval(&mut bytes, &mut key, start, end)?;
     }
     Ok(bytes)
 }

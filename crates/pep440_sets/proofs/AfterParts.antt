@@ -85,10 +85,6 @@ past_number k p n e r v h = go v.pre v.post v.dev
     go None (Some w) None = raised_number 5 (2 + kind_rank k) 0 n p (tail (Some w) None) h (tail_from (Some w) None)
     go None (Some w) (Some d) = raised_number 5 (2 + kind_rank k) 0 n p (tail (Some w) (Some d)) h (tail_from (Some w) (Some d))
 
--- a number of a pre-release, or of none
-number_fits : (k : PrereleaseKind) (n : ℕ) → Fits n → n < 2 ^ 64
-number_fits k n h = h
-
 past_kind : (k : PrereleaseKind) (e : ℕ) (r : List ℕ) (v : Record) → HasSuffixesThatFit v → IsPast (Some (record { kind = k; number = 18446744073709551615 })) v (after_kind e r k)
 past_kind Alpha e r v f = go v.pre v.post v.dev f.pre
   where
@@ -163,9 +159,6 @@ IsAfter s v next = not (is_lt (ordering_then (suffix_cmp (plain v) next) ord.Equ
 
 abbrev parts : ℕ → List ℕ → Option Prerelease → Option ℕ → Option ℕ → Record
 parts e r pre post dev = from_parts e r pre post dev []
-
-last_number : (n : ℕ) → n < 2 ^ 64 → is_gt (nat_cmp n 18446744073709551615) ≡ false
-last_number n h = grind (arith, nat_tests)
 
 -- by cases on how stages and posts compare: a dev part that is last
 last_dev : (O P : Ordering) (dev : Option ℕ) → IfSome dev Fits →

@@ -132,11 +132,6 @@ later_stage : (pre : Option Prerelease) (v : Record) →
     ≡ is_gt (ordering_then (suffix_cmp (plain v) (parts 0 [] pre None None)) ord.Equal) && not (same_pre v.pre pre && is_some v.post)
 later_stage pre v = go pre v.pre v.post v.dev
   where
-    post_later : (o : Ordering) (post dev : Option ℕ) → o ≡ ord.Equal → false ≡ is_gt (ordering_then (ordering_then o (ordering_then (post_cmp (post_of None post) NoPost) (dev_cmp (dev_of None dev) NoDev))) ord.Equal) && not (true && is_some post)
-    post_later o None None e = rw e refl
-    post_later o None (Some d) e = rw e refl
-    post_later o (Some w) dev e = rw e refl
-
     same : (a b x y : ℕ) (post dev : Option ℕ) →
         is_gt (ordering_then (nat_cmp (2 + a) (2 + b)) (nat_cmp x y))
         ≡ is_gt (ordering_then (ordering_then (ordering_then (nat_cmp (2 + a) (2 + b)) (nat_cmp x y)) (ordering_then (post_cmp (post_of None post) NoPost) (dev_cmp (dev_of None dev) NoDev))) ord.Equal)

@@ -1,5 +1,5 @@
 -- What intervals between versions hold.
-use Rattle.std.proofs.Common.{◌≡◌, ℕ, Bool, true, false, cond, not, ◌&&◌, List, [], ◌∷◌, Option, Some, None, refl, sym, ap, ◌∙◌, arith}
+use Rattle.std.proofs.Common.{◌≡◌, ◌++◌, ℕ, Bool, true, false, cond, not, ◌&&◌, List, [], ◌∷◌, Option, Some, None, refl, sym, ap, ◌∙◌, arith}
 use mathlib.Core.Bool.{true≢false}
 use Rattle.std.proofs.lemmas.Bool.Decides.{nat_tests}
 use Rattle.std.proofs.lemmas.Cmp.{tied_itself}
@@ -7,10 +7,13 @@ use Rattle.std.specs.Option.{option_map_or}
 use Rattle.std.specs.Ordering.{nat_cmp, ordering_reverse, ordering_then, is_eq, is_gt, is_le, is_lt}
 use Rattle.std.specs.declared.cmp.Ordering.{Ordering}
 use Rattle.std.specs.declared.cmp.Ordering.TheVariants as ord
-use Rattle.std.specs.declared.ops.Bound.TheVariants.{Included, Unbounded}
+use Rattle.std.specs.declared.ops.Bound.{Bound}
+use Rattle.std.specs.declared.ops.Bound.TheVariants.{Included, Excluded, Unbounded}
 use Rattle.pep440_ranges.proofs.Laws.{gaps_are_range, gaps_hold_the_rest, overlaps_are_range, overlaps_hold_both}
+use Rattle.pep440_ranges.specs.BoundOrder.{is_valid}
 use Rattle.pep440_ranges.specs.Complement.{gaps}
-use Rattle.pep440_ranges.specs.RangeSegments.{IsRange, contains}
+use Rattle.pep440_ranges.specs.Intersection.{overlaps}
+use Rattle.pep440_ranges.specs.RangeSegments.{IsRange, Segment, contains, one_segment}
 use Rattle.pep440_rs.proofs.Agreement.Suffixes.{from_dev}
 use Rattle.pep440_rs.proofs.Agreement.VersionOrder.{by_parts, only_start, plain, turn_le}
 use Rattle.pep440_rs.proofs.PublicParts.{unmarked}
@@ -94,6 +97,33 @@ below_holds x v = gaps_hold_the_rest record_total (from_version_on x) (unmarked 
 
 pub below_is_range : (x : Record) → IsRange record_cmp (gaps (from_version_on x))
 below_is_range x = gaps_are_range record_total (from_version_on x) (from_is_range x)
+
+-- as one segment
+pub open_end : (start : Bound Record) → one_segment record_cmp start Unbounded ≡ (start, Unbounded) ∷ []
+open_end Unbounded = refl
+open_end (Included v) = refl
+open_end (Excluded v) = refl
+
+pub below_is : (v : Record) → gaps (from_version_on v) ≡ cond (is_eq (record_cmp v least)) [] ((Unbounded, Excluded v) ∷ [])
+below_is v = go (is_eq (record_cmp v least))
+  where
+    go : (b : Bool) → gaps (cond b full ((Included v, Unbounded) ∷ [])) ≡ cond b [] ((Unbounded, Excluded v) ∷ [])
+    go true = refl
+    go false = refl
+
+pub between_is : (v end : Record) (start : Bound Record) → from_version_on v ≡ (start, Unbounded) ∷ [] →
+    between v (Some end) ≡ cond (is_eq (record_cmp end least)) [] (one_segment record_cmp start (Excluded end))
+between_is v end start e = (λ i. overlaps record_cmp (e i) (below_is end i)) ∙ go (is_eq (record_cmp end least)) start
+  where
+    kept : (b : Bool) (s : Segment Record) → cond b (s ∷ []) [] ++ [] ≡ cond b (s ∷ []) []
+    kept true s = refl
+    kept false s = refl
+
+    go : (b : Bool) (start : Bound Record) → overlaps record_cmp ((start, Unbounded) ∷ []) (cond b [] ((Unbounded, Excluded end) ∷ [])) ≡ cond b [] (one_segment record_cmp start (Excluded end))
+    go true start = refl
+    go false Unbounded = kept (is_valid record_cmp Unbounded (Excluded end)) (Unbounded, Excluded end)
+    go false (Included x) = kept (is_valid record_cmp (Included x) (Excluded end)) (Included x, Excluded end)
+    go false (Excluded x) = kept (is_valid record_cmp (Excluded x) (Excluded end)) (Excluded x, Excluded end)
 
 and_true : (b : Bool) → b ≡ b && true
 and_true true = refl

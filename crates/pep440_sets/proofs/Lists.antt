@@ -1,11 +1,14 @@
 -- The set of a list holds what its members match, and is a set; it is empty exactly if no version is in it.
-use Rattle.std.proofs.Common.{◌≡◌, ◌≢◌, ◌&&◌, ◌||◌, Bool, true, false, List, [], ◌∷◌, IfSome, None, fold, map, refl, sym, ap, ◌∙◌, subst}
+use Rattle.std.proofs.Common.{◌≡◌, ◌≢◌, ◌<◌, ◌≤◌, ◌++◌, ◌&&◌, ◌||◌, Bool, true, false, List, [], ◌∷◌, IfSome, None, arith, fold, length, map, refl, sym, ap, ◌∙◌, subst}
 use Rattle.std.proofs.lemmas.Bool.{true≢false}
-use Rattle.std.proofs.lemmas.List.Elements.{All-from_recursion, All-head, All-tail}
-use Rattle.std.specs.List.{All, AllByRecursion}
+use Rattle.std.proofs.lemmas.List.{map-append}
+use Rattle.std.proofs.lemmas.List.Elements.{All-head, All-tail}
+use Rattle.std.proofs.lemmas.List.Sums.{fold-append}
+use Rattle.std.specs.List.{All}
 use Rattle.pep440_ranges.proofs.Laws.{overlaps_hold_both}
 use Rattle.pep440_ranges.specs.Intersection.{overlaps}
 use Rattle.pep440_ranges.specs.RangeSegments.{contains}
+use Rattle.pep440_rs.proofs.Intersecting.Associates.{overlaps_assoc}
 use Rattle.pep440_rs.proofs.Intersecting.WholeLine.{kept}
 use Rattle.pep440_rs.specs.Bounds.{Segments, full}
 use Rattle.pep440_rs.specs.Conversions.{IsUnchangedByFull}
@@ -108,11 +111,26 @@ without_first (s ∷ rest) e = absurd (cc)
 pub first_is_none : (set : Segments) → set ≡ [] → version_in set ≡ None
 first_is_none set e = ap version_in e
 
--- ---- each member's set is a range
+-- ---- halves of a list
 
-pub ranges_kept : (members : List Spec) → All IsUnchangedByFull (map set_of_member members)
-ranges_kept members = All-from_recursion IsUnchangedByFull (map set_of_member members) (each members)
-  where
-    each : (members : List Spec) → AllByRecursion IsUnchangedByFull (map set_of_member members)
-    each [] = tt
-    each (m ∷ members) = (kept (set_of_member m) (set_is_range m.operator m.version), each members)
+-- each member's set is a range
+member_kept : (m : Spec) → IsUnchangedByFull (set_of_member m)
+member_kept m = kept (set_of_member m) (set_is_range m.operator m.version)
+
+pub one_member : (members others : List Spec) (m : Spec) (set : Segments) → members ≡ m ∷ others → length members ≤ 1 → set ≡ set_of_member m → set ≡ list_set members
+one_member members [] m set e few is = is ∙ sym (ap list_set e ∙ member_kept m)
+one_member members (x ∷ others) m set e few is = absurd (omega (arith, few, ap length e))
+
+from_later : (now next : Segments) (sets : List Segments) → fold (overlaps record_cmp) (overlaps record_cmp now next) sets ≡ overlaps record_cmp now (fold (overlaps record_cmp) next sets)
+from_later now next [] = refl
+from_later now next (s ∷ sets) = ap (λ x. fold (overlaps record_cmp) x sets) (overlaps_assoc record_total now next s) ∙ from_later now (overlaps record_cmp next s) sets
+
+-- what both halves share
+pub halves : (members left right : List Spec) → members ≡ left ++ right → 0 < length right → list_set members ≡ overlaps record_cmp (list_set left) (list_set right)
+halves members left [] e some = absurd (omega (arith, some))
+halves members left (m ∷ right) e some =
+    ap list_set e
+    ∙ ap (fold (overlaps record_cmp) full) (map-append set_of_member left (m ∷ right))
+    ∙ fold-append (overlaps record_cmp) full (map set_of_member left) (map set_of_member (m ∷ right))
+    ∙ from_later (list_set left) (set_of_member m) (map set_of_member right)
+    ∙ ap (λ x. overlaps record_cmp (list_set left) (fold (overlaps record_cmp) x (map set_of_member right))) (sym (member_kept m))

@@ -76,7 +76,7 @@ pub longer_above : (l : List LocalSegmentValue) (s : LocalSegmentValue) → loca
 longer_above [] s = refl
 longer_above (x ∷ l) s = ap (λ o. ordering_then o (local_cmp l (l ++ s ∷ []))) (tied_itself segment_total x) ∙ longer_above l s
 
-then_less : (o x y : Ordering) → ordering_then o x ≡ Less → (x ≡ Less → y ≡ Less) → ordering_then o y ≡ Less
+pub then_less : (o x y : Ordering) → ordering_then o x ≡ Less → (x ≡ Less → y ≡ Less) → ordering_then o y ≡ Less
 then_less Less x y h f = refl
 then_less Equal x y h f = f h
 then_less Greater x y h f = absurd (cc)

@@ -21,9 +21,6 @@ use Rattle.pep440_sets.specs.NextVersions.{after_dev_releases, after_epoch, afte
 zero_fits : Fits 0
 zero_fits = grind arith
 
-one_fits : Fits 1
-one_fits = grind arith
-
 pub next_fits : (n m : ℕ) → Fits n → next_number n ≡ Some m → Fits m
 next_fits n m f e = go (n == 18446744073709551615) refl e
   where

@@ -34,7 +34,55 @@ use Rattle.pep440_version.specs.RoundTrip.{IsParsed}
 use Rattle.pep440_sets.specs.NextVersions.{after_posts, after_release_prefix, after_public, first_dev, least}
 use Rattle.pep440_sets.specs.Sets.{above_start, below_end, between, equal_to, from_version_on, specifier_set, prefix_set}
 
--- ---- complement
+-- ---- complement and intersection
+
+-- what holds of each start and of each end of sets
+module _ (Start End : Bound Record → Type 0) where
+  abbrev Each : Segments → Type 0
+  Each set = AllByRecursion (λ (s : Segment Record). Start s.0 × End s.1) set
+
+  each_append : (a b : Segments) → Each a → Each b → Each (a ++ b)
+  each_append [] b h k = k
+  each_append (x ∷ a) b h k = (h.0, each_append a b h.1 k)
+
+  -- also of none, and of one that is turned, holds of those of the complement
+  module _ (no_start : Start Unbounded) (no_end : End Unbounded) (turn_start : (b : Bound Record) → Start b → End (flipped_bound b)) (turn_end : (b : Bound Record) → End b → Start (flipped_bound b)) where
+    before_each : (start : Bound Record) → Start start → Each (gap_before start)
+    before_each Unbounded h = tt
+    before_each (Included v) h = ((no_start, turn_start (Included v) h), tt)
+    before_each (Excluded v) h = ((no_start, turn_start (Excluded v) h), tt)
+
+    after_each : (end : Bound Record) → End end → Each (gap_after end)
+    after_each Unbounded h = tt
+    after_each (Included v) h = ((turn_end (Included v) h, no_end), tt)
+    after_each (Excluded v) h = ((turn_end (Excluded v) h, no_end), tt)
+
+    rest_each : (end : Bound Record) (set : Segments) → End end → Each set → Each (gaps_after end set)
+    rest_each end [] h k = after_each end h
+    rest_each end (s ∷ set) h k = ((turn_end end h, turn_start s.0 k.0.0), rest_each s.1 set k.0.1 k.1)
+
+    pub each_gap : (set : Segments) → Each set → Each (gaps set)
+    each_gap [] h = ((no_start, no_end), tt)
+    each_gap (s ∷ set) h = each_append (gap_before s.0) (gaps_after s.1 set) (before_each s.0 h.0.0) (rest_each s.1 set h.0.1 h.1)
+
+  -- and of those of what two sets share
+  one_of : (P : Bound Record → Type 0) (b : Bool) (x y : Bound Record) → P x → P y → P (cond b x y)
+  one_of P true x y h k = h
+  one_of P false x y h k = k
+
+  kept_each : (b : Bool) (s : Segment Record) (rest : Segments) → Start s.0 × End s.1 → Each rest → Each (cond b (s ∷ rest) rest)
+  kept_each true s rest h k = (h, k)
+  kept_each false s rest h k = k
+
+  with_each : (s : Segment Record) (ts : Segments) → Start s.0 × End s.1 → Each ts → Each (overlaps_with record_cmp s ts)
+  with_each s [] h k = tt
+  with_each s (t ∷ ts) h k =
+      kept_each (is_valid_segment record_cmp (overlap record_cmp s t)) (overlap record_cmp s t) (overlaps_with record_cmp s ts)
+      (one_of Start (starts_before record_cmp s.0 t.0) t.0 s.0 k.0.0 h.0, one_of End (ends_before record_cmp t.1 s.1) t.1 s.1 k.0.1 h.1) (with_each s ts h k.1)
+
+  pub each_overlap : (ss ts : Segments) → Each ss → Each ts → Each (overlaps record_cmp ss ts)
+  each_overlap [] ts h k = tt
+  each_overlap (s ∷ ss) ts h k = each_append (overlaps_with record_cmp s ts) (overlaps record_cmp ss ts) (with_each s ts h.0 k) (each_overlap ss ts h.1 k)
 
 turned_start : (start : Bound Record) → IsStart start → IsEnd (flipped_bound start)
 turned_start Unbounded h = tt
@@ -46,59 +94,13 @@ turned_end Unbounded h = tt
 turned_end (Included v) h = h
 turned_end (Excluded v) h = h
 
-abbrev Each : Segments → Type 0
-Each set = AllByRecursion IsInterval set
-
-each_append : (a b : Segments) → Each a → Each b → Each (a ++ b)
-each_append [] b h k = k
-each_append (x ∷ a) b h k = (h.0, each_append a b h.1 k)
-
-before_is : (start : Bound Record) → IsStart start → Each (gap_before start)
-before_is Unbounded h = tt
-before_is (Included v) h = ((tt, h), tt)
-before_is (Excluded v) h = ((tt, h), tt)
-
-after_is : (end : Bound Record) → IsEnd end → Each (gap_after end)
-after_is Unbounded h = tt
-after_is (Included v) h = ((h, tt), tt)
-after_is (Excluded v) h = ((h, tt), tt)
-
-rest_is : (end : Bound Record) (set : Segments) → IsEnd end → Each set → Each (gaps_after end set)
-rest_is end [] h k = after_is end h
-rest_is end (s ∷ set) h k = ((turned_end end h, turned_start s.0 k.0.0), rest_is s.1 set k.0.1 k.1)
-
-each_gap : (set : Segments) → Each set → Each (gaps set)
-each_gap [] h = ((tt, tt), tt)
-each_gap (s ∷ set) h = each_append (gap_before s.0) (gaps_after s.1 set) (before_is s.0 h.0.0) (rest_is s.1 set h.0.1 h.1)
-
 pub gaps_set : (set : Segments) → IsVersionSet set → IsVersionSet (gaps set)
-gaps_set set h = record { apart = gaps_are_range record_total set h.apart; intervals = All-from_recursion IsInterval (gaps set) (each_gap set (recursion_from_All IsInterval set h.intervals)) }
-
--- ---- intersection
-
-one_of : (P : Bound Record → Type 0) (b : Bool) (x y : Bound Record) → P x → P y → P (cond b x y)
-one_of P true x y h k = h
-one_of P false x y h k = k
-
-overlap_is : (s t : Segment Record) → IsInterval s → IsInterval t → IsInterval (overlap record_cmp s t)
-overlap_is s t h k = (one_of IsStart (starts_before record_cmp s.0 t.0) t.0 s.0 k.0 h.0, one_of IsEnd (ends_before record_cmp t.1 s.1) t.1 s.1 k.1 h.1)
-
-kept_is : (b : Bool) (s : Segment Record) (rest : Segments) → IsInterval s → Each rest → Each (cond b (s ∷ rest) rest)
-kept_is true s rest h k = (h, k)
-kept_is false s rest h k = k
-
-with_is : (s : Segment Record) (ts : Segments) → IsInterval s → Each ts → Each (overlaps_with record_cmp s ts)
-with_is s [] h k = tt
-with_is s (t ∷ ts) h k = kept_is (is_valid_segment record_cmp (overlap record_cmp s t)) (overlap record_cmp s t) (overlaps_with record_cmp s ts) (overlap_is s t h k.0) (with_is s ts h k.1)
-
-each_overlap : (ss ts : Segments) → Each ss → Each ts → Each (overlaps record_cmp ss ts)
-each_overlap [] ts h k = tt
-each_overlap (s ∷ ss) ts h k = each_append (overlaps_with record_cmp s ts) (overlaps record_cmp ss ts) (with_is s ts h.0 k) (each_overlap ss ts h.1 k)
+gaps_set set h = record { apart = gaps_are_range record_total set h.apart; intervals = All-from_recursion IsInterval (gaps set) (each_gap IsStart IsEnd tt tt turned_start turned_end set (recursion_from_All IsInterval set h.intervals)) }
 
 pub overlaps_set : (a b : Segments) → IsVersionSet a → IsVersionSet b → IsVersionSet (overlaps record_cmp a b)
 overlaps_set a b h k = record {
   apart = overlaps_are_range record_total a b h.apart k.apart;
-  intervals = All-from_recursion IsInterval (overlaps record_cmp a b) (each_overlap a b (recursion_from_All IsInterval a h.intervals) (recursion_from_All IsInterval b k.intervals));
+  intervals = All-from_recursion IsInterval (overlaps record_cmp a b) (each_overlap IsStart IsEnd a b (recursion_from_All IsInterval a h.intervals) (recursion_from_All IsInterval b k.intervals));
 }
 
 -- ---- intervals between versions
@@ -125,7 +127,7 @@ place_below v (inl parsed) e = inl (record { parsed = parsed; above = above_othe
 pub from_set : (v : Record) → IsPlace v → IsVersionSet (from_version_on v)
 from_set v place = record { apart = from_is_range v; intervals = All-from_recursion IsInterval (from_version_on v) (go (is_eq (record_cmp v least)) refl) }
   where
-    go : (b : Bool) → is_eq (record_cmp v least) ≡ b → Each (cond b full ((Included v, Unbounded) ∷ []))
+    go : (b : Bool) → is_eq (record_cmp v least) ≡ b → AllByRecursion IsInterval (cond b full ((Included v, Unbounded) ∷ []))
     go true e = ((tt, tt), tt)
     go false e = ((place_below v place e, tt), tt)
 

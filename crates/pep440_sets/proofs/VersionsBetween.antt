@@ -24,7 +24,7 @@ use Rattle.pep440_version.specs.declared.prerelease.Prerelease.{Prerelease}
 use Rattle.pep440_version.specs.declared.prerelease.PrereleaseKind.{PrereleaseKind}
 use Rattle.pep440_version.specs.declared.prerelease.PrereleaseKind.TheVariants.{Alpha, Beta, Rc}
 use Rattle.pep440_sets.proofs.Intervals.{never_below_zero, not_below_least}
-use Rattle.pep440_sets.proofs.LowStrings.{longer_above, low_local, low_parsed}
+use Rattle.pep440_sets.proofs.LowStrings.{longer_above, low_local, low_parsed, then_less}
 use Rattle.pep440_sets.proofs.Parsed.{parts_parsed}
 use Rattle.pep440_sets.proofs.SetBoundaries.{parsed_unmarked}
 use Rattle.pep440_sets.specs.Boundaries.{IsAboveLocal, IsAbovePosts, IsBelowVersion, IsEnd, IsInterval, IsStart, IsVersionSet}
@@ -32,11 +32,6 @@ use Rattle.pep440_sets.specs.NextVersions.{after_posts, first_dev, least}
 use Rattle.pep440_sets.specs.Witnesses.{above_posts, release_above, low_string, string_after, version_between, with_low_segment}
 
 -- ---- releases
-
-then_less : (o x y : Ordering) → ordering_then o x ≡ Less → (x ≡ Less → y ≡ Less) → ordering_then o y ≡ Less
-then_less Less x y h f = refl
-then_less Equal x y h f = f h
-then_less Greater x y h f = absurd (cc)
 
 same_number : (n : ℕ) (o : Ordering) → o ≡ Less → ordering_then (nat_cmp n n) o ≡ Less
 same_number n o h = ap (λ c. ordering_then c o) (tied_itself nat_cmp_total n) ∙ h
@@ -102,11 +97,6 @@ base_is_less Greater S L h k = absurd (true≢false (sym k))
 -- a place above post-releases
 abbrev top : ℕ → List ℕ → Record
 top e r = after_posts e r None
-
-pre_lower : (k : PrereleaseKind) (n : ℕ) (t : Ordering) → is_lt (ordering_then (ordering_then (stage_cmp Final (Pre k n)) t) Equal) ≡ false
-pre_lower Alpha n t = refl
-pre_lower Beta n t = refl
-pre_lower Rc n t = refl
 
 -- no suffix is above the place
 suffix_lower : (e : ℕ) (r : List ℕ) (w : Record) (l : Ordering) → is_lt (ordering_then (suffix_cmp (top e r) (unmarked w)) l) ≡ false

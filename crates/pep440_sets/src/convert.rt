@@ -1,38 +1,62 @@
 //! The set of a specifier, operator by operator, and of a list.
-ghost use Rattle.std.specs.Prelude.{◌≡◌, ◌<◌, ◌↔◌, IfOk, IsErrOf, false, length, map, true};
+ghost use Rattle.std.specs.Ordering.{is_eq};
+ghost use Rattle.std.specs.Prelude.{◌≡◌, ◌<◌, ◌∷◌, ◌↔◌, [], IfOk, IsErrOf, false, length, true};
+ghost use Rattle.std.specs.declared.ops.Bound.TheVariants.{Unbounded};
 ghost use Rattle.pep440_ranges.specs.Complement.{gaps};
 ghost use Rattle.pep440_rs.specs.Matching.{without_last};
-ghost use Rattle.pep440_rs.specs.Specifiers.{Spec};
+ghost use Rattle.pep440_version.specs.Key.{record_cmp};
+ghost use Rattle.pep440_sets.specs.NextVersions.{least};
 ghost use Rattle.pep440_sets.specs.Sets.{above_start, below_end, between, equal_to, from_version_on, has_exact, is_exact, list_set, specifier_set, prefix_set};
 
 use crate::error::SetError;
 use crate::next_versions::{
     after_posts, after_public, after_release_prefix, first_dev, least_version,
 };
-use pep440_rs::{Operator, Ranges, VersionSpecifier, intersect_all};
+use pep440_rs::{Operator, Ranges, VersionSpecifier};
 use pep440_version::Version;
 use std::alloc::{AllocError, Global};
+use std::ops::Bound;
+
+// Whether it is the least of all versions.
+fn is_least(alloc: Global, version: &Version) -> Result<bool, AllocError>
+    ensures { IfOk result (λ b. b ≡ is_eq (record_cmp version.now least)) }
+{
+    let least = least_version(alloc)?;
+    Ok(version.cmp(&least).is_eq())
+}
+
+// Where the versions from this one on begin.
+fn start_at(alloc: Global, version: Version) -> Result<Bound<Version>, AllocError>
+    ensures { IfOk result (λ start. from_version_on version ≡ (start, Unbounded) ∷ []) }
+{
+    if is_least(alloc, &version)? {
+        return Ok(Bound::Unbounded);
+    }
+    Ok(Bound::Included(version))
+}
 
 // From a version on.
+#[tactic(auto, using(crate::proofs::Intervals::open_end))]
 fn from_version_on(alloc: Global, version: Version) -> Result<Ranges<Version>, AllocError>
     ensures { IfOk result (λ r. r ≡ from_version_on version) }
 {
-    let least = least_version(alloc)?;
-    if version.cmp(&least).is_eq() {
-        return Ranges::full(alloc);
-    }
-    Ranges::higher_than(alloc, version)
+    let start = start_at(alloc, version)?;
+    Ranges::from_range_bounds(alloc, start, Bound::Unbounded)
 }
 
 // Below a version.
+#[tactic(auto, using(crate::proofs::Intervals::below_is))]
 fn below_version(alloc: Global, version: Version) -> Result<Ranges<Version>, AllocError>
     ensures { IfOk result (λ r. r ≡ gaps (from_version_on version)) }
 {
-    let from = from_version_on(alloc, version)?;
-    from.complement(alloc)
+    if is_least(alloc, &version)? {
+        return Ok(Ranges::empty(alloc));
+    }
+    Ranges::strictly_lower_than(alloc, version)
 }
 
-// From one version on and below another.
+// From one version on and below another; without an end all from the first on.
+#[tactic(auto, using(crate::proofs::Intervals::between_is))]
 fn between(
     alloc: Global,
     start: Version,
@@ -40,11 +64,14 @@ fn between(
 ) -> Result<Ranges<Version>, AllocError>
     ensures { IfOk result (λ r. r ≡ between start end) }
 {
-    let from = from_version_on(alloc, start)?;
-    match end {
-        Some(end) => from.intersection(alloc, &below_version(alloc, end)?),
-        None => Ok(from),
+    let Some(end) = end else {
+        return from_version_on(alloc, start);
+    };
+    if is_least(alloc, &end)? {
+        return Ok(Ranges::empty(alloc));
     }
+    let start = start_at(alloc, start)?;
+    Ranges::from_range_bounds(alloc, start, Bound::Excluded(end))
 }
 
 // `==`
@@ -129,31 +156,23 @@ pub(crate) fn specifier_set(
     }
 }
 
-// The sets of the members, in their order.
-fn member_sets(
-    alloc: Global,
-    members: &[VersionSpecifier],
-) -> Result<Vec<Ranges<Version>>, AllocError>
-    ensures { IfOk result (λ sets. sets.items ≡ map (λ (m : Spec). specifier_set m.operator m.version) members.now) }
-{
-    let mut sets = Vec::new(alloc);
-    for member in members {
-        sets.push(specifier_set(alloc, member)?)?;
-    }
-    Ok(sets)
-}
-
-#[tactic(auto, using(crate::proofs::Lists::ranges_kept))]
-// The intersection of the sets of the members, in n log n steps; `===` counts as all versions.
+// The intersection of the sets of the members, by halves: n members take n log n steps. `===` counts as all versions.
+#[tactic(auto, using(crate::proofs::Lists::halves, crate::proofs::Lists::one_member))]
 pub(crate) fn list_set(
     alloc: Global,
     members: &[VersionSpecifier],
 ) -> Result<Ranges<Version>, AllocError>
     ensures { IfOk result (λ r. r ≡ list_set members.now) }
 {
-    let sets = member_sets(alloc, members)?;
-    let common = intersect_all(alloc, sets)?;
-    Ok(common)
+    if members.len() > 1 {
+        let (left, right) = members.split_at(members.len() / 2);
+        let common = list_set(alloc, left)?;
+        return common.intersection(alloc, &list_set(alloc, right)?);
+    }
+    match members.split_first() {
+        Some((member, _)) => specifier_set(alloc, member),
+        None => Ranges::full(alloc),
+    }
 }
 
 // Whether the specifier compares how versions are written.

@@ -38,7 +38,9 @@ pub(crate) fn first_dev(alloc: Global, epoch: u64, release: &[u64]) -> Result<Ve
     requires { 0 < length release.now }
     ensures { IfOk result (λ v. v ≡ first_dev epoch release.now) }
 {
-    assemble(alloc, epoch, release, None, None, Some(0))
+    Version::new(alloc, release)?
+        .with_dev(alloc, Some(0))?
+        .with_epoch(alloc, epoch)
 }
 
 // The first dev release of a pre-release of the release of a version.
@@ -149,7 +151,8 @@ fn raise_numbers(alloc: Global, numbers: &[u64]) -> Result<Option<Vec<u64>>, All
 {
     for place in (0..numbers.len()).rev() {
         if let Some(next) = next_number(numbers[place]) {
-            let mut release = Vec::from_slice(alloc, &numbers[..place])?;
+            let mut release = Vec::with_capacity(alloc, place + 1)?;
+            release.extend_from_slice(&numbers[..place])?;
             release.push(next)?;
             return Ok(Some(release));
         }

@@ -1,4 +1,3 @@
-use Rattle.std.proofs.Common.{◌≡◌}
 use Rattle.pep440_calls.proofs.Allowed.{allows_soon}
 use Rattle.pep440_calls.proofs.membership.allows_form.Goals as goal
 

@@ -1,8 +1,7 @@
-use Rattle.std.proofs.Common.{◌∙◌, List, inl, inr, subst, sym, true≢false, ℕ}
+use Rattle.std.proofs.Common.{◌∙◌, inl, inr, subst, sym, true≢false}
 use Rattle.pep440_compiled.proofs.Listed.{never_members, one_denoted_members, set_is_form}
 use Rattle.pep440_compiled.proofs.list.read_list.Goals as goal
 use Rattle.pep440_compiled.specs.Lists.{DenotesList, DenotesWithSet, IsListForm}
-use Rattle.pep440_rs.specs.Specifiers.{Spec}
 
 pub returns-then-not-branch-clause-err : goal.returns-then-not-branch-clause-err
 returns-then-not-branch-clause-err c is l denotes = go denotes

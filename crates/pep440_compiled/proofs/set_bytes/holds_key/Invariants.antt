@@ -1,4 +1,4 @@
-use Rattle.std.proofs.Common.{◌≡◌, List, length}
+use Rattle.std.proofs.Common.{◌≡◌, length}
 use Rattle.std.specs.List.{All, AllByRecursion, list_any}
 use Rattle.pep440_compiled.proofs.set_bytes.holds_key.Given as goal
 use Rattle.pep440_compiled.specs.SetBytes.{IsSized, set_bytes}

@@ -1,8 +1,8 @@
-use Rattle.std.proofs.Common.{◌≡◌, take}
-use Rattle.std.specs.List.{All, flat_map}
+use Rattle.std.proofs.Common.{◌≡◌, ◌++◌}
+use Rattle.std.specs.List.{AllByRecursion}
 use Rattle.pep440_compiled.proofs.set_bytes.set_bytes.Given as goal
-use Rattle.pep440_compiled.specs.SetBytes.{IsSizedInterval, interval_bytes}
+use Rattle.pep440_compiled.specs.SetBytes.{IsSized, set_bytes}
 
--- the intervals so far are written, and their keys fit in memory
-abbrev pub invariant-loop-interval : goal.invariant-loop-interval
-invariant-loop-interval l = (l.bytes.items ≡ flat_map interval_bytes (take l.interval-index l.interval-items)) × All IsSizedInterval (take l.interval-index l.interval-items)
+-- what is written, and the keys of the intervals that are left, are those of all; if the keys of these fit in memory, so do all
+abbrev pub invariant-loop-start : goal.invariant-loop-start
+invariant-loop-start l = (l.bytes.items ++ set_bytes l.start-iterator ≡ set_bytes l.set) × (AllByRecursion IsSized l.start-iterator → AllByRecursion IsSized l.set)

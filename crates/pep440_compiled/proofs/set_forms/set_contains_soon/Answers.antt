@@ -1,5 +1,4 @@
-use Rattle.std.proofs.Common.{◌≡◌, ◌∙◌, Some, ap}
-use Rattle.std.specs.Prelude.{unwrap_or}
+use Rattle.std.proofs.Common.{◌∙◌, ap}
 use Rattle.std.specs.List.{list_any}
 use Rattle.pep440_compiled.proofs.SetKeys.{set_tells}
 use Rattle.pep440_compiled.proofs.set_forms.set_contains_soon.Goals as goal

@@ -1,4 +1,4 @@
-use Rattle.std.proofs.Common.{◌<◌, ◌≡◌, length, rules}
+use Rattle.std.proofs.Common.{◌<◌, length, rules}
 use Rattle.std.proofs.lemmas.List.Elements.{All-from_recursion, recursion_from_All}
 use Rattle.pep440_compiled.proofs.SetMerging.{all_gaps, first_gap, on_ok}
 use Rattle.pep440_compiled.proofs.set_operations.push_gaps.Goals as goal
