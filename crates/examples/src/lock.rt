@@ -2,8 +2,7 @@
 ghost use Rattle.std.specs.Prelude.{◌≡◌, map, string_bytes, IfErr, IfNone, IfOk, IfSome};
 ghost use Rattle.pep440_version.specs.Grammar.{Derives};
 ghost use Rattle.pep440_rs.specs.Lists.ListGrammar.{DerivesList};
-ghost use Rattle.examples.specs.Lock.{IsFault, broken_names};
-ghost use Rattle.examples.specs.LockParts.{IsShort, list_part, name_part, version_part};
+ghost use Rattle.examples.specs.Lock.{IsFault, IsShort, broken_names, list_part, name_part, version_part};
 
 use pep440_rs::{Version, VersionParseError, VersionSpecifiers, VersionSpecifiersParseError};
 use std::alloc::{AllocError, Global};

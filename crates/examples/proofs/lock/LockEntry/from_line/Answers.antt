@@ -3,10 +3,9 @@ use Rattle.std.specs.Result.{IsErrAnd}
 use Rattle.pep440_version.specs.Errors.{error_rejection}
 use Rattle.pep440_version.specs.Rejections.{Rejects}
 use Rattle.pep440_version.specs.declared.error.VersionParseError.{VersionParseError}
-use Rattle.examples.specs.Lock.{IsFault}
 use Rattle.pep440_rs.specs.Lists.ListGrammar.{DerivesList}
 use Rattle.pep440_rs.specs.Specifiers.{Spec}
-use Rattle.examples.specs.LockParts.{IsShort, list_part, version_part}
+use Rattle.examples.specs.Lock.{IsFault, IsShort, list_part, version_part}
 use Rattle.examples.specs.declared.lock.LockEntry.{LockEntry}
 use Rattle.examples.specs.declared.lock.LockError.{LockError}
 use Rattle.examples.specs.declared.lock.LockError.TheVariants.{Version}
