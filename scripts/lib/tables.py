@@ -45,7 +45,8 @@ def definitions_of(crate):
 
 
 def check_definitions():
-    """Writes the definitions that public clauses of libraries cite and what those cite in turn; each name of `AGREEING` is there.
+    """Writes the definitions that public clauses of libraries cite and what those cite in turn; each name of `AGREEING` is there, and README.md shows their
+    number to a fiftieth.
 
     A row says what the comment above the definition says, or has its parts or its equation if there is none. A public clause is a `requires` or `ensures` of
     a `pub fn` or of a function in an impl of a public type, a ghost member of such an impl, or the value of its model. Definitions are each `abbrev`,
@@ -53,6 +54,10 @@ def check_definitions():
     """
     write_pages("definitions", {crate: page for crate in crates() if (page := definitions_of(crate))})
     yield from (f"no definition: {' '.join(it)}" for it in sorted(AGREEING) if it[:2] not in modules() or it[2] not in modules()[it[:2]].names)
+    shown = [int(it.replace(",", "")) for it in re.search(r"([\d,]+) \[definitions\]\(\S+\), ([\d,]+) lines", text_of("README.md")).groups()]
+    counted = [len(trusted()), sum(len(it.lines) for it in trusted().values())]
+    if any(abs(one - other) > other / 50 for one, other in zip(shown, counted)):
+        yield f"README.md shows {shown} definitions and lines, and {counted} are counted"
 
 
 # ---- promises
