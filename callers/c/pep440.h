@@ -376,7 +376,7 @@ uint8_t pep440_release_range_bounds(const uint8_t *list, size_t length, uint8_t 
 
    A set by itself has format 7: the byte 7, and its keys as in a list of format 6. The calls on sets
    write and take it, and pep440_allows takes it; all others, which need the members of a list, return
-   PEP440_NO_LIST, but pep440_newest, of which it is an invalid list.
+   PEP440_NO_LIST.
 
    Lists without `===` that an earlier library wrote have format 5, too. Every call takes them, but
    pep440_allows then costs what it does of a string; pep440_compile_list writes format 6 of them.

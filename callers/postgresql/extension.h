@@ -108,8 +108,6 @@ uint64 first_of_version(const struct varlena *stored);
 /* Whether a version is a pre-release or dev release, by its stored bytes; or that the library has to parse these. */
 typedef enum { UNKNOWN_KIND, FINAL_KIND, PRERELEASE_KIND } VersionKind;
 VersionKind kind_of(const struct varlena *stored);
-/* The normal form of a version that is stored without what most have in common; NULL where the library has to write it. */
-char *short_text(const struct varlena *stored);
 /* The normal form of a version that is the first argument. */
 char *normal_argument(FunctionCallInfo fcinfo);
 /* What the library takes as the list or the set: compiled bytes, or the normal form where an older release stored a list. */

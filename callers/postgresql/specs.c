@@ -42,9 +42,15 @@ static struct varlena *read_specs(Bytes text, Node *context)
     return read_list(text, "pep440_specs", context, &compiled) ? make_bytea(compiled) : NULL;
 }
 
+/* What the library takes as the list where it needs no set: else it would make the set anew to compare it. */
+static Bytes members_argument(FunctionCallInfo fcinfo, int number)
+{
+    return members_of(GET_LIST(number));
+}
+
 static char *normal_list(FunctionCallInfo fcinfo, int number)
 {
-    return normal_text(pep440_normalize_list, GET_LIST(number));
+    return normal_text(pep440_normalize_list, members_argument(fcinfo, number));
 }
 
 TEXT_FUNCTIONS(specs, read_specs, normal_list(fcinfo, 0));
@@ -106,14 +112,14 @@ static Bytes find_version(Bytes list)
     return version;
 }
 
-SQL_FUNCTION(specs_isempty, BoolGetDatum(find_version(GET_LIST(0)).length == 0));
+SQL_FUNCTION(specs_isempty, BoolGetDatum(find_version(members_argument(fcinfo, 0)).length == 0));
 SQL_FUNCTION(specs_overlap, BoolGetDatum(find_version(join_lists(fcinfo)).length != 0));
 
 /* A version that the list contains, or null. */
 PG_FUNCTION_INFO_V1(specs_version);
 Datum specs_version(PG_FUNCTION_ARGS)
 {
-    Bytes version = find_version(GET_LIST(0));
+    Bytes version = find_version(members_argument(fcinfo, 0));
     if (version.length == 0)
         PG_RETURN_NULL();
     PG_RETURN_POINTER(read_version(version, NULL));
@@ -389,7 +395,7 @@ SQL_FUNCTION(text_contained_by, BoolGetDatum(contains(fcinfo, 1, read_version(ut
 PG_FUNCTION_INFO_V1(specs_any_prerelease);
 Datum specs_any_prerelease(PG_FUNCTION_ARGS)
 {
-    Bytes list = GET_LIST(0);
+    Bytes list = members_argument(fcinfo, 0);
     uint8_t any;
     expect_ok(pep440_any_prerelease(list.bytes, list.length, &any));
     PG_RETURN_BOOL(any != 0);

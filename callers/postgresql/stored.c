@@ -131,22 +131,30 @@ typedef struct {
     uint64 number;
 } Part;
 
-enum { NO_PART = -1, DEV_STAGE = 1, ALPHA_STAGE = 2, RC_STAGE = 4, FINAL_STAGE = 5, NO_POST = 0, HAS_POST = 1, HAS_DEV = 0, NO_DEV = 1, STRING_SEGMENT = 1, NUMBER_BASE = 2 };
+enum { DEV_STAGE = 1, ALPHA_STAGE = 2, RC_STAGE = 4, FINAL_STAGE = 5, HAS_POST = 1, HAS_DEV = 0, NO_PART = 15, STRING_SEGMENT = 1, NUMBER_BASE = 2 };
+
+/* The ranks of each part that have no number, as bits; and with each stage, which pairs of ranks of the two other parts versions have. */
+enum { STAGES_ALONE = 1 << DEV_STAGE | 1 << FINAL_STAGE, NO_POST = 1 << 0, NO_DEV = 1 << 1 };
+static const uint8_t PAIRS[] = {[DEV_STAGE] = 1 << 0, [ALPHA_STAGE] = 0xf, [3] = 0xf, [RC_STAGE] = 0xf, [FINAL_STAGE] = 0xf - (1 << 0)};
 
 /* Three parts beyond the end of a key have no more bytes. */
 enum { MOST_BEYOND = 32 };
 
-/* What follows a release in a key: stage, post-release and dev release, and then the local part. Behind its end are zeros, so that parts need not look for it. */
+/* What follows a release in a key: stage, post-release and dev release, and then the local part. */
 typedef struct {
     Part stage;
     Part post;
     Part dev;
     const uint8_t *local;
     const uint8_t *end;
-    uint8_t bytes[MOST_SHORT + sizeof ENDS->bytes + MOST_BEYOND];
 } Suffix;
 
-static inline Part read_part(const uint8_t **at)
+/* Room for its bytes; behind their end are zeros, so that parts need not look for it. */
+typedef struct {
+    uint8_t bytes[MOST_SHORT + sizeof ENDS->bytes + MOST_BEYOND];
+} SuffixBuffer;
+
+static inline Part read_part(const uint8_t **at, int alone)
 {
     int rank = **at >> 4, bytes = *(*at)++ & 0xf;
     uint64 number = 0;
@@ -154,27 +162,25 @@ static inline Part read_part(const uint8_t **at)
         number = *(*at)++;
     else if (bytes != 0 && !read_number(at, *at + sizeof number, bytes, &number))
         rank = NO_PART;
-    return (Part){rank, number};
+    return (Part){bytes != 0 && (alone >> rank & 1) != 0 ? NO_PART : rank, number};
 }
 
 /* Reads what follows the 0 behind a release, with the end that is not stored; false if it is of no version. */
-static bool read_suffix(Bytes value, const uint8_t *at, Suffix *suffix)
+static inline bool read_suffix(Bytes value, const uint8_t *at, SuffixBuffer *buffer, Suffix *suffix)
 {
     size_t rest = (size_t)(value.bytes + value.length - at);
-    uint8_t *end = (uint8_t *)memcpy(suffix->bytes, at, rest) + rest;
+    uint8_t *end = (uint8_t *)memcpy(buffer->bytes, at, rest) + rest;
     memcpy(end, ENDS[end_of(value)].bytes, sizeof ENDS->bytes);
     end += ENDS[end_of(value)].length;
     memset(end, 0, MOST_BEYOND);
+    at = buffer->bytes;
+    suffix->stage = read_part(&at, STAGES_ALONE);
+    suffix->post = read_part(&at, NO_POST);
+    suffix->dev = read_part(&at, NO_DEV);
+    suffix->local = at;
     suffix->end = end;
-    suffix->local = suffix->bytes;
-    Part stage = read_part(&suffix->local), post = read_part(&suffix->local), dev = read_part(&suffix->local);
-    suffix->stage = stage, suffix->post = post, suffix->dev = dev;
-    if (suffix->local >= end || stage.rank < DEV_STAGE || stage.rank > FINAL_STAGE || post.rank < NO_POST || post.rank > HAS_POST || dev.rank < HAS_DEV || dev.rank > NO_DEV)
-        return false;
-    bool is_plain = stage.rank == DEV_STAGE || stage.rank == FINAL_STAGE;
-    if ((is_plain && stage.number != 0) || (post.rank == NO_POST && post.number != 0) || (dev.rank == NO_DEV && dev.number != 0))
-        return false;
-    return stage.rank == DEV_STAGE ? post.rank == NO_POST && dev.rank == HAS_DEV : stage.rank != FINAL_STAGE || post.rank == HAS_POST || dev.rank == NO_DEV;
+    int stage = suffix->stage.rank, post = suffix->post.rank, dev = suffix->dev.rank;
+    return at < end && stage <= FINAL_STAGE && (post | dev) <= 1 && (PAIRS[stage] >> (2 * post + dev) & 1) != 0;
 }
 
 /* Writes the numbers of the release, of which the last is above 0, with a dot behind each. Returns where the suffix begins, or the end of a release alone;
@@ -198,10 +204,19 @@ static inline const uint8_t *put_release(Bytes value, bool is_alone, char **out)
     return is_alone || number == 0 ? NULL : at;
 }
 
+/* A function of its own, since one with room for a suffix takes longer to begin and to end. */
+static pg_noinline VersionKind kind_of_suffix(Bytes value, const uint8_t *at)
+{
+    SuffixBuffer buffer;
+    Suffix suffix;
+    if (!read_suffix(value, at, &buffer, &suffix))
+        return UNKNOWN_KIND;
+    return suffix.dev.rank == HAS_DEV ? PRERELEASE_KIND : FINAL_KIND;
+}
+
 VersionKind kind_of(const struct varlena *stored)
 {
     Bytes value = bytes_of(stored);
-    Suffix suffix;
     if (!is_short(value))
         return UNKNOWN_KIND;
     if (end_of(value) == RELEASE_ALONE)
@@ -211,9 +226,7 @@ VersionKind kind_of(const struct varlena *stored)
         at += length - 1;
     if (at < end && *at >> 4 < FINAL_STAGE)
         return PRERELEASE_KIND;
-    if (at >= end || !read_suffix(value, at, &suffix))
-        return UNKNOWN_KIND;
-    return suffix.dev.rank == HAS_DEV ? PRERELEASE_KIND : FINAL_KIND;
+    return at < end ? kind_of_suffix(value, at) : UNKNOWN_KIND;
 }
 
 static inline char *put_word(char *out, const char *word, uint64 number)
@@ -244,10 +257,12 @@ static char *put_local(char *out, const uint8_t *at, const uint8_t *end)
     return at + 1 == end ? out : NULL;
 }
 
-static char *put_suffix(char *out, Bytes value, const uint8_t *at)
+/* As kind_of_suffix. */
+static pg_noinline char *put_suffix(char *out, Bytes value, const uint8_t *at)
 {
+    SuffixBuffer buffer;
     Suffix suffix;
-    if (!read_suffix(value, at, &suffix))
+    if (!read_suffix(value, at, &buffer, &suffix))
         return NULL;
     int stage = suffix.stage.rank;
     if (stage > DEV_STAGE && stage < FINAL_STAGE)
@@ -259,7 +274,8 @@ static char *put_suffix(char *out, Bytes value, const uint8_t *at)
     return put_local(out, suffix.local, suffix.end);
 }
 
-char *short_text(const struct varlena *stored)
+/* The normal form of a version that is stored without what most have in common; NULL where the library has to write it. */
+static inline char *short_text(const struct varlena *stored)
 {
     Bytes value = bytes_of(stored);
     if (!is_short(value))
@@ -267,7 +283,7 @@ char *short_text(const struct varlena *stored)
     char *text = palloc(4 * (value.length + sizeof ENDS->bytes) + 2 * MOST_ZEROS + sizeof "rc.post.dev"), *out = text;
     bool is_alone = end_of(value) == RELEASE_ALONE;
     const uint8_t *at = put_release(value, is_alone, &out);
-    for (size_t zeros = zeros_of(value); zeros > 0; zeros--)
+    for (int zeros = value.bytes[0] & MOST_ZEROS << ZEROS_SHIFT; zeros > 0; zeros -= 1 << ZEROS_SHIFT)
         *out++ = '0', *out++ = '.';
     if (at == NULL || out == text)
         return NULL;
@@ -302,6 +318,19 @@ Version version_of(const struct varlena *stored, VersionBuffer *buffer)
     if (last_of(value) > ZERO)
         return older_version(value);
     return (Version){.key = key_of(value), .bytes = value};
+}
+
+static pg_noinline char *normal_text_of(const struct varlena *stored)
+{
+    VersionBuffer buffer;
+    return normal_text(pep440_normalize, version_of(stored, &buffer).bytes);
+}
+
+char *normal_argument(FunctionCallInfo fcinfo)
+{
+    const struct varlena *stored = GET_STORED(0);
+    char *text = short_text(stored);
+    return text != NULL ? text : normal_text_of(stored);
 }
 
 uint64 first_of_key(Bytes key)
@@ -422,7 +451,7 @@ Bytes members_of(Bytes compiled)
 {
     const uint8_t *at = compiled.bytes + 1, *end = compiled.bytes + compiled.length;
     Bytes set;
-    if (compiled.bytes[0] != LIST_FORMAT)
+    if (compiled.length == 0 || compiled.bytes[0] != LIST_FORMAT)
         return compiled;
     if (!read_sized(&at, end, &set) || at == end)
         fail(PEP440_INVALID_LIST);

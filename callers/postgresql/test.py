@@ -160,6 +160,11 @@ def test_joins(server):
     assert "pep440_cover_start" in plan and "pep440_cover_end" in plan, plan
     by_index = db.rows(query)
     assert by_index == db.rows("RESET ALL;" + NO_INDEX + query)
+    array = "'{~=1.4.2,==2.1.0+cu118,===3.9}'::pep440_specs[]"  # no version is in two of its lists
+    alone = db.rows(f"SELECT count(*), sum(id) FROM releases WHERE version <@ ANY ({array})")
+    db.rows("RESET ALL;" + NO_TABLE)
+    query = f"SELECT count(*), sum(id) FROM unnest({array}) AS specs JOIN releases ON version <@ specs"
+    assert "by_version" in plan_of(db, query) and db.rows(query) == alone != [("0", None)], (plan_of(db, query), alone)
     merged = "SELECT count(*) FROM (SELECT version FROM releases WHERE id <= 3000) a JOIN (SELECT version FROM releases WHERE id > 3000 AND id <= 9000) b USING (version)"
     counts = set()
     for off in (("hash", "merge"), ("hash", "nest"), ("merge", "nest")):
@@ -168,7 +173,7 @@ def test_joins(server):
         counts.add(db.value(merged))
     assert len(counts) == 1, counts
     db.close()
-    return f"{len(by_index)} lists joined; hash, merge and nested loop joins agree"
+    return f"{len(by_index)} lists joined, and those of an array; hash, merge and nested loop joins agree"
 
 
 def test_dump(server):

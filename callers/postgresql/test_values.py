@@ -277,7 +277,7 @@ def test_copy(server):
     server.stop()
     ratios = [versions / strings for versions, strings in zip(copied_from(server, "version"), copied_from(server, "string"))]
     server.start()
-    assert ratios[0] <= 1.15 and ratios[1] <= 1.35, ratios
+    assert max(ratios) <= 1.15, ratios
     return "COPY FROM takes {:.2f} of the instructions of strings, COPY TO {:.2f}".format(*ratios)
 
 
@@ -369,7 +369,7 @@ GAPS, MANY_GAPS = (">=1" + "".join(f",!={number % 300}.{number}" for number in r
 LONG = [  # what takes the longest of the texts that a server takes, and of the plans that it makes for them
     "('1' || repeat('.1', 5000000))::pep440", "repeat('0', 10000000)::pep440", "(repeat(' ', 10000000) || '1')::pep440", "('>=1' || repeat(',!=1.5.*', 1000000))::pep440_specs",
     "(repeat('>=1,', 2000000) || 'x')::pep440_specs", "pep440_valid(repeat('1', 10000000))", "pep440_specs_valid(repeat('>=1,', 2000000) || '>1')", f"'{MANY_GAPS}'::pep440_specs",
-    f"pep440_specs_valid('{MANY_GAPS}')", "(SELECT count(pep440_specs(repeat('>=1.0,', 10000) || '>=' || n)) FROM generate_series(1, 1000) AS n)",
+    f"pep440_specs_valid('{MANY_GAPS}')", f"pep440_version_in('{MANY_GAPS}')", "(SELECT count(pep440_specs(repeat('>=1.0,', 10000) || '>=' || n)) FROM generate_series(1, 1000) AS n)",
     f"(SELECT count(*) FROM releases WHERE version <@ '{GAPS}')", f"(SELECT count(*) FROM releases, pep440_specs('{GAPS}') AS specs WHERE version <@ specs)",
     f"(SELECT count(*) FROM generate_series(1, 100), pep440_cover('{GAPS}'))", f"(SELECT count(isempty(specs)) FROM pep440_specs('{GAPS}') AS specs, generate_series(1, 100))",
     f"(SELECT count(specs && ('>=' || n)::pep440_specs) FROM pep440_specs('{GAPS}') AS specs, generate_series(1, 100) AS n)",
@@ -390,5 +390,5 @@ def test_interrupts(server):
             assert error.code in (CANCELED, "54000", "22P02"), error
         longest = max(longest, (processor_time(db) - begun, text[:60]))
     db.close()
-    assert longest[0] < 3, longest
+    assert longest[0] < 2, longest
     return f"{len(LONG)} long texts, the longest {longest[0]:.2f} s of processor under a limit of 0.1 s"

@@ -139,19 +139,6 @@ struct varlena *read_version(Bytes text, Node *context)
     return make_version((Bytes){buffer.bytes, length});
 }
 
-static pg_noinline char *normal_text_of(const struct varlena *stored)
-{
-    VersionBuffer buffer;
-    return normal_text(pep440_normalize, version_of(stored, &buffer).bytes);
-}
-
-char *normal_argument(FunctionCallInfo fcinfo)
-{
-    const struct varlena *stored = GET_STORED(0);
-    char *text = short_text(stored);
-    return text != NULL ? text : normal_text_of(stored);
-}
-
 TEXT_FUNCTIONS(version, read_version, normal_argument(fcinfo));
 
 PG_FUNCTION_INFO_V1(version_valid);

@@ -55,8 +55,8 @@ static uint8_t contains_text(const Specifiers *self, PyObject *item, uint8_t whi
     return status;
 }
 
-/* Whether the version of a str, or this version, is contained, where its word says it: 1 or 0, or -1 where it does not. */
-static int contains_by_word(const Specifiers *self, PyObject *item)
+/* Whether the version of a str, or this version, is contained, where its word says it: 1 or 0, or -1 where it does not. In line, which is quicker. */
+__attribute__((always_inline)) static inline int contains_by_word(const Specifiers *self, PyObject *item)
 {
     const Held *version = (const Held *)item;
     Py_ssize_t length;

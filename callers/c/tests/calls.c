@@ -326,7 +326,7 @@ static void ask_boundaries(void)
 static void ask_members(const uint8_t *set, size_t length)
 {
     uint8_t out[8] = {7}, is = 7, early = 7;
-    size_t ends[4], written = 77, count = 77;
+    size_t ends[4], written = 77, count = 77, index = 77;
     hold(pep440_normalize_list(set, length, out, sizeof out, &written) == PEP440_NO_LIST, "normalize_list of a set");
     hold(pep440_compile_list(set, length, out, sizeof out, &written) == PEP440_NO_LIST, "compile_list of a set");
     hold(pep440_specifiers_of(set, length, out, sizeof out, ends, 4, &written, &count) == PEP440_NO_LIST, "specifiers_of a set");
@@ -337,7 +337,8 @@ static void ask_members(const uint8_t *set, size_t length)
     hold(pep440_release_range_bounds(set, length, out, sizeof out, ends, 4, &written, &count) == PEP440_NO_LIST, "release_range_bounds of a set");
     hold(pep440_contains(set, length, VERSION("1.0"), &is, &early) == PEP440_NO_LIST, "contains, a set");
     hold(pep440_filter(set, length, NULL, 0, out, sizeof out) == PEP440_NO_LIST, "filter by a set");
-    hold(out[0] == 7 && written == 77 && count == 77 && is == 7 && early == 7, "nothing is written");
+    hold(pep440_newest(set, length, NULL, 0, &index) == PEP440_NO_LIST, "newest by a set");
+    hold(out[0] == 7 && written == 77 && count == 77 && index == 77 && is == 7 && early == 7, "nothing is written");
 }
 
 /* Sets by themselves, as the keys of their intervals. */

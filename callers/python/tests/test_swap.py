@@ -1,5 +1,6 @@
 """The other modules of `packaging` over these two, beside themselves over their own, in processes of their own; and programs of others."""
 import collections
+import concurrent.futures
 import functools
 import json
 import os
@@ -403,21 +404,24 @@ def is_there(module):
 
 class Programs(unittest.TestCase):
     def test_programs(self):
-        same, left_out = [], []
-        for module, words in PROGRAMS:
-            if not is_there(module):
-                left_out.append(module)
-                continue
-            with self.subTest(words=words), tempfile.TemporaryDirectory() as work:
-                folder = os.path.join(work, "project")
-                swapped = self.results(["-m", "pep440_rattle.swap", "-m", *words], folder)
+        same, left_out = [], [module for module, _ in PROGRAMS if not is_there(module)]
+        programs = [it for it in PROGRAMS if it[0] not in left_out]
+        with concurrent.futures.ThreadPoolExecutor(os.cpu_count()) as pool:
+            for (module, words), (swapped, plain) in zip(programs, pool.map(self.results_of_both, programs)):
                 if WITHOUT in swapped[0][2]:
                     left_out.append(module)
                     continue
-                self.assertEqual(swapped, self.results(["-m", *words], folder))
+                with self.subTest(words=words):
+                    self.assertEqual(swapped, plain)
                 same.append(module)
         told = ", ".join(f"{count} of {module}" for module, count in collections.Counter(same).items())
         print(f"\nprograms with the same outputs: {told}; not installed, or not tested with, so left out: {', '.join(dict.fromkeys(left_out)) or 'none'}")
+
+    def results_of_both(self, program):
+        """Those with the swap and those without, in one folder after the other, since paths are printed."""
+        with tempfile.TemporaryDirectory() as work:
+            folder = os.path.join(work, "project")
+            return [self.results([*swap, "-m", *program[1]], folder) for swap in (["-m", "pep440_rattle.swap"], [])]
 
     def test_requirements_that_pip_refuses(self):
         """What only `packaging` takes ends in pip's own message; a pip whose copy is not replaced finds no such version."""

@@ -7,8 +7,8 @@ use Rattle.pep440_rs.specs.LiteralMatching.{list_matches_literally}
 use Rattle.pep440_rs.specs.Prereleases.{requests_prereleases}
 use Rattle.pep440_rs.specs.Specifiers.{Spec}
 use Rattle.pep440_version.specs.Record.{Record}
-use Rattle.pep440_calls.specs.CallerBytes.{BytesDenote, BytesDenoteList, RejectsListBytes}
-use Rattle.pep440_calls.specs.Statuses.{Fails}
+use Rattle.pep440_calls.specs.CallerBytes.{BytesDenote, BytesDenoteList, ListFaults}
+use Rattle.pep440_calls.specs.Statuses.{FailsBy}
 
 -- the string denotes this version, which the list matches
 abbrev pub IsContainedString : List Spec → List ℕ → Record → Type 0
@@ -24,4 +24,4 @@ abbrev pub NewestResult : List ℕ → List (List ℕ) → ℕ → ℕ → ℕ �
 NewestResult list_text texts old index status =
     (FindsNewestString list_text texts (Some index) × (status ≡ 0))
     ⊎ ((FindsNewestString list_text texts None × (status ≡ 10) × (index ≡ old))
-    ⊎ ((index ≡ old) × Fails ⊥ (RejectsListBytes list_text) ⊥ status))
+    ⊎ ((index ≡ old) × FailsBy (ListFaults ⊥ list_text ⊥) status))

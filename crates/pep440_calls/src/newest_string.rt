@@ -4,13 +4,13 @@ ghost use Rattle.pep440_pick.specs.Greatest.{Greatest, is_above};
 ghost use Rattle.pep440_pick.specs.Newest.{preference};
 ghost use Rattle.pep440_rs.specs.LiteralMatching.{list_matches_literally};
 ghost use Rattle.pep440_version.specs.Record.{Record};
-ghost use Rattle.pep440_calls.specs.CallerBytes.{BytesDenote, RejectsBytes, RejectsListBytes};
+ghost use Rattle.pep440_calls.specs.CallerBytes.{BytesDenote, ListFaults, RejectsBytes};
 ghost use Rattle.pep440_calls.specs.NewestString.{FindsNewestString, IsContainedString, NewestResult};
-ghost use Rattle.pep440_calls.specs.Statuses.{HoldsOrFaults};
+ghost use Rattle.pep440_calls.specs.Statuses.{HoldsOr};
 
 use crate::buffer::OK;
 use crate::fault::Fault;
-use crate::read::{read, read_list};
+use crate::read::{read, to_list};
 use pep440_pick::is_preferred;
 use pep440_rs::{Version, VersionSpecifiers};
 use std::alloc::{AllocError, Global};
@@ -35,9 +35,9 @@ pub fn write_newest(alloc: Global, list: &[u8], texts: &[&[u8]], index: &mut usi
 
 // The index of the newest version that the list of the bytes matches.
 fn find(alloc: Global, list: &[u8], texts: &[&[u8]]) -> Result<Option<usize>, Fault>
-    ensures { HoldsOrFaults ⊥ (RejectsListBytes list.now) ⊥ (FindsNewestString list.now (map (λ t. t.now) texts.now)) result }
+    ensures { HoldsOr (ListFaults ⊥ list.now ⊥) (FindsNewestString list.now (map (λ t. t.now) texts.now)) result }
 {
-    let specifiers = read_list(alloc, list)?;
+    let specifiers = to_list(alloc, list)?;
     let takes = specifiers.requests_prereleases();
     let newest = find_newest(alloc, takes, &specifiers, texts)?;
     Ok(newest.map(|(position, _)| position))
