@@ -362,6 +362,10 @@ QUERIES = [
     "UPDATE kept SET version = (version::text || '.dev1')::pep440 WHERE version <@ '>=1,!=1.5+a' AND version::text !~ 'dev|[+]' RETURNING version",
 ]
 
+# A backend that knows the statistics of all tables makes no entry for them later. A server has a fault there: where memory for one is refused, its place in a hash
+# table has the bytes of another one, which is then freed twice, and the backend ends by a signal.
+KNOWN_STATISTICS = "SELECT sum(pg_stat_get_numscans(oid)) FROM pg_class"
+
 
 def outcome(db, query):
     """The rows, or None where memory was refused."""
@@ -376,6 +380,7 @@ def refuse_each(server, query, own):
     """Each request of the query refused in a backend of its own (a hundred of many): it gives its rows or says that memory is out, and no row changes."""
     counter = server.connect()
     counter.rows("LOAD 'pep440'")
+    counter.rows(KNOWN_STATISTICS)
     counter.rows("BEGIN")
     counter.rows(f"SELECT refuse(0, {own})")
     wanted = counter.rows(query)
@@ -385,6 +390,7 @@ def refuse_each(server, query, own):
     for number in range(1, requests + 1, 1 + requests // 100):
         db = server.connect()
         db.rows("LOAD 'pep440'")
+        db.rows(KNOWN_STATISTICS)
         db.rows("BEGIN")
         db.rows(f"SELECT refuse({number}, {own})")
         found = outcome(db, query)
@@ -513,7 +519,7 @@ def upgrade(old, new):
         new.run("pg_upgrade", "-b", old.home / "bin", "-B", new.home / "bin", "-d", old.data, "-D", new.data, "-U", "tester", "-s", new.folder)
     except AssertionError as failure:
         logs = "".join(file.read_text(errors="replace") for file in new.data.glob("pg_upgrade_output.d/*/log/*"))
-        errors = set(re.findall(r"(?:ERROR|error|FATAL): +(.*)", logs))
+        errors = set(re.findall(r"(?:ERROR|error): +(.*)", logs))
         assert errors, failure
         return errors
     return set()
