@@ -137,7 +137,7 @@ def check_links():
 
 # ---- figures
 
-PYTHON = "docs/SPEED.md"
+PYTHON = "callers/python/README.md"
 # A table's head, with the name of its bench, and its rows.
 TABLE = re.compile(r"(\|[^|\n]*`bench/(\w+)`\) \| Instructions \|\n\|---\|---\|\n)((?:\|.*\n)*)")
 # What README.md says that a call takes or is.
@@ -162,7 +162,7 @@ def table(page, column):
 
 
 def check_figures(writes=False):
-    """The tables of docs/SPEED.md that name a bench have the rows of bench/figures, and README.md what was measured; ratios are those of the counts beside them."""
+    """The tables of docs/SPEED.md that name a bench have the rows of bench/figures, and README.md what was measured; Python's ratios are those of the counts beside them."""
     page = text_of("docs/SPEED.md")
     wanted = TABLE.sub(lambda table: table[1] + "".join(f"| {it[2]} | {it[1]} |\n" for it in counts()[table[2]] if len(it) > 2), page)
     if writes:
