@@ -1,7 +1,7 @@
 //! Markers as sets of environments.
 use crate::environments::parse_marker;
 use crate::marker_steps::print_comparison;
-use pyver_markers::{Condition, EnvironmentBox, EnvironmentMarker, FoundVariable};
+use pyver_markers::{Condition, EnvironmentBox, EnvironmentMarker, FoundVariable, MarkerExtent};
 use std::alloc::Global;
 use std::str;
 use testing::CaseError;
@@ -60,18 +60,39 @@ fn print_variable(alloc: Global, variable: &FoundVariable<'_>) -> Result<String,
     Ok(format!(in alloc; "{name}={text}")?)
 }
 
-/// An environment in which the marker holds.
-pub fn print_environment(alloc: Global, marker: &str) -> Result<String, CaseError> {
-    let marker = parse_marker(alloc, marker)?;
-    let Some(variables) = marker.find_environment(alloc)? else {
-        return Ok(String::from_str(alloc, "none")?);
-    };
+fn print_variables(
+    alloc: Global,
+    variables: &[FoundVariable<'_>],
+) -> Result<String, CaseError> {
     let mut text = String::new(alloc);
-    for variable in &variables {
+    for variable in variables {
         if !text.is_empty() {
             text.push(' ')?;
         }
         text.push_str(print_variable(alloc, variable)?.as_str())?;
     }
     Ok(text)
+}
+
+/// What the variables of the marker are in an environment in which it holds.
+pub fn print_environment(alloc: Global, marker: &str) -> Result<String, CaseError> {
+    let marker = parse_marker(alloc, marker)?;
+    match marker.find_environment(alloc)? {
+        Some(variables) => print_variables(alloc, variables.as_slice()),
+        None => Ok(String::from_str(alloc, "none")?),
+    }
+}
+
+/// Where the marker and the others hold.
+pub fn print_extent(alloc: Global, marker: &str, others: &[String]) -> Result<String, CaseError> {
+    let mut all = parse_marker(alloc, marker)?;
+    for other in others {
+        all = all.and(&parse_marker(alloc, other)?)?;
+    }
+    match all.find_extent(alloc)? {
+        MarkerExtent::Nowhere => Ok(String::from_str(alloc, "nowhere")?),
+        MarkerExtent::Always => Ok(String::from_str(alloc, "always")?),
+        MarkerExtent::Somewhere(variables) => print_variables(alloc, variables.as_slice()),
+        MarkerExtent::Undecided => Ok(String::from_str(alloc, "undecided")?),
+    }
 }
