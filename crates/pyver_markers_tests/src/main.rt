@@ -4,11 +4,9 @@
 
 mod boxes;
 mod environments;
-mod marker_steps;
 
-use boxes::{print_boxes, print_environment, print_extent, print_never};
+use boxes::{print_boxes, print_environment, print_extent, print_never, print_steps};
 use environments::print_value;
-use marker_steps::print_steps;
 use std::alloc::Global;
 use std::io;
 use testing::{Calls, CaseError, run_cases};
