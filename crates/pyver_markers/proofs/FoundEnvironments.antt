@@ -116,11 +116,11 @@ python_there e short full is so one other same = record {
 pub known_there : {X Y : Type 0} (view : X → Setting) (other : Y → Setting) (e : Environment) (o : Option X) (p : Option Y) (version extras groups : List ℕ)
     → version ≡ codes "implementation_version" → extras ≡ codes "extras" → groups ≡ codes "dependency_groups" → is_some o ≡ false → option_map view o ≡ e extras
     → is_some p ≡ false → option_map other p ≡ e groups → HasPython e → HasVersion e version → IsEnvironment e
-known_there view other e o p version extras groups is so also none has no have python known = record {
+known_there view other e o p version extras groups is so also none has empty have python known = record {
   python = python;
   implementation_version = subst (HasVersion e) is known;
   extras = subst (HasNoText e) so (no_text view o (e extras) none has);
-  dependency_groups = subst (HasNoText e) also (no_text other p (e groups) no have);
+  dependency_groups = subst (HasNoText e) also (no_text other p (e groups) empty have);
 }
 
 -- ---- environments that have more
