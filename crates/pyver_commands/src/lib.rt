@@ -1,6 +1,6 @@
 //! The commands of the program `pyver` that read words, versions and lines: what each prints, as a function of its operands and options.
 //!
-//! In reading order: `Answer`; `compare`, `match_versions`, `show_versions`, `bump_version` and `find_common`, which read nothing; `Files`,
+//! In reading order: `Answer`; `compare`, `match_versions`, `show_versions`, `bump_version`, `find_common` and `find_extent`, which read nothing; `Files`,
 //! `filter_sources`, and `answer_input` for commands that read all lines before they write; and `laws`.
 #![tactic(auto)]
 
@@ -14,6 +14,7 @@ mod filter;
 mod filter_input;
 pub mod filter_sources;
 pub mod laws;
+mod marker;
 mod newest;
 mod newest_lines;
 mod part;
@@ -35,6 +36,7 @@ pub use bump_input::BumpRule;
 pub use common_range::find_common;
 pub use comparison::{Comparison, compare, parse_comparison};
 pub use filter::{FilterOptions, FilterRule, Selection};
+pub use marker::find_extent;
 pub use newest::{NewestOptions, NewestRule};
 pub use part::{VersionPart, parse_part};
 pub use prerelease_rule::{Prereleases, takes_prereleases};

@@ -1,15 +1,24 @@
 -- An environment in which a marker is defined is in one of its boxes exactly if the marker has the wanted value there.
-use Rattle.std.proofs.Common.{◌≡◌, ◌∙◌, ◌+◌, ◌*◌, ◌++◌, ◌&&◌, ◌||◌, ◌-◌, ◌≤◌, List, [], ◌∷◌, Bool, true, false, not, Option, Some, None, ap, append_assoc, drop, get_or, length, refl, sym, take}
+use Rattle.std.proofs.Common.{◌≡◌, ◌∙◌, ◌+◌, ◌*◌, ◌++◌, ◌&&◌, ◌||◌, ◌-◌, ◌≤◌, List, [], ◌∷◌, Bool, true, false, not, Option, Some, None, ap, append_assoc, arith, drop, get_or, length, refl, sym, take}
 use Rattle.std.proofs.lemmas.Bool.{true≢false}
+use Rattle.std.proofs.lemmas.List.{take_all}
 use Rattle.std.proofs.lemmas.List.Folds.{list_all-append, list_any-append}
 use Rattle.std.specs.Prelude.{IfSome, map, nat_lt, if◌then◌else◌}
 use Rattle.pyver_requirements.specs.MarkerGrammar.{Both, Comparison, Either, Marker}
-use Rattle.pyver_markers.proofs.Lists.{first_and_rest}
 use Rattle.pyver_markers.specs.Boxes.{Box, Condition, HasValueInBoxes, agrees, both_boxes, boxes, either_boxes, in_box, in_boxes, is_met, meets, products}
 use Rattle.pyver_markers.specs.Conditions.{IsEnvironment, IsNever}
 use Rattle.pyver_markers.specs.Environments.{Environment}
 use Rattle.pyver_markers.specs.MarkerComparisons.{compare}
 use Rattle.pyver_markers.specs.MarkerValues.{both_hold, either_holds, value}
+
+-- ---- lists
+
+-- the first element of a list, and the rest
+pub first_and_rest : {W : Type 0} (xs : List W) (d : W) → 1 ≤ length xs → xs ≡ get_or xs 0 d ∷ take (length xs - 1) (drop 1 xs)
+first_and_rest [] d long = absurd (omega arith)
+first_and_rest (x ∷ rest) d long =
+    let whole : take (length (x ∷ rest) - 1) rest ≡ rest = take_all (length (x ∷ rest) - 1) rest (omega arith) in
+    ap (λ l. x ∷ l) (sym whole)
 
 -- ---- tests
 
@@ -90,16 +99,16 @@ either_is_union e None (Some qs) all is = cc
 
 -- ---- values
 
-abbrev Parts : (Bool → Bool → Bool) → Option Bool → Option Bool → Bool → Type 0
+abbrev pub Parts : (Bool → Bool → Bool) → Option Bool → Option Bool → Bool → Type 0
 Parts joined p q v = (a : Bool) × (b : Bool) × (p ≡ Some a) × (q ≡ Some b) × (joined a b ≡ v)
 
-parts_of_both : (p q : Option Bool) (v : Bool) → both_hold p q ≡ Some v → Parts (λ a b. a && b) p q v
+pub parts_of_both : (p q : Option Bool) (v : Bool) → both_hold p q ≡ Some v → Parts (λ a b. a && b) p q v
 parts_of_both (Some a) (Some b) v is = (a, b, refl, refl, cc)
 parts_of_both (Some a) None v is = cc
 parts_of_both None None v is = cc
 parts_of_both None (Some b) v is = cc
 
-parts_of_either : (p q : Option Bool) (v : Bool) → either_holds p q ≡ Some v → Parts (λ a b. a || b) p q v
+pub parts_of_either : (p q : Option Bool) (v : Bool) → either_holds p q ≡ Some v → Parts (λ a b. a || b) p q v
 parts_of_either (Some a) (Some b) v is = (a, b, refl, refl, cc)
 parts_of_either (Some a) None v is = cc
 parts_of_either None None v is = cc

@@ -1,14 +1,20 @@
--- Environments of variables, one after the other.
-use Rattle.std.proofs.Common.{◌≡◌, ◌∙◌, ◌++◌, ◌-◌, ◌≤◌, ℕ, List, [], ◌∷◌, Bool, true, false, Option, Some, None, ap, drop, get_or, length, refl, subst, sym, take}
+-- Environments of variables, one after the other, and environments that have more.
+use Rattle.std.proofs.Common.{◌≡◌, ◌≢◌, ◌∙◌, ◌++◌, ◌-◌, ◌≤◌, ℕ, zero, suc, List, [], ◌∷◌, Bool, true, false, Option, Some, None, ap, drop, get_or, length, refl, subst, sym, take}
 use Rattle.std.proofs.lemmas.Bool.{true≢false}
-use Rattle.std.specs.List.{find}
-use Rattle.std.specs.Prelude.{bytes_eq, cond, is_some, option_map}
-use Rattle.pyver_markers.proofs.Lists.{first_and_rest}
+use Rattle.std.specs.List.{find, list_all}
+use Rattle.std.specs.Prelude.{bytes_eq, codes, cond, is_some, map, option_map}
 use Rattle.pep440_version.specs.Record.{Record}
-use Rattle.pyver_markers.specs.Conditions.{HasPlainRelease, HasVersion, is_plain_release}
-use Rattle.pyver_markers.specs.MarkerComparisons.{ascii_version}
-use Rattle.pyver_markers.specs.Environments.{Environment, Setting, Text}
-use Rattle.pyver_markers.specs.EnvironmentViews.{environment_of, found_environment, setting_of}
+use Rattle.pyver_requirements.specs.MarkerGrammar.{Both, Comparison, Either, Marker}
+use Rattle.pyver_requirements.specs.MarkerTokens as tokens
+use Rattle.pyver_requirements.specs.MarkerTokens.{Side}
+use Rattle.pyver_requirements.specs.declared.marker_operator.MarkerOperator.{MarkerOperator}
+use Rattle.pyver_markers.proofs.BoxLaws.{first_and_rest, parts_of_both, parts_of_either}
+use Rattle.pyver_markers.specs.Conditions.{AreLinked, HasNoText, HasPlainRelease, HasPython, HasVersion, IsEnvironment, IsNever, first_two, is_plain_release, setting_version, version_of}
+use Rattle.pyver_markers.specs.Environments.{Assignment, Environment, Extends, Names, Setting, Text}
+use Rattle.pyver_markers.specs.EnvironmentViews.{assignment_of, environment_of, found_environment, setting_of}
+use Rattle.pyver_markers.specs.Extents.{IsAlways, IsExample, is_writable}
+use Rattle.pyver_markers.specs.MarkerComparisons.{ascii_version, compare, compare_left, compare_right}
+use Rattle.pyver_markers.specs.MarkerValues.{both_hold, either_holds, value}
 use Rattle.pyver_markers.specs.declared.environment.Variable.{Variable}
 use Rattle.pyver_markers.specs.declared.found_environment.FoundVariable.{FoundVariable}
 
@@ -38,8 +44,8 @@ with_last (x ∷ variables) v name =
     first_or (bytes_eq x.name.now name) x (find (λ w. bytes_eq w.name.now name) variables) (find (λ w. bytes_eq w.name.now name) (variables ++ v ∷ []))
     (environment_of (v ∷ []) name) (with_last variables v name)
 
-one_or : (b : Bool) (v : FoundVariable) (rest : Option FoundVariable)
-    → or_else (cond b (Some (Text v.text.items)) None) (option_map (λ (w : FoundVariable). Text w.text.items) rest) ≡ option_map (λ (w : FoundVariable). Text w.text.items) (cond b (Some v) rest)
+one_or : (b : Bool) (v : Assignment) (rest : Option Assignment)
+    → or_else (cond b (Some (Text v.text)) None) (option_map (λ (w : Assignment). Text w.text) rest) ≡ option_map (λ (w : Assignment). Text w.text) (cond b (Some v) rest)
 one_or true v rest = refl
 one_or false v rest = refl
 
@@ -60,7 +66,7 @@ one_more variables w v rest all same is so_far name =
     ap (λ s. or_else s (found_environment rest name)) (
     alone (bytes_eq w.name.now name) w ∙ ap (λ s. cond (bytes_eq w.name.now name) (Some s) None) is
     ∙ ap (λ n. cond (bytes_eq n name) (Some (Text v.text.items)) None) same)
-    ∙ one_or (bytes_eq v.name.now name) v (find (λ u. bytes_eq u.name.now name) rest))
+    ∙ one_or (bytes_eq v.name.now name) (assignment_of v) (find (λ (u : Assignment). bytes_eq u.name name) (map assignment_of rest)))
     ∙ so_far name
 
 pub all_found : (variables : List Variable) (all : List FoundVariable) → AreFound variables [] all → environment_of variables ≡ found_environment all
@@ -76,9 +82,101 @@ one_borrowed variables more w v rest all long first is same text so_far =
 
 -- ---- versions
 
-pub version_there : (e : Environment) (name text : List ℕ) (v : Option Record) → e name ≡ Some (Text text) → v ≡ ascii_version text → is_some v ≡ true → HasVersion e name
-version_there e name text None has reads some = absurd (true≢false (sym some))
-version_there e name text (Some v) has reads some = (text, v, has, sym reads)
+version_in : (s : Option Setting) (v : Record) → setting_version s ≡ Some v → (text : List ℕ) × (s ≡ Some (Text text)) × (ascii_version text ≡ Some v)
+version_in None v is = cc
+version_in (Some (Names names)) v is = cc
+version_in (Some (Text text)) v is = (text, refl, is)
 
-pub release_there : (e : Environment) (name text : List ℕ) (v : Record) → e name ≡ Some (Text text) → Some v ≡ ascii_version text → is_plain_release v ≡ true → HasPlainRelease e name
-release_there e name text v has reads plain = (text, v, has, sym reads, plain)
+pub version_there : (e : Environment) (name : List ℕ) (v : Option Record) → v ≡ version_of e name → is_some v ≡ true → HasVersion e name
+version_there e name None reads some = absurd (true≢false (sym some))
+version_there e name (Some v) reads some = let (text, has, is) = version_in (e name) v (sym reads) in (text, v, has, is)
+
+pub release_there : (e : Environment) (name : List ℕ) (v : Record) → Some v ≡ version_of e name → is_plain_release v ≡ true → HasPlainRelease e name
+release_there e name v reads plain = let (text, has, is) = version_in (e name) v (sym reads) in (text, v, has, is, plain)
+
+pub linked : (e : Environment) (short full : List ℕ) (one other : Record) → Some one ≡ version_of e short → Some other ≡ version_of e full
+    → one.release ≡ first_two other.release → AreLinked e short full
+linked e short full one other is so same v w reads also =
+    let first : one ≡ v = cc (is, reads) in
+    let second : other ≡ w = cc (so, also) in
+    ap (λ (r : Record). r.release) (sym first) ∙ same ∙ ap (λ (r : Record). first_two r.release) second
+
+pub no_text : {X : Type 0} (view : X → Setting) (o : Option X) (s : Option Setting) → is_some o ≡ false → option_map view o ≡ s → (text : List ℕ) → s ≢ Some (Text text)
+no_text view None s none is text has = cc
+no_text view (Some x) s none is text has = true≢false none
+
+pub python_there : (e : Environment) (short full : List ℕ) → short ≡ codes "python_version" → full ≡ codes "python_full_version" → HasPlainRelease e short
+    → HasVersion e full → AreLinked e short full → HasPython e
+python_there e short full is so one other same = record {
+  short = subst (HasPlainRelease e) is one;
+  full = subst (HasVersion e) so other;
+  linked = subst (λ n. AreLinked e n (codes "python_full_version")) is (subst (AreLinked e short) so same);
+}
+
+pub known_there : {X Y : Type 0} (view : X → Setting) (other : Y → Setting) (e : Environment) (o : Option X) (p : Option Y) (version extras groups : List ℕ)
+    → version ≡ codes "implementation_version" → extras ≡ codes "extras" → groups ≡ codes "dependency_groups" → is_some o ≡ false → option_map view o ≡ e extras
+    → is_some p ≡ false → option_map other p ≡ e groups → HasPython e → HasVersion e version → IsEnvironment e
+known_there view other e o p version extras groups is so also none has empty have python known = record {
+  python = python;
+  implementation_version = subst (HasVersion e) is known;
+  extras = subst (HasNoText e) so (no_text view o (e extras) none has);
+  dependency_groups = subst (HasNoText e) also (no_text other p (e groups) empty have);
+}
+
+-- ---- environments that have more
+
+first_or_later : (b : Bool) (v : Assignment) (x y : Option Assignment) (s : Setting)
+    → (option_map (λ (w : Assignment). Text w.text) x ≡ Some s → option_map (λ (w : Assignment). Text w.text) y ≡ Some s)
+    → option_map (λ (w : Assignment). Text w.text) (cond b (Some v) x) ≡ Some s → option_map (λ (w : Assignment). Text w.text) (cond b (Some v) y) ≡ Some s
+first_or_later true v x y s later is = is
+first_or_later false v x y s later is = later is
+
+in_front : (n : ℕ) (all : List FoundVariable) → Extends (found_environment (take n all)) (found_environment all)
+in_front zero all name s is = cc
+in_front (suc n) [] name s is = is
+in_front (suc n) (v ∷ all) name s is =
+    first_or_later (bytes_eq v.name.now name) (assignment_of v) (find (λ (u : Assignment). bytes_eq u.name name) (map assignment_of (take n all)))
+    (find (λ (u : Assignment). bytes_eq u.name name) (map assignment_of all)) s (in_front n all name s) is
+
+left_stays : (name : List ℕ) (o : MarkerOperator) (right : List ℕ) (s t : Option Setting) (v : Bool) → ((x : Setting) → s ≡ Some x → t ≡ Some x)
+    → compare_left name o right s ≡ Some v → compare_left name o right t ≡ Some v
+left_stays name o right None t v more is = cc
+left_stays name o right (Some x) t v more is = ap (compare_left name o right) (more x refl) ∙ is
+
+right_stays : (left : List ℕ) (o : MarkerOperator) (name : List ℕ) (s t : Option Setting) (v : Bool) → ((x : Setting) → s ≡ Some x → t ≡ Some x)
+    → compare_right left o name s ≡ Some v → compare_right left o name t ≡ Some v
+right_stays left o name None t v more is = cc
+right_stays left o name (Some x) t v more is = ap (compare_right left o name) (more x refl) ∙ is
+
+compare_stays : (e whole : Environment) → Extends e whole → (left : Side) (o : MarkerOperator) (right : Side) (v : Bool) → compare e left o right ≡ Some v
+    → compare whole left o right ≡ Some v
+compare_stays e whole more (tokens.Variable name) o (tokens.Constant text) v is = left_stays name o text (e name) (whole name) v (more name) is
+compare_stays e whole more (tokens.Variable name) o (tokens.Variable text) v is = left_stays name o text (e name) (whole name) v (more name) is
+compare_stays e whole more (tokens.Variable name) o (tokens.Invalid f) v is = cc
+compare_stays e whole more (tokens.Constant text) o (tokens.Variable name) v is = right_stays text o name (e name) (whole name) v (more name) is
+compare_stays e whole more (tokens.Constant text) o (tokens.Constant other) v is = cc
+compare_stays e whole more (tokens.Constant text) o (tokens.Invalid f) v is = cc
+compare_stays e whole more (tokens.Invalid f) o right v is = cc
+
+-- a value stays what it is where an environment has more
+value_stays : (e whole : Environment) → Extends e whole → (m : Marker) (v : Bool) → value e m ≡ Some v → value whole m ≡ Some v
+value_stays e whole more (Comparison left o right) v is = compare_stays e whole more left o right v is
+value_stays e whole more (Both a b) v is =
+    let (x, y, first, second, joined) = parts_of_both (value e a) (value e b) v is in
+    ap (λ p. both_hold p (value whole b)) (value_stays e whole more a x first) ∙ ap (λ p. both_hold (Some x) p) (value_stays e whole more b y second) ∙ ap Some joined
+value_stays e whole more (Either a b) v is =
+    let (x, y, first, second, joined) = parts_of_either (value e a) (value e b) v is in
+    ap (λ p. either_holds p (value whole b)) (value_stays e whole more a x first) ∙ ap (λ p. either_holds (Some x) p) (value_stays e whole more b y second) ∙ ap Some joined
+
+pub example : (m : Marker) (n : ℕ) (all kept : List FoundVariable) → kept ≡ take n all → IsEnvironment (found_environment all)
+    → list_all (λ (v : Assignment). is_writable v.text) (map assignment_of kept) ≡ true → value (found_environment kept) m ≡ Some true → IsExample m (map assignment_of kept)
+example m n all kept is known writable holds = record {
+  environment = found_environment all;
+  known = known;
+  has = subst (λ l. Extends (found_environment l) (found_environment all)) (sym is) (in_front n all);
+  holds = λ e has. value_stays (found_environment kept) e has m true holds;
+  writable = writable;
+}
+
+pub always : (m : Marker) (variables : List Assignment) → IsExample m variables → IsNever false m → IsAlways m
+always m variables it never = (it.environment, it.known, it.holds it.environment it.has, never)

@@ -1,6 +1,5 @@
 pub mod BoxLaws
 pub mod FoundEnvironments
-pub mod Lists
 pub mod Readings
 pub mod Releases
 pub mod Steps

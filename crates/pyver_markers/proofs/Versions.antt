@@ -18,7 +18,7 @@ use Rattle.pep440_version.specs.Record.{Record}
 use Rattle.pep440_version.specs.Whole.{read_version}
 use Rattle.pyver_requirements.specs.MarkerTerms.{marker_operator_text}
 use Rattle.pyver_requirements.specs.declared.marker_operator.MarkerOperator.{MarkerOperator}
-use Rattle.pyver_markers.proofs.Lists.{first_and_rest}
+use Rattle.pyver_markers.proofs.BoxLaws.{first_and_rest}
 use Rattle.pyver_markers.specs.Boxes.{Box, Condition, agrees, in_box, is_met, meets}
 use Rattle.pyver_markers.specs.Conditions.{ComparesAs, HasVersion, HoldsMatchesOf, HoldsMet, HoldsVersionsOf, Narrows}
 use Rattle.pyver_markers.specs.Environments.{Environment, Text}

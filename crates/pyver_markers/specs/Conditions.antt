@@ -1,5 +1,5 @@
 -- What conditions say of one variable, and boxes in which no environment is.
-use Rattle.std.specs.Prelude.{◌≡◌, ◌≢◌, ℕ, List, Bool, true, false, not, Option, Some, ◌||◌, codes, is_some, if◌then◌else◌}
+use Rattle.std.specs.Prelude.{◌≡◌, ◌≢◌, ℕ, List, [], ◌∷◌, Bool, true, false, not, Option, Some, None, ◌||◌, codes, is_some, if◌then◌else◌}
 use Rattle.pep440_pick.specs.Names.{normal}
 use Rattle.pep440_ranges.specs.RangeSegments.{contains}
 use Rattle.pep440_rs.specs.Bounds.{Segments}
@@ -13,7 +13,7 @@ use Rattle.pyver_requirements.specs.MarkerGrammar.{Marker}
 use Rattle.pyver_requirements.specs.declared.marker_operator.MarkerOperator.{MarkerOperator}
 use Rattle.pyver_requirements.specs.declared.marker_operator.MarkerOperator.TheVariants as operator
 use Rattle.pyver_markers.specs.Boxes.{Box, Condition, in_box, meets}
-use Rattle.pyver_markers.specs.Environments.{Environment, Text}
+use Rattle.pyver_markers.specs.Environments.{Environment, Setting, Text}
 use Rattle.pyver_markers.specs.MarkerComparisons.{ascii_version, compare, compare_left, compare_right, compare_texts, compare_versions, is_name_variable, matches_specifier}
 use Rattle.pyver_markers.specs.MarkerValues.{value}
 use Rattle.pyver_markers.specs.declared.text_condition.Operand.{Operand}
@@ -33,11 +33,40 @@ is_plain_release v = not (any_prerelease v || is_some v.post)
 abbrev pub HasPlainRelease : Environment → List ℕ → Type 0
 HasPlainRelease e name = (text : List ℕ) × (v : Record) × (e name ≡ Some (Text text)) × (ascii_version text ≡ Some v) × (is_plain_release v ≡ true)
 
--- the versions of Python and of its implementation are versions; that of two numbers has no other parts
+-- the first two numbers of a release; those that are not written are 0
+abbrev pub first_two : List ℕ → List ℕ
+first_two [] = 0 ∷ 0 ∷ []
+first_two (a ∷ []) = a ∷ 0 ∷ []
+first_two (a ∷ b ∷ rest) = a ∷ b ∷ []
+
+-- the version that a variable is
+abbrev pub setting_version : Option Setting → Option Record
+setting_version (Some (Text text)) = ascii_version text
+setting_version _ = None
+
+abbrev pub version_of : Environment → List ℕ → Option Record
+version_of e name = setting_version (e name)
+
+-- one variable is the first two numbers of the other, where both are versions
+abbrev pub AreLinked : Environment → List ℕ → List ℕ → Type 0
+AreLinked e short full = (v w : Record) → version_of e short ≡ Some v → version_of e full ≡ Some w → v.release ≡ first_two w.release
+
+-- the versions of Python: the first two numbers, and all
+pub record HasPython (e : Environment) : Type 0 where
+  pub short : HasPlainRelease e (codes "python_version")
+  pub full : HasVersion e (codes "python_full_version")
+  pub linked : AreLinked e (codes "python_version") (codes "python_full_version")
+
+-- the variable is no string
+abbrev pub HasNoText : Environment → List ℕ → Type 0
+HasNoText e name = (text : List ℕ) → e name ≢ Some (Text text)
+
+-- Python and its implementation have versions; extras and dependency groups are names, where they are
 pub record IsEnvironment (e : Environment) : Type 0 where
-  pub python_version : HasPlainRelease e (codes "python_version")
-  pub python_full_version : HasVersion e (codes "python_full_version")
+  pub python : HasPython e
   pub implementation_version : HasVersion e (codes "implementation_version")
+  pub extras : HasNoText e (codes "extras")
+  pub dependency_groups : HasNoText e (codes "dependency_groups")
 
 -- no environment is in the box
 abbrev pub HasNoEnvironment : Box → Type 0

@@ -1,12 +1,11 @@
 //! Boxes without environments.
 ghost use Rattle.std.specs.Prelude.{◌≡◌, IfOk, false, map, true};
-ghost use Rattle.pyver_markers.specs.BoxViews.{condition_of};
+ghost use Rattle.pyver_markers.specs.EnvironmentViews.{condition_of};
 ghost use Rattle.pyver_markers.specs.Boxes.{in_box, in_boxes};
 ghost use Rattle.pyver_markers.specs.Conditions.{HasNoEnvironment, IsEnvironment};
 ghost use Rattle.pyver_markers.specs.Environments.{Environment};
 
-use crate::condition::Condition;
-use crate::environment_box::EnvironmentBox;
+use crate::environment_box::{Condition, EnvironmentBox};
 use crate::marker_comparison::is_version_variable;
 use crate::release_condition::excludes_releases;
 use crate::text_condition::excludes_texts;

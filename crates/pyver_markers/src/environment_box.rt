@@ -1,17 +1,26 @@
-//! Boxes of environments.
+//! Boxes of environments, and the conditions that make them.
 ghost use Rattle.std.specs.Prelude.{◌≡◌, ◌++◌, IfOk, map, true};
 ghost use Rattle.pyver_markers.specs.Boxes.{Box, both_boxes, comparison_boxes, either_boxes, join_boxes, products};
-ghost use Rattle.pyver_markers.specs.BoxViews.{boxes_of, condition_of};
+ghost use Rattle.pyver_markers.specs.EnvironmentViews.{boxes_of, condition_of};
 ghost use Rattle.pyver_markers.specs.Conditions.{HasNoEnvironment};
 ghost use Rattle.pyver_requirements.specs.MarkerViews.{side_of};
 
-use crate::condition::Condition;
 use crate::emptiness::excludes_all;
 use pyver_requirements::{MarkerOperator, Side};
 use std::alloc::{AllocError, Global};
 use std::marker::Model;
 
 const MOST: usize = 1000;
+
+/// A comparison of a marker, and what it is to give.
+#[derive(Clone, Copy)]
+pub struct Condition<'a> {
+    pub left: Side<'a>,
+    pub operator: MarkerOperator,
+    pub right: Side<'a>,
+    /// What it is to give.
+    pub wanted: bool,
+}
 
 /// A set of environments: those in which each of its comparisons gives what is wanted. What one variable is says nothing of what another one is.
 #[derive(Drop)]
@@ -22,7 +31,7 @@ pub struct EnvironmentBox<'a> {
 impl<'a> Model for EnvironmentBox<'a> {
     ghost use Rattle.std.specs.Prelude.{List, map};
     ghost use Rattle.pyver_markers.specs.Boxes.{Condition};
-    ghost use Rattle.pyver_markers.specs.BoxViews.{condition_of};
+    ghost use Rattle.pyver_markers.specs.EnvironmentViews.{condition_of};
 
     ghost Value = { List Condition };
 

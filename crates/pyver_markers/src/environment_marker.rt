@@ -1,12 +1,12 @@
-//! Environment markers and their values.
+//! Environment markers, their values, and where they hold.
 ghost use Rattle.std.specs.Prelude.{◌≡◌, [], IfErr, IfOk, IfSome, map, true};
-ghost use Rattle.pyver_markers.specs.BoxViews.{boxes_of};
 ghost use Rattle.pyver_markers.specs.Boxes.{HasValueInBoxes, boxes};
-ghost use Rattle.pyver_markers.specs.Conditions.{IsEnvironment, IsNever};
-ghost use Rattle.pyver_markers.specs.EnvironmentViews.{environment_of, found_environment};
+ghost use Rattle.pyver_markers.specs.Conditions.{IsNever};
+ghost use Rattle.pyver_markers.specs.EnvironmentViews.{assignment_of, boxes_of, environment_of, extent_of, found_environment};
+ghost use Rattle.pyver_markers.specs.Extents.{IsExample, IsExtent};
 ghost use Rattle.pyver_markers.specs.MarkerComparisons.{compare};
 ghost use Rattle.pyver_markers.specs.MarkerValues.{after_step, after_steps, both_hold, earlier_values, either_holds, join_values, last_value, value};
-ghost use Rattle.pyver_requirements.specs.MarkerGrammar.{DenotesMarker, Marker};
+ghost use Rattle.pyver_requirements.specs.MarkerGrammar.{Both, DenotesMarker, Marker};
 ghost use Rattle.pyver_requirements.specs.MarkerSteps.{marker_steps, steps};
 ghost use Rattle.pyver_requirements.specs.MarkerStepViews.{step_of};
 ghost use Rattle.pyver_requirements.specs.MarkerViews.{IsMarkerFault};
@@ -14,13 +14,28 @@ ghost use Rattle.pyver_requirements.specs.MarkerViews.{IsMarkerFault};
 use crate::emptiness::are_empty;
 use crate::environment::Variable;
 use crate::environment_box::EnvironmentBox;
-use crate::found_environment::{FoundVariable, borrow_variables, find_variables, is_environment};
+use crate::found_environment::{
+    FoundVariable, are_writable, borrow_variables, find_variables, is_environment,
+};
 use crate::marker_boxes::take_box_steps;
 use crate::marker_comparison::compare;
 use pyver_requirements::{MarkerError, Step, parse_steps};
 use std::alloc::{AllocError, Global};
 use std::collections::VecDeque;
 use std::marker::Model;
+
+/// Where a marker holds, as far as it is known.
+#[derive(Drop)]
+pub enum MarkerExtent<'a> {
+    /// In no environment.
+    Nowhere,
+    /// In some, and it is false in none.
+    Always,
+    /// Wherever its variables are so.
+    Somewhere(Vec<FoundVariable<'a>>),
+    /// This is not known.
+    Undecided,
+}
 
 /// An environment marker (PEP 508, "Environment Markers").
 #[derive(Drop)]
@@ -158,7 +173,7 @@ impl<'a> EnvironmentMarker<'a> {
     }
 
     /// Whether it is known that the marker has the wanted value in no environment. In each, `python_version`, `python_full_version` and
-    /// `implementation_version` are versions, the first without pre-release, post-release and dev part; variables are independent.
+    /// `implementation_version` are versions, the first of them the first two numbers of the second; what else variables are is independent.
     ///
     /// Allocates.
     pub fn is_never(&self, alloc: Global, wanted: bool) -> Result<bool, AllocError>
@@ -170,15 +185,14 @@ impl<'a> EnvironmentMarker<'a> {
         }
     }
 
-    /// An environment in which the marker holds, with what each of its variables is there, or `None` if none was found.
+    /// What the variables of the marker are in an environment in which it holds, or `None` if none was found. It holds wherever they are so.
     ///
     /// Allocates.
     pub fn find_environment(
         &self,
         alloc: Global,
     ) -> Result<Option<Vec<FoundVariable<'a>>>, AllocError>
-        ensures known { IfOk result (λ found. IfSome found (λ v. IsEnvironment (found_environment v.items))) }
-        ensures holds { (m : Marker) → self.now ≡ steps m → IfOk result (λ found. IfSome found (λ v. value (found_environment v.items) m ≡ Some true)) }
+        ensures { (m : Marker) → self.now ≡ steps m → IfOk result (λ found. IfSome found (λ v. IsExample m (map assignment_of v.items))) }
     {
         let Some(boxes) = self.to_boxes(alloc, true)? else {
             return Ok(None);
@@ -191,6 +205,37 @@ impl<'a> EnvironmentMarker<'a> {
         Ok(None)
     }
 
+    #[tactic(auto, using(crate::proofs::FoundEnvironments::always))]
+    /// Where the marker holds, as far as it is known: in no environment, in some and false in none, or where its variables are as found.
+    ///
+    /// Allocates.
+    pub fn find_extent(&self, alloc: Global) -> Result<MarkerExtent<'a>, AllocError>
+        ensures { (m : Marker) → self.now ≡ steps m → IfOk result (λ x. IsExtent m (extent_of x)) }
+    {
+        if self.is_never(alloc, true)? {
+            return Ok(MarkerExtent::Nowhere);
+        }
+        let Some(variables) = self.find_environment(alloc)? else {
+            return Ok(MarkerExtent::Undecided);
+        };
+        if self.is_never(alloc, false)? {
+            return Ok(MarkerExtent::Always);
+        }
+        Ok(MarkerExtent::Somewhere(variables))
+    }
+
+    /// The marker that holds where both do.
+    ///
+    /// Allocates.
+    pub fn and(self, other: &EnvironmentMarker<'a>) -> Result<EnvironmentMarker<'a>, AllocError>
+        ensures { (m : Marker) → (n : Marker) → self.entry ≡ steps m → other.now ≡ steps n → IfOk result (λ both. both ≡ steps (Both m n)) }
+    {
+        let mut joined = self.steps;
+        joined.extend_from_slice(other.steps.as_slice())?;
+        joined.push(Step::JoinBoth)?;
+        Ok(EnvironmentMarker { steps: joined })
+    }
+
     // Whether the marker holds where its variables are as found.
     fn holds_in(&self, alloc: Global, found: &[FoundVariable<'_>]) -> Result<bool, AllocError>
         ensures { (m : Marker) → self.now ≡ steps m → IfOk result (λ b. b ≡ true → value (found_environment found.now) m ≡ Some true) }
@@ -200,20 +245,24 @@ impl<'a> EnvironmentMarker<'a> {
         Ok(value.unwrap_or(false))
     }
 
+    #[tactic(auto, using(crate::proofs::FoundEnvironments::example))]
     // An environment of the box in which the marker holds.
     fn find_in_box(
         &self,
         alloc: Global,
         one: &EnvironmentBox<'a>,
     ) -> Result<Option<Vec<FoundVariable<'a>>>, AllocError>
-        ensures known { IfOk result (λ found. IfSome found (λ v. IsEnvironment (found_environment v.items))) }
-        ensures holds { (m : Marker) → self.now ≡ steps m → IfOk result (λ found. IfSome found (λ v. value (found_environment v.items) m ≡ Some true)) }
+        ensures { (m : Marker) → self.now ≡ steps m → IfOk result (λ found. IfSome found (λ v. IsExample m (map assignment_of v.items))) }
     {
         let found = find_variables(alloc, self.steps.as_slice(), one.conditions())?;
-        let Some(variables) = found else {
+        let Some((mut variables, asked)) = found else {
             return Ok(None);
         };
         if !is_environment(alloc, variables.as_slice())? {
+            return Ok(None);
+        }
+        variables.truncate(asked);
+        if !are_writable(variables.as_slice()) {
             return Ok(None);
         }
         if self.holds_in(alloc, variables.as_slice())? {

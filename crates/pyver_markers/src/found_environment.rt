@@ -1,17 +1,20 @@
 //! Environments in which all conditions are met.
-ghost use Rattle.std.specs.Prelude.{◌≡◌, IfOk, option_map, true};
-ghost use Rattle.pyver_markers.specs.Conditions.{HasPlainRelease, HasVersion, IsEnvironment, is_plain_release};
-ghost use Rattle.pyver_markers.specs.EnvironmentViews.{environment_of, found_environment};
+ghost use Rattle.std.specs.Prelude.{◌≡◌, ◌==◌, IfOk, map, option_map, true};
+ghost use Rattle.std.specs.List.{list_all, list_any};
+ghost use Rattle.pyver_markers.specs.Conditions.{AreLinked, HasPlainRelease, HasPython, HasVersion, IsEnvironment, first_two, is_plain_release, version_of};
+ghost use Rattle.pyver_markers.specs.EnvironmentViews.{assignment_of, environment_of, found_environment};
 ghost use Rattle.pyver_markers.specs.Environments.{Text};
+ghost use Rattle.pyver_markers.specs.Extents.{is_writable};
 
-use crate::condition::Condition;
 use crate::environment::{Setting, Variable};
+use crate::environment_box::Condition;
 use crate::marker_comparison::is_version_variable;
 use crate::text_condition::{Operand, find_operand, is_met_at};
-use crate::version::ascii_version;
-use crate::version_condition::variable_set;
+use crate::version::{ascii_version, find_specifier};
+use crate::version_condition::{specifier_set, variable_set};
 use pep440_rs::Version;
-use pyver_requirements::{Side, Step};
+use pep440_sets::VersionSet;
+use pyver_requirements::{MarkerOperator, Side, Step};
 use std::alloc::{AllocError, Global};
 
 /// A variable of an environment, and what it is there.
@@ -28,21 +31,13 @@ const VERSIONS: [&str; 3] = [
     "implementation_version",
 ];
 
-// What variables are by preference.
-const USUAL: [(&str, &str); 27] = [
-    ("python_version", "3.13"),
-    ("python_version", "3.12"),
-    ("python_version", "3.11"),
-    ("python_version", "3.10"),
-    ("python_version", "3.9"),
-    ("python_version", "3.8"),
-    ("python_version", "3.7"),
-    ("python_version", "3.6"),
-    ("python_version", "2.7"),
-    ("python_version", "0.1"),
-    ("python_full_version", "3.13.0"),
-    ("python_full_version", "3.8.1"),
-    ("python_full_version", "2.7.18"),
+// What `python_version` is by preference.
+const PYTHONS: [&str; 10] = [
+    "3.13", "3.12", "3.11", "3.10", "3.9", "3.8", "3.7", "3.6", "2.7", "0.1",
+];
+
+// What other variables are by preference.
+const USUAL: [(&str, &str); 14] = [
     ("implementation_version", "3.13.0"),
     ("os_name", "posix"),
     ("os_name", "nt"),
@@ -59,11 +54,23 @@ const USUAL: [(&str, &str); 27] = [
     ("implementation_name", "pypy"),
 ];
 
+// What the versions of Python are, of two numbers and of all.
+#[derive(Drop)]
+struct PythonVersions {
+    short: Vec<u8>,
+    full: Vec<u8>,
+}
+
 // Whether the version has no pre-release, post-release or dev part.
 fn is_plain_release(version: &Version) -> bool
     ensures { result ≡ is_plain_release version.now }
 {
     !(version.any_prerelease() || version.is_post())
+}
+
+// Whether it is a version of two numbers and no other part.
+fn has_two_numbers(version: &Version) -> bool {
+    is_plain_release(version) && version.release().len() == 2
 }
 
 // Whether the variable may be this string.
@@ -72,7 +79,7 @@ fn may_be(alloc: Global, name: &[u8], text: &[u8]) -> Result<bool, AllocError> {
         return Ok(true);
     }
     match ascii_version(alloc, text)? {
-        Some(version) => Ok(name != "python_version".as_bytes() || is_plain_release(&version)),
+        Some(version) => Ok(name != "python_version".as_bytes() || has_two_numbers(&version)),
         None => Ok(false),
     }
 }
@@ -109,6 +116,23 @@ fn find_usual(
     Ok(None)
 }
 
+// A version of the set that all conditions allow.
+fn find_in_set(
+    alloc: Global,
+    name: &[u8],
+    set: &VersionSet,
+    conditions: &[Condition<'_>],
+) -> Result<Option<Vec<u8>>, AllocError> {
+    let Some(version) = set.find_version(alloc)? else {
+        return Ok(None);
+    };
+    let text = Vec::from_slice(alloc, version.to_string(alloc)?.as_bytes())?;
+    if suits(alloc, name, text.as_slice(), conditions)? {
+        return Ok(Some(text));
+    }
+    Ok(None)
+}
+
 // A version that all conditions allow.
 fn find_version(
     alloc: Global,
@@ -119,14 +143,7 @@ fn find_version(
         return Ok(None);
     }
     let set = variable_set(alloc, name, conditions)?;
-    let Some(version) = set.find_version(alloc)? else {
-        return Ok(None);
-    };
-    let text = Vec::from_slice(alloc, version.to_string(alloc)?.as_bytes())?;
-    if suits(alloc, name, text.as_slice(), conditions)? {
-        return Ok(Some(text));
-    }
-    Ok(None)
+    find_in_set(alloc, name, &set, conditions)
 }
 
 // The string, or a word of it.
@@ -207,6 +224,210 @@ fn find_text(
     Ok(found)
 }
 
+// The string without `.*` at its end.
+fn without_star(text: &[u8]) -> &[u8] {
+    match text {
+        [start @ .., b'.', b'*'] => start,
+        _ => text,
+    }
+}
+
+// The third number of a release.
+fn third(release: &[u64]) -> u64 {
+    match release {
+        [_, _, third, ..] => *third,
+        _ => 0,
+    }
+}
+
+// The version of two numbers with this one more, if all conditions are met there.
+fn find_with_third(
+    alloc: Global,
+    short: &[u8],
+    third: u64,
+    conditions: &[Condition<'_>],
+) -> Result<Option<Vec<u8>>, AllocError> {
+    let mut text = Vec::from_slice(alloc, short)?;
+    text.push(b'.')?;
+    text.extend_from_slice(third.to_string(alloc)?.as_bytes())?;
+    if suits(
+        alloc,
+        "python_full_version".as_bytes(),
+        text.as_slice(),
+        conditions,
+    )? {
+        return Ok(Some(text));
+    }
+    Ok(None)
+}
+
+// The version of three numbers, within that of two, near those that are named in the string.
+fn find_third(
+    alloc: Global,
+    short: &[u8],
+    text: &[u8],
+    conditions: &[Condition<'_>],
+) -> Result<Option<Vec<u8>>, AllocError> {
+    for word in text.split(|byte| *byte == b' ' || *byte == b',') {
+        let Some(version) = ascii_version(alloc, without_star(word))? else {
+            continue;
+        };
+        let last = third(version.release());
+        for near in [last, last.saturating_add(1), last.saturating_sub(1)] {
+            let found = find_with_third(alloc, short, near, conditions)?;
+            if found.is_some() {
+                return Ok(found);
+            }
+        }
+    }
+    Ok(None)
+}
+
+// The version of three numbers, within that of two.
+fn find_release(
+    alloc: Global,
+    short: &[u8],
+    conditions: &[Condition<'_>],
+) -> Result<Option<Vec<u8>>, AllocError> {
+    let mut found = find_with_third(alloc, short, 0, conditions)?;
+    for condition in conditions {
+        if found.is_some() {
+            return Ok(found);
+        }
+        if let Some(Operand::Right(text) | Operand::Left(text)) = find_operand(
+            "python_full_version".as_bytes(),
+            condition,
+        ) {
+            found = find_third(alloc, short, text, conditions)?;
+        }
+    }
+    Ok(found)
+}
+
+// A version that all conditions allow, within that of two numbers.
+fn find_within(
+    alloc: Global,
+    short: &[u8],
+    conditions: &[Condition<'_>],
+) -> Result<Option<Vec<u8>>, AllocError> {
+    let name = "python_full_version".as_bytes();
+    if !is_version_variable(name) {
+        return Ok(None);
+    }
+    let mut pattern = Vec::from_slice(alloc, short)?;
+    pattern.extend_from_slice(b".*")?;
+    let Some(within) = find_specifier(alloc, MarkerOperator::Equal, pattern.as_slice())? else {
+        return Ok(None);
+    };
+    let Some(versions) = specifier_set(alloc, within)? else {
+        return Ok(None);
+    };
+    let set = variable_set(alloc, name, conditions)?.intersection(alloc, &versions)?;
+    find_in_set(alloc, name, &set, conditions)
+}
+
+// The version of all numbers, within that of two.
+fn find_full_version(
+    alloc: Global,
+    short: &[u8],
+    conditions: &[Condition<'_>],
+) -> Result<Option<Vec<u8>>, AllocError> {
+    let found = find_release(alloc, short, conditions)?;
+    if found.is_some() {
+        return Ok(found);
+    }
+    find_within(alloc, short, conditions)
+}
+
+// The versions of Python, of which this is that of two numbers.
+fn find_at(
+    alloc: Global,
+    short: &[u8],
+    conditions: &[Condition<'_>],
+) -> Result<Option<PythonVersions>, AllocError> {
+    if !suits(alloc, "python_version".as_bytes(), short, conditions)? {
+        return Ok(None);
+    }
+    let Some(full) = find_full_version(alloc, short, conditions)? else {
+        return Ok(None);
+    };
+    let short = Vec::from_slice(alloc, short)?;
+    Ok(Some(PythonVersions { short, full }))
+}
+
+// The first two numbers of a release.
+fn first_two(release: &[u64]) -> (u64, u64) {
+    match release {
+        [] => (0, 0),
+        [major] => (*major, 0),
+        [major, minor, ..] => (*major, *minor),
+    }
+}
+
+// The versions of Python near this one.
+fn find_near(
+    alloc: Global,
+    version: &Version,
+    conditions: &[Condition<'_>],
+) -> Result<Option<PythonVersions>, AllocError> {
+    let (major, minor) = first_two(version.release());
+    let near = [
+        (major, minor),
+        (major, minor.saturating_add(1)),
+        (major, minor.saturating_sub(1)),
+        (major.saturating_add(1), 0),
+    ];
+    for (major, minor) in near {
+        let short = format!(in alloc; "{major}.{minor}")?;
+        let found = find_at(alloc, short.as_bytes(), conditions)?;
+        if found.is_some() {
+            return Ok(found);
+        }
+    }
+    Ok(None)
+}
+
+// The versions of Python near those that are named in the string.
+fn find_near_any(
+    alloc: Global,
+    text: &[u8],
+    conditions: &[Condition<'_>],
+) -> Result<Option<PythonVersions>, AllocError> {
+    for word in text.split(|byte| *byte == b' ' || *byte == b',') {
+        if let Some(version) = ascii_version(alloc, without_star(word))? {
+            let found = find_near(alloc, &version, conditions)?;
+            if found.is_some() {
+                return Ok(found);
+            }
+        }
+    }
+    Ok(None)
+}
+
+// The versions of Python where all conditions are met.
+fn find_python(
+    alloc: Global,
+    conditions: &[Condition<'_>],
+) -> Result<Option<PythonVersions>, AllocError> {
+    for short in PYTHONS {
+        let found = find_at(alloc, short.as_bytes(), conditions)?;
+        if found.is_some() {
+            return Ok(found);
+        }
+    }
+    for condition in conditions {
+        if let (Side::Variable(_), Side::Constant(text))
+        | (Side::Constant(text), Side::Variable(_)) = (condition.left, condition.right)
+        {
+            let found = find_near_any(alloc, text, conditions)?;
+            if found.is_some() {
+                return Ok(found);
+            }
+        }
+    }
+    Ok(None)
+}
+
 // The variable of a step.
 fn step_variable<'a>(step: Step<'a>) -> Option<&'a [u8]> {
     match step {
@@ -220,87 +441,207 @@ fn has_variable(variables: &[FoundVariable<'_>], name: &[u8]) -> bool {
     variables.iter().any(|variable| variable.name == name)
 }
 
+// What the variable is, with these versions of Python.
+fn find_value(
+    alloc: Global,
+    name: &[u8],
+    conditions: &[Condition<'_>],
+    python: &PythonVersions,
+) -> Result<Option<Vec<u8>>, AllocError> {
+    if name == "python_version".as_bytes() {
+        return Ok(Some(Vec::from_slice(alloc, python.short.as_slice())?));
+    }
+    if name == "python_full_version".as_bytes() {
+        return Ok(Some(Vec::from_slice(alloc, python.full.as_slice())?));
+    }
+    find_text(alloc, name, conditions)
+}
+
 // Adds the variable, unless it is there. Whether it can be something where all conditions are met.
 fn add_variable<'a>(
     alloc: Global,
     name: &'a [u8],
     conditions: &[Condition<'a>],
+    python: &PythonVersions,
     variables: &mut Vec<FoundVariable<'a>>,
 ) -> Result<bool, AllocError> {
     if has_variable(variables.as_slice(), name) {
         return Ok(true);
     }
-    let Some(text) = find_text(alloc, name, conditions)? else {
+    let Some(text) = find_value(alloc, name, conditions, python)? else {
         return Ok(false);
     };
     variables.push(FoundVariable { name, text })?;
     Ok(true)
 }
 
-// What the variables of these steps, and those that each environment has, are where all conditions are met.
+// What the variables of these steps are where all conditions are met, and behind them those that each environment has; and how many are of
+// the steps.
 pub(crate) fn find_variables<'a>(
     alloc: Global,
     steps: &[Step<'a>],
     conditions: &[Condition<'a>],
-) -> Result<Option<Vec<FoundVariable<'a>>>, AllocError> {
+) -> Result<Option<(Vec<FoundVariable<'a>>, usize)>, AllocError> {
+    let Some(python) = find_python(alloc, conditions)? else {
+        return Ok(None);
+    };
     let mut variables = Vec::new(alloc);
     for step in steps {
         let Some(name) = step_variable(*step) else {
             continue;
         };
-        if !add_variable(alloc, name, conditions, &mut variables)? {
+        if !add_variable(alloc, name, conditions, &python, &mut variables)? {
             return Ok(None);
         }
     }
+    let asked = variables.len();
     for name in VERSIONS {
-        if !add_variable(alloc, name.as_bytes(), conditions, &mut variables)? {
+        if !add_variable(alloc, name.as_bytes(), conditions, &python, &mut variables)? {
             return Ok(None);
         }
     }
-    Ok(Some(variables))
+    Ok(Some((variables, asked)))
 }
 
 fn find_by_name<'b>(found: &'b [FoundVariable<'_>], name: &[u8]) -> Option<&'b [u8]>
     ensures { option_map (λ text. Text text.now) result ≡ found_environment found.now name.now }
 {
-    let variable = found.iter().find(|variable| variable.name == name)?;
-    Some(variable.text.as_slice())
+    let mut rest = found;
+    while let [variable, later @ ..] = rest {
+        if variable.name == name {
+            return Some(variable.text.as_slice());
+        }
+        rest = later;
+    }
+    None
 }
 
+// The version that the variable is.
+fn version_by_name(
+    alloc: Global,
+    found: &[FoundVariable<'_>],
+    name: &[u8],
+) -> Result<Option<Version>, AllocError>
+    ensures { IfOk result (λ v. v ≡ version_of (found_environment found.now) name.now) }
+{
+    match find_by_name(found, name) {
+        Some(text) => ascii_version(alloc, text),
+        None => Ok(None),
+    }
+}
+
+#[tactic(auto, using(crate::proofs::FoundEnvironments::version_there))]
 fn has_version(alloc: Global, found: &[FoundVariable<'_>], name: &[u8]) -> Result<bool, AllocError>
     ensures { IfOk result (λ b. b ≡ true → HasVersion (found_environment found.now) name.now) }
 {
-    let Some(text) = find_by_name(found, name) else {
-        return Ok(false);
-    };
-    let version = ascii_version(alloc, text)?;
+    let version = version_by_name(alloc, found, name)?;
     Ok(version.is_some())
 }
 
+#[tactic(auto, using(crate::proofs::FoundEnvironments::release_there))]
 fn has_release(alloc: Global, found: &[FoundVariable<'_>], name: &[u8]) -> Result<bool, AllocError>
     ensures { IfOk result (λ b. b ≡ true → HasPlainRelease (found_environment found.now) name.now) }
 {
-    let Some(text) = find_by_name(found, name) else {
-        return Ok(false);
-    };
-    match ascii_version(alloc, text)? {
+    match version_by_name(alloc, found, name)? {
         Some(version) => Ok(is_plain_release(&version)),
         None => Ok(false),
     }
 }
 
-// Whether the versions of Python and of its implementation are versions.
+// Whether the release is the first two numbers of the other.
+fn is_first_two(short: &[u64], release: &[u64]) -> bool
+    ensures { result ≡ true → short.now ≡ first_two release.now }
+{
+    match (short, release) {
+        ([a, b], [c, d, ..]) => a == c && b == d,
+        ([a, b], [c]) => a == c && *b == 0,
+        ([a, b], []) => *a == 0 && *b == 0,
+        _ => false,
+    }
+}
+
+#[tactic(auto, using(crate::proofs::FoundEnvironments::linked))]
+// Whether one variable is the first two numbers of the other.
+fn are_linked(
+    alloc: Global,
+    found: &[FoundVariable<'_>],
+    short: &[u8],
+    full: &[u8],
+) -> Result<bool, AllocError>
+    ensures { IfOk result (λ b. b ≡ true → AreLinked (found_environment found.now) short.now full.now) }
+{
+    let Some(one) = version_by_name(alloc, found, short)? else {
+        return Ok(false);
+    };
+    let Some(other) = version_by_name(alloc, found, full)? else {
+        return Ok(false);
+    };
+    Ok(is_first_two(one.release(), other.release()))
+}
+
+// Whether the versions of Python are versions, one within the other.
+fn has_python(alloc: Global, found: &[FoundVariable<'_>]) -> Result<bool, AllocError>
+    ensures { IfOk result (λ b. b ≡ true → HasPython (found_environment found.now)) }
+{
+    let short = "python_version".as_bytes();
+    let full = "python_full_version".as_bytes();
+    if !has_release(alloc, found, short)? {
+        return Ok(false);
+    }
+    if !has_version(alloc, found, full)? {
+        return Ok(false);
+    }
+    let last = are_linked(alloc, found, short, full)?;
+    Ok(last)
+}
+
+// Whether the variables that each environment has are as they have to be, and no names are a string.
 pub(crate) fn is_environment(alloc: Global, found: &[FoundVariable<'_>]) -> Result<bool, AllocError>
     ensures { IfOk result (λ b. b ≡ true → IsEnvironment (found_environment found.now)) }
 {
-    if !has_release(alloc, found, "python_version".as_bytes())? {
+    if find_by_name(found, "extras".as_bytes()).is_some() {
         return Ok(false);
     }
-    if !has_version(alloc, found, "python_full_version".as_bytes())? {
+    if find_by_name(found, "dependency_groups".as_bytes()).is_some() {
+        return Ok(false);
+    }
+    if !has_python(alloc, found)? {
         return Ok(false);
     }
     let last = has_version(alloc, found, "implementation_version".as_bytes())?;
     Ok(last)
+}
+
+fn has_byte(text: &[u8], wanted: u8) -> bool
+    ensures { result ≡ list_any (λ b. b == wanted) text.now }
+{
+    text.iter().any(|byte| *byte == wanted)
+}
+
+fn is_writable(text: &[u8]) -> bool
+    ensures { result ≡ is_writable text.now }
+{
+    if has_byte(text, b'\\') {
+        return false;
+    }
+    if has_byte(text, b'"') {
+        return !has_byte(text, b'\'');
+    }
+    true
+}
+
+// Whether markers can name all the strings.
+pub(crate) fn are_writable(found: &[FoundVariable<'_>]) -> bool
+    ensures { result ≡ list_all (λ v. is_writable v.text) (map assignment_of found.now) }
+{
+    let mut rest = found;
+    while let [variable, later @ ..] = rest {
+        if !is_writable(variable.text.as_slice()) {
+            return false;
+        }
+        rest = later;
+    }
+    true
 }
 
 // The variables as they are evaluated.

@@ -1,16 +1,14 @@
 //! Environment markers in environments, and as sets of them.
 //!
-//! In the order in which to read it: `environment`, what variables are; `text`, `version` and `extra_name`, how two strings compare; `marker_comparison`;
-//! `condition` and `environment_box`, sets of environments, with `emptiness`, by `text_condition`, `version_condition` and `release_condition`; `marker_boxes`, from steps;
+//! In the order in which to read it: `environment`, what variables are; `text` and `version`, how two strings compare; `marker_comparison`;
+//! `environment_box`, sets of environments, with `emptiness`, by `text_condition`, `version_condition` and `release_condition`; `marker_boxes`, from steps;
 //! `found_environment`; `environment_marker`, which reads markers and asks all this.
 #![tactic(auto)]
 
-mod condition;
 mod emptiness;
 mod environment;
 mod environment_box;
 mod environment_marker;
-mod extra_name;
 mod found_environment;
 mod marker_boxes;
 mod marker_comparison;
@@ -20,8 +18,7 @@ mod text_condition;
 mod version;
 mod version_condition;
 
-pub use condition::Condition;
 pub use environment::{Setting, Variable};
-pub use environment_box::EnvironmentBox;
-pub use environment_marker::EnvironmentMarker;
+pub use environment_box::{Condition, EnvironmentBox};
+pub use environment_marker::{EnvironmentMarker, MarkerExtent};
 pub use found_environment::FoundVariable;

@@ -7,8 +7,7 @@ ghost use Rattle.pyver_markers.specs.EnvironmentViews.{environment_of, setting_o
 ghost use Rattle.pyver_requirements.specs.MarkerViews.{side_of};
 
 use crate::environment::{Setting, Variable, find_setting};
-use crate::extra_name::normalize_name;
-use crate::text::compare_strings;
+use crate::text::{compare_strings, normalize_name};
 use crate::version::compare_versions;
 use pyver_requirements::{MarkerOperator, Side};
 use std::alloc::{AllocError, Global};

@@ -3,13 +3,13 @@
 ghost use Rattle.std.specs.Prelude.{◌≡◌, IfOk, IfSome, false, map, true};
 ghost use Rattle.pep440_rs.specs.Agreement.{HasNoLocalOrSentinel};
 ghost use Rattle.pep440_rs.specs.Denoted.{IsDenotable, IsDenoted};
-ghost use Rattle.pyver_markers.specs.BoxViews.{condition_of};
+ghost use Rattle.pyver_markers.specs.EnvironmentViews.{condition_of};
 ghost use Rattle.pyver_markers.specs.Boxes.{in_box};
 ghost use Rattle.pyver_markers.specs.Conditions.{HasPlainRelease, HoldsEither, HoldsReleases, KeepsReleases};
 ghost use Rattle.pyver_markers.specs.Environments.{Environment};
 ghost use Rattle.pyver_markers.specs.MarkerComparisons.{is_version_variable};
 
-use crate::condition::Condition;
+use crate::environment_box::Condition;
 use crate::text_condition::{Operand, find_operand};
 use crate::version::find_specifier;
 use crate::version_condition::{specifier_set, variable_set};

@@ -1,12 +1,12 @@
 //! What conditions compare a variable with, and what they ask of a string.
 ghost use Rattle.std.specs.Prelude.{◌≡◌, IfOk, IfSome, false, map, true};
-ghost use Rattle.pyver_markers.specs.BoxViews.{condition_of};
+ghost use Rattle.pyver_markers.specs.EnvironmentViews.{condition_of};
 ghost use Rattle.pyver_markers.specs.Boxes.{in_box, is_met};
 ghost use Rattle.pyver_markers.specs.Conditions.{AnyFailsAt, compare_operand, FailsAt, FixesText, IsOperand, wants_equal};
 ghost use Rattle.pyver_markers.specs.Environments.{Environment};
 ghost use Rattle.pyver_markers.specs.MarkerComparisons.{is_version_variable};
 
-use crate::condition::Condition;
+use crate::environment_box::Condition;
 use crate::marker_comparison::compare_texts;
 use pyver_requirements::{MarkerOperator, Side};
 use std::alloc::{AllocError, Global};

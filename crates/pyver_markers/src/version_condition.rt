@@ -4,13 +4,13 @@ ghost use Rattle.pep440_ranges.specs.RangeSegments.{contains};
 ghost use Rattle.pep440_rs.specs.Denoted.{IsDenotable, IsDenoted};
 ghost use Rattle.pep440_version.specs.Key.{record_cmp};
 ghost use Rattle.pep440_version.specs.Record.{Record};
-ghost use Rattle.pyver_markers.specs.BoxViews.{condition_of};
+ghost use Rattle.pyver_markers.specs.EnvironmentViews.{condition_of};
 ghost use Rattle.pyver_markers.specs.Boxes.{in_box};
 ghost use Rattle.pyver_markers.specs.Conditions.{ComparesAs, HasVersion, HoldsMatchesOf, HoldsMet, HoldsVersionsOf, Narrows};
 ghost use Rattle.pyver_markers.specs.Environments.{Environment};
 ghost use Rattle.pyver_markers.specs.MarkerComparisons.{is_version_variable};
 
-use crate::condition::Condition;
+use crate::environment_box::Condition;
 use crate::text_condition::{Operand, find_operand};
 use crate::version::find_specifier;
 use pep440_rs::VersionSpecifier;

@@ -1,10 +1,58 @@
-//! Markers as sets of environments.
+//! Markers as steps, and as sets of environments.
 use crate::environments::parse_marker;
-use crate::marker_steps::print_comparison;
-use pyver_markers::{Condition, EnvironmentBox, EnvironmentMarker, FoundVariable};
+use pyver_markers::{Condition, EnvironmentBox, EnvironmentMarker, FoundVariable, MarkerExtent};
+use pyver_requirements::{MarkerError, MarkerOperator, Side, Step, parse_steps};
 use std::alloc::Global;
 use std::str;
 use testing::CaseError;
+
+fn side_text(side: Side<'_>) -> Result<&str, CaseError> {
+    match side {
+        Side::Variable(text) | Side::Constant(text) => {
+            str::from_utf8(text).map_err(|_| CaseError::Unreadable)
+        }
+        Side::Invalid(_) => Err(CaseError::Unreadable),
+    }
+}
+
+// The comparison in brackets.
+fn print_comparison(
+    alloc: Global,
+    left: Side<'_>,
+    operator: MarkerOperator,
+    right: Side<'_>,
+) -> Result<String, CaseError> {
+    let (left, right) = (side_text(left)?, side_text(right)?);
+    let symbol = operator.text();
+    Ok(format!(in alloc; "[{left} {symbol} {right}]")?)
+}
+
+fn print_step(alloc: Global, step: Step<'_>) -> Result<String, CaseError> {
+    match step {
+        Step::Compare(left, operator, right) => print_comparison(alloc, left, operator, right),
+        Step::JoinBoth => Ok(String::from_str(alloc, "and")?),
+        Step::JoinEither => Ok(String::from_str(alloc, "or")?),
+    }
+}
+
+/// The steps of the marker, with blanks between them.
+pub fn print_steps(alloc: Global, marker: &str) -> Result<String, CaseError> {
+    let steps = match parse_steps(alloc, marker.as_bytes()) {
+        Ok(steps) => steps,
+        Err(MarkerError::OutOfMemory) => return Err(CaseError::OutOfMemory),
+        Err(MarkerError::Invalid(_, position)) => {
+            return Ok(format!(in alloc; "invalid at {position}")?);
+        }
+    };
+    let mut text = String::new(alloc);
+    for step in steps {
+        if !text.is_empty() {
+            text.push(' ')?;
+        }
+        text.push_str(print_step(alloc, step)?.as_str())?;
+    }
+    Ok(text)
+}
 
 fn parse_wanted(word: &str) -> Result<bool, CaseError> {
     match word {
@@ -60,18 +108,36 @@ fn print_variable(alloc: Global, variable: &FoundVariable<'_>) -> Result<String,
     Ok(format!(in alloc; "{name}={text}")?)
 }
 
-/// An environment in which the marker holds.
-pub fn print_environment(alloc: Global, marker: &str) -> Result<String, CaseError> {
-    let marker = parse_marker(alloc, marker)?;
-    let Some(variables) = marker.find_environment(alloc)? else {
-        return Ok(String::from_str(alloc, "none")?);
-    };
+fn print_variables(alloc: Global, variables: &[FoundVariable<'_>]) -> Result<String, CaseError> {
     let mut text = String::new(alloc);
-    for variable in &variables {
+    for variable in variables {
         if !text.is_empty() {
             text.push(' ')?;
         }
         text.push_str(print_variable(alloc, variable)?.as_str())?;
     }
     Ok(text)
+}
+
+/// What the variables of the marker are in an environment in which it holds.
+pub fn print_environment(alloc: Global, marker: &str) -> Result<String, CaseError> {
+    let marker = parse_marker(alloc, marker)?;
+    match marker.find_environment(alloc)? {
+        Some(variables) => print_variables(alloc, variables.as_slice()),
+        None => Ok(String::from_str(alloc, "none")?),
+    }
+}
+
+/// Where the marker and the others hold.
+pub fn print_extent(alloc: Global, marker: &str, others: &[String]) -> Result<String, CaseError> {
+    let mut all = parse_marker(alloc, marker)?;
+    for other in others {
+        all = all.and(&parse_marker(alloc, other)?)?;
+    }
+    match all.find_extent(alloc)? {
+        MarkerExtent::Nowhere => Ok(String::from_str(alloc, "nowhere")?),
+        MarkerExtent::Always => Ok(String::from_str(alloc, "always")?),
+        MarkerExtent::Somewhere(variables) => print_variables(alloc, variables.as_slice()),
+        MarkerExtent::Undecided => Ok(String::from_str(alloc, "undecided")?),
+    }
 }

@@ -4,11 +4,9 @@
 
 mod boxes;
 mod environments;
-mod marker_steps;
 
-use boxes::{print_boxes, print_environment, print_never};
+use boxes::{print_boxes, print_environment, print_extent, print_never, print_steps};
 use environments::print_value;
-use marker_steps::print_steps;
 use std::alloc::Global;
 use std::io;
 use testing::{Calls, CaseError, run_cases};
@@ -22,6 +20,7 @@ impl Calls for MarkerCalls {
             ("value", [marker, variables @ ..]) => print_value(alloc, marker.as_str(), variables),
             ("boxes", [wanted, marker]) => print_boxes(alloc, wanted.as_str(), marker.as_str()),
             ("never", [wanted, marker]) => print_never(alloc, wanted.as_str(), marker.as_str()),
+            ("extent", [marker, others @ ..]) => print_extent(alloc, marker.as_str(), others),
             ("environment", [marker]) => print_environment(alloc, marker.as_str()),
             _ => Err(CaseError::Unreadable),
         }

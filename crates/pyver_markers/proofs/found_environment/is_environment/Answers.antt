@@ -1,11 +1,10 @@
-use Rattle.std.proofs.Common.{subst}
-use Rattle.pyver_markers.specs.Conditions.{HasPlainRelease, HasVersion}
+use Rattle.std.proofs.Common.{◌∙◌, sym}
+use Rattle.pyver_markers.proofs.FoundEnvironments.{known_there}
 use Rattle.pyver_markers.specs.EnvironmentViews.{found_environment}
 use Rattle.pyver_markers.proofs.found_environment.is_environment.Goals as goal
 
 pub returns : goal.returns
-returns c is = record {
-  python_version = subst (HasPlainRelease (found_environment c.args.found.now)) c.as_bytes.ensures.value (c.in_ok-has_release.ensures c.if-not-branch.false);
-  python_full_version = subst (HasVersion (found_environment c.args.found.now)) c.as_bytes-2.ensures.value (c.in_ok-has_version.ensures c.if-not-branch-2.false);
-  implementation_version = subst (HasVersion (found_environment c.args.found.now)) c.as_bytes-3.ensures.value (c.in_ok-last.ensures is);
-}
+returns c is =
+    known_there _ _ (found_environment c.args.found.now) _ _ _ _ _ c.as_bytes-3.ensures.value c.as_bytes.ensures.value c.as_bytes-2.ensures.value
+    (sym c.is_some.ensures ∙ c.if-is_some.false) c.find_by_name.ensures (sym c.is_some-2.ensures ∙ c.if-is_some-2.false) c.find_by_name-2.ensures
+    (c.in_ok-has_python.ensures c.if-not-branch.false) (c.in_ok-last.ensures is)

@@ -1,6 +1,6 @@
 use Rattle.std.specs.Prelude.{map}
 use Rattle.pyver_markers.proofs.Releases.{no_release}
-use Rattle.pyver_markers.specs.BoxViews.{condition_of}
+use Rattle.pyver_markers.specs.EnvironmentViews.{condition_of}
 use Rattle.pyver_markers.proofs.release_condition.excludes_releases.Goals as goal
 
 pub returns : goal.returns

@@ -1,7 +1,7 @@
 use Rattle.std.proofs.Common.{length}
 use Rattle.std.specs.Prelude.{map}
 use Rattle.pyver_markers.proofs.Texts.{AreLeft}
-use Rattle.pyver_markers.specs.BoxViews.{condition_of}
+use Rattle.pyver_markers.specs.EnvironmentViews.{condition_of}
 use Rattle.pyver_markers.proofs.text_condition.any_fails_at.Given as goal
 
 abbrev pub invariant-loop-rest : goal.invariant-loop-rest

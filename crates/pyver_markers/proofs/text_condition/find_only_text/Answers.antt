@@ -1,6 +1,6 @@
 use Rattle.std.proofs.Common.{◌∙◌, subst, sym}
 use Rattle.pyver_markers.proofs.Texts.{fixes_left, fixes_right}
-use Rattle.pyver_markers.specs.BoxViews.{condition_of}
+use Rattle.pyver_markers.specs.EnvironmentViews.{condition_of}
 use Rattle.pyver_markers.specs.Conditions.{IsOperand}
 use Rattle.pyver_markers.proofs.text_condition.find_only_text.Goals as goal
 

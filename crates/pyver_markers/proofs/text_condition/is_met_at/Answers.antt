@@ -1,6 +1,6 @@
 use Rattle.std.proofs.Common.{◌∙◌, ap, sym}
 use Rattle.pyver_markers.proofs.Texts.{fails_beside}
-use Rattle.pyver_markers.specs.BoxViews.{condition_of}
+use Rattle.pyver_markers.specs.EnvironmentViews.{condition_of}
 use Rattle.pyver_markers.specs.Boxes.{is_met}
 use Rattle.pyver_markers.proofs.text_condition.is_met_at.Goals as goal
 

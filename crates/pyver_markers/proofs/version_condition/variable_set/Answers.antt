@@ -1,6 +1,6 @@
 use Rattle.std.specs.Prelude.{map}
 use Rattle.pyver_markers.proofs.Versions.{is_denoted, one_narrowed}
-use Rattle.pyver_markers.specs.BoxViews.{condition_of}
+use Rattle.pyver_markers.specs.EnvironmentViews.{condition_of}
 use Rattle.pyver_markers.proofs.version_condition.variable_set.Goals as goal
 
 pub loop-rest-init : goal.loop-rest-init
