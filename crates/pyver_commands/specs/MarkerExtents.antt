@@ -14,29 +14,29 @@ use Rattle.pyver_requirements.specs.declared.marker_fault.MarkerFault.TheVariant
 
 -- ---- messages
 
-abbrev pub marker_reason : MarkerFault → List ℕ
-marker_reason fault.MissingOperand = codes "a variable or a string is expected"
-marker_reason fault.UnclosedString = codes "the string has no closing quote"
-marker_reason fault.MissingOperator = codes "an operator is expected"
-marker_reason fault.Backslash = codes "a backslash stands in the string"
-marker_reason fault.NoConnective = codes "'and' or 'or' is expected"
-marker_reason fault.Unclosed = codes "')' is expected"
-marker_reason fault.TooDeep = codes "more than 100 parentheses are open"
+abbrev pub marker_fault_reason : MarkerFault → List ℕ
+marker_fault_reason fault.MissingOperand = codes "a variable or a string is expected"
+marker_fault_reason fault.UnclosedString = codes "the string has no closing quote"
+marker_fault_reason fault.MissingOperator = codes "an operator is expected"
+marker_fault_reason fault.Backslash = codes "a backslash stands in the string"
+marker_fault_reason fault.NoConnective = codes "'and' or 'or' is expected"
+marker_fault_reason fault.Unclosed = codes "')' is expected"
+marker_fault_reason fault.TooDeep = codes "more than 100 parentheses are open"
 
 -- the message of a word that is no marker: from which byte on, counted from 1, and the reason
 abbrev pub marker_message : List ℕ → Misfit → List ℕ
 marker_message word f =
-    codes "pyver: '" ++ (escaped word ++ (codes "' is not a marker: byte " ++ (decimal (suc (min f.position (length word))) ++ (codes ": " ++ (marker_reason f.fault ++ codes "\n")))))
+    codes "pyver: '" ++ (escaped word ++ (codes "' is not a marker: byte " ++ (decimal (suc (min f.position (length word))) ++ (codes ": " ++ (marker_fault_reason f.fault ++ codes "\n")))))
 
 -- ---- environments
 
 -- the string in double quotes, or in single ones if it has a double one
-abbrev pub quoted : List ℕ → List ℕ
-quoted text = if list_any (λ b. b == 34) text then codes "'" ++ (text ++ codes "'") else codes "\"" ++ (text ++ codes "\"")
+abbrev pub quoted_text : List ℕ → List ℕ
+quoted_text text = if list_any (λ b. b == 34) text then codes "'" ++ (text ++ codes "'") else codes "\"" ++ (text ++ codes "\"")
 
 -- the variable is the string, as a marker
 abbrev pub assignment_text : Assignment → List ℕ
-assignment_text v = v.name ++ (codes " == " ++ quoted v.text)
+assignment_text v = v.name ++ (codes " == " ++ quoted_text v.text)
 
 -- all variables are their strings, as a marker
 abbrev pub environment_text : List Assignment → List ℕ

@@ -19,7 +19,7 @@ pub fn common_ranges()
 {}
 
 #[tactic(auto, using(crate::proofs::MarkerExtents::holds_or_not))]
-/// `marker` never says of the same words both that they hold in no environment and where they hold.
+/// `marker` never prints an environment for words for which it also prints `nowhere`.
 pub fn marker_extents()
     ensures { HoldsOrNot }
 {}

@@ -9,7 +9,7 @@ use Rattle.pyver_requirements.specs.MarkerTokens as tokens
 use Rattle.pyver_requirements.specs.MarkerTokens.{Side}
 use Rattle.pyver_requirements.specs.declared.marker_operator.MarkerOperator.{MarkerOperator}
 use Rattle.pyver_markers.proofs.BoxLaws.{first_and_rest, parts_of_both, parts_of_either}
-use Rattle.pyver_markers.specs.Conditions.{AreLinked, HasNoText, HasPlainRelease, HasPython, HasVersion, IsEnvironment, IsNever, first_two, is_plain_release, setting_version, version_of}
+use Rattle.pyver_markers.specs.Conditions.{AreLinked, HasNoText, HasPlainRelease, HasPython, HasVersion, IsEnvironment, IsNever, first_two, is_plain_release, setting_version, variable_version}
 use Rattle.pyver_markers.specs.Environments.{Assignment, Environment, Extends, Names, Setting, Text}
 use Rattle.pyver_markers.specs.EnvironmentViews.{assignment_of, environment_of, found_environment, setting_of}
 use Rattle.pyver_markers.specs.Extents.{IsAlways, IsExample, is_writable}
@@ -87,14 +87,14 @@ version_in None v is = cc
 version_in (Some (Names names)) v is = cc
 version_in (Some (Text text)) v is = (text, refl, is)
 
-pub version_there : (e : Environment) (name : List ℕ) (v : Option Record) → v ≡ version_of e name → is_some v ≡ true → HasVersion e name
+pub version_there : (e : Environment) (name : List ℕ) (v : Option Record) → v ≡ variable_version e name → is_some v ≡ true → HasVersion e name
 version_there e name None reads some = absurd (true≢false (sym some))
 version_there e name (Some v) reads some = let (text, has, is) = version_in (e name) v (sym reads) in (text, v, has, is)
 
-pub release_there : (e : Environment) (name : List ℕ) (v : Record) → Some v ≡ version_of e name → is_plain_release v ≡ true → HasPlainRelease e name
+pub release_there : (e : Environment) (name : List ℕ) (v : Record) → Some v ≡ variable_version e name → is_plain_release v ≡ true → HasPlainRelease e name
 release_there e name v reads plain = let (text, has, is) = version_in (e name) v (sym reads) in (text, v, has, is, plain)
 
-pub linked : (e : Environment) (short full : List ℕ) (one other : Record) → Some one ≡ version_of e short → Some other ≡ version_of e full
+pub linked : (e : Environment) (short full : List ℕ) (one other : Record) → Some one ≡ variable_version e short → Some other ≡ variable_version e full
     → one.release ≡ first_two other.release → AreLinked e short full
 linked e short full one other is so same v w reads also =
     let first : one ≡ v = cc (is, reads) in

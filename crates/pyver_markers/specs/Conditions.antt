@@ -44,12 +44,12 @@ abbrev pub setting_version : Option Setting → Option Record
 setting_version (Some (Text text)) = ascii_version text
 setting_version _ = None
 
-abbrev pub version_of : Environment → List ℕ → Option Record
-version_of e name = setting_version (e name)
+abbrev pub variable_version : Environment → List ℕ → Option Record
+variable_version e name = setting_version (e name)
 
 -- one variable is the first two numbers of the other, where both are versions
 abbrev pub AreLinked : Environment → List ℕ → List ℕ → Type 0
-AreLinked e short full = (v w : Record) → version_of e short ≡ Some v → version_of e full ≡ Some w → v.release ≡ first_two w.release
+AreLinked e short full = (v w : Record) → variable_version e short ≡ Some v → variable_version e full ≡ Some w → v.release ≡ first_two w.release
 
 -- the versions of Python: the first two numbers, and all
 pub record HasPython (e : Environment) : Type 0 where

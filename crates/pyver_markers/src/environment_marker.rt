@@ -1,4 +1,4 @@
-//! Environment markers, their values, and where they hold.
+//! Environment markers, their values, and the environments in which they hold.
 ghost use Rattle.std.specs.Prelude.{◌≡◌, [], IfErr, IfOk, IfSome, map, true};
 ghost use Rattle.pyver_markers.specs.Boxes.{HasValueInBoxes, boxes};
 ghost use Rattle.pyver_markers.specs.Conditions.{IsNever};
@@ -24,7 +24,7 @@ use std::alloc::{AllocError, Global};
 use std::collections::VecDeque;
 use std::marker::Model;
 
-/// Where a marker holds, as far as it is known.
+/// The environments in which a marker holds, as far as they are known.
 #[derive(Drop)]
 pub enum MarkerExtent<'a> {
     /// In no environment.
@@ -206,7 +206,7 @@ impl<'a> EnvironmentMarker<'a> {
     }
 
     #[tactic(auto, using(crate::proofs::FoundEnvironments::always))]
-    /// Where the marker holds, as far as it is known: in no environment, in some and false in none, or where its variables are as found.
+    /// The environments in which the marker holds, as far as they are known: none, some while it is false in none, or those with the variables found.
     ///
     /// Allocates.
     pub fn find_extent(&self, alloc: Global) -> Result<MarkerExtent<'a>, AllocError>
@@ -224,7 +224,7 @@ impl<'a> EnvironmentMarker<'a> {
         Ok(MarkerExtent::Somewhere(variables))
     }
 
-    /// The marker that holds where both do.
+    /// The marker that holds if both do.
     ///
     /// Allocates.
     pub fn and(self, other: &EnvironmentMarker<'a>) -> Result<EnvironmentMarker<'a>, AllocError>

@@ -1,7 +1,7 @@
 //! Environments in which all conditions are met.
 ghost use Rattle.std.specs.Prelude.{◌≡◌, ◌==◌, IfOk, map, option_map, true};
 ghost use Rattle.std.specs.List.{list_all, list_any};
-ghost use Rattle.pyver_markers.specs.Conditions.{AreLinked, HasPlainRelease, HasPython, HasVersion, IsEnvironment, first_two, is_plain_release, version_of};
+ghost use Rattle.pyver_markers.specs.Conditions.{AreLinked, HasPlainRelease, HasPython, HasVersion, IsEnvironment, first_two, is_plain_release, variable_version};
 ghost use Rattle.pyver_markers.specs.EnvironmentViews.{assignment_of, environment_of, found_environment};
 ghost use Rattle.pyver_markers.specs.Environments.{Text};
 ghost use Rattle.pyver_markers.specs.Extents.{is_writable};
@@ -522,7 +522,7 @@ fn version_by_name(
     found: &[FoundVariable<'_>],
     name: &[u8],
 ) -> Result<Option<Version>, AllocError>
-    ensures { IfOk result (λ v. v ≡ version_of (found_environment found.now) name.now) }
+    ensures { IfOk result (λ v. v ≡ variable_version (found_environment found.now) name.now) }
 {
     match find_by_name(found, name) {
         Some(text) => ascii_version(alloc, text),

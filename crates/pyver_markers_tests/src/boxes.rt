@@ -128,7 +128,7 @@ pub fn print_environment(alloc: Global, marker: &str) -> Result<String, CaseErro
     }
 }
 
-/// Where the marker and the others hold.
+/// Environments in which the marker and the others hold.
 pub fn print_extent(alloc: Global, marker: &str, others: &[String]) -> Result<String, CaseError> {
     let mut all = parse_marker(alloc, marker)?;
     for other in others {

@@ -2,7 +2,7 @@
 ghost use Rattle.std.specs.Prelude.{◌≡◌, ◌≤◌, ◌==◌, ◌++◌, ℕ, List, [], IfOk, None, Some, codes, map, option_map};
 ghost use Rattle.std.specs.List.{flat_map, list_any};
 ghost use Rattle.pyver_commands.specs.AnswerViews.{outcome_of};
-ghost use Rattle.pyver_commands.specs.MarkerExtents.{FindsExtent, HasSteps, PrintsSteps, assignment_text, environment_text, extent_outcome, marker_message, marker_reason, quoted};
+ghost use Rattle.pyver_commands.specs.MarkerExtents.{FindsExtent, HasSteps, PrintsSteps, assignment_text, environment_text, extent_outcome, marker_message, marker_fault_reason, quoted_text};
 ghost use Rattle.pyver_commands.specs.Outcomes.{message_outcome};
 ghost use Rattle.pyver_markers.specs.EnvironmentViews.{assignment_of, extent_of};
 ghost use Rattle.pyver_markers.specs.Extents.{Somewhere, Undecided};
@@ -15,8 +15,8 @@ use pyver_markers::{EnvironmentMarker, FoundVariable, MarkerExtent};
 use pyver_requirements::{MarkerError, MarkerFault};
 use std::alloc::{AllocError, Global};
 
-fn marker_reason(fault: MarkerFault) -> &'static str
-    ensures { result.now ≡ marker_reason fault }
+fn marker_fault_reason(fault: MarkerFault) -> &'static str
+    ensures { result.now ≡ marker_fault_reason fault }
 {
     match fault {
         MarkerFault::MissingOperand => "a variable or a string is expected",
@@ -44,7 +44,7 @@ fn push_marker_message(
     errors.extend_from_slice(b"' is not a marker: byte ")?;
     errors.extend_from_slice(byte.to_string(alloc)?.as_bytes())?;
     errors.extend_from_slice(b": ")?;
-    errors.extend_from_slice(marker_reason(fault).as_bytes())?;
+    errors.extend_from_slice(marker_fault_reason(fault).as_bytes())?;
     errors.push(b'\n')?;
     Ok(())
 }
@@ -70,7 +70,7 @@ fn has_double_quote(text: &[u8]) -> bool
 }
 
 fn push_quoted(output: &mut Vec<u8>, text: &[u8]) -> Result<(), AllocError>
-    ensures { IfOk result (λ _. output.new.items ≡ output.old.items ++ quoted text.now) }
+    ensures { IfOk result (λ _. output.new.items ≡ output.old.items ++ quoted_text text.now) }
 {
     let quote = if has_double_quote(text) { b'\'' } else { b'"' };
     output.push(quote)?;
