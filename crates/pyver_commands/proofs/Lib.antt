@@ -7,7 +7,6 @@ pub mod Sorting
 pub mod Choosing
 pub mod NewestAnswers
 pub mod CommonRanges
-pub mod MarkerExtents
 pub mod Bumping
 pub mod Releases
 pub mod Outputs

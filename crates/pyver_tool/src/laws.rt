@@ -2,7 +2,7 @@
 ghost use Rattle.pyver_tool.specs.CheckLaws.{ChecksOnce};
 ghost use Rattle.pyver_tool.specs.OneOutcome.{OutcomesOnce};
 
-/// Of what is asked for there is at most one outcome; `marker` may have many.
+/// Of what is asked for there is at most one outcome.
 pub fn outcomes_once()
     ensures { OutcomesOnce }
 {}
