@@ -76,15 +76,19 @@ examples:
 
 const COMPARE_HELP: &str = "usage: pyver compare A OP B
 
-Prints nothing: the exit status is 0 if the comparison holds, and 1 if it does not.
-OP is lt, le, eq, ne, ge or gt, or <, <=, ==, !=, >= or > in quotes. Local parts count.
-
 examples:
   pyver compare 1.9 lt 1.10 && echo older
   pyver compare 1.0 '==' v1.0.0
+
+Prints nothing: the exit status is 0 if the comparison holds, and 1 if it does not.
+OP is lt, le, eq, ne, ge or gt, or <, <=, ==, !=, >= or > in quotes. Local parts count.
 ";
 
 const MATCH_HELP: &str = "usage: pyver match [-q] [--pre | --no-pre] SPECS V..
+
+examples:
+  pyver match '>=1.16,<2.0' 1.19 2.0
+  pyver match -q --pre '>=2.0rc1' 2.0rc2 && echo allowed
 
 Prints 'yes' or 'no', a tab and the version, a line for each. The exit status is 0 if all are
 allowed, 1 if one is not, and 2 if one is not a version. '' allows any version.
@@ -95,14 +99,15 @@ options:
   --pre        allow pre-releases and dev releases too
   --no-pre     allow none of them
   --           end of options
-
-examples:
-  pyver match '>=1.16,<2.0' 1.19 2.0
-  pyver match -q --pre '>=2.0rc1' 2.0rc2 && echo allowed
 ";
 
 const FILTER_HELP: &str =
     "usage: pyver filter [-v] [--pre | --no-pre] [-k N] [-d C] [--header] [--invalid HOW] SPECS [FILE..]
+
+examples:
+  pyver filter '>=1.0,<2.0,!=1.5.*' versions.txt more.txt
+  git tag | pyver filter --pre --invalid skip ''
+  pyver filter -d , -k 2 --header '>=1.0' < packages.csv
 
 Prints the lines of the files whose version the specifiers allow, as they were written and as they
 come. '-' and no file mean standard input. '' allows any version. Blank lines, a byte
@@ -124,15 +129,15 @@ options:
   --header            the first line of a file is a header; print only the first one
   --invalid HOW       what to do with invalid lines
   --                  end of options
-
-examples:
-  pyver filter '>=1.0,<2.0,!=1.5.*' versions.txt more.txt
-  git tag | pyver filter --pre --invalid skip ''
-  pyver filter -d , -k 2 --header '>=1.0' < packages.csv
 ";
 
 const SORT_HELP: &str =
     "usage: pyver sort [-r] [-u] [-n K] [-k N] [-d C] [--header] [--invalid HOW] [FILE..]
+
+examples:
+  pyver sort -r versions.txt more.txt
+  git tag | pyver sort -u -n 3 --invalid skip
+  pyver sort -d , -k 2 --header < packages.csv
 
 Prints the lines of the files in the order of their versions, as they were written; lines of equal
 versions, as 1.0 and v1.0.0, keep their order, with -r too. '-' and no file mean standard input.
@@ -153,15 +158,15 @@ options:
   --header           the first line of a file is a header; print only the first one
   --invalid HOW      what to do with invalid lines
   --                 end of options
-
-examples:
-  pyver sort -r versions.txt more.txt
-  git tag | pyver sort -u -n 3 --invalid skip
-  pyver sort -d , -k 2 --header < packages.csv
 ";
 
 const NEWEST_HELP: &str =
     "usage: pyver newest [--pre | --no-pre] [-k N] [-d C] [--header] [--invalid HOW] SPECS [FILE..]
+
+examples:
+  pyver newest '<2.0' versions.txt more.txt
+  git tag | pyver newest --invalid skip ''
+  pyver newest -d , -k 2 --header --pre '>=1.0' < packages.csv
 
 Prints the line with the newest version that the specifiers allow, as it was written, and the first
 of lines with equal versions. '-' and no file mean standard input. '' allows any version. If none is
@@ -183,14 +188,14 @@ options:
   --header           leave out the first line of each file
   --invalid HOW      what to do with invalid lines
   --                 end of options
-
-examples:
-  pyver newest '<2.0' versions.txt more.txt
-  git tag | pyver newest --invalid skip ''
-  pyver newest -d , -k 2 --header --pre '>=1.0' < packages.csv
 ";
 
 const SHOW_HELP: &str = "usage: pyver show [--part PART | --json] V..
+
+examples:
+  pyver show v1.0-RC.1
+  pyver show --part minor 1.19.2
+  pyver show --json 1.0rc1 2.0+local.1
 
 Prints the normal form of each version, or what the option asks for, a line for each. The exit
 status is 0, or 2 if one is not a version: it is reported, and the others are printed.
@@ -202,14 +207,15 @@ options:
   --part PART  print only this part
   --json       print all parts as a JSON object, numbers above 2^53 as strings
   --           end of options
-
-examples:
-  pyver show v1.0-RC.1
-  pyver show --part minor 1.19.2
-  pyver show --json 1.0rc1 2.0+local.1
 ";
 
 const BUMP_HELP: &str = "usage: pyver bump [--to N] PART.. [V]
+
+examples:
+  pyver bump minor 1.2.3
+  pyver bump minor alpha 1.2.3
+  pyver bump --to 7 rc 2.0rc3
+  git describe --tags --abbrev=0 | pyver bump patch
 
 Prints the version with its parts raised, one after another. Without V, the version is the one line
 of standard input that is not blank. The result must be greater: otherwise the reason is reported
@@ -226,15 +232,13 @@ PART is major, minor, patch, stable, alpha, beta, rc, post or dev.
 options:
   --to N  set the number of the last part
   --      end of options
-
-examples:
-  pyver bump minor 1.2.3
-  pyver bump minor alpha 1.2.3
-  pyver bump --to 7 rc 2.0rc3
-  git describe --tags --abbrev=0 | pyver bump patch
 ";
 
 const RANGE_HELP: &str = "usage: pyver range [--json] SPECS..
+
+examples:
+  pyver range '>=1,<2' '>=1.5'
+  pyver range '>=1.16,!=1.18' '<2' '~=1.17'
 
 Prints the versions that all lists allow, a line for each interval of their order: [1.0, 2.0.dev0)
 begins with 1.0, and ends before the first developmental release of 2.0. An interval begins with (
@@ -249,14 +253,19 @@ printed. If no version is in all lists, 'no version' is printed.
 options:
   --json  print an array of intervals; without a version it is []
   --      end of options
-
-examples:
-  pyver range '>=1,<2' '>=1.5'
-  pyver range '>=1.16,!=1.18' '<2' '~=1.17'
 ";
 
 const CHECK_HELP: &str =
     "usage: pyver check [-q] [--each] [--format KIND] [--output FORM | --json] [FILE..]
+
+examples:
+  pyver check requirements.txt
+  pyver check lock.txt constraints.txt
+  pyver check pyproject.toml uv.lock
+  git show HEAD:uv.lock | pyver check --format uv pyproject.toml -
+  pyver check --each */requirements.txt
+  pip freeze | pyver check --json
+  pyver check --output github requirements.txt
 
 Prints what is wrong in requirements files: lines that are no requirements, lines that no version
 satisfies together, and versions that one line names and another excludes. '-' and no file mean
@@ -278,15 +287,6 @@ options:
   --output FORM  the form in which what is wrong is printed; without it text
   --json         --output json: an array of objects
   --             end of options
-
-examples:
-  pyver check requirements.txt
-  pyver check lock.txt constraints.txt
-  pyver check pyproject.toml uv.lock
-  git show HEAD:uv.lock | pyver check --format uv pyproject.toml -
-  pyver check --each */requirements.txt
-  pip freeze | pyver check --json
-  pyver check --output github requirements.txt
 ";
 
 // What the help says.
