@@ -229,6 +229,10 @@ pub later_is : (s t : Segment Record) (low s_low t_low : List ℕ) → IsKeyedSe
 later_is s t low s_low t_low h k p q l =
     start_of (starts_before record_cmp s.0 t.0) s.0 t.0 low s_low t_low (l ∙ ap (λ b. cond b t_low s_low) ((λ i. is_below_key (p i) (q i)) ∙ starts_in_order s.0 t.0 h.0 k.0)) p q
 
+one_of : (P : Bound Record → Type 0) (b : Bool) (x y : Bound Record) → P x → P y → P (cond b x y)
+one_of P true x y h k = h
+one_of P false x y h k = k
+
 later_keyed : (s t : Segment Record) → IsKeyedSegment s → IsKeyedSegment t → IsKeyedBound (overlap record_cmp s t).0
 later_keyed s t h k = one_of IsKeyedBound (starts_before record_cmp s.0 t.0) t.0 s.0 k.0 h.0
 
