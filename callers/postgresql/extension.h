@@ -40,7 +40,7 @@ typedef struct varlena *(*Reader)(Bytes text, Node *context);
 /* The most bytes of a value of type pep440, with its header: an index entry has room for 2,704 with its own header, and more columns beside. */
 enum { MOST_BYTES = 2680, MOST_COMPILED = MOST_BYTES - VARHDRSZ };
 
-/* The most bytes of the text of a version, and of a list: nothing can stop a call of the library, and so much takes it some seconds at most. */
+/* The most bytes of the text of a version, and of a list. */
 enum { MOST_TEXT = 1 << 20 };
 
 /* Room for a compiled version. */

@@ -5,10 +5,35 @@ PG_MODULE_MAGIC;
 
 /* ---- what all files share */
 
+/* The library asks for memory all along its work. Once the statement is to end it gets none, so that its call returns, and `fail` ends the statement. The linker
+   has its requests of malloc come here by these names (--wrap). */
+extern void *__real_malloc(size_t size);
+extern void *__real_realloc(void *block, size_t size);
+extern void *__wrap_malloc(size_t size);
+extern void *__wrap_realloc(void *block, size_t size);
+
+/* Whether CHECK_FOR_INTERRUPTS would end the statement. */
+static bool is_to_end(void)
+{
+    return (QueryCancelPending || ProcDiePending) && InterruptHoldoffCount == 0 && QueryCancelHoldoffCount == 0 && CritSectionCount == 0;
+}
+
+void *__wrap_malloc(size_t size)
+{
+    return is_to_end() ? NULL : __real_malloc(size);
+}
+
+void *__wrap_realloc(void *block, size_t size)
+{
+    return is_to_end() ? NULL : __real_realloc(block, size);
+}
+
 void fail(uint8_t status)
 {
-    if (status == PEP440_OUT_OF_MEMORY)
+    if (status == PEP440_OUT_OF_MEMORY) {
+        CHECK_FOR_INTERRUPTS();
         ereport(ERROR, (errcode(ERRCODE_OUT_OF_MEMORY), errmsg("out of memory")));
+    }
     ereport(ERROR, (errcode(ERRCODE_DATA_CORRUPTED), errmsg("stored bytes are no value of this type")));
 }
 

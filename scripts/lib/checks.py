@@ -172,12 +172,10 @@ def check_figures(writes=False):
     shown = {name for _, name, _ in TABLE.findall(page)}
     yield from (f"docs/SPEED.md has no table of {it}" for it, rows in counts().items() if any(len(row) > 2 for row in rows) and it not in shown)
     measured = {row["Call"].strip("`"): row["Ratio"] for row in table(PYTHON, "Ratio")}
-    measured["pep440 filter"] = next(count for figure, count, *_ in counts()["filter"] if figure.startswith("a line of dev,"))
-    measured["pep440_rs"] = re.search(r"takes ([\d,]+) instructions a line of `dev`", page)[1]
     claims = CLAIM.findall(text_of("README.md").partition("## Why")[2].partition("\n## ")[0])
     yield from (f"README.md: {call}: {shown} is shown, {measured.get(call)} measured" for call, shown in claims if shown != measured.get(call))
-    if len(claims) < 4:
-        yield f"README.md: 4 figures under 'Why' are measured, {len(claims)} are shown"
+    if len(claims) < 2:
+        yield f"README.md: 2 figures under 'Why' are measured, {len(claims)} are shown"
     for row in table(PYTHON, "Ratio"):
         # both counts are rounded
         other, here = (int(row[it].replace(",", "")) for it in ("`packaging`", "Here"))
