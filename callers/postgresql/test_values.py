@@ -390,5 +390,5 @@ def test_interrupts(server):
             assert error.code in (CANCELED, "54000", "22P02"), error
         longest = max(longest, (processor_time(db) - begun, text[:60]))
     db.close()
-    assert longest[0] < 2, longest
+    assert longest[0] < 0.2, longest
     return f"{len(LONG)} long texts, the longest {longest[0]:.2f} s of processor under a limit of 0.1 s"
