@@ -19,7 +19,7 @@ use std::alloc::{AllocError, Global};
 pub struct Report {
     /// First the lines that are no requirements, in order; then what is wrong with lines together, by name.
     pub findings: Vec<Finding>,
-    /// Those that comments ignore, once `leave_out_ignored` has moved them here.
+    /// Those that comments ignore, once `apply_comments` has moved them here.
     pub ignored: Vec<Finding>,
     /// How many lines were read that are neither empty nor comments.
     pub lines: usize,
@@ -99,7 +99,7 @@ pub fn find_problems(alloc: Global, files: &[SourceFile]) -> Result<Report, Allo
 }
 
 // The findings that no comment ignores; the others follow those that are ignored.
-fn split_ignored(
+fn split_findings(
     alloc: Global,
     findings: Vec<Finding>,
     ignored: &mut Vec<Finding>,
@@ -153,11 +153,11 @@ impl Report {
     /// The report without the findings that comments ignore, which follow those in `ignored`.
     ///
     /// Allocates.
-    pub fn leave_out_ignored(self, alloc: Global) -> Result<Report, AllocError>
+    pub fn apply_comments(self, alloc: Global) -> Result<Report, AllocError>
         ensures { IfOk result (λ r. report_of r ≡ without_ignored (report_of self)) }
     {
         let mut ignored = self.ignored;
-        let findings = split_ignored(alloc, self.findings, &mut ignored)?;
+        let findings = split_findings(alloc, self.findings, &mut ignored)?;
         Ok(Report {
             findings,
             ignored,
