@@ -1,10 +1,16 @@
 -- Folders of names, and the files that lines name.
-use Rattle.std.proofs.Common.{◌≡◌, ◌∙◌, ◌==◌, ◌||◌, ◌+◌, ◌-◌, ◌≤◌, arith, get_or, length, take, ℕ, List, [], ◌∷◌, ◌++◌, Bool, true, false, refl, sym, ap, subst, take_all, if◌then◌else◌}
+use Rattle.std.proofs.Common.{◌≡◌, ◌∙◌, ◌==◌, ◌||◌, ◌+◌, ◌-◌, ◌≤◌, arith, get_or, length, take, ℕ, List, [], ◌∷◌, ◌++◌, Bool, true, false, Option, Some, None, refl, sym, ap, subst, take_all, if◌then◌else◌}
 use Rattle.std.specs.List.{list_any}
 use Rattle.std.proofs.lemmas.List.{take_more}
 use Rattle.std.proofs.lemmas.List.Folds.{list_any-append}
 use Rattle.std.proofs.Common.{ne_eqb}
-use Rattle.pyver_findings.specs.NamedFiles.{folder}
+use Rattle.pep440_rs.specs.Blanks.{opens}
+use Rattle.pyver_findings.specs.NamedFiles.{constraints_path, folder}
+use Rattle.pyver_requirements.specs.ConflictMarks.{is_conflict_mark}
+use Rattle.pyver_requirements.specs.LineKinds.{Invalid, LineKind, Location, Requirement, Variable, first_word, has_variable, is_location, line_kind, option_kind, right_kind, unless_fault}
+use Rattle.pyver_requirements.specs.LogicalLines.{is_utf16}
+use Rattle.pyver_requirements.specs.OptionFaults.{FaultPosition, options_fault, options_in}
+use Rattle.pyver_requirements.specs.declared.line_fault.LineFault.TheVariants.{ConflictMark, Utf16}
 
 abbrev is_slash : ℕ → Bool
 is_slash c = c == 47
@@ -49,3 +55,23 @@ pub folder_other : (xs : List ℕ) → 1 ≤ length xs → (get_or xs (length xs
 folder_other xs some is =
     let split = split_last xs (length xs - 1) (omega (arith, some)) in
     ap folder split ∙ folder_less (take (length xs - 1) xs) (get_or xs (length xs - 1) 0) (ne_eqb (get_or xs (length xs - 1) 0) 47 is)
+
+-- ---- files of constraints
+
+-- no file of constraints is named by either
+no_path_if : (b : Bool) (k l : LineKind) → constraints_path k ≡ None → constraints_path l ≡ None → constraints_path (if b then k else l) ≡ None
+no_path_if true k l one other = one
+no_path_if false k l one other = other
+
+no_path_unless : (text : List ℕ) (m : Option FaultPosition) (k : LineKind) → constraints_path k ≡ None → constraints_path (unless_fault text m k) ≡ None
+no_path_unless text None k none = none
+no_path_unless text (Some m) k none = refl
+
+-- a line that does not begin with `-` names none
+pub no_constraints : (text : List ℕ) → opens 45 text ≡ false → constraints_path (line_kind text) ≡ None
+no_constraints text none =
+    let other : constraints_path (if has_variable text then Variable else if is_location (first_word text) then Location else Requirement) ≡ None =
+    no_path_if (has_variable text) Variable _ refl (no_path_if (is_location (first_word text)) Location Requirement refl refl) in
+    let right : constraints_path (right_kind text) ≡ None = subst (λ b. constraints_path (if b then option_kind text else if has_variable text then Variable else if is_location (first_word text) then Location else Requirement) ≡ None) (sym none) other in
+    no_path_if (is_conflict_mark text) (Invalid ConflictMark 0) _ refl
+    (no_path_if (is_utf16 text) (Invalid Utf16 0) _ refl (no_path_unless text (options_fault (options_in text)) (right_kind text) right))

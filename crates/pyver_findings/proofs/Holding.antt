@@ -15,10 +15,11 @@ use Rattle.pep440_rs.specs.Specifiers.SpecifierGrammar.{IsDenotedSpecifier}
 use Rattle.pep440_version.specs.Record.{Record}
 use Rattle.pyver_findings.specs.Demands.{Demand, IsSound, is_pinned, line_demand}
 use Rattle.pyver_findings.specs.Conflicts.{conflict_kind, conflicts, counts_under, first_mentions, have_none, of_all, of_name, has_same_marker, has_same_name, same_marker, smallest, under}
-use Rattle.pyver_findings.specs.FileLines.{FileLine, all_lines}
-use Rattle.pyver_findings.specs.FindingLaws.{AreNeeded, AsksFor, CountsUnder, FindingsHold, FitsConflict, HasMarker, IsRight, IsRightConflict, LineAllows, NamesVersion}
+use Rattle.pyver_findings.specs.FileLines.{File, FileLine, all_lines}
+use Rattle.pyver_findings.specs.FindingLaws.{AreNeeded, AsksFor, CountsUnder, FindingsHold, FitsConflict, HasMarker, IsRight, IsRightConflict, IsRightConstraint, LineAllows, NamesVersion}
 use Rattle.pyver_findings.specs.Findings.{Conflicting, Finding, NoRequirement}
-use Rattle.pyver_findings.specs.LineMeanings.{IsNone, LeftOut, LineMeaning, AsksNothing, IsKindMeaning, IsMeaning, has_right_url, requirement_meaning, has_scheme, names_file, under_marker, with_marker, with_url}
+use Rattle.pyver_findings.specs.LineMeanings.{IsNone, LeftOut, LineMeaning, AsksNothing, IsKindMeaning, IsMeaning, constraint_faults, has_extras, has_right_url, kind_faults, requirement_meaning, has_scheme, names_file, under_marker, with_marker, with_url}
+use Rattle.pyver_findings.specs.NamedFiles.{constraints_files}
 use Rattle.pyver_findings.proofs.Found.{marker_yes}
 use Rattle.pyver_findings.proofs.SmallestLists.{Allows, IsSpared, all_smallest, none_allowed, smallest_none, smallest_right}
 use Rattle.pyver_findings.proofs.Rejecting.{invalid_right}
@@ -244,10 +245,35 @@ rightly : (lines : List FileLine) (f : Finding) → IsRightConflict pip_parts li
 rightly lines (NoRequirement l reason column) right = absurd right
 rightly lines (Conflicting conflict together) right = right
 
+-- a constraint that is reported is one that pip does not take
+module _ (files : List File) where
+  module _ (l : FileLine) (known : Contains (all_lines (constraints_files files)) l) where
+    right_kind : (kind : LineKind) → line_kind l.text ≡ kind → All (IsRightConstraint files) (kind_faults l kind)
+    right_kind (RequirementsFile path) is = All-nil (IsRightConstraint files)
+    right_kind (ConstraintsFile path) is = All-nil (IsRightConstraint files)
+    right_kind (Invalid f column) is = All-nil (IsRightConstraint files)
+    right_kind Editable is = All-cons (IsRightConstraint files) (NoRequirement l _ 0) [] (known, inl is) (All-nil (IsRightConstraint files))
+    right_kind PipOption is = All-nil (IsRightConstraint files)
+    right_kind Variable is = All-nil (IsRightConstraint files)
+    right_kind Location is = All-nil (IsRightConstraint files)
+    right_kind Requirement is = where_true (IsRightConstraint files) (has_extras (pip_parts l.text).requirement) (NoRequirement l _ _) (λ e. (known, inr (is, e)))
+
+  constraints_right : (lines : List FileLine) → All (Contains (all_lines (constraints_files files))) lines → All (IsRightConstraint files) (flat_map constraint_faults lines)
+  constraints_right [] known = All-nil (IsRightConstraint files)
+  constraints_right (l ∷ lines) known =
+      All-append (IsRightConstraint files) (constraint_faults l) (flat_map constraint_faults lines)
+      (right_kind l (All-head (Contains (all_lines (constraints_files files))) l lines known) (line_kind l.text) refl)
+      (constraints_right lines (All-tail (Contains (all_lines (constraints_files files))) l lines known))
+
 pub findings_hold : FindingsHold
 findings_hold files r (xs, h, is) =
     let lines = all_lines files in
-    subst (λ (q : Report). All (IsRight lines) q.findings) (sym is)
-    (All-append (IsRight lines) (flat_map invalid_in xs) (conflicts (flat_map demands_in xs)) (invalid_right lines lines xs (All-contains_itself lines) h)
-    (All-weaker (IsRightConflict pip_parts lines) (IsRight lines) (rightly lines) (conflicts (flat_map demands_in xs))
-    (conflicts_right pip_parts lines (flat_map demands_in xs) (all_asked lines lines xs (All-contains_itself lines) h))))
+    let some = all_lines (constraints_files files) in
+    let P = λ (f : Finding). IsRight lines f ⊎ IsRightConstraint files f in
+    subst (λ (q : Report). All P q.findings) (sym is)
+    (All-append P (flat_map invalid_in xs) (flat_map constraint_faults some ++ conflicts (flat_map demands_in xs))
+    (All-weaker (IsRight lines) P (λ f right. inl right) (flat_map invalid_in xs) (invalid_right lines lines xs (All-contains_itself lines) h))
+    (All-append P (flat_map constraint_faults some) (conflicts (flat_map demands_in xs))
+    (All-weaker (IsRightConstraint files) P (λ f right. inr right) (flat_map constraint_faults some) (constraints_right files some (All-contains_itself some)))
+    (All-weaker (IsRightConflict pip_parts lines) P (λ f right. inl (rightly lines f right)) (conflicts (flat_map demands_in xs))
+    (conflicts_right pip_parts lines (flat_map demands_in xs) (all_asked lines lines xs (All-contains_itself lines) h)))))

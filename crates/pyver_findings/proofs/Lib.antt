@@ -10,7 +10,6 @@ pub mod Holding
 pub mod Found
 pub mod Markers
 pub mod Complete
-pub mod InvalidFound
 pub mod Once
 pub mod Folders
 pub mod JsonCodes

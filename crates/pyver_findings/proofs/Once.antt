@@ -44,4 +44,4 @@ of_lines (l ∷ lines) (x ∷ xs) (y ∷ ys) h k = λ j. meanings_once l x y h.0
 pub reports_once : ReportsOnce
 reports_once files r s (xs, h, a) (ys, k, b) =
     let same = of_lines (all_lines files) xs ys h k in
-    a ∙ (λ j. record { findings = found_in (same j); ignored = []; lines = length (all_lines files); files = length files; left_out = flat_map left_out_in (same j) }) ∙ sym b
+    a ∙ (λ j. record { findings = found_in files (same j); ignored = []; lines = length (all_lines files); files = length files; left_out = flat_map left_out_in (same j) }) ∙ sym b

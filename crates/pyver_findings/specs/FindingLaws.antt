@@ -1,4 +1,4 @@
--- What holds of findings: a line that is reported by itself is no requirement, and each that is none is reported; lines that are
+-- What holds of findings: a line that is reported by itself is no requirement or no constraint, and each that is none is reported; lines that are
 -- reported together count together and cannot be satisfied, and none of them can be left out; those that have no version in common are
 -- reported; there is one report.
 use Rattle.std.specs.Prelude.{◌≡◌, ◌⊎◌, ⊤, ℕ, List, [], ◌∷◌, ◌++◌, IsTrue, Option, Some, None, Ok, bytes_eq, map, option_map}
@@ -12,11 +12,12 @@ use Rattle.pyver_findings.specs.Conflicts.{has_same_name, under}
 use Rattle.pyver_findings.specs.Demands.{Demand, is_pinned}
 use Rattle.pyver_findings.specs.FileLines.{File, FileLine, all_lines}
 use Rattle.pyver_findings.specs.Findings.{Conflicting, Finding, NoRequirement}
-use Rattle.pyver_findings.specs.LineMeanings.{IsMeaning, IsNone, IsPlain, LineMeaning, has_right_url}
+use Rattle.pyver_findings.specs.LineMeanings.{IsMeaning, IsNone, IsPlain, LineMeaning, has_extras, has_right_url}
+use Rattle.pyver_findings.specs.NamedFiles.{constraints_files}
 use Rattle.pyver_findings.specs.Reports.{IsReport, Report, demands_in}
 use Rattle.pyver_findings.specs.declared.finding.Conflict.{Conflict}
 use Rattle.pyver_findings.specs.declared.finding.Conflict.TheVariants.{NoVersion, PinOutside, TwoPins}
-use Rattle.pyver_requirements.specs.LineKinds.{Invalid, Requirement, line_kind}
+use Rattle.pyver_requirements.specs.LineKinds.{Editable, Invalid, Requirement, line_kind}
 use Rattle.pyver_requirements.specs.LineParts.{LineParts, pip_parts}
 use Rattle.pyver_requirements.specs.MarkerReading.{marker}
 use Rattle.pyver_requirements.specs.declared.line_fault.LineFault.{LineFault}
@@ -97,9 +98,22 @@ abbrev pub IsRight : List FileLine → Finding → Type 0
 IsRight lines (NoRequirement l reason column) = Contains lines l × (¬ IsRequirementLine l) × IsMeaning l (IsNone (NoRequirement l reason column))
 IsRight lines (Conflicting conflict together) = IsRightConflict pip_parts lines (Conflicting conflict together)
 
+-- the line is of a file that a line names after `-c`
+abbrev pub IsConstraint : List File → FileLine → Type 0
+IsConstraint files l = Contains (all_lines (constraints_files files)) l
+
+-- pip takes no such constraint: an editable, or a requirement with extras
+abbrev pub IsWrongConstraint : FileLine → Type 0
+IsWrongConstraint l = (line_kind l.text ≡ Editable) ⊎ ((line_kind l.text ≡ Requirement) × IsTrue (has_extras (pip_parts l.text).requirement))
+
+-- the line is such a constraint
+abbrev pub IsRightConstraint : List File → Finding → Type 0
+IsRightConstraint files (NoRequirement l reason column) = IsConstraint files l × IsWrongConstraint l
+IsRightConstraint files (Conflicting conflict together) = ⊥
+
 -- each finding of a report is right
 abbrev pub FindingsHold : Type 0
-FindingsHold = (files : List File) (r : Report) → IsReport files r → All (IsRight (all_lines files)) r.findings
+FindingsHold = (files : List File) (r : Report) → IsReport files r → All (λ (f : Finding). IsRight (all_lines files) f ⊎ IsRightConstraint files f) r.findings
 
 -- the line is reported by itself
 abbrev pub IsAlone : FileLine → Finding → Type 0
@@ -113,6 +127,10 @@ LacksRequirement l = ((fault : LineFault) × (column : ℕ) × (line_kind l.text
 -- each line that ought to be a requirement and is none is reported
 abbrev pub InvalidLinesHaveFindings : Type 0
 InvalidLinesHaveFindings = (files : List File) (r : Report) (l : FileLine) → IsReport files r → Contains (all_lines files) l → LacksRequirement l → Any (IsAlone l) r.findings
+
+-- each constraint that pip does not take is reported
+abbrev pub WrongConstraintsHaveFindings : Type 0
+WrongConstraintsHaveFindings = (files : List File) (r : Report) (l : FileLine) → IsReport files r → IsConstraint files l → IsWrongConstraint l → Any (IsAlone l) r.findings
 
 -- some of these lines are reported together, and no others
 abbrev pub IsAmong : List FileLine → Finding → Type 0

@@ -1,11 +1,14 @@
 -- What a line of a requirements file is to the check: a requirement, none, a line that is left out, or one that asks for no package.
 use Rattle.std.specs.Prelude.{◌≡◌, ◌⊎◌, ◌==◌, ◌&&◌, ◌||◌, ℕ, List, [], ◌∷◌, Bool, true, false, Option, Some, None, Result, Ok, Err, codes, length, nat_eq, not, if◌then◌else◌}
+use Rattle.std.specs.Char.{is_ascii_whitespace}
 use Rattle.std.specs.List.{list_all, list_any, prefix_len, starts_with}
 use Rattle.pep440_pick.specs.RequirementGrammar.{DerivesRequirement, Needed, RejectsRequirement, RequirementRejection, Specifiers}
 use Rattle.pep440_pick.specs.RequirementTexts.{requirement_rejection_text}
 use Rattle.pep440_rs.specs.ErrorTexts.{specifier_rejection_text}
 use Rattle.pep440_rs.specs.Lists.ListGrammar.{DerivesList, PieceRejection, RejectsList}
 use Rattle.pep440_rs.specs.Specifiers.{Spec}
+use Rattle.pep440_rs.specs.Blanks.{opens}
+use Rattle.pep440_version.specs.Reading.{lead, past}
 use Rattle.pyver_requirements.specs.LineKinds.{ConstraintsFile, Editable, Invalid, LineKind, Location, PipOption, Requirement, RequirementsFile, Variable, has_variable, line_kind}
 use Rattle.pyver_requirements.specs.LineParts.{LineParts, is_blank_byte, pip_parts}
 use Rattle.pyver_requirements.specs.MarkerReading.{marker}
@@ -154,3 +157,29 @@ IsKindMeaning line Requirement x = IsPartsMeaning line (pip_parts line.text) x
 -- what a line is
 abbrev pub IsMeaning : FileLine → LineMeaning → Type 0
 IsMeaning line x = IsKindMeaning line (line_kind line.text) x
+
+-- ---- constraints
+
+-- something but blanks stands behind this bracket, before `]`
+abbrev pub opens_extras : List ℕ → Bool
+opens_extras [] = false
+opens_extras (b ∷ inside) = list_any (λ x. not (is_ascii_whitespace x)) (lead (λ x. not (x == 93)) inside)
+
+-- extras stand behind the name
+abbrev pub has_extras : List ℕ → Bool
+has_extras requirement = opens_extras (past (λ b. not (b == 91)) requirement)
+
+-- what is wrong with a constraint that has this before `@` and `;`: pip takes no extras
+abbrev pub extras_faults : FileLine → List ℕ → List Finding
+extras_faults l requirement =
+    if has_extras requirement then NoRequirement l (codes "constraints cannot have extras") (prefix_len (λ b. not (b == 91)) requirement) ∷ [] else []
+
+-- what is wrong with a line of this kind as a constraint: pip takes no editable either
+abbrev pub kind_faults : FileLine → LineKind → List Finding
+kind_faults l Editable = NoRequirement l (codes "constraints cannot be editable") 0 ∷ []
+kind_faults l Requirement = extras_faults l (pip_parts l.text).requirement
+kind_faults l _ = []
+
+-- what is wrong with the line as a constraint
+abbrev pub constraint_faults : FileLine → List Finding
+constraint_faults l = kind_faults l (line_kind l.text)

@@ -6,7 +6,8 @@ use Rattle.pyver_findings.specs.Conflicts.{conflicts}
 use Rattle.pyver_findings.specs.FileLines.{File, FileLine, all_lines}
 use Rattle.pyver_findings.specs.FindingKinds.{is_ignored}
 use Rattle.pyver_findings.specs.Findings.{Conflicting, Finding, NoRequirement}
-use Rattle.pyver_findings.specs.LineMeanings.{Asks, IsNone, LeftOut, LineMeaning, AsksNothing, IsMeaning}
+use Rattle.pyver_findings.specs.LineMeanings.{Asks, IsNone, LeftOut, LineMeaning, AsksNothing, IsMeaning, constraint_faults}
+use Rattle.pyver_findings.specs.NamedFiles.{constraints_files}
 use Rattle.pyver_findings.specs.declared.cause.Cause.{Cause}
 
 -- the findings, those that a comment ignores, the number of lines and of files, and for each line that was left out why
@@ -38,14 +39,18 @@ left_out_in (IsNone f) = []
 left_out_in (LeftOut c) = c ∷ []
 left_out_in AsksNothing = []
 
--- the findings of lines that are read so: first those that are no requirements, in order
-abbrev pub found_in : List LineMeaning → List Finding
-found_in xs = flat_map invalid_in xs ++ conflicts (flat_map demands_in xs)
+-- the faults of the lines of these files of constraints
+abbrev pub constraint_findings : List File → List Finding
+constraint_findings files = flat_map constraint_faults (all_lines files)
+
+-- the findings of files whose lines are read so: first lines that are no requirements, in order; then what cannot be a constraint
+abbrev pub found_in : List File → List LineMeaning → List Finding
+found_in files xs = flat_map invalid_in xs ++ (constraint_findings (constraints_files files) ++ conflicts (flat_map demands_in xs))
 
 -- the report of the files, whatever comments ignore
 abbrev pub IsReport : List File → Report → Type 0
 IsReport files r = (xs : List LineMeaning) × AllZip IsMeaning (all_lines files) xs
-    × (r ≡ record { findings = found_in xs; ignored = []; lines = length (all_lines files); files = length files; left_out = flat_map left_out_in xs })
+    × (r ≡ record { findings = found_in files xs; ignored = []; lines = length (all_lines files); files = length files; left_out = flat_map left_out_in xs })
 
 -- the report of no files
 abbrev pub empty_report : Report

@@ -76,7 +76,11 @@ fn push_lines(
     Ok(())
 }
 
-fn push_file(alloc: Global, lines: &mut Vec<FileLine>, file: &SourceFile) -> Result<(), AllocError>
+pub(crate) fn push_file(
+    alloc: Global,
+    lines: &mut Vec<FileLine>,
+    file: &SourceFile,
+) -> Result<(), AllocError>
     ensures { IfOk result (λ _. map file_line_of lines.new.items ≡ map file_line_of lines.old.items ++ file_lines (file_of file.now)) }
 {
     let found = logical_lines(alloc, file.text.as_slice())?;

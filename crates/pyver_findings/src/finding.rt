@@ -22,7 +22,7 @@ pub enum Conflict {
 /// What kind a finding is of.
 #[derive(Clone, Copy, Debug, PartialEq, Eq)]
 pub enum FindingKind {
-    /// A line is no requirement.
+    /// A line is no requirement, or cannot be a constraint.
     NoRequirement,
     /// No version satisfies lines together.
     NoVersion,
@@ -120,7 +120,7 @@ fn conflict_kind_of(conflict: Conflict) -> FindingKind
 /// What is wrong with a line, or with lines together.
 #[derive(Debug, Drop)]
 pub enum Finding {
-    /// The line is no requirement, for this reason, and this is the column, in bytes from 0, at which it is none.
+    /// The line is no requirement, or cannot be a constraint, for this reason, and this is the column of it, in bytes from 0.
     NoRequirement(FileLine, String, usize),
     /// No version satisfies these lines together.
     Conflicting(Conflict, Vec<FileLine>),

@@ -1,18 +1,20 @@
 //! What holds of findings, as the contract of a function that does nothing.
 ghost use Rattle.pyver_findings.specs.JsonStrings.{JsonStringsDiffer};
-ghost use Rattle.pyver_findings.specs.FindingLaws.{ConflictsHaveFindings, FindingsHold, InvalidLinesHaveFindings, MeaningsOnce, ReportsOnce};
+ghost use Rattle.pyver_findings.specs.FindingLaws.{ConflictsHaveFindings, FindingsHold, InvalidLinesHaveFindings, MeaningsOnce, ReportsOnce, WrongConstraintsHaveFindings};
 ghost use Rattle.pyver_findings.specs.StringGrammar.{StringsHaveGrammar};
 
 /// A line that is reported by itself is a line of the files and no requirement, for the reason and at the column that are
-/// reported. Lines that are reported together are lines of the files, ask for one name and have no two markers; no
+/// reported, or an editable or has extras and is of a file that a line names after `-c`. Lines that are reported together are lines of the files, ask for one name and have no two markers; no
 /// version is allowed by all, and without any one of them some version is; and one or two of them name a version if that is reported.
 pub fn findings_hold()
     ensures { FindingsHold }
 {}
 
-/// Each line that ought to be a requirement or an option of pip, and is neither, is reported.
+/// Each line that ought to be a requirement or an option of pip, and is neither, is reported, and in a file that a line names after `-c` each
+/// editable, and each requirement with extras.
 pub fn invalid_lines_have_findings()
-    ensures { InvalidLinesHaveFindings }
+    ensures line { InvalidLinesHaveFindings }
+    ensures constraint { WrongConstraintsHaveFindings }
 {}
 
 /// If no version is allowed by all lines of a name that count under a marker, some of these lines are reported together.

@@ -4,6 +4,7 @@
 mod cause;
 mod column;
 mod conflicts;
+mod constraints;
 mod demand;
 mod file_line;
 mod finding;

@@ -83,7 +83,7 @@ fn folder(name: &[u8]) -> &[u8]
 }
 
 // The path as it is to be opened, of a line of the file with this name.
-fn path_from(alloc: Global, name: &[u8], path: &[u8]) -> Result<Vec<u8>, AllocError>
+pub(crate) fn path_from(alloc: Global, name: &[u8], path: &[u8]) -> Result<Vec<u8>, AllocError>
     ensures { IfOk result (λ joined. joined.items ≡ path_from name.now path.now) }
 {
     if path.starts_with(b"/") {

@@ -8,6 +8,7 @@ ghost use Rattle.pyver_findings.specs.Views.{AddsFindings, demand_of, file_line_
 
 use crate::cause::Cause;
 use crate::conflicts::push_conflicts;
+use crate::constraints::push_constraint_findings;
 use crate::demand::Demand;
 use crate::file_line::{FileLine, SourceFile, all_lines};
 use crate::finding::Finding;
@@ -17,9 +18,9 @@ use std::alloc::{AllocError, Global};
 /// What is wrong in requirements files, and how much of them was read.
 #[derive(Debug, Drop)]
 pub struct Report {
-    /// First the lines that are no requirements, in order; then what is wrong with lines together, by name.
+    /// First the lines that are no requirements, in order; then what cannot be a constraint; then what is wrong with lines together, by name.
     pub findings: Vec<Finding>,
-    /// Those that comments ignore, once `leave_out_ignored` has moved them here.
+    /// Those that comments ignore, once `apply_comments` has moved them here.
     pub ignored: Vec<Finding>,
     /// How many lines were read that are neither empty nor comments.
     pub lines: usize,
@@ -72,7 +73,7 @@ fn parse_lines(alloc: Global, lines: &[FileLine]) -> Result<Readings, AllocError
 }
 
 /// What is wrong in these files, each of which is read once, in this order: first the lines that are no requirements, in
-/// order; then for each name, in the order in which names are first mentioned, lines that no version satisfies together: of these a
+/// order; then editables, and requirements with extras, in files that a line names after `-c`; then for each name, in the order in which names are first mentioned, lines that no version satisfies together: of these a
 /// smallest list, from which no line can be left out. Lines with different markers do not count together, and lines without a marker count
 /// with the lines of each; if the lines without a marker have no version in common, some of them are reported, and no line with a marker.
 ///
@@ -88,6 +89,7 @@ pub fn find_problems(alloc: Global, files: &[SourceFile]) -> Result<Report, Allo
     let lines = all_lines(alloc, files)?;
     let readings = parse_lines(alloc, lines.as_slice())?;
     let mut findings = readings.invalid;
+    push_constraint_findings(alloc, &mut findings, files, lines.as_slice())?;
     push_conflicts(alloc, &mut findings, readings.demands.as_slice())?;
     Ok(Report {
         findings,
@@ -99,7 +101,7 @@ pub fn find_problems(alloc: Global, files: &[SourceFile]) -> Result<Report, Allo
 }
 
 // The findings that no comment ignores; the others follow those that are ignored.
-fn split_ignored(
+fn split_findings(
     alloc: Global,
     findings: Vec<Finding>,
     ignored: &mut Vec<Finding>,
@@ -153,11 +155,11 @@ impl Report {
     /// The report without the findings that comments ignore, which follow those in `ignored`.
     ///
     /// Allocates.
-    pub fn leave_out_ignored(self, alloc: Global) -> Result<Report, AllocError>
+    pub fn apply_comments(self, alloc: Global) -> Result<Report, AllocError>
         ensures { IfOk result (λ r. report_of r ≡ without_ignored (report_of self)) }
     {
         let mut ignored = self.ignored;
-        let findings = split_ignored(alloc, self.findings, &mut ignored)?;
+        let findings = split_findings(alloc, self.findings, &mut ignored)?;
         Ok(Report {
             findings,
             ignored,

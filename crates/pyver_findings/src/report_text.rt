@@ -323,7 +323,7 @@ fn push_all_left_out(alloc: Global, bytes: &mut Vec<u8>, causes: &[Cause]) -> Re
 }
 
 // How many findings comments ignore, if any.
-fn push_ignored(alloc: Global, bytes: &mut Vec<u8>, count: usize) -> Result<(), AllocError>
+fn push_ignore_count(alloc: Global, bytes: &mut Vec<u8>, count: usize) -> Result<(), AllocError>
     ensures { IfOk result (λ _. bytes.new.items ≡ bytes.old.items ++ ignored_text count) }
 {
     if count == 0 {
@@ -385,7 +385,7 @@ impl Report {
         let mut bytes = Vec::new(alloc);
         push_count(alloc, &mut bytes, "pyver: lines read: ", self.lines)?;
         push_all_left_out(alloc, &mut bytes, self.left_out.as_slice())?;
-        push_ignored(alloc, &mut bytes, self.ignored.len())?;
+        push_ignore_count(alloc, &mut bytes, self.ignored.len())?;
         push_problems(alloc, &mut bytes, self.findings.len(), self.files)?;
         Ok(bytes)
     }

@@ -5,19 +5,20 @@
 mod documents;
 mod lines;
 mod reports;
-mod strings;
 
 use documents::{
     print_document_kind, print_document_path, print_document_report, print_named_kind,
 };
-use lines::{print_kind, print_lines, print_marker, print_parts, print_pip_parts};
+use lines::{
+    print_kind, print_lines, print_marker, print_normal, print_parts, print_pip_parts,
+    print_requirement, print_specifiers,
+};
 use reports::{
     Form, print_each, print_findings, print_named_files, print_report, print_report_of,
     print_spans, print_string,
 };
 use std::alloc::Global;
 use std::io;
-use strings::{print_normal, print_requirement, print_specifiers};
 use testing::{Calls, CaseError, run_cases};
 
 struct FindingsCalls;

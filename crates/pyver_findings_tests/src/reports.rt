@@ -26,7 +26,7 @@ fn source_file(alloc: Global, name: &str, text: &str) -> Result<SourceFile, Allo
 
 // The report of the files without what comments ignore.
 fn report_files(alloc: Global, files: &[SourceFile]) -> Result<Report, AllocError> {
-    find_problems(alloc, files)?.leave_out_ignored(alloc)
+    find_problems(alloc, files)?.apply_comments(alloc)
 }
 
 // The report of the files between bars, of which each is named `a.txt`, `b.txt` and so on.

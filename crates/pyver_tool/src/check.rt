@@ -203,7 +203,7 @@ impl CheckResult {
         let read = read_files(alloc, kind, words, files, input)?;
         let mut report = find_problems(alloc, read.requirements.as_slice())?;
         report.append(find_document_problems(alloc, read.documents.as_slice())?)?;
-        Ok(self.push(report.leave_out_ignored(alloc)?, read.unopened)?)
+        Ok(self.push(report.apply_comments(alloc)?, read.unopened)?)
     }
 
     // Reads the files that each word names, with those that their lines name, and finds what is wrong in them, word by word.

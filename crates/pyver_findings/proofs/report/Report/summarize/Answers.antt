@@ -12,7 +12,7 @@ returns c =
     let ignored = c.args.self.now.ignored in
     let others : c.len.result ≡ length (map finding_of ignored.items) = c.len.ensures ∙ ignored.ok.0 ∙ sym (length-map ignored.items finding_of) in
     let tail : c.push_problems.new.bytes.items ≡ c.push_all_left_out.new.bytes.items ++ (ignored_text (length (map finding_of ignored.items)) ++ problems_text (length (map finding_of found.items)) c.args.self.now.files) =
-    part_more _ _ _ _ _ (rw others at c.in_ok-push_ignored.ensures) (rw long at c.in_ok-push_problems.ensures) in
+    part_more _ _ _ _ _ (rw others at c.in_ok-push_ignore_count.ensures) (rw long at c.in_ok-push_problems.ensures) in
     three_parts c.new-bytes.result.items (count_text (codes "pyver: lines read: ") c.args.self.now.lines) (left_out_texts c.args.self.now.left_out.items)
     (ignored_text (length (map finding_of ignored.items)) ++ problems_text (length (map finding_of found.items)) c.args.self.now.files)
     c.push_count.new.bytes.items c.push_all_left_out.new.bytes.items c.push_problems.new.bytes.items c.new-bytes.ensures.items c.in_ok-push_count.ensures (rw c.as_slice.ensures.value at c.in_ok-push_all_left_out.ensures) tail

@@ -16,4 +16,4 @@ returns-clause-checked g c =
     let s = report_of c.in_ok-find_document_problems.field-0 in
     let lines = subst (λ (fs : List File). IsReport fs r) (ap (map file_of) c.as_slice.ensures.value) c.in_ok-report.ensures in
     let documents = subst (λ (ds : List Document). IsDocumentsReport ds s) (ap (map document_of) c.as_slice-2.ensures.value) c.in_ok-find_document_problems.ensures in
-    (read_of c.in_ok-read.read, c.in_ok-read.ensures.read, (r, s, lines, documents, c.in_ok-push.ensures ∙ ap (with_report (map unopened_file_of c.in_ok-read.read.unopened.items) (check_result_of c.args.self.now)) (c.in_ok-leave_out_ignored.ensures ∙ ap without_ignored c.in_ok-append.ensures)))
+    (read_of c.in_ok-read.read, c.in_ok-read.ensures.read, (r, s, lines, documents, c.in_ok-push.ensures ∙ ap (with_report (map unopened_file_of c.in_ok-read.read.unopened.items) (check_result_of c.args.self.now)) (c.in_ok-apply_comments.ensures ∙ ap without_ignored c.in_ok-append.ensures)))

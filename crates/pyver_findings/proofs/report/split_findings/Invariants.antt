@@ -3,7 +3,7 @@ use Rattle.std.specs.List.{filter}
 use Rattle.std.specs.Vec.Iter.{into_iter_items}
 use Rattle.pyver_findings.specs.FindingKinds.{is_ignored}
 use Rattle.pyver_findings.specs.Views.{finding_of}
-use Rattle.pyver_findings.proofs.report.split_ignored.Given as goal
+use Rattle.pyver_findings.proofs.report.split_findings.Given as goal
 
 abbrev pub invariant-loop-finding : goal.invariant-loop-finding
 invariant-loop-finding l = record {
