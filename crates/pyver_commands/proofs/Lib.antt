@@ -7,6 +7,7 @@ pub mod Sorting
 pub mod Choosing
 pub mod NewestAnswers
 pub mod CommonRanges
+pub mod MarkerExtents
 pub mod Bumping
 pub mod Releases
 pub mod Outputs

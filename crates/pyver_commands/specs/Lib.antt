@@ -10,6 +10,7 @@ pub mod Shows
 pub mod RangeObjects
 pub mod CommonRanges
 pub mod RangeLaws
+pub mod MarkerExtents
 pub mod Numbers
 pub mod Bumps
 pub mod BumpInputs

@@ -1,5 +1,6 @@
-//! What holds of the outcomes of `bump` and `range`, as the contract of a function that does nothing.
+//! What holds of the outcomes of `bump`, `range` and `marker`, as the contract of a function that does nothing.
 ghost use Rattle.pyver_commands.specs.BumpLaws.{BumpsAreGreater, BumpsChangeOnly, ReleasesAreBumped};
+ghost use Rattle.pyver_commands.specs.MarkerExtents.{HoldsOrNot};
 ghost use Rattle.pyver_commands.specs.RangeLaws.{NoVersionHasItsStatus, NoVersionIsCommon, VersionIsCommon};
 
 /// A version that `bump` makes is greater, and differs only in the stated parts; a number of the release can be
@@ -15,4 +16,10 @@ pub fn common_ranges()
     ensures none { NoVersionIsCommon }
     ensures some { VersionIsCommon }
     ensures status { NoVersionHasItsStatus }
+{}
+
+#[tactic(auto, using(crate::proofs::MarkerExtents::holds_or_not))]
+/// `marker` never prints an environment for words for which it also prints `nowhere`.
+pub fn marker_extents()
+    ensures { HoldsOrNot }
 {}

@@ -12,11 +12,9 @@ use Rattle.pep440_version.specs.Reading.{lead, past}
 use Rattle.pyver_requirements.specs.LineKinds.{ConstraintsFile, Editable, Invalid, LineKind, Location, PipOption, Requirement, RequirementsFile, Variable, has_variable, line_kind}
 use Rattle.pyver_requirements.specs.LineParts.{LineParts, is_blank_byte, pip_parts}
 use Rattle.pyver_requirements.specs.MarkerReading.{marker}
-use Rattle.pyver_requirements.specs.MarkerSteps.{Misfit}
+use Rattle.pyver_requirements.specs.MarkerSteps.{Misfit, marker_reason}
 use Rattle.pyver_requirements.specs.declared.line_fault.LineFault.{LineFault}
 use Rattle.pyver_requirements.specs.declared.line_fault.LineFault.TheVariants as fault
-use Rattle.pyver_requirements.specs.declared.marker_fault.MarkerFault.{MarkerFault}
-use Rattle.pyver_requirements.specs.declared.marker_fault.MarkerFault.TheVariants as marker_fault
 use Rattle.pyver_findings.specs.Demands.{Demand, line_demand}
 use Rattle.pyver_findings.specs.Columns.{column, marker_column, list_column}
 use Rattle.cli_io.specs.Escapes.{is_printable}
@@ -88,15 +86,6 @@ abbrev pub with_url : FileLine → LineParts → Needed → Option (List ℕ) �
 with_url line p n m None = Asks (line_demand line m n)
 with_url line p n m (Some []) = IsNone (NoRequirement line (codes "no URL follows '@'") (length p.requirement))
 with_url line p n m (Some (b ∷ url)) = before_url line (length p.requirement) n (b ∷ url)
-
-abbrev pub marker_reason : MarkerFault → List ℕ
-marker_reason marker_fault.MissingOperand = codes "a variable or a string is expected"
-marker_reason marker_fault.UnclosedString = codes "the string has no closing quote"
-marker_reason marker_fault.MissingOperator = codes "an operator is expected"
-marker_reason marker_fault.Backslash = codes "a backslash stands in the string"
-marker_reason marker_fault.NoConnective = codes "'and' or 'or' is expected"
-marker_reason marker_fault.Unclosed = codes "')' is expected"
-marker_reason marker_fault.TooDeep = codes "more than 100 parentheses are open"
 
 -- what the line is whose marker was read so
 abbrev pub under_marker : FileLine → LineParts → Needed → Result (List ℕ) Misfit → LineMeaning

@@ -11,7 +11,7 @@ ghost use Rattle.pep440_rs.specs.Lists.ListErrorTexts.{list_rejection_text, list
 ghost use Rattle.pep440_rs.specs.Lists.ListGrammar.{PieceRejection};
 ghost use Rattle.pyver_findings.specs.Columns.{list_column};
 ghost use Rattle.pyver_findings.specs.Findings.{NoRequirement};
-ghost use Rattle.pyver_findings.specs.LineMeanings.{IsNone, IsPartsMeaning, IsPlain, before_url, marker_reason, requirement_meaning, rejection_meaning, under_marker, with_url, IsListMeaning};
+ghost use Rattle.pyver_findings.specs.LineMeanings.{IsNone, IsPartsMeaning, IsPlain, before_url, requirement_meaning, rejection_meaning, under_marker, with_url, IsListMeaning};
 ghost use Rattle.pyver_findings.specs.ReadingViews.{is_memory_error, piece_text_of, reason_text_of};
 ghost use Rattle.pyver_findings.specs.Views.{file_line_of, line_meaning_of};
 ghost use Rattle.pyver_requirements.specs.LineParts.{is_blank_byte, line_parts, pip_parts};
@@ -27,9 +27,7 @@ use crate::line_meaning::LineMeaning;
 use crate::plain::plain_text;
 use pep440_pick::{Requirement, RequirementError, RequirementParseError};
 use pep440_rs::{SpecifiersErrorKind, VersionSpecifiers, VersionSpecifiersParseError};
-use pyver_requirements::{
-    LineParts, MarkerError, MarkerFault, parse_marker, split_pip_line, split_requirement,
-};
+use pyver_requirements::{LineParts, MarkerError, parse_marker, split_pip_line, split_requirement};
 use std::alloc::{AllocError, Global};
 
 // The line is no requirement, for this reason.
@@ -129,20 +127,6 @@ fn interpret_url(
     }
 }
 
-fn marker_reason(fault: MarkerFault) -> &'static str
-    ensures { result.now ≡ marker_reason fault }
-{
-    match fault {
-        MarkerFault::MissingOperand => "a variable or a string is expected",
-        MarkerFault::UnclosedString => "the string has no closing quote",
-        MarkerFault::MissingOperator => "an operator is expected",
-        MarkerFault::Backslash => "a backslash stands in the string",
-        MarkerFault::NoConnective => "'and' or 'or' is expected",
-        MarkerFault::Unclosed => "')' is expected",
-        MarkerFault::TooDeep => "more than 100 parentheses are open",
-    }
-}
-
 // What the line is, by the text of its marker.
 fn interpret_marker(
     alloc: Global,
@@ -158,7 +142,7 @@ fn interpret_marker(
         Ok(marker) => interpret_url(alloc, line, parts, Some(marker), requirement),
         Err(MarkerError::Invalid(fault, position)) => {
             let column = marker_column(parts, position);
-            reject(alloc, line, marker_reason(fault), column)
+            reject(alloc, line, fault.reason(), column)
         }
         Err(MarkerError::OutOfMemory) => Err(AllocError),
     }

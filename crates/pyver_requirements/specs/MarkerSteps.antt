@@ -1,5 +1,5 @@
 -- An environment marker as steps: what `and` and `or` join stands before them, so that no parenthesis is needed; and how the steps are read.
-use Rattle.std.specs.Prelude.{◌≡◌, ℕ, ◌-◌, List, [], ◌∷◌, ◌++◌, Bool, true, false, Result, Ok, Err, length, nat_lt, if◌then◌else◌}
+use Rattle.std.specs.Prelude.{◌≡◌, ℕ, ◌-◌, List, [], ◌∷◌, ◌++◌, Bool, true, false, Result, Ok, Err, codes, length, nat_lt, if◌then◌else◌}
 use Rattle.pyver_requirements.specs.MarkerGrammar.{Both, Comparison, DenotesMarker, Either, Marker}
 use Rattle.pyver_requirements.specs.MarkerTokens.{And, Close, Compares, Faulty, Lexeme, Open, Or, Side, Token, lexemes}
 use Rattle.pyver_requirements.specs.declared.marker_fault.MarkerFault.{MarkerFault}
@@ -53,6 +53,16 @@ no_groups n = record { length = n; outer = []; inner = empty_group; steps = []; 
 pub record Misfit : Type 0 where
   pub fault : MarkerFault
   pub position : ℕ
+
+-- why a string is no marker, in words
+abbrev pub marker_reason : MarkerFault → List ℕ
+marker_reason fault.MissingOperand = codes "a variable or a string is expected"
+marker_reason fault.UnclosedString = codes "the string has no closing quote"
+marker_reason fault.MissingOperator = codes "an operator is expected"
+marker_reason fault.Backslash = codes "a backslash stands in the string"
+marker_reason fault.NoConnective = codes "'and' or 'or' is expected"
+marker_reason fault.Unclosed = codes "')' is expected"
+marker_reason fault.TooDeep = codes "more than 100 parentheses are open"
 
 -- the fault, with so many bytes of the string from it on
 abbrev pub stray : {A : Type 0} → OpenGroups → MarkerFault → ℕ → Result A Misfit

@@ -23,6 +23,25 @@ pub enum MarkerFault {
     TooDeep,
 }
 
+impl MarkerFault {
+    ghost use Rattle.pyver_requirements.specs.MarkerSteps.{marker_reason};
+
+    /// Why the string is none, in words. Never allocates.
+    pub fn reason(self) -> &'static str
+        ensures { result.now ≡ marker_reason self }
+    {
+        match self {
+            MarkerFault::MissingOperand => "a variable or a string is expected",
+            MarkerFault::UnclosedString => "the string has no closing quote",
+            MarkerFault::MissingOperator => "an operator is expected",
+            MarkerFault::Backslash => "a backslash stands in the string",
+            MarkerFault::NoConnective => "'and' or 'or' is expected",
+            MarkerFault::Unclosed => "')' is expected",
+            MarkerFault::TooDeep => "more than 100 parentheses are open",
+        }
+    }
+}
+
 /// Why a string is no environment marker, and from which byte on.
 #[derive(Clone, Copy, Debug, PartialEq, Eq)]
 pub enum MarkerError {

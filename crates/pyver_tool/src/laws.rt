@@ -2,7 +2,7 @@
 ghost use Rattle.pyver_tool.specs.CheckLaws.{ChecksOnce};
 ghost use Rattle.pyver_tool.specs.OneOutcome.{OutcomesOnce};
 
-/// Of what is asked for there is at most one outcome.
+/// Of what is asked for there is at most one outcome; `marker` may have many.
 pub fn outcomes_once()
     ensures { OutcomesOnce }
 {}
