@@ -1,7 +1,7 @@
 -- What a parsed TOML document has to check: the strings of `pyproject.toml`, and the versions of a lock.
-use Rattle.std.specs.Prelude.{ℕ, ◌+◌, List, [], ◌∷◌, ◌++◌, Bool, Option, Some, None, bytes_eq, codes, count_by, get_or, if◌then◌else◌, length, map, nat_eq, nat_lt}
+use Rattle.std.specs.Prelude.{ℕ, ◌+◌, List, [], ◌∷◌, ◌++◌, Bool, Option, Some, None, bytes_eq, codes, count_by, get_or, if◌then◌else◌, is_none, length, map, nat_eq, nat_lt}
 use Rattle.std.specs.List.{flat_map}
-use Rattle.pep440_pick.specs.Names.{normal}
+use Rattle.pep440_pick.specs.Names.{is_name, normal}
 use Rattle.toml.specs.Data.{Data, Members, as_str, get, get_member}
 use Rattle.pyver_projects.specs.PackageRequirements.{requirements_from}
 use Rattle.pyver_projects.specs.ProjectStrings.{Build, Dependencies, Extra, Group, Include, Invalid, LockContents, LockedPackage, Section, Python, ProjectString, Version}
@@ -35,9 +35,37 @@ source_from name section d = string_or name (codes "not an array of strings") se
 abbrev pub array_sources : List ℕ → Section → Option Data → List ProjectString
 array_sources name section value = unless (is_array_or_none value) name (codes "not an array of strings") ++ flat_map (source_from name section) (listed value)
 
--- the strings of the array of an extra
-abbrev pub extra_sources : List ℕ × Data → List ProjectString
-extra_sources e = array_sources e.0 (Extra (normal e.0)) (Some e.1)
+-- an item of `dynamic`, which is to name a field that the table does not have (PEP 621, "dynamic")
+abbrev pub dynamic_source : Option Data → Option (List ℕ) → List ProjectString
+dynamic_source project None = invalid_name (codes "dynamic") (codes "not an array of strings")
+dynamic_source project (Some name) = unless (is_none (inside name project)) name (codes "both dynamic and given")
+
+-- what is wrong with the fields that the table `project` says to be dynamic
+abbrev pub dynamic_sources : Option Data → List ProjectString
+dynamic_sources project = unless (is_array_or_none (inside (codes "dynamic") project)) (codes "dynamic") (codes "not an array of strings")
+    ++ flat_map (λ (d : Data). dynamic_source project (as_str d)) (listed (inside (codes "dynamic") project))
+
+-- ---- names
+
+-- the name of an entry in its normal form
+abbrev pub entry_name : List ℕ × Data → List ℕ
+entry_name e = normal e.0
+
+-- the names of entries
+abbrev pub entry_names : List (List ℕ × Data) → List (List ℕ)
+entry_names es = map entry_name es
+
+-- the name for this reason, if another one of these is the same
+abbrev pub repeated_name : List ℕ → List (List ℕ) → List ℕ → List ProjectString
+repeated_name reason names name = if nat_lt 1 (count_by (bytes_eq (normal name)) names) then invalid_name name reason else []
+
+-- that the name is none (PEP 508, "Names"), or for this reason that another one of these is the same (PEP 685; PEP 735, "Specification")
+abbrev pub name_faults : List ℕ → List (List ℕ) → List ℕ → List ProjectString
+name_faults reason names name = unless (is_name name) name (codes "not a valid name") ++ repeated_name reason names name
+
+-- the strings of the array of an extra, beside those with these names
+abbrev pub extra_sources : List (List ℕ) → List ℕ × Data → List ProjectString
+extra_sources names e = name_faults (codes "another extra has this name") names e.0 ++ array_sources e.0 (Extra (normal e.0)) (Some e.1)
 
 -- ---- groups
 
@@ -45,17 +73,9 @@ extra_sources e = array_sources e.0 (Extra (normal e.0)) (Some e.1)
 abbrev pub groups_table : Members → List (List ℕ × Data)
 groups_table document = entries (get_member (codes "dependency-groups") document)
 
--- the name of a group in its normal form
-abbrev pub group_name : List ℕ × Data → List ℕ
-group_name e = normal e.0
-
 -- the names of the groups
 abbrev pub group_names : Members → List (List ℕ)
-group_names document = map group_name (groups_table document)
-
--- the name of a group, if another of these has it, too
-abbrev pub repeated_name : List (List ℕ) → List ℕ → List ProjectString
-repeated_name names name = if nat_lt 1 (count_by (bytes_eq (normal name)) names) then invalid_name name (codes "another group has this name") else []
+group_names document = entry_names (groups_table document)
 
 -- the name of the group that an item includes: it is a table with the key `include-group` only
 abbrev pub included_name : Data → Option (List ℕ)
@@ -76,7 +96,7 @@ group_items name d = unless (is_array_or_none (Some d)) name (codes "not an arra
 
 -- the same, beside these groups
 abbrev pub group_sources : List (List ℕ) → List ℕ × Data → List ProjectString
-group_sources names e = repeated_name names e.0 ++ group_items e.0 e.1
+group_sources names e = name_faults (codes "another group has this name") names e.0 ++ group_items e.0 e.1
 
 -- ---- all strings
 
@@ -86,7 +106,7 @@ table_fault name value = unless (is_table_or_none value) name (codes "not a tabl
 
 -- the strings of the extras in this table
 abbrev pub optional_sources : Option Data → List ProjectString
-optional_sources extras = table_fault (codes "optional-dependencies") extras ++ flat_map extra_sources (entries extras)
+optional_sources extras = table_fault (codes "optional-dependencies") extras ++ flat_map (extra_sources (entry_names (entries extras))) (entries extras)
 
 -- the strings in the table `project`
 abbrev pub table_sources : Option Data → List ProjectString
@@ -105,8 +125,9 @@ table_faults document = table_fault (codes "project") (get_member (codes "projec
 abbrev pub sources : Members → List ProjectString
 sources document = table_faults document
     ++ (table_sources (get_member (codes "project") document)
+    ++ (dynamic_sources (get_member (codes "project") document)
     ++ (flat_map (group_sources (group_names document)) (groups_table document)
-    ++ array_sources (codes "requires") Build (inside (codes "requires") (get_member (codes "build-system") document))))
+    ++ array_sources (codes "requires") Build (inside (codes "requires") (get_member (codes "build-system") document)))))
 
 -- ---- locks
 

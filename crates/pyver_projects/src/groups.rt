@@ -1,7 +1,7 @@
 //! Groups that include others.
 ghost use Rattle.std.specs.Prelude.{◌≡◌, ◌++◌, IfOk, bytes_eq, map};
 ghost use Rattle.std.specs.List.{flat_map, list_any};
-ghost use Rattle.pyver_projects.specs.Documents.{group_name, group_names};
+ghost use Rattle.pyver_projects.specs.Documents.{entry_names, group_names};
 ghost use Rattle.pyver_projects.specs.Groups.{includes, inclusion, inclusions};
 ghost use Rattle.pyver_projects.specs.NameMaps.{HasGroups, IsInclusionIndex, IsNameIndex, IsGroupOrder, groups_of, inclusions_of, indexed_names};
 ghost use Rattle.pyver_projects.specs.ProjectViews.{inclusion_of, project_string_of, section_of, string_reading_of};
@@ -81,11 +81,12 @@ pub(crate) fn inclusions(
     Ok(inclusions)
 }
 
-fn table_names(alloc: Global, groups: &Table) -> Result<Vec<Vec<u8>>, AllocError>
-    ensures { IfOk result (λ names. map (λ n. n.items) names.items ≡ map group_name (members_list (table_view groups.now))) }
+// The names in the table, in their normal form.
+pub(crate) fn table_names(alloc: Global, table: &Table) -> Result<Vec<Vec<u8>>, AllocError>
+    ensures { IfOk result (λ names. map (λ n. n.items) names.items ≡ entry_names (members_list (table_view table.now))) }
 {
     let mut names = Vec::new(alloc);
-    for (name, _) in groups.iter() {
+    for (name, _) in table.iter() {
         names.push(normalize_name(alloc, name.as_str())?)?;
     }
     Ok(names)

@@ -1,18 +1,20 @@
 //! What is read of `pyproject.toml`.
-ghost use Rattle.std.specs.Prelude.{◌≡◌, ◌∷◌, ◌++◌, [], IfOk, length, map, nat_eq, option_map, string_bytes};
+ghost use Rattle.std.specs.Prelude.{◌≡◌, ◌∷◌, ◌++◌, [], IfOk, Some, length, map, nat_eq, option_map, string_bytes};
 ghost use Rattle.std.specs.List.{flat_map};
 ghost use Rattle.pep440_pick.specs.Names.{normal};
-ghost use Rattle.pyver_projects.specs.Documents.{array_sources, extra_sources, group_items, group_names, group_sources, groups_table, included_name, item_source, item_sources, optional_sources, repeated_name, source_from, sources, string_or, table_fault, table_faults, table_sources, text_sources, unless};
+ghost use Rattle.pyver_projects.specs.Documents.{array_sources, dynamic_source, dynamic_sources, entry_names, extra_sources, group_items, group_names, group_sources, groups_table, included_name, item_source, item_sources, name_faults, optional_sources, repeated_name, source_from, sources, string_or, table_fault, table_faults, table_sources, text_sources, unless};
 ghost use Rattle.pyver_projects.specs.NameMaps.{IsNameIndex, indexed_names};
-ghost use Rattle.pyver_projects.specs.ProjectStrings.{Group, Include};
+ghost use Rattle.pyver_projects.specs.ProjectStrings.{Extra, Group, Include};
 ghost use Rattle.pyver_projects.specs.ProjectViews.{section_of, project_string_of};
 ghost use Rattle.pyver_projects.specs.TomlValues.{entries, members_list};
+ghost use Rattle.toml.specs.Data.{Data, as_str};
 ghost use Rattle.toml.specs.View.{table_view, view};
 
-use crate::groups::group_names;
+use crate::groups::{group_names, table_names};
 use crate::name_index::NameIndex;
 use crate::section::{ProjectString, Section};
 use crate::table::{inside, is_array_or_none, is_table_or_none, items, table, text, top};
+use pep440_pick::is_name;
 use pyver_findings::normalize_name;
 use std::alloc::{AllocError, Global};
 use toml::{Table, Value};
@@ -120,16 +122,65 @@ fn push_array(
     push_strings(alloc, sources, name, section, items(value))
 }
 
+// Adds the name for this reason, if another one of these is the same.
+fn push_repeated(
+    alloc: Global,
+    sources: &mut Vec<ProjectString>,
+    names: &NameIndex<'_>,
+    name: &str,
+    reason: &'static str,
+) -> Result<(), AllocError>
+    requires { IsNameIndex names.now }
+    ensures { IfOk result (λ _. map project_string_of sources.new.items ≡ map project_string_of sources.old.items ++ repeated_name reason.now (indexed_names names.now) name.now) }
+{
+    let normal = normalize_name(alloc, name)?;
+    if !names.has_twice(normal.as_slice()) {
+        return Ok(());
+    }
+    push_string(alloc, sources, Section::Invalid(reason), name)
+}
+
+// Adds the name, if it is none; and for this reason, if another one of these is the same.
+fn push_name_faults(
+    alloc: Global,
+    sources: &mut Vec<ProjectString>,
+    names: &NameIndex<'_>,
+    name: &str,
+    reason: &'static str,
+) -> Result<(), AllocError>
+    requires { IsNameIndex names.now }
+    ensures { IfOk result (λ _. map project_string_of sources.new.items ≡ map project_string_of sources.old.items ++ name_faults reason.now (indexed_names names.now) name.now) }
+{
+    push_unless(alloc, sources, is_name(name), name, "not a valid name")?;
+    push_repeated(alloc, sources, names, name, reason)
+}
+
+// Adds the strings of the extra with this name.
+fn push_extra_items(
+    alloc: Global,
+    sources: &mut Vec<ProjectString>,
+    name: &str,
+    value: &Value,
+) -> Result<(), AllocError>
+    ensures { IfOk result (λ _. map project_string_of sources.new.items ≡ map project_string_of sources.old.items ++ array_sources name.now (Extra (normal name.now)) (Some (view value.now))) }
+{
+    let section = Section::Extra(normalize_name(alloc, name)?);
+    push_array(alloc, sources, name, &section, Some(value))
+}
+
 fn push_extra(
     alloc: Global,
     sources: &mut Vec<ProjectString>,
+    names: &NameIndex<'_>,
     name: &String,
     value: &Value,
 ) -> Result<(), AllocError>
-    ensures { IfOk result (λ _. map project_string_of sources.new.items ≡ map project_string_of sources.old.items ++ extra_sources (string_bytes name.now, view value.now)) }
+    requires { IsNameIndex names.now }
+    ensures { IfOk result (λ _. map project_string_of sources.new.items ≡ map project_string_of sources.old.items ++ extra_sources (indexed_names names.now) (string_bytes name.now, view value.now)) }
 {
-    let section = Section::Extra(normalize_name(alloc, name.as_str())?);
-    push_array(alloc, sources, name.as_str(), &section, Some(value))
+    let reason = "another extra has this name";
+    push_name_faults(alloc, sources, names, name.as_str(), reason)?;
+    push_extra_items(alloc, sources, name.as_str(), value)
 }
 
 fn group_section(alloc: Global, name: &str) -> Result<Section, AllocError>
@@ -143,24 +194,6 @@ fn include_section(alloc: Global, name: &str, included: &str) -> Result<Section,
 {
     let group = normalize_name(alloc, name)?;
     Ok(Section::Include(group, normalize_name(alloc, included)?))
-}
-
-// Adds the name of the group, if another of these has it, too.
-fn push_repeated(
-    alloc: Global,
-    sources: &mut Vec<ProjectString>,
-    names: &NameIndex<'_>,
-    name: &str,
-) -> Result<(), AllocError>
-    requires { IsNameIndex names.now }
-    ensures { IfOk result (λ _. map project_string_of sources.new.items ≡ map project_string_of sources.old.items ++ repeated_name (indexed_names names.now) name.now) }
-{
-    let normal = normalize_name(alloc, name)?;
-    if !names.has_twice(normal.as_slice()) {
-        return Ok(());
-    }
-    let section = Section::Invalid("another group has this name");
-    push_string(alloc, sources, section, name)
 }
 
 // The table has one key.
@@ -239,21 +272,36 @@ fn push_group(
     requires { IsNameIndex names.now }
     ensures { IfOk result (λ _. map project_string_of sources.new.items ≡ map project_string_of sources.old.items ++ group_sources (indexed_names names.now) (string_bytes name.now, view value.now)) }
 {
-    push_repeated(alloc, sources, names, name.as_str())?;
+    let reason = "another group has this name";
+    push_name_faults(alloc, sources, names, name.as_str(), reason)?;
     push_group_items(alloc, sources, name.as_str(), value)
 }
 
 fn push_extras(
     alloc: Global,
     sources: &mut Vec<ProjectString>,
+    names: &NameIndex<'_>,
     extras: &Table,
 ) -> Result<(), AllocError>
-    ensures { IfOk result (λ _. map project_string_of sources.new.items ≡ map project_string_of sources.old.items ++ flat_map extra_sources (members_list (table_view extras.now))) }
+    requires { IsNameIndex names.now }
+    ensures { IfOk result (λ _. map project_string_of sources.new.items ≡ map project_string_of sources.old.items ++ flat_map (extra_sources (indexed_names names.now)) (members_list (table_view extras.now))) }
 {
     for (name, value) in extras.iter() {
-        push_extra(alloc, sources, name, value)?;
+        push_extra(alloc, sources, names, name, value)?;
     }
     Ok(())
+}
+
+fn push_extras_table(
+    alloc: Global,
+    sources: &mut Vec<ProjectString>,
+    extras: &Table,
+) -> Result<(), AllocError>
+    ensures { IfOk result (λ _. map project_string_of sources.new.items ≡ map project_string_of sources.old.items ++ flat_map (extra_sources (entry_names (members_list (table_view extras.now)))) (members_list (table_view extras.now))) }
+{
+    let names = table_names(alloc, extras)?;
+    let names = NameIndex::new(alloc, names.as_slice())?;
+    push_extras(alloc, sources, &names, extras)
 }
 
 fn push_groups(
@@ -276,10 +324,10 @@ fn push_all_extras(
     sources: &mut Vec<ProjectString>,
     value: Option<&Value>,
 ) -> Result<(), AllocError>
-    ensures { IfOk result (λ _. map project_string_of sources.new.items ≡ map project_string_of sources.old.items ++ flat_map extra_sources (entries (option_map (λ v. view v.now) value.entry))) }
+    ensures { IfOk result (λ _. map project_string_of sources.new.items ≡ map project_string_of sources.old.items ++ flat_map (extra_sources (entry_names (entries (option_map (λ v. view v.now) value.entry)))) (entries (option_map (λ v. view v.now) value.entry))) }
 {
     match table(value) {
-        Some(extras) => push_extras(alloc, sources, extras),
+        Some(extras) => push_extras_table(alloc, sources, extras),
         None => Ok(()),
     }
 }
@@ -346,6 +394,53 @@ fn push_project(
     push_text(alloc, sources, "version", &Section::Version, version)
 }
 
+// Adds an item of `dynamic`, if it is no string, or names a field that the table has.
+fn push_dynamic_item(
+    alloc: Global,
+    sources: &mut Vec<ProjectString>,
+    project: Option<&Value>,
+    name: Option<&str>,
+) -> Result<(), AllocError>
+    ensures { IfOk result (λ _. map project_string_of sources.new.items ≡ map project_string_of sources.old.items ++ dynamic_source (option_map (λ v. view v.now) project.entry) (option_map (λ t. t.now) name.entry)) }
+{
+    let reason = "not an array of strings";
+    match name {
+        Some(name) => {
+            let is_right = inside(project, name).is_none();
+            push_unless(alloc, sources, is_right, name, "both dynamic and given")
+        }
+        None => push_string(alloc, sources, Section::Invalid(reason), "dynamic"),
+    }
+}
+
+fn push_dynamic_items(
+    alloc: Global,
+    sources: &mut Vec<ProjectString>,
+    project: Option<&Value>,
+    found: &[Value],
+) -> Result<(), AllocError>
+    ensures { IfOk result (λ _. map project_string_of sources.new.items ≡ map project_string_of sources.old.items ++ flat_map (λ (d : Data). dynamic_source (option_map (λ v. view v.now) project.entry) (as_str d)) (map view found.now)) }
+{
+    for item in found {
+        push_dynamic_item(alloc, sources, project, item.as_str())?;
+    }
+    Ok(())
+}
+
+// Adds what is wrong with the fields that the table `project` says to be dynamic.
+fn push_dynamic(
+    alloc: Global,
+    sources: &mut Vec<ProjectString>,
+    project: Option<&Value>,
+) -> Result<(), AllocError>
+    ensures { IfOk result (λ _. map project_string_of sources.new.items ≡ map project_string_of sources.old.items ++ dynamic_sources (option_map (λ v. view v.now) project.entry)) }
+{
+    let dynamic = inside(project, "dynamic");
+    let is_right = is_array_or_none(dynamic);
+    push_unless(alloc, sources, is_right, "dynamic", "not an array of strings")?;
+    push_dynamic_items(alloc, sources, project, items(dynamic))
+}
+
 // Adds the names of tables that are none.
 fn push_table_faults(
     alloc: Global,
@@ -371,6 +466,7 @@ pub(crate) fn project_strings(
     let mut found = Vec::new(alloc);
     push_table_faults(alloc, &mut found, document)?;
     push_project(alloc, &mut found, top(document, "project"))?;
+    push_dynamic(alloc, &mut found, top(document, "project"))?;
     push_all_groups(alloc, &mut found, document)?;
     let build = inside(top(document, "build-system"), "requires");
     push_array(alloc, &mut found, "requires", &Section::Build, build)?;

@@ -15,7 +15,7 @@ pub(crate) enum Section {
     Group(Vec<u8>),
     // There, as the name of a group that is included: this group includes that one.
     Include(Vec<u8>, Vec<u8>),
-    // There, as the name of a group that is invalid for this reason.
+    // As the name of a value that is invalid for this reason.
     Invalid(&'static str),
     // In `build-system.requires`.
     Build,

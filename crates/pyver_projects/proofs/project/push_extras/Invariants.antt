@@ -2,11 +2,12 @@ use Rattle.std.proofs.Common.{◌≡◌, ◌++◌, map}
 use Rattle.std.specs.List.{flat_map}
 use Rattle.toml.specs.View.{members_view}
 use Rattle.pyver_projects.specs.Documents.{extra_sources}
+use Rattle.pyver_projects.specs.NameMaps.{indexed_names}
 use Rattle.pyver_projects.specs.TomlValues.{members_list}
 use Rattle.pyver_projects.specs.ProjectViews.{project_string_of}
 use Rattle.pyver_projects.proofs.project.push_extras.Given as goal
 
 abbrev pub invariant-loop-name : goal.invariant-loop-name
 invariant-loop-name l =
-    map project_string_of l.sources.items ++ flat_map extra_sources (members_list (members_view l.name-iterator))
-    ≡ map project_string_of l.initial.sources.items ++ flat_map extra_sources (members_list (members_view l.extras.entries))
+    map project_string_of l.sources.items ++ flat_map (extra_sources (indexed_names l.names)) (members_list (members_view l.name-iterator))
+    ≡ map project_string_of l.initial.sources.items ++ flat_map (extra_sources (indexed_names l.names)) (members_list (members_view l.extras.entries))
