@@ -11,7 +11,7 @@ use Rattle.pep440_version.specs.Key.{record_cmp, release_cmp}
 use Rattle.pep440_version.specs.Key.KeyLaws.{record_total}
 use Rattle.pep440_version.specs.Record.{Record, epoch_and_release}
 use Rattle.pep440_version.specs.declared.prerelease.PrereleaseKind.{PrereleaseKind}
-use Rattle.pyver_commands.specs.BumpLaws.{BumpsAreGreater, BumpsChangeOnly, ChangesOnly, ReleasesAreBumped, changes_number, changes_post, changes_pre, changes_release}
+use Rattle.pyver_commands.specs.CommandLaws.{BumpsAreGreater, BumpsChangeOnly, ChangesOnly, ReleasesAreBumped, changes_number, changes_post, changes_pre, changes_release}
 use Rattle.pyver_commands.specs.Bumps.{bump_dev, bump_from, bump_part, bump_post, bump_pre, bump_stable, is_later_kind, knows_release, release_with, require_greater, then_bump, with_number}
 use Rattle.pyver_commands.specs.declared.bump.BumpError.{BumpError}
 use Rattle.pyver_commands.specs.declared.bump.BumpPart.{BumpPart}

@@ -13,7 +13,7 @@ use Rattle.pep440_rs.specs.LiteralMatching.{list_matches_literally}
 use Rattle.pep440_rs.specs.Specifiers.{Spec}
 use Rattle.pep440_version.specs.Record.{Record}
 use Rattle.pyver_commands.specs.NewestOutcomes.{IsMatchedLine, NewestLine}
-use Rattle.pyver_commands.specs.NewestViews.{kept_line}
+use Rattle.pyver_commands.specs.AnswerViews.{kept_line}
 use Rattle.pyver_commands.specs.Sources.VersionLines.{VersionLine}
 use Rattle.pyver_commands.specs.declared.newest_lines.KeptLine.{KeptLine}
 

@@ -30,7 +30,7 @@ use Rattle.pep440_version.specs.Record.{Fits, IsRecord, Record}
 use Rattle.pyver_commands.specs.CommonRanges.{ArrangesAll, FindsCommon, ListReading, PrintsLists, ReadsMembers, length_cmp, lines_outcome, members_in, messages_in, named_outcome, set_outcome}
 use Rattle.pyver_commands.specs.Matches.{DenotesList, ListFails}
 use Rattle.cli_io.specs.Runs.{Outcome}
-use Rattle.pyver_commands.specs.RangeLaws.{AllowsVersion, NoVersionHasItsStatus, NoVersionIsCommon, VersionIsCommon}
+use Rattle.pyver_commands.specs.CommandLaws.{AllowsVersion, NoVersionHasItsStatus, NoVersionIsCommon, VersionIsCommon}
 use Rattle.pep440_version.proofs.Reading.ReadIsDerived.{number_first}
 use Rattle.pep440_version.proofs.RoundTrip.PrintIsRead.{decimal_number, derived_record, none_all}
 use Rattle.pep440_sets.proofs.CommonVersions.{common_is_denoted, common_matches, none_in_common}

@@ -16,7 +16,7 @@ use Rattle.pyver_commands.specs.Sources.InputLines.{SourceLine, Origin, Source, 
 use Rattle.pyver_commands.specs.Sources.InvalidLines.{message_limit}
 use Rattle.pyver_commands.specs.Sources.LineOptions.{is_header}
 use Rattle.pyver_commands.specs.Sources.ReadLines.{Entry, IsEntry, IsRead, LineReading, ReadLine, fault_at, faults}
-use Rattle.pyver_commands.specs.NewestViews.{KeepsNewest}
+use Rattle.pyver_commands.specs.AnswerViews.{KeepsNewest}
 use Rattle.pyver_commands.specs.Readings.{Denotes}
 use Rattle.cli_io.specs.Streams.{WroteBeginning}
 use Rattle.pyver_commands.specs.Sources.VersionLines.{VersionLine, line_with, version_lines}

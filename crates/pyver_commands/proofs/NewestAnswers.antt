@@ -5,7 +5,7 @@ use Rattle.std.specs.List.{concat}
 use Rattle.pyver_commands.specs.FilterSteps.{AllFinish, AllFail}
 use Rattle.pyver_commands.specs.Sources.InvalidLines.{last_message, lines_status, message_limit}
 use Rattle.pyver_commands.specs.NewestOutcomes.{FindsNewest, NewestLine, newest_outcome, taken}
-use Rattle.pyver_commands.specs.NewestViews.{kept_line}
+use Rattle.pyver_commands.specs.AnswerViews.{kept_line}
 use Rattle.pyver_commands.specs.PrereleaseRules.{takes_prereleases}
 use Rattle.pyver_commands.specs.Sources.ReadLines.{faults}
 use Rattle.pyver_commands.specs.Sources.RunFailures.{IsRunFailureOf, FailsWithoutOutcome}

@@ -6,7 +6,7 @@ use Rattle.pyver_commands.specs.Filters.{Filters, printed_lines}
 use Rattle.cli_io.specs.Newlines.{input_lines}
 use Rattle.pyver_commands.specs.Sources.InputLines.{Origin, Source, filled_lines, filled_lines_from, source_lines}
 use Rattle.pyver_commands.specs.Sources.InvalidLines.{last_message, lines_status, message_limit}
-use Rattle.pyver_commands.specs.NewestViews.{KeepsNewest}
+use Rattle.pyver_commands.specs.AnswerViews.{KeepsNewest}
 use Rattle.cli_io.specs.Runs.{EndsComplete, Outcome}
 use Rattle.pyver_commands.specs.Sources.ReadLines.{IsRead, LineReading, ReadLine, faults}
 use Rattle.pyver_commands.specs.Sources.SourceViews.{origin_line}

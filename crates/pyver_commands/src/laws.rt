@@ -1,7 +1,6 @@
 //! What holds of the outcomes of `bump`, `range` and `marker`, as the contract of a function that does nothing.
-ghost use Rattle.pyver_commands.specs.BumpLaws.{BumpsAreGreater, BumpsChangeOnly, ReleasesAreBumped};
+ghost use Rattle.pyver_commands.specs.CommandLaws.{BumpsAreGreater, BumpsChangeOnly, ReleasesAreBumped, NoVersionHasItsStatus, NoVersionIsCommon, VersionIsCommon};
 ghost use Rattle.pyver_commands.specs.MarkerExtents.{HoldsOrNot};
-ghost use Rattle.pyver_commands.specs.RangeLaws.{NoVersionHasItsStatus, NoVersionIsCommon, VersionIsCommon};
 
 /// A version that `bump` makes is greater, and differs only in the stated parts; a number of the release can be
 /// raised unless it is the greatest. The epoch stays, and so does each part that no word changes; the local part goes.

@@ -1,9 +1,8 @@
 //! The command `newest`: the line of the newest version that specifiers allow.
 ghost use Rattle.std.specs.Prelude.{◌≡◌, IfErr, IfOk, List, Option, ℕ, map, string_bytes};
 ghost use Rattle.std.specs.Option.{option_map};
-ghost use Rattle.pyver_commands.specs.AnswerViews.{outcome_of};
+ghost use Rattle.pyver_commands.specs.AnswerViews.{outcome_of, kept_line};
 ghost use Rattle.pyver_commands.specs.NewestOutcomes.{FindsNewest, newest_outcome};
-ghost use Rattle.pyver_commands.specs.NewestViews.{kept_line};
 ghost use Rattle.pyver_commands.specs.Sources.RunFailures.{IsRunFailureOf, FailsWithoutOutcome};
 ghost use Rattle.pyver_commands.specs.Sources.{IsOutcomeOfSources, source_names};
 ghost use Rattle.pyver_commands.specs.Sources.VersionLines.{OfVersions};

@@ -4,7 +4,7 @@ ghost use Rattle.std.specs.Option.{option_map, option_map_or};
 ghost use Rattle.std.specs.Ordering.{is_lt};
 ghost use Rattle.pep440_pick.specs.Newest.{preference};
 ghost use Rattle.pyver_commands.specs.NewestOutcomes.{taken, without_prerelease};
-ghost use Rattle.pyver_commands.specs.NewestViews.{KeepsNewest, kept_line};
+ghost use Rattle.pyver_commands.specs.AnswerViews.{KeepsNewest, kept_line};
 ghost use Rattle.pyver_commands.specs.Sources.VersionLines.{VersionLine};
 
 use crate::prerelease_rule::Prereleases;

@@ -191,7 +191,13 @@ fn push_extras_fault(
         return Ok(());
     }
     let column = count_before_bracket(requirement);
-    push_fault(alloc, findings, line, "constraints cannot have extras", column)
+    push_fault(
+        alloc,
+        findings,
+        line,
+        "constraints cannot have extras",
+        column,
+    )
 }
 
 // What is wrong with the line, which is to be a requirement, as a constraint.
@@ -217,7 +223,13 @@ fn push_kind_fault(
         (kind_faults (file_line_of line.now) (line_kind_of kind.entry))) }
 {
     match kind {
-        LineKind::Editable => push_fault(alloc, findings, line, "constraints cannot be editable", 0),
+        LineKind::Editable => push_fault(
+            alloc,
+            findings,
+            line,
+            "constraints cannot be editable",
+            0,
+        ),
         LineKind::Requirement => push_requirement_fault(alloc, findings, line),
         LineKind::ConstraintsFile(_) => Ok(()),
         LineKind::RequirementsFile(_) => Ok(()),

@@ -12,9 +12,8 @@ use Rattle.pyver_findings.specs.Reports.{demands_in}
 use Rattle.pyver_projects.proofs.HoldingTogether.{each_flat}
 use Rattle.pyver_projects.proofs.Walks.{all_flat}
 use Rattle.pyver_projects.specs.Groups.{Inclusion, inclusions}
-use Rattle.pyver_projects.specs.Meanings.{StringReading}
+use Rattle.pyver_projects.specs.Meanings.{StringReading, IsSoundString}
 use Rattle.pyver_projects.specs.ProjectStrings.{Section}
-use Rattle.pyver_projects.specs.Soundness.{IsSoundString}
 use Rattle.pyver_projects.specs.Together.{all_demands, demand_in_part, has_group, holds_in, part_conflicts, part_demands, parts, project_conflicts, same_finding, sections, with_new}
 
 -- nothing is made of each, so of all

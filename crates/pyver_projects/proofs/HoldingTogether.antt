@@ -16,10 +16,9 @@ use Rattle.pyver_projects.proofs.Asking.{AsksFor, of_section}
 use Rattle.pyver_projects.proofs.Walks.{all_flat, zip_each}
 use Rattle.pyver_projects.specs.Documents.{sources}
 use Rattle.pyver_projects.specs.Groups.{Groups, Inclusion, groups, inclusions}
-use Rattle.pyver_projects.specs.Meanings.{IsSectionMeaning, IsStringReading, StringReading, string_line}
+use Rattle.pyver_projects.specs.Meanings.{IsSectionMeaning, IsStringReading, StringReading, string_line, IsSoundString}
 use Rattle.pyver_projects.specs.ProjectLaws.{line_in_part, part_lines}
 use Rattle.pyver_projects.specs.ProjectStrings.{ProjectString, Section}
-use Rattle.pyver_projects.specs.Soundness.{IsSoundString}
 use Rattle.pyver_projects.specs.Together.{demand_in_part, has_group, holds_in, part_conflicts, part_demands, parts, project_conflicts, same_finding, sections, with_new}
 
 -- what a string asks for, its line asks for

@@ -19,10 +19,9 @@ use Rattle.pyver_projects.proofs.Walks.{beside_it, left_nil, nil_at, right_nil, 
 use Rattle.pyver_projects.specs.Comparing.{beside_all, invalid_string, own_report, with_own_reports}
 use Rattle.pyver_projects.specs.Documents.{sources}
 use Rattle.pyver_projects.specs.Groups.{groups, inclusions}
-use Rattle.pyver_projects.specs.Meanings.{DocumentReading, IsDocumentReading, IsProject, IsStringReading, StringReading}
+use Rattle.pyver_projects.specs.Meanings.{DocumentReading, IsDocumentReading, IsProject, IsStringReading, StringReading, IsSoundString}
 use Rattle.pyver_projects.specs.ProjectLaws.{NoFindingImpliesSatisfiable}
 use Rattle.pyver_projects.specs.ProjectStrings.{Build, Dependencies, Extra, Group, Section}
-use Rattle.pyver_projects.specs.Soundness.{IsSoundString}
 use Rattle.pyver_projects.specs.Together.{part_conflicts, part_demands, parts, project_conflicts, same_finding, same_part, section_part, sections, with_new}
 use Rattle.pyver_projects.specs.declared.document_kind.DocumentKind.TheVariants.{Project}
 

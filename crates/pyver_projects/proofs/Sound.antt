@@ -7,8 +7,7 @@ use Rattle.pyver_projects.proofs.HoldingTogether.{sound_string}
 use Rattle.pyver_projects.proofs.Walks.{zip_each}
 use Rattle.pyver_projects.specs.Documents.{sources}
 use Rattle.pyver_projects.specs.Groups.{groups}
-use Rattle.pyver_projects.specs.Meanings.{Document, DocumentReading, IsBrokenReading, IsDocumentReading, IsStringReading}
-use Rattle.pyver_projects.specs.Soundness.{IsSoundDocument, IsSoundString}
+use Rattle.pyver_projects.specs.Meanings.{Document, DocumentReading, IsBrokenReading, IsDocumentReading, IsStringReading, IsSoundDocument, IsSoundString}
 use Rattle.pyver_projects.specs.ProjectViews.{document_reading_of}
 use Rattle.pyver_projects.specs.declared.document_kind.DocumentKind.{DocumentKind}
 use Rattle.pyver_projects.specs.declared.document_reading.DocumentReading.{DocumentReading as DocumentReadingValue}

@@ -3,12 +3,10 @@ pub mod TomlValues
 pub mod PackageRequirements
 pub mod Documents
 pub mod Places
-pub mod QuotedStrings
 pub mod Groups
 pub mod PipfileLocks
 pub mod Locks
 pub mod Meanings
-pub mod Soundness
 pub mod ProjectViews
 pub mod NameMaps
 pub mod PackageIndexes

@@ -1,6 +1,6 @@
 -- What a string of `pyproject.toml`, a locked package and a document are to the check.
-use Rattle.std.specs.Prelude.{◌≡◌, ◌⊎◌, ℕ, ◌+◌, List, [], ◌++◌, Option, Some, None, codes, length}
-use Rattle.std.specs.List.{AllZip}
+use Rattle.std.specs.Prelude.{◌≡◌, ◌⊎◌, ℕ, ◌+◌, List, [], ◌++◌, Option, Some, None, codes, length, ⊤}
+use Rattle.std.specs.List.{AllZip, All}
 use Rattle.std.specs.Str.{IsUtf8}
 use Rattle.pep440_pick.specs.Names.{normal}
 use Rattle.pep440_rs.specs.Lists.ListGrammar.{DerivesList, PieceRejection, RejectsList}
@@ -9,7 +9,7 @@ use Rattle.pep440_version.specs.ErrorTexts.{rejection_text}
 use Rattle.pep440_version.specs.Grammar.{Derives}
 use Rattle.pep440_version.specs.Record.{Record}
 use Rattle.pep440_version.specs.Rejections.{Rejection, Rejects}
-use Rattle.pyver_findings.specs.Demands.{line_demand}
+use Rattle.pyver_findings.specs.Demands.{line_demand, IsSound}
 use Rattle.pyver_findings.specs.FileLines.{File, FileLine}
 use Rattle.pyver_findings.specs.Findings.{Finding, NoRequirement}
 use Rattle.pyver_findings.specs.LineMeanings.{Asks, AsksNothing, IsListMeaning, IsNone, IsPartsMeaning, LeftOut, LineMeaning}
@@ -25,6 +25,7 @@ use Rattle.pyver_projects.specs.Places.{first_line, number_or_one}
 use Rattle.pyver_projects.specs.ProjectStrings.{Build, Dependencies, Extra, Group, Include, Invalid, LockContents, LockedPackage, LockedRequirement, Section, Python, ProjectString, Version}
 use Rattle.pyver_projects.specs.declared.document_kind.DocumentKind.{DocumentKind}
 use Rattle.pyver_projects.specs.declared.document_kind.DocumentKind.TheVariants.{Lock, Project}
+use Rattle.pyver_findings.specs.Reports.{demands_in}
 
 -- ---- strings of `pyproject.toml`
 
@@ -124,3 +125,13 @@ IsTextReading (Lock kind) file x = IsContentsReading file (locked kind file.text
 -- what a document is
 abbrev pub IsDocumentReading : Document → DocumentReading → Type 0
 IsDocumentReading d x = ((¬ IsUtf8 d.file.text) × IsBrokenReading d.file x) ⊎ (IsUtf8 d.file.text × IsTextReading d.kind d.file x)
+
+-- strings can give the list of the requirement
+abbrev pub IsSoundString : StringReading → Type 0
+IsSoundString x = All IsSound (demands_in x.meaning)
+
+-- and the lists of a project
+abbrev pub IsSoundDocument : DocumentReading → Type 0
+IsSoundDocument (IsProject xs) = All IsSoundString xs
+IsSoundDocument (IsLock ys ms) = ⊤
+IsSoundDocument (IsBroken f) = ⊤

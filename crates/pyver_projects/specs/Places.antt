@@ -1,6 +1,10 @@
 -- Where strings and packages stand in a document.
-use Rattle.std.specs.Prelude.{ℕ, ◌+◌, ◌==◌, ◌&&◌, ◌||◌, List, [], ◌∷◌, ◌++◌, Bool, true, not, Option, Some, None, bytes_eq, count_by, length, nat_eq, nat_lt, take, if◌then◌else◌}
+use Rattle.std.specs.Prelude.{ℕ, ◌+◌, ◌==◌, ◌&&◌, ◌||◌, List, [], ◌∷◌, ◌++◌, Bool, true, not, Option, Some, None, bytes_eq, count_by, length, nat_eq, nat_lt, take, if◌then◌else◌, ◌≡◌}
 use Rattle.std.specs.List.{prefix_len, starts_with}
+use Rattle.std.specs.BTreeMap.{get_by}
+use Rattle.std.specs.Cmp.Lexicographic.{slice_cmp}
+use Rattle.std.specs.Ordering.{nat_cmp}
+use Rattle.pyver_projects.specs.declared.quoted_lines.QuotedLines.{QuotedLines}
 
 -- a quote of TOML or JSON: `"` or `'`
 abbrev pub is_string_quote : ℕ → Bool
@@ -55,3 +59,11 @@ headers_from header starts number (b ∷ rest) = (if starts && starts_with nat_e
 -- the numbers of the lines of a document that begin with the header
 abbrev pub header_lines : List ℕ → List ℕ → List ℕ
 header_lines header text = headers_from header true 1 text
+
+-- the number that is kept for the string
+abbrev pub known_line : QuotedLines → List ℕ → Option ℕ
+known_line lines string = get_by (λ k. slice_cmp nat_cmp string k.now) lines.numbers
+
+-- each string has the number of its first line in the document
+abbrev pub HasQuotedLines : QuotedLines → Type 0
+HasQuotedLines lines = (string : List ℕ) → known_line lines string ≡ first_line lines.text.now string

@@ -4,8 +4,7 @@ ghost use Rattle.std.specs.List.{All, AllZip, flat_map};
 ghost use Rattle.pyver_findings.specs.Reports.{empty_report, left_out_in};
 ghost use Rattle.pyver_findings.specs.Views.{finding_of, line_meaning_of, report_of};
 ghost use Rattle.pyver_projects.specs.Comparing.{IsDocumentsReport, beside_all, invalid_package, invalid_string, left_out_string, own_report, with_own_reports};
-ghost use Rattle.pyver_projects.specs.Meanings.{IsDocumentReading, IsLock, IsProject};
-ghost use Rattle.pyver_projects.specs.Soundness.{IsSoundDocument, IsSoundString};
+ghost use Rattle.pyver_projects.specs.Meanings.{IsDocumentReading, IsLock, IsProject, IsSoundDocument, IsSoundString};
 ghost use Rattle.pyver_projects.specs.Together.{project_conflicts};
 ghost use Rattle.pyver_projects.specs.ProjectViews.{document_of, document_reading_of, locked_reading_of, string_reading_of};
 

@@ -437,7 +437,13 @@ fn push_dynamic(
 {
     let dynamic = inside(project, "dynamic");
     let is_right = is_array_or_none(dynamic);
-    push_unless(alloc, sources, is_right, "dynamic", "not an array of strings")?;
+    push_unless(
+        alloc,
+        sources,
+        is_right,
+        "dynamic",
+        "not an array of strings",
+    )?;
     push_dynamic_items(alloc, sources, project, items(dynamic))
 }
 

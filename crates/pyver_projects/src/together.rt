@@ -7,7 +7,7 @@ ghost use Rattle.pyver_findings.specs.Views.{demand_of, file_line_of, finding_of
 ghost use Rattle.pyver_projects.specs.Groups.{inclusions as inclusions_in};
 ghost use Rattle.pyver_projects.specs.NameMaps.{IsInclusionIndex, has_key, inclusions_of};
 ghost use Rattle.pyver_projects.specs.ProjectViews.{section_of, string_reading_of};
-ghost use Rattle.pyver_projects.specs.Soundness.{IsSoundString};
+ghost use Rattle.pyver_projects.specs.Meanings.{IsSoundString};
 ghost use Rattle.pyver_projects.specs.Together.{all_demands, demand_in_part, has_dependencies, has_group, holds_in, is_build, is_extra, part_conflicts, part_demands, parts, project_conflicts, same_finding, same_line, same_lines, same_part, section_part, sections, with_new};
 ghost use Rattle.pyver_findings.specs.Conflicts.{conflicts};
 

@@ -22,12 +22,11 @@ use Rattle.pyver_commands.specs.Sources.LineOptions.{bare_line_options, is_heade
 use Rattle.pyver_commands.specs.Matches.{Matches, MatchesBy, MatchesWord, MatchesWords, ReadsSpecifiers, SpecifiersReading, DenotesList, ListFails, word_outcome}
 use Rattle.pyver_commands.specs.PrereleaseRules.{takes_prereleases}
 use Rattle.pyver_commands.specs.NewestOutcomes.{FindsNewest, FindsNewestBy, FindsNewestLine, newest_outcome, newest_rule, taken}
-use Rattle.pyver_tool.specs.CheckLaws.{ChecksOnce}
+use Rattle.pyver_tool.specs.OneOutcome.{ChecksOnce, OutcomesOnce}
 use Rattle.pyver_tool.specs.Checks.{with_report}
 use Rattle.pyver_findings.proofs.Once.{reports_once}
 use Rattle.pyver_findings.specs.Reports.{joined_report, without_ignored}
 use Rattle.pyver_projects.proofs.Once.{document_reports_once}
-use Rattle.pyver_tool.specs.OneOutcome.{OutcomesOnce}
 use Rattle.cli_io.specs.Runs.{Outcome}
 use Rattle.pyver_commands.specs.Outcomes.{in_turn}
 use Rattle.pyver_commands.specs.Sources.ReadLines.{Entry, Header, IsEntry, IsRead, LineReading, ReadLine, ReadsBytes, ReadsField, ReadsPart}

@@ -12,7 +12,5 @@ pub mod RequirementFiles
 pub mod FileSteps
 pub mod Checks
 pub mod Runs
-pub mod CheckViews
-pub mod CheckLaws
 pub mod WorkViews
 pub mod OneOutcome

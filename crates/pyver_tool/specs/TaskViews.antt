@@ -10,6 +10,10 @@ use Rattle.pyver_tool.specs.declared.words.Words.TheVariants as words
 use Rattle.pyver_tool.specs.declared.help.Topic.TheVariants as topic
 use Rattle.pyver_tool.specs.declared.misuse.Misuse.{Misuse}
 use Rattle.pyver_tool.specs.declared.misuse.Misuse.TheVariants as misuse
+use Rattle.pyver_tool.specs.Checks.{CheckResult}
+use Rattle.pyver_tool.specs.FileSteps.{unopened_file_of}
+use Rattle.pyver_tool.specs.declared.check.CheckResult.{CheckResult as CheckResultValue}
+use Rattle.pyver_findings.specs.Views.{report_of}
 
 abbrev pub misuse_message : Misuse → List ℕ
 misuse_message (misuse.Command word) = wrong_command word.now
@@ -45,3 +49,6 @@ words_task (words.Command topic split) = by_split topic (split_of split)
 words_task (words.Unknown word) = Misused (wrong_command (string_bytes word))
 words_task words.Nothing = Misused (help_text topic.Program)
 words_task words.Miscounted = Misused (wrong_count topic.Program)
+
+abbrev pub check_result_of : CheckResultValue → CheckResult
+check_result_of c = record { report = report_of c.report; unopened = map unopened_file_of c.unopened.items }

@@ -1,6 +1,5 @@
 //! What holds of the program's outcomes, as the contract of a function that does nothing.
-ghost use Rattle.pyver_tool.specs.CheckLaws.{ChecksOnce};
-ghost use Rattle.pyver_tool.specs.OneOutcome.{OutcomesOnce};
+ghost use Rattle.pyver_tool.specs.OneOutcome.{ChecksOnce, OutcomesOnce};
 
 /// Of what is asked for there is at most one outcome; `marker` may have many.
 pub fn outcomes_once()

@@ -5,7 +5,7 @@ use Rattle.pyver_findings.specs.Reports.{empty_report}
 use Rattle.pyver_findings.specs.Views.{report_of}
 use Rattle.pyver_projects.specs.Comparing.{with_own_reports}
 use Rattle.pyver_projects.specs.ProjectViews.{document_reading_of}
-use Rattle.pyver_projects.specs.Soundness.{IsSoundDocument}
+use Rattle.pyver_projects.specs.Meanings.{IsSoundDocument}
 use Rattle.pyver_projects.proofs.document_report.report_all.Given as goal
 
 abbrev pub invariant-loop-document : goal.invariant-loop-document

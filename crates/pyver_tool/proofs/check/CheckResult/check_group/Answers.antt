@@ -5,7 +5,7 @@ use Rattle.pyver_findings.specs.Views.{file_of, report_of}
 use Rattle.pyver_projects.specs.Comparing.{IsDocumentsReport}
 use Rattle.pyver_projects.specs.Meanings.{Document}
 use Rattle.pyver_projects.specs.ProjectViews.{document_of}
-use Rattle.pyver_tool.specs.CheckViews.{check_result_of}
+use Rattle.pyver_tool.specs.TaskViews.{check_result_of}
 use Rattle.pyver_tool.specs.Checks.{with_report}
 use Rattle.pyver_tool.specs.FileSteps.{read_of, unopened_file_of}
 use Rattle.pyver_tool.proofs.check.CheckResult.check_group.Goals as goal

@@ -1,12 +1,18 @@
--- What holds of a version that `bump` makes: it is greater, and only stated parts differ.
-use Rattle.std.specs.Prelude.{◌≡◌, ◌+◌, ◌≤◌, ℕ, List, [], ◌∷◌, Bool, true, false, Option, None, Ok, get_or, length, nat_le}
-use Rattle.std.specs.List.{list_any}
+-- What holds of a version that `bump` makes: it is greater, and only stated parts differ; and of the outcomes of `range`: 'no version' is printed exactly where there is none.
+use Rattle.std.specs.Prelude.{◌≡◌, ◌+◌, ◌≤◌, ℕ, List, [], ◌∷◌, Bool, true, false, Option, None, Ok, get_or, length, nat_le, IsTrue, codes}
+use Rattle.std.specs.List.{list_any, All}
 use Rattle.std.specs.declared.cmp.Ordering.TheVariants.{Greater}
 use Rattle.pep440_version.specs.Key.{record_cmp}
 use Rattle.pep440_version.specs.Record.{Record, epoch_and_release}
 use Rattle.pyver_commands.specs.Bumps.{bump, release_with}
 use Rattle.pyver_commands.specs.declared.bump.BumpPart.{BumpPart}
 use Rattle.pyver_commands.specs.declared.bump.BumpPart.TheVariants as part
+use Rattle.pep440_rs.specs.Denoted.{IsDenoted}
+use Rattle.pep440_rs.specs.Lists.ListGrammar.{DerivesList}
+use Rattle.pep440_rs.specs.LiteralMatching.{list_matches_literally}
+use Rattle.pep440_rs.specs.Specifiers.{Spec}
+use Rattle.pyver_commands.specs.CommonRanges.{FindsCommon}
+use Rattle.cli_io.specs.Runs.{Outcome}
 
 -- the part may change the number of the release at the index
 abbrev pub changes_number : ℕ → BumpPart → Bool
@@ -50,3 +56,21 @@ BumpsChangeOnly = (to : Option ℕ) (parts : List BumpPart) (v r : Record) → b
 abbrev pub ReleasesAreBumped : Type 0
 ReleasesAreBumped = (index : ℕ) (v : Record) → ¬ (get_or v.release index 0 ≡ 18446744073709551615)
     → bump None (part.Release index ∷ []) v ≡ Ok (epoch_and_release v.epoch (release_with index (get_or v.release index 0 + 1) v.release))
+
+-- the word is a list that contains the version
+abbrev pub AllowsVersion : Record → List ℕ → Type 0
+AllowsVersion v word = (list : List Spec) × DerivesList word list × IsTrue (list_matches_literally list v)
+
+-- where the status is 1, no version is contained in all lists
+abbrev pub NoVersionIsCommon : Type 0
+NoVersionIsCommon = (json : Bool) (words : List (List ℕ)) (o : Outcome) → FindsCommon json words o → o.status ≡ 1
+    → (v : Record) → IsDenoted v → ¬ All (AllowsVersion v) words
+
+-- where the status is 0, some version is contained in all lists
+abbrev pub VersionIsCommon : Type 0
+VersionIsCommon = (json : Bool) (words : List (List ℕ)) (o : Outcome) → FindsCommon json words o → o.status ≡ 0
+    → (v : Record) × All (AllowsVersion v) words
+
+-- where `no version` is printed, the status is 1
+abbrev pub NoVersionHasItsStatus : Type 0
+NoVersionHasItsStatus = (json : Bool) (words : List (List ℕ)) (o : Outcome) → FindsCommon json words o → o.output ≡ codes "no version\n" → o.status ≡ 1
