@@ -117,6 +117,10 @@ any_map key (s ∷ range) = ap (λ (b : Bool). is_within (segment_interval s) ke
 pub set_tells : (set : Segments) (r : Record) → IsVersionSet set → IsParsed r → list_any (λ s. is_within (segment_interval s) (key_bytes r)) set ≡ contains record_cmp set r
 set_tells set r h p = any_map (key_bytes r) set ∙ in_range set (set_has_keys set h) r (keyed r p)
 
+pub set_tells_by : (set : Segments) (r : Record) (key : List ℕ) → IsVersionSet set → IsParsed r → key ≡ key_bytes r
+    → list_any (λ s. is_within (segment_interval s) key) set ≡ contains record_cmp set r
+set_tells_by set r key h p e = ap (λ k. list_any (λ s. is_within (segment_interval s) k) set) e ∙ set_tells set r h p
+
 left_true : (a b : Bool) → a && b ≡ true → a ≡ true
 left_true true b h = refl
 left_true false b h = h

@@ -5,13 +5,14 @@ use Rattle.pep440_version.specs.RoundTrip.{IsParsed}
 use Rattle.std.specs.List.{flat_map}
 use Rattle.std.specs.Slice.Scan.{big_endian}
 use Rattle.pep440_compiled.proofs.ByteOrder.{AreBytes}
+use Rattle.pep440_compiled.proofs.Prefixes.{none_needed}
 use Rattle.pep440_compiled.specs.KeyParts.{suffix_bytes}
 use Rattle.pep440_keys.proofs.Bytes.{needed_le}
 use Rattle.pep440_keys.proofs.Codes.{segment_opens}
 use Rattle.pep440_keys.specs.SortKeys.{local_bytes, needed_bytes, rank_bytes, segment_bytes}
 use Rattle.pep440_rs.specs.Matching.{any_prerelease}
 use Rattle.pep440_version.specs.Key.{DevPart, PostPart, Stage, dev_of, dev_rank, key, post_of, post_rank, stage_of, stage_rank}
-use Rattle.pep440_version.specs.Record.{LocalSegmentValue, Record}
+use Rattle.pep440_version.specs.Record.{LocalSegmentValue, Record, from_parts}
 use Rattle.pep440_version.specs.declared.prerelease.Prerelease.{Prerelease}
 use Rattle.pep440_version.specs.declared.prerelease.PrereleaseKind.{PrereleaseKind}
 use Rattle.pep440_version.specs.declared.prerelease.PrereleaseKind.TheVariants.{Alpha, Beta, Rc}
@@ -96,6 +97,26 @@ final_parts r bytes after rest p is e =
       sym (ap (λ n. nat_lt 0 n) post.0) ∙ post_is r p,
       dev.1,
     )
+
+absent : {A : Type 0} (o : Option A) → is_some o ≡ false → None ≡ o
+absent None e = refl
+absent (Some x) e = cc
+
+neither : (a b : Bool) → a || b ≡ false → (a ≡ false) × (b ≡ false)
+neither true b e = cc
+neither false b e = (refl, e)
+
+-- no part at all
+pub final_is : (r : Record) (bytes after rest : List ℕ) → IsParsed r → bytes ≡ 80 ∷ 0 ∷ 16 ∷ after
+    → bytes ≡ rank_bytes (stage_rank (key r).stage) ++ (rank_bytes (post_rank (key r).post) ++ (rank_bytes (dev_rank (key r).dev) ++ rest))
+    → (None ≡ r.pre) × (None ≡ r.post) × (None ≡ r.dev) × (after ≡ rest)
+final_is r bytes after rest p is e =
+    let parts = final_parts r bytes after rest p is e in
+    let early = neither (is_some r.pre) (is_some r.dev) (sym parts.0) in
+    (absent r.pre early.0, absent r.post (sym parts.1), absent r.dev early.1, parts.2)
+
+pub final_again : (bytes after : List ℕ) → bytes ≡ 80 ∷ 0 ∷ 16 ∷ after → bytes ≡ suffix_bytes (from_parts 0 [] None None None []) ++ after
+final_again bytes after is = is ∙ ap (λ l. ((80 + length l) ∷ l ++ ((0 + length l) ∷ l ++ (16 + length l) ∷ l)) ++ after) (sym none_needed)
 
 -- without a local part
 pub by_four : (bytes : List ℕ) → 4 ≤ length bytes → AreBytes bytes → 0x50001000 ≡ big_endian 0 (take 4 bytes) → bytes ≡ 80 ∷ 0 ∷ 16 ∷ 0 ∷ take (length bytes - 4) (drop 4 bytes)

@@ -4,6 +4,7 @@ ghost use Rattle.std.specs.List.{All, flat_map};
 ghost use Rattle.pep440_compiled.specs.KeyParts.{ending_zeros};
 ghost use Rattle.pep440_compiled.specs.Version.{DenotesVersion};
 ghost use Rattle.pep440_keys.specs.SortKeys.{key_bytes, local_bytes, number_bytes, segment_bytes};
+ghost use Rattle.pep440_rs.specs.Matching.{any_prerelease};
 ghost use Rattle.pep440_version.specs.Record.{Fits, LocalSegmentValue, Record, SegmentFits};
 ghost use Rattle.pep440_version.specs.RoundTrip.{SegmentRoundTrips};
 ghost use Rattle.pep440_version.specs.Key.Trim.{trim};
@@ -32,6 +33,7 @@ fn prove_pre_fits(pre: Option<Prerelease>)
 
 // What follows the release, which ends in so many zeros that the key leaves out. Another zero may not end its numbers, and one number
 // or zero there must be.
+#[inline(always)]
 fn check_release(bytes: &[u8], zeros: usize) -> Option<&[u8]>
     ensures found { (release rest : List ℕ) → All Fits (trim release) → 0 < length release
         → zeros ≡ ending_zeros release → bytes.now ≡ flat_map (number_bytes 1) (trim release) ++ 0 ∷ rest
@@ -100,10 +102,18 @@ fn is_local_part(bytes: &[u8]) -> bool
     false
 }
 
-// The sort key of the version that the bytes denote.
-pub(crate) fn check_version(bytes: &[u8]) -> Option<&[u8]>
+// A version whose bytes were tested: its sort key, and whether it is a pre-release or a developmental release.
+#[derive(Clone, Copy)]
+pub(crate) struct CheckedVersion<'a> {
+    pub(crate) key: &'a [u8],
+    pub(crate) is_prerelease: bool,
+}
+
+// The version that the bytes denote.
+pub(crate) fn check_version(bytes: &[u8]) -> Option<CheckedVersion<'_>>
     ensures found { (r : Record) → DenotesVersion bytes.now r → IsSome result }
-    ensures exact { IfSome result (λ key. (r : Record) × DenotesVersion bytes.now r × (key.now ≡ key_bytes r)) }
+    ensures exact { IfSome result (λ version. (r : Record) × DenotesVersion bytes.now r × (version.key.now ≡ key_bytes r)
+        × (version.is_prerelease ≡ any_prerelease r)) }
 {
     let view = view_version(bytes)?;
     let (epoch, rest) = read_whole_number(view.key)?;
@@ -116,5 +126,8 @@ pub(crate) fn check_version(bytes: &[u8]) -> Option<&[u8]>
     prove_pre_fits(suffix.pre);
     prove_fits(suffix.post);
     prove_fits(suffix.dev);
-    Some(view.key)
+    Some(CheckedVersion {
+        key: view.key,
+        is_prerelease: suffix.is_pre_or_dev(),
+    })
 }

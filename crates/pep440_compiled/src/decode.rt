@@ -1,6 +1,6 @@
 //! Versions made of their sort keys. Each byte is tested, and no version is made of another one's key; only the characters of local
 //! parts are left to the caller.
-ghost use Rattle.std.specs.Prelude.{◌≡◌, ◌↔◌, ◌<◌, ◌≤◌, ◌++◌, ◌∷◌, [], ℕ, List, length, map, MatchOption, IfOk, replicate, IfSome, OnOk, Option, Some, None, true};
+ghost use Rattle.std.specs.Prelude.{◌≡◌, ◌↔◌, ◌<◌, ◌≤◌, ◌++◌, ◌||◌, ◌∷◌, [], ℕ, List, is_some, length, map, MatchOption, IfOk, replicate, IfSome, OnOk, Option, Some, None, true};
 ghost use Rattle.std.specs.List.{All, flat_map};
 ghost use Rattle.pep440_compiled.specs.KeyParts.{BeginsOtherwise, ending_zeros, suffix_bytes};
 ghost use Rattle.pep440_version.specs.RoundTrip.{IsParsed, SegmentRoundTrips};
@@ -307,7 +307,9 @@ pub(crate) struct SuffixParts {
     pub(crate) dev: Option<u64>,
 }
 
-pub(crate) fn read_suffix(bytes: &[u8]) -> Option<(SuffixParts, &[u8])>
+// The parts of any suffix. A call of its own, so that final releases pay nothing for it.
+#[inline(never)]
+fn read_any_suffix(bytes: &[u8]) -> Option<(SuffixParts, &[u8])>
     ensures found { (r : Record) (rest : List ℕ) → IsParsed r → bytes.now ≡ suffix_bytes r ++ rest
         → MatchOption result ⊥ (λ p. (p.0.pre ≡ r.pre) × (p.0.post ≡ r.post) × (p.0.dev ≡ r.dev) × (p.1.now ≡ rest)) }
     ensures exact { IfSome result (λ p. bytes.now ≡ suffix_bytes (from_parts 0 [] p.0.pre p.0.post p.0.dev []) ++ p.1.now) }
@@ -321,7 +323,33 @@ pub(crate) fn read_suffix(bytes: &[u8]) -> Option<(SuffixParts, &[u8])>
     Some((SuffixParts { pre, post, dev }, rest))
 }
 
+// The parts of the leading suffix, and the rest.
+#[inline(always)]
+pub(crate) fn read_suffix(bytes: &[u8]) -> Option<(SuffixParts, &[u8])>
+    ensures found { (r : Record) (rest : List ℕ) → IsParsed r → bytes.now ≡ suffix_bytes r ++ rest
+        → MatchOption result ⊥ (λ p. (p.0.pre ≡ r.pre) × (p.0.post ≡ r.post) × (p.0.dev ≡ r.dev) × (p.1.now ≡ rest)) }
+    ensures exact { IfSome result (λ p. bytes.now ≡ suffix_bytes (from_parts 0 [] p.0.pre p.0.post p.0.dev []) ++ p.1.now) }
+{
+    // A final release, as most versions are.
+    if let [80, 0, 16, rest @ ..] = bytes {
+        let none = SuffixParts {
+            pre: None,
+            post: None,
+            dev: None,
+        };
+        return Some((none, rest));
+    }
+    read_any_suffix(bytes)
+}
+
 impl SuffixParts {
+    // A pre-release or a developmental release.
+    pub(crate) fn is_pre_or_dev(self) -> bool
+        ensures { result ≡ is_some self.pre || is_some self.dev }
+    {
+        self.pre.is_some() || self.dev.is_some()
+    }
+
     fn is_empty(self) -> bool
         ensures { result ≡ true → (self.pre ≡ None) × (self.post ≡ None) × (self.dev ≡ None) }
     {

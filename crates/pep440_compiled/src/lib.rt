@@ -11,7 +11,7 @@
 //! of each interval lie, each after how many bytes it has, so that matching literally is a comparison of bytes with these. A set by itself is
 //! the byte 7 and such keys. The first byte is the format: bytes of another format are rejected, not misread.
 //!
-//! `read_version` and `read_list` reject all bytes that denote nothing. The calls that read bytes as they lie do not test the whole of
+//! `read_version`, `read_list`, `read_sort_key` and, of its version, `read_membership` reject all bytes that denote nothing. The calls that read bytes as they lie do not test the whole of
 //! them: of bytes that denote nothing they return an error or any result, and never read outside them. Read bytes
 //! from outside once before they are asked.
 //!
@@ -43,12 +43,12 @@ pub use list::{
     requests_prereleases,
 };
 pub use set_forms::{
-    complement, has_lone_set_format, intersection, is_subset, set_contains, set_contains_soon,
-    set_keys, union,
+    complement, has_lone_set_format, intersection, is_subset, read_membership, set_contains,
+    set_contains_soon, set_keys, union,
 };
 pub use stack_form::compile_normal;
 pub use version::{
-    any_prerelease, compare, compile_version, normalize, push_compiled_form, read_sort_key,
-    read_version, sort_key,
+    any_prerelease, compare, compare_sort_keys, compile_version, normalize, push_compiled_form,
+    read_sort_key, read_version, sort_key,
 };
 pub use views::has_version_format;

@@ -1,11 +1,12 @@
 //! Sets of versions as compiled forms: what is made of one and of two, and what they hold.
-ghost use Rattle.std.specs.Prelude.{◌≡◌, ◌↔◌, ◌∷◌, [], Ok, IfErr, IfOk, IfSome, IsTrue, MatchOption, false, map, true};
+ghost use Rattle.std.specs.Prelude.{◌≡◌, ◌↔◌, ◌∷◌, [], Ok, IfErr, IfOk, IfSome, IsTrue, MatchOption, Some, false, map, true};
 ghost use Rattle.pep440_compiled.specs.Lists.{HasSetFormat};
 ghost use Rattle.pep440_compiled.specs.SetBytes.{set_keys};
 ghost use Rattle.pep440_compiled.specs.SetForms.{DenotesSet, HasFormatOfSets, HasLoneSetFormat, HasSet, IsBytesOf};
 ghost use Rattle.pep440_compiled.specs.Version.{DenotesVersion, HasVersionFormat};
 ghost use Rattle.pep440_compiled.specs.declared.error.CompiledError.TheVariants as unread;
 ghost use Rattle.pep440_compiled.specs.declared.error.ContainsError.TheVariants.{NoList, NoVersion};
+ghost use Rattle.pep440_keys.specs.SortKeys.{key_bytes};
 ghost use Rattle.pep440_ranges.specs.Complement.{gaps};
 ghost use Rattle.pep440_ranges.specs.Intersection.{overlaps};
 ghost use Rattle.pep440_ranges.specs.RangeSegments.{contains};
@@ -14,7 +15,9 @@ ghost use Rattle.pep440_rs.specs.Matching.{any_prerelease};
 ghost use Rattle.pep440_sets.specs.Emptiness.{IsSubset};
 ghost use Rattle.pep440_version.specs.Key.{record_cmp};
 ghost use Rattle.pep440_version.specs.Record.{Record};
+ghost use Rattle.pep440_version.specs.RoundTrip.{IsParsed};
 
+use crate::checked_version::check_version;
 use crate::error::{CompiledError, ContainsError};
 use crate::list::{WITH_SET, split_set};
 use crate::set_bytes::{holds_key, holds_key_soon, split_by_short_length};
@@ -101,6 +104,48 @@ pub fn set_contains(set: &[u8], version: &[u8]) -> Result<(bool, bool), Contains
     };
     match holds_key(keys, version.version.key) {
         Some(held) => Ok((held, version.suffix.is_prerelease)),
+        None => Err(ContainsError::NoList),
+    }
+}
+
+// Whether the set of a list has the version of this sort key, if the list is short.
+#[inline(always)]
+fn holds_version_soon(list: &[u8], key: &[u8]) -> Option<bool>
+    ensures { (s : Segments) (r : Record) → HasSet list.now s → IsParsed r → key.now ≡ key_bytes r
+        → IfSome result (λ b. b ≡ contains record_cmp s r) }
+{
+    let keys = view_short_set(list)?;
+    let held = holds_key_soon(keys, key)?;
+    Some(held)
+}
+
+// Whether the set of a list, or a set by itself, has the version of this sort key.
+#[inline(always)]
+fn holds_version(set: &[u8], key: &[u8]) -> Option<bool>
+    ensures { (s : Segments) (r : Record) → HasSet set.now s → IsParsed r → key.now ≡ key_bytes r
+        → result ≡ Some (contains record_cmp s r) }
+{
+    if let Some(held) = holds_version_soon(set, key) {
+        return Some(held);
+    }
+    let keys = view_set(set)?;
+    holds_key(keys, key)
+}
+
+/// As `set_contains`, after a test of all bytes of the version: `NoVersion` if they denote none.
+///
+/// Does not allocate.
+pub fn read_membership(set: &[u8], version: &[u8]) -> Result<(bool, bool), ContainsError>
+    ensures ok { IfOk result (λ found. (r : Record) × DenotesVersion version.now r × (found.1 ≡ any_prerelease r)
+        × ((s : Segments) → HasSet set.now s → found.0 ≡ contains record_cmp s r)) }
+    ensures version { IfErr result (λ e. e ≡ NoVersion → (r : Record) → DenotesVersion version.now r → ⊥) }
+    ensures list { IfErr result (λ e. e ≡ NoList → (s : Segments) → HasSet set.now s → ⊥) }
+{
+    let Some(version) = check_version(version) else {
+        return Err(ContainsError::NoVersion);
+    };
+    match holds_version(set, version.key) {
+        Some(held) => Ok((held, version.is_prerelease)),
         None => Err(ContainsError::NoList),
     }
 }

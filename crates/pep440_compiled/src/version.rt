@@ -1,5 +1,7 @@
 //! Compiled versions: made, read, compared.
 ghost use Rattle.std.specs.Prelude.{◌≡◌, ◌+◌, ◌++◌, ℕ, Ok, IfErr, IfOk, IsOk, MatchResult, OnOk, length, string_bytes};
+ghost use Rattle.std.specs.Cmp.Lexicographic.{slice_cmp};
+ghost use Rattle.std.specs.Ordering.{nat_cmp};
 ghost use Rattle.pep440_compiled.specs.Version.{DenotesVersion, HasVersionFormat, compiled_bytes, version_bytes, zero_bytes};
 ghost use Rattle.pep440_version.specs.RoundTrip.{IsParsed};
 ghost use Rattle.pep440_compiled.specs.declared.error.CompileError.TheVariants.{NotParsed};
@@ -10,7 +12,7 @@ ghost use Rattle.pep440_version.specs.Key.{record_cmp};
 ghost use Rattle.pep440_version.specs.Print.{print};
 ghost use Rattle.pep440_version.specs.Record.{Record};
 
-use crate::byte_order::cmp_common;
+use crate::byte_order::{cmp_bytes, cmp_common};
 use crate::checked_version::check_version;
 use crate::decode::decode_version;
 use crate::error::{CompileError, CompiledError, NotCompiled};
@@ -122,7 +124,10 @@ pub fn read_sort_key(bytes: &[u8]) -> Result<&[u8], NotCompiled>
     ensures ok { IfOk result (λ key. (r : Record) × DenotesVersion bytes.now r × (key.now ≡ key_bytes r)) }
     ensures err { IfErr result (λ _. (r : Record) → DenotesVersion bytes.now r → ⊥) }
 {
-    check_version(bytes).ok_or(NotCompiled)
+    match check_version(bytes) {
+        Some(version) => Ok(version.key),
+        None => Err(NotCompiled),
+    }
 }
 
 /// The order of the versions that the bytes denote (PEP 440, "Summary of permitted suffixes and relative ordering"). If `a` or
@@ -139,6 +144,16 @@ pub fn compare(a: &[u8], b: &[u8]) -> Result<Ordering, NotCompiled>
     }
     // No sort key begins with another one, so those of different versions differ before either ends; only zeros follow equal ones.
     Ok(cmp_common(a, b))
+}
+
+/// The order of two sort keys as bytes, and so of their versions, in fewer instructions than `cmp` of slices takes.
+///
+/// Does not allocate.
+#[inline(always)]
+pub fn compare_sort_keys(a: &[u8], b: &[u8]) -> Ordering
+    ensures { result ≡ slice_cmp nat_cmp a.now b.now }
+{
+    cmp_bytes(a, b)
 }
 
 /// Whether the version that the bytes denote is a pre-release or a developmental release (PEP 440, "Handling of

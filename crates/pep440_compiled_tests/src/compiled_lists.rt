@@ -1,5 +1,5 @@
 //! Compiled lists.
-use crate::bytes::{bytes_argument, print_bytes};
+use crate::given::{bytes_argument, print_bytes};
 use crate::compiled_versions::{ONE, case_error, print_rejection};
 use pep440_compiled::{
     CompileError, CompiledError, ContainsError, NotCompiled, any_prerelease, compile_list,

@@ -1,8 +1,8 @@
 //! Sets by themselves, of bytes.
-use crate::bytes::{bytes_argument, print_bytes};
+use crate::given::{bytes_argument, print_bytes};
 use pep440_compiled::{
     CompiledError, ContainsError, complement, has_lone_set_format, intersection, is_subset,
-    set_contains, set_contains_soon, set_keys, union,
+    read_membership, set_contains, set_contains_soon, set_keys, union,
 };
 use std::alloc::Global;
 use testing::CaseError;
@@ -73,7 +73,11 @@ pub fn keys_of_set(alloc: Global, text: &str) -> Result<String, CaseError> {
 /// Whether the compiled version is in the set.
 pub fn set_has(alloc: Global, set: &str, version: &str) -> Result<String, CaseError> {
     let (set, version) = (bytes_argument(alloc, set)?, bytes_argument(alloc, version)?);
-    let text = match set_contains(set.as_slice(), version.as_slice()) {
+    let found = set_contains(set.as_slice(), version.as_slice());
+    if read_membership(set.as_slice(), version.as_slice()) != found {
+        return Err(CaseError::Disagreement);
+    }
+    let text = match found {
         Ok((true, _)) => "yes",
         Ok((false, _)) => "no",
         Err(ContainsError::NoVersion) => "no version",

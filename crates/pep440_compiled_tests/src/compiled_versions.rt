@@ -1,10 +1,10 @@
 //! Compiled versions.
-use crate::bytes::{bytes_argument, print_bytes};
+use crate::given::{bytes_argument, print_bytes};
 use arrayvec::ArrayVec;
 use pep440_compiled::{
     CompileError, CompiledError, ContainsError, any_prerelease, compare, compile_normal,
-    compile_version, contains, has_version_format, normalize, push_compiled_form, read_sort_key,
-    read_version, sort_key,
+    compile_version, contains, has_version_format, normalize, push_compiled_form, read_membership,
+    read_sort_key, read_version, sort_key,
 };
 use pep440_version::{LocalSegment, Version};
 use std::alloc::Global;
@@ -73,6 +73,9 @@ pub const ONE: [u8; 9] = [4, 0, 2, 1, 0, 80, 0, 16, 0];
 
 const FROM_ONE: [u8; 10] = [5, 25, 0, 2, 1, 0, 80, 0, 16, 0];
 
+// The set of all versions.
+const ALL: [u8; 3] = [7, 0, 0];
+
 // Whether each call that reads the bytes as they lie rejects them.
 fn is_rejected_by_each(bytes: &[u8]) -> bool {
     sort_key(bytes).is_err()
@@ -91,6 +94,7 @@ pub fn denotes(alloc: Global, text: &str) -> Result<String, CaseError> {
         Err(CompiledError::NotCompiled) => {
             if normalize(alloc, bytes.as_slice()).is_ok()
                 || read_sort_key(bytes.as_slice()).is_ok()
+                || read_membership(&ALL, bytes.as_slice()) != Err(ContainsError::NoVersion)
             {
                 return Err(CaseError::Disagreement);
             }

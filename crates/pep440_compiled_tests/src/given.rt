@@ -1,5 +1,4 @@
-//! Arguments and results of the calls of the C library: a string, or bytes in brackets, as `[4 0 2 1]`.
-use crate::bytes::{bytes_argument, print_bytes};
+//! Bytes as decimal numbers, and arguments and results of the calls of the C library: a string, or bytes in brackets, as `[4 0 2 1]`.
 use std::alloc::{AllocError, Global};
 use testing::CaseError;
 
@@ -50,4 +49,23 @@ pub fn print_failure(alloc: Global, status: u8, is_unchanged: bool) -> Result<St
         (3, true) => Err(CaseError::OutOfMemory),
         (_, true) => Ok(format!(in alloc; "status {status}")?),
     }
+}
+
+/// The bytes as they are written.
+pub fn print_bytes(alloc: Global, bytes: &[u8]) -> Result<String, AllocError> {
+    let mut text = String::new(alloc);
+    for (index, byte) in bytes.iter().enumerate() {
+        let blank = if index > 0 { " " } else { "" };
+        write!(text, "{blank}{byte}")?;
+    }
+    Ok(text)
+}
+
+/// The bytes that are written so.
+pub fn bytes_argument(alloc: Global, text: &str) -> Result<Vec<u8>, CaseError> {
+    let mut bytes = Vec::new(alloc);
+    for word in text.split_ascii_whitespace() {
+        bytes.push(word.parse::<u8>().map_err(|_| CaseError::Unreadable)?)?;
+    }
+    Ok(bytes)
 }

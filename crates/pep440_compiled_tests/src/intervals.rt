@@ -1,5 +1,5 @@
 //! Ranges as intervals of sort keys.
-use crate::bytes::print_bytes;
+use crate::given::print_bytes;
 use crate::kinds::of_kind;
 use pep440_keys::{KeyInterval, range_keys, segment_keys, sort_key};
 use pep440_ranges::Ranges;

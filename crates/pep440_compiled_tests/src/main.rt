@@ -2,7 +2,6 @@
 //! `src/` has them.
 #![tactic(auto)]
 
-mod bytes;
 mod compiled_lists;
 mod compiled_sets;
 mod compiled_versions;

@@ -1,5 +1,5 @@
 //! Sort keys, and compiled versions in their order.
-use crate::bytes::print_bytes;
+use crate::given::print_bytes;
 use pep440_compiled::{compare, push_compiled_form};
 use pep440_keys::{push_sort_key, sort_key};
 use std::alloc::Global;

@@ -62,4 +62,4 @@ returns-clause-exact c =
     let key =
     version_again view.key.now c.in_ok-epoch.rest.now c.in_ok-rest.rest.now c.in_ok-suffix.local.now epoch release.0 suffix.pre suffix.post suffix.dev local.0
     c.in_ok-epoch.ensures.exact release.4 c.in_ok-suffix.ensures.exact local.3 in
-    (r, denoted c.args.bytes.now view r (record { parsed = parsed; key = key; zeros = release.3 }) c.in_ok-view.ensures.exact, key)
+    (r, denoted c.args.bytes.now view r (record { parsed = parsed; key = key; zeros = release.3 }) c.in_ok-view.ensures.exact, key, c.is_pre_or_dev.ensures)
