@@ -9,7 +9,5 @@ pub mod Choosing
 pub mod Compiling
 pub mod Combined
 pub mod Edited
-pub mod OneSpecifier
-pub mod Bounded
 pub mod Sizes
 pub mod SetForming

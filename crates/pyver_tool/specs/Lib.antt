@@ -2,7 +2,6 @@ pub mod Nearest
 pub mod MisuseMessages
 pub mod Options
 pub mod SplitWords
-pub mod SplitViews
 pub mod FileKinds
 pub mod OutputForms
 pub mod Settings

@@ -2,7 +2,7 @@
 ghost use Rattle.std.specs.Prelude.{◌≡◌, ◌++◌, IfOk, None, map, string_bytes};
 ghost use Rattle.std.specs.Option.{option_copied, option_map};
 ghost use Rattle.pyver_tool.specs.Options.{row_of, rows_of};
-ghost use Rattle.pyver_tool.specs.SplitViews.{end_of, option_with_value, split_of};
+ghost use Rattle.pyver_tool.specs.TaskViews.{end_of, option_with_value, split_of};
 ghost use Rattle.pyver_tool.specs.SplitWords.{first_letter, is_option, letter_options, named, named_options, split_words, value_behind, value_in, word_options};
 
 use crate::options::OptionRow;

@@ -7,7 +7,7 @@ use Rattle.pep440_rs.specs.ErrorTexts.{specifier_rejection_text}
 use Rattle.pep440_rs.specs.Specifiers.{Spec}
 use Rattle.pep440_rs.specs.Specifiers.SpecifierGrammar.{DerivesSpecifier, RejectsSpecifier, SpecifierRejection}
 use Rattle.pep440_calls.proofs.Once.{no_utf8}
-use Rattle.pep440_calls.proofs.OneSpecifier.{no_specifier_text}
+use Rattle.pep440_calls.proofs.Refused.{no_specifier_text}
 use Rattle.pep440_calls.proofs.laws.one_specifier_once.Goals as goal
 use Rattle.pep440_calls.specs.PatternCalls.{BytesDenoteSpecifier, RejectsSpecifierBytes, ExplainsSpecifier}
 

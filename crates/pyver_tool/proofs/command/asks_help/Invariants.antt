@@ -1,5 +1,5 @@
 use Rattle.std.proofs.Common.{◌≡◌, drop, map, string_bytes}
-use Rattle.pyver_tool.specs.SplitViews.{option_with_value}
+use Rattle.pyver_tool.specs.TaskViews.{option_with_value}
 use Rattle.pyver_tool.specs.Tasks.{asks_help}
 use Rattle.pyver_tool.proofs.command.asks_help.Given as goal
 

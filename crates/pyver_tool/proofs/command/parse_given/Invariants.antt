@@ -1,6 +1,6 @@
 use Rattle.std.proofs.Common.{◌≡◌, drop, map, string_bytes}
 use Rattle.pyver_tool.specs.Settings.{effect, no_settings}
-use Rattle.pyver_tool.specs.SplitViews.{option_with_value}
+use Rattle.pyver_tool.specs.TaskViews.{option_with_value}
 use Rattle.pyver_tool.proofs.command.parse_given.Given as goal
 
 abbrev pub invariant-loop-given : goal.invariant-loop-given

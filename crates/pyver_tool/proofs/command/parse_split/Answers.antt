@@ -1,6 +1,6 @@
 use Rattle.std.proofs.Common.{◌≡◌, ◌∙◌, ap, cond, false, map, string_bytes, sym}
 use Rattle.pyver_tool.specs.Settings.{effect, no_settings}
-use Rattle.pyver_tool.specs.SplitViews.{option_with_value}
+use Rattle.pyver_tool.specs.TaskViews.{option_with_value}
 use Rattle.pyver_tool.specs.Tasks.{Help, asks_help, by_effect}
 use Rattle.pyver_tool.proofs.command.parse_split.Goals as goal
 

@@ -2,7 +2,7 @@ use denote.Shadow.{shadow}
 use denote.Text.{Utf8}
 use Rattle.std.proofs.Common.{◌≡◌, ◌++◌, length, map, string_bytes}
 use Rattle.pyver_tool.specs.Options.{rows_of}
-use Rattle.pyver_tool.specs.SplitViews.{option_with_value}
+use Rattle.pyver_tool.specs.TaskViews.{option_with_value}
 use Rattle.pyver_tool.specs.SplitWords.{letter_options}
 use Rattle.pyver_tool.proofs.split_words.push_letters.Given as goal
 
