@@ -1,6 +1,6 @@
 //! Compiled lists.
-use crate::given::{bytes_argument, print_bytes};
 use crate::compiled_versions::{ONE, case_error, print_rejection};
+use crate::given::{bytes_argument, print_bytes};
 use pep440_compiled::{
     CompileError, CompiledError, ContainsError, NotCompiled, any_prerelease, compile_list,
     compile_version, contains, has_list_format, normalize_list, read_list, requests_prereleases,
