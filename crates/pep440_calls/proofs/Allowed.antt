@@ -1,6 +1,6 @@
 -- What a list allows, and what a set by itself does, of bytes that were read and of compiled bytes as they lie.
 use Rattle.std.proofs.Common.{◌≡◌, ◌∙◌, ◌&&◌, ◌||◌, ◌≤◌, ℕ, zero, suc, List, [], Bool, true, true≢false, false, ap, arith, inl, inr, refl, sym}
-use Rattle.std.specs.Prelude.{◌==◌, Err, Ok, Result, not}
+use Rattle.std.specs.Prelude.{◌==◌, Err, Ok, Result, if◌then◌else◌, not}
 use Rattle.pep440_compiled.proofs.SetKeys.{set_matches}
 use Rattle.pep440_compiled.specs.Lists.{DenotesList, HasSetFormat}
 use Rattle.pep440_compiled.specs.SetForms.{HasFormatOfSets, HasLoneSetFormat, HasSet}
@@ -17,6 +17,7 @@ use Rattle.pep440_version.specs.Record.{Record}
 use Rattle.pep440_calls.proofs.Forms.{as_compiled, as_compiled_list, as_set_list, never_lone, no_set_list}
 use Rattle.pep440_calls.proofs.Once.{never_both, one_bytes_list, one_version}
 use Rattle.pep440_calls.proofs.SetForming.{set_format}
+use Rattle.pep440_calls.specs.Batches.{IsMark}
 use Rattle.pep440_calls.specs.CallResults.{AllowFaults, Allows, AsksSet, RejectsSet, Selects, takes}
 use Rattle.pep440_calls.specs.CallerBytes.{BytesDenote, BytesDenoteList, RejectsBytes, RejectsListBytes}
 use Rattle.pep440_calls.specs.Statuses.{Faults, HoldsOr}
@@ -86,6 +87,14 @@ found_in_set set version found format is_version told members selects r (inl (lo
     told (list_set members) r (inr (members, d, refl)) e ∙ ap (λ b. (b, any_prerelease r)) (set_matches members r d.members.members d.given e.parsed ∙ sym (is r))
 found_in_set set version found format is_version told members selects r (inr (none, s, d, is)) also =
     told s r (inl d) (as_compiled version r is_version also) ∙ ap (λ b. (b, any_prerelease r)) (sym (is r))
+
+-- and its mark
+pub marked_in_set : (set version : List ℕ) (list : List Spec) (r : Record) (held early : Bool) (mark : ℕ) → HasSetFormat set → BytesDenoteList set list → DenotesVersion version r → early ≡ any_prerelease r
+    → ((s : Segments) → HasSet set s → held ≡ contains record_cmp s r) → mark ≡ (if held then (if early then 3 else 1) else 0) → IsMark list version mark
+marked_in_set set version list r held early mark format means d e found is =
+    let whole = as_set_list set list format means in
+    let same : held ≡ list_matches_literally list r = found (list_set list) (inr (list, whole, refl)) ∙ set_matches list r whole.members.members whole.given d.parsed in
+    inl (r, inr d, is ∙ (λ i. if same i then (if e i then 3 else 1) else 0))
 
 -- a form that has no set is rejected
 pub no_set : (set : List ℕ) → HasFormatOfSets set → ((s : Segments) → HasSet set s → ⊥) → RejectsSet set

@@ -1,5 +1,8 @@
 -- The newest of the strings so far, and one string more.
-use Rattle.std.proofs.Common.{Bor, ◌≡◌, ◌⊎◌, ◌<◌, ◌+◌, ◌∙◌, ℕ, List, [], ◌∷◌, ◌++◌, Bool, true, false, length, get_or, take, map, Option, Some, inl, inr, sym, ap, subst, arith}
+use Rattle.std.proofs.Common.{Bor, ◌≡◌, ◌⊎◌, ◌||◌, ◌<◌, ◌+◌, ◌∙◌, ℕ, List, [], ◌∷◌, ◌++◌, Bool, true, false, length, get_or, take, map, Option, Some, inl, inr, not, refl, sym, ap, subst, arith}
+use Rattle.std.specs.Ordering.{bool_cmp, is_ge, is_lt, ordering_then}
+use Rattle.std.specs.declared.cmp.Ordering.{Ordering}
+use Rattle.std.specs.declared.cmp.Ordering.TheVariants.{Less, Equal, Greater}
 use Rattle.std.proofs.lemmas.Bool.{both_ways}
 use Rattle.std.proofs.lemmas.List.{length-map, length-take-le, map-append, take_more}
 use Rattle.pep440_pick.proofs.Choosing as greatest
@@ -7,11 +10,24 @@ use Rattle.pep440_pick.proofs.Once.{preference_total}
 use Rattle.pep440_pick.specs.Greatest.{Greatest, is_above}
 use Rattle.pep440_pick.specs.Newest.{preference}
 use Rattle.pep440_rs.specs.LiteralMatching.{list_matches_literally}
+use Rattle.pep440_rs.specs.Matching.{any_prerelease}
 use Rattle.pep440_rs.specs.Specifiers.{Spec}
+use Rattle.pep440_version.specs.Key.{record_cmp}
 use Rattle.pep440_version.specs.Record.{Record}
 use Rattle.pep440_calls.specs.CallerBytes.{BytesDenote, RejectsBytes}
 use Rattle.pep440_calls.specs.NewestString.{IsContainedString}
 use Rattle.pep440_calls.proofs.Once.{never_both, one_version}
+
+by_order : (a b : Bool) (o : Ordering) → a ≡ true → is_ge o ≡ true → is_lt (ordering_then (bool_cmp a b) o) ≡ false
+by_order false b o taken ge = cc taken
+by_order true false o taken ge = refl
+by_order true true Less taken ge = cc ge
+by_order true true Equal taken ge = refl
+by_order true true Greater taken ge = refl
+
+-- a version that is not above one which is taken is not preferred to it
+pub not_preferred : (takes : Bool) (p r : Record) (o : Ordering) → takes || not (any_prerelease p) ≡ true → o ≡ record_cmp p r → is_ge o ≡ true → is_lt (preference takes p r) ≡ false
+not_preferred takes p r o taken is ge = by_order (takes || not (any_prerelease p)) (takes || not (any_prerelease r)) (record_cmp p r) taken (ap is_ge (sym is) ∙ ge)
 
 module _ (takes : Bool) (list : List Spec) where
   only : (t : List ℕ) (r q : Record) → IsContainedString list t r → IsContainedString list t q → r ≡ q

@@ -2,6 +2,7 @@ pub mod Ascii
 pub mod Refused
 pub mod Joining
 pub mod Placed
+pub mod KeyOrder
 pub mod Once
 pub mod Forms
 pub mod Allowed

@@ -1,6 +1,7 @@
 -- Many texts, read one after another: versions with their places, marks, sort keys.
 use Rattle.std.proofs.Common.{Bor, ◌≡◌, ◌<◌, ◌+◌, ◌∙◌, ℕ, zero, suc, Some, List, [], ◌∷◌, ◌++◌, length, get_or, take, map, refl, sym, ap, subst, arith}
 use Rattle.std.proofs.lemmas.List.{get_or_default, length-map, length-take-le, map-append, take_more}
+use Rattle.std.proofs.lemmas.List.Elements.{All-push}
 use Rattle.std.proofs.lemmas.Slice.Zip.{all_zipped_more}
 use Rattle.std.specs.List.{All, AllZip, enumerate_from}
 use Rattle.std.specs.List.Sorted.{IsPermutation, IsSorted, IsStable}
@@ -10,6 +11,7 @@ use Rattle.std.specs.declared.cmp.Ordering.{Ordering}
 use Rattle.pep440_keys.specs.SortKeys.{key_bytes}
 use Rattle.pep440_version.specs.Key.{record_cmp}
 use Rattle.pep440_version.specs.Record.{Record}
+use Rattle.pep440_version.specs.RoundTrip.{IsParsed}
 use Rattle.pep440_calls.specs.Batches.{ArrangesPositions, JoinsKeys, BatchFaults, batch_error_at}
 use Rattle.pep440_calls.specs.JoinedStrings.{Joins}
 use Rattle.pep440_calls.specs.Statuses.{Faults}
@@ -54,9 +56,9 @@ refused_first {A} Means Refused texts i x found inside why all = (
     map_take (suc i) (t ∷ texts) = ap (λ l. t.now ∷ l) (map_take i texts)
 
 -- one more version with its place
-placed_push : (n : ℕ) (xs : List Record) (y : Record) → enumerate_from n (xs ++ y ∷ []) ≡ enumerate_from n xs ++ (n + length xs, y) ∷ []
+placed_push : {A : Type 0} (n : ℕ) (xs : List A) (y : A) → enumerate_from n (xs ++ y ∷ []) ≡ enumerate_from n xs ++ (n + length xs, y) ∷ []
 placed_push n [] y = ap (λ (k : ℕ). (k, y) ∷ []) (omega arith)
-placed_push n (x ∷ xs) y = ap (λ (l : List (ℕ × Record)). (n, x) ∷ l) (placed_push (n + 1) xs y ∙ ap (λ (k : ℕ). enumerate_from (n + 1) xs ++ (k, y) ∷ []) (omega arith))
+placed_push {A} n (x ∷ xs) y = ap (λ (l : List (ℕ × A)). (n, x) ∷ l) (placed_push (n + 1) xs y ∙ ap (λ (k : ℕ). enumerate_from (n + 1) xs ++ (k, y) ∷ []) (omega arith))
 
 -- each of two lists has as many as the other
 all_length : (Means : List ℕ → Record → Type 0) (texts : List (List ℕ)) (versions : List Record) → AllZip Means texts versions → length texts ≡ length versions
@@ -77,6 +79,28 @@ placed_more Means texts i x pairs new v inside means more (versions, all, placed
       versions ++ v ∷ [],
       each_more Means texts i (get_or texts i x) versions (versions ++ v ∷ []) v inside (get_or_default texts i x (get_or texts i x) inside) means refl all,
       more ∙ ap (λ (l : List (ℕ × Record)). l ++ (i, v) ∷ []) placed ∙ ap (λ (k : ℕ). enumerate_from 0 versions ++ (k, v) ∷ []) (omega (arith, long)) ∙ sym (placed_push 0 versions v),
+    )
+
+-- sort keys with their places, of texts that denote their versions
+abbrev pub KeyedBy : List (List ℕ) → List (ℕ × List ℕ) → Type 0
+KeyedBy texts keyed = (versions : List Record) × AllZip BytesDenote texts versions × All IsParsed versions × (keyed ≡ enumerate_from 0 (map key_bytes versions))
+
+abbrev pub seen : List (ℕ × Bor (List ℕ)) → List (ℕ × List ℕ)
+seen = map (λ (p : ℕ × Bor (List ℕ)). (p.0, p.1.now))
+
+pub keyed_more : (texts : List (Bor (List ℕ))) (i : ℕ) (x : Bor (List ℕ)) (pairs new : List (ℕ × Bor (List ℕ))) (key : Bor (List ℕ)) (v : Record) → i < length texts → BytesDenote (get_or texts i x).now v
+    → IsParsed v → key.now ≡ key_bytes v → new ≡ pairs ++ (i, key) ∷ [] → KeyedBy (map (λ t. t.now) (take i texts)) (seen pairs) → KeyedBy (map (λ t. t.now) (take (i + 1) texts)) (seen new)
+keyed_more texts i x pairs new key v inside means parsed is more (versions, all, are, placed) =
+    let long : length (map key_bytes versions) ≡ i =
+    length-map versions key_bytes ∙ sym (all_length BytesDenote (map (λ (t : Bor (List ℕ)). t.now) (take i texts)) versions all) ∙ length-map (take i texts) (λ (t : Bor (List ℕ)). t.now) ∙ length-take-le i texts (omega (arith, inside)) in (
+      versions ++ v ∷ [],
+      each_more BytesDenote texts i (get_or texts i x) versions (versions ++ v ∷ []) v inside (get_or_default texts i x (get_or texts i x) inside) means refl all,
+      All-push IsParsed versions v are parsed,
+      ap seen more ∙ map-append (λ (p : ℕ × Bor (List ℕ)). (p.0, p.1.now)) pairs ((i, key) ∷ [])
+          ∙ (λ j. placed j ++ (i, is j) ∷ [])
+          ∙ ap (λ (k : ℕ). enumerate_from 0 (map key_bytes versions) ++ (k, key_bytes v) ∷ []) (omega (arith, long))
+          ∙ sym (placed_push 0 (map key_bytes versions) (key_bytes v))
+          ∙ ap (enumerate_from 0) (sym (map-append key_bytes versions (v ∷ []))),
     )
 
 -- the text at a place that is refused is the first, where those before it mean versions

@@ -1,16 +1,29 @@
 //! Many strings in one call.
-ghost use Rattle.std.specs.List.{AllZip};
-ghost use Rattle.std.specs.Prelude.{IfOk, map, ◌≡◌};
+ghost use Rattle.std.specs.Cmp.Lexicographic.{slice_cmp};
+ghost use Rattle.std.specs.List.{All, AllZip, enumerate_from};
+ghost use Rattle.std.specs.Ordering.{nat_cmp};
+ghost use Rattle.std.specs.Prelude.{IfOk, IfSome, List, [], if◌then◌else◌, length, map, ℕ, ◌++◌, ◌∷◌, ◌≡◌};
+ghost use Rattle.pep440_compiled.specs.Lists.{HasSetFormat};
+ghost use Rattle.pep440_compiled.specs.Version.{HasVersionFormat};
+ghost use Rattle.pep440_rs.specs.Specifiers.{Spec};
+ghost use Rattle.pep440_keys.specs.SortKeys.{key_bytes};
 ghost use Rattle.pep440_version.specs.Key.{record_cmp};
+ghost use Rattle.pep440_version.specs.Record.{Record};
+ghost use Rattle.pep440_version.specs.RoundTrip.{IsParsed};
 ghost use Rattle.pep440_calls.specs.Batches.{ArrangesPositions, FilterMarks, HoldsOrBatchFaults, IsMark, KeysResult, Marks, JoinsKeys, DenotesPositioned, SortResult, Sorts, ReportsBatchError, batch_error_at};
-ghost use Rattle.pep440_calls.specs.CallerBytes.{ListFaults};
-ghost use Rattle.pep440_calls.specs.Statuses.{HoldsOr};
+ghost use Rattle.pep440_calls.specs.CallResults.{IsKey};
+ghost use Rattle.pep440_calls.specs.CallerBytes.{BytesDenote, BytesDenoteList, ListFaults, RejectsBytes};
+ghost use Rattle.pep440_calls.specs.Statuses.{HoldsOr, HoldsOrFaults};
 ghost use Rattle.pep440_calls.specs.declared.batch.BatchError.TheVariants.{OutOfMemory};
 
 use crate::buffer::{put, put_both};
 use crate::fault::Fault;
 use crate::joined_strings::JoinedStrings;
+use crate::one_version::find_key;
 use crate::read::{read, to_list};
+use pep440_compiled::{
+    ContainsError, compare_sort_keys, has_set_format, has_version_format, read_membership,
+};
 use pep440_rs::{Version, VersionSpecifiers};
 use std::alloc::{AllocError, AllocFailed, Global};
 use std::cmp::Ordering;
@@ -76,32 +89,70 @@ pub fn write_marks(alloc: Global, list: &[u8], texts: &[&[u8]], marks: &mut [u8]
     }
 }
 
+// The mark of a version that a list matches or not.
+fn version_mark(matches: bool, is_prerelease: bool) -> u8
+    ensures { result ≡ (if matches then (if is_prerelease then 3 else 1) else 0) }
+{
+    if !matches {
+        NO_MATCH
+    } else if is_prerelease {
+        PRERELEASE_MATCH
+    } else {
+        MATCH
+    }
+}
+
 // What the list says of the string.
-fn mark(alloc: Global, list: &VersionSpecifiers, text: &[u8]) -> Result<u8, AllocError>
+fn mark_string(alloc: Global, list: &VersionSpecifiers, text: &[u8]) -> Result<u8, AllocError>
     ensures { IfOk result (IsMark list.now text.now) }
 {
     match read(alloc, text) {
         Ok(version) => {
-            if !list.matches_literally(alloc, &version)? {
-                Ok(NO_MATCH)
-            } else if version.any_prerelease() {
-                Ok(PRERELEASE_MATCH)
-            } else {
-                Ok(MATCH)
-            }
+            let matches = list.matches_literally(alloc, &version)?;
+            Ok(version_mark(matches, version.any_prerelease()))
         }
         Err(Fault::OutOfMemory) => Err(AllocError),
         Err(_) => Ok(NOT_A_VERSION),
     }
 }
 
+// What the set of a compiled list says of a compiled version, both as they lie.
+fn mark_compiled(form: &[u8], version: &[u8]) -> u8
+    requires form { HasSetFormat form.now }
+    requires version { HasVersionFormat version.now }
+    ensures { (list : List Spec) → BytesDenoteList form.now list → IsMark list version.now result }
+{
+    match read_membership(form, version) {
+        Ok((held, is_prerelease)) => version_mark(held, is_prerelease),
+        Err(ContainsError::NoVersion) => NOT_A_VERSION,
+        Err(ContainsError::NoList) => NO_MATCH,
+    }
+}
+
+// What the list, which the bytes before it denote, says of the string.
+fn mark(alloc: Global, form: &[u8], list: &VersionSpecifiers, text: &[u8]) -> Result<u8, AllocError>
+    requires { BytesDenoteList form.now list.now }
+    ensures { IfOk result (IsMark list.now text.now) }
+{
+    if has_set_format(form) && has_version_format(text) {
+        return Ok(mark_compiled(form, text));
+    }
+    mark_string(alloc, list, text)
+}
+
 // Of each string, what the list says of it.
-fn mark_all(alloc: Global, list: &VersionSpecifiers, texts: &[&[u8]]) -> Result<Vec<u8>, AllocError>
+fn mark_all(
+    alloc: Global,
+    form: &[u8],
+    list: &VersionSpecifiers,
+    texts: &[&[u8]],
+) -> Result<Vec<u8>, AllocError>
+    requires { BytesDenoteList form.now list.now }
     ensures { IfOk result (λ found. AllZip (IsMark list.now) (map (λ t. t.now) texts.now) found.items) }
 {
     let mut found = Vec::with_capacity(alloc, texts.len())?;
     for text in texts {
-        let said = mark(alloc, list, text)?;
+        let said = mark(alloc, form, list, text)?;
         found.push(said)?;
     }
     Ok(found)
@@ -112,7 +163,7 @@ fn filter(alloc: Global, list: &[u8], texts: &[&[u8]]) -> Result<Vec<u8>, Fault>
     ensures { HoldsOr (ListFaults ⊥ list.now ⊥) (λ found. Marks list.now (map (λ t. t.now) texts.now) found.items) result }
 {
     let specifiers = to_list(alloc, list)?;
-    Ok(mark_all(alloc, &specifiers, texts)?)
+    Ok(mark_all(alloc, list, &specifiers, texts)?)
 }
 
 /// Writes the positions of the strings in the order of their versions, equal ones in the order given. With status 1
@@ -138,6 +189,35 @@ fn read_all(alloc: Global, texts: &[&[u8]]) -> Result<Vec<(usize, Version)>, Bat
         }
     }
     Ok(pairs)
+}
+
+// The sort keys of compiled versions, as they lie in the bytes, with their positions; `None` if a string is among them.
+fn find_keys<'a>(
+    alloc: Global,
+    texts: &[&'a [u8]],
+) -> Result<Option<Vec<(usize, &'a [u8])>>, BatchError>
+    ensures { HoldsOrBatchFaults (map (λ t. t.now) texts.now) (λ found. IfSome found (λ pairs. (versions : List Record)
+        × AllZip BytesDenote (map (λ t. t.now) texts.now) versions × All IsParsed versions
+        × (map (λ p. (p.0, p.1.now)) pairs.items ≡ enumerate_from 0 (map key_bytes versions)))) result }
+{
+    let mut pairs = Vec::with_capacity(alloc, texts.len())?;
+    for (position, text) in texts.iter().enumerate() {
+        if !has_version_format(text) {
+            return Ok(None);
+        }
+        match find_key(text) {
+            Ok(key) => pairs.push((position, key))?,
+            Err(fault) => return Err(BatchError::from_fault(position, fault)),
+        }
+    }
+    Ok(Some(pairs))
+}
+
+// By sort key alone.
+fn cmp_keys(a: &(usize, &[u8]), b: &(usize, &[u8])) -> Ordering
+    ensures { result ≡ slice_cmp nat_cmp a.now.1.now b.now.1.now }
+{
+    compare_sort_keys(a.1, b.1)
 }
 
 // By version alone.
@@ -167,10 +247,36 @@ fn sort_pairs(alloc: Global, pairs: Vec<(usize, Version)>) -> Result<Vec<usize>,
     collect_positions(alloc, sorted.as_slice())
 }
 
-// The positions of the strings in the order of their versions.
+// The positions, without the sort keys.
+fn collect_key_positions(alloc: Global, pairs: &[(usize, &[u8])]) -> Result<Vec<usize>, AllocError>
+    ensures { IfOk result (λ found. found.items ≡ map (λ p. p.0) pairs.now) }
+{
+    let mut found = Vec::with_capacity(alloc, pairs.len())?;
+    for pair in pairs {
+        found.push(pair.0)?;
+    }
+    Ok(found)
+}
+
+// The positions of the sort keys in order, equal ones in the order given.
+fn sort_by_keys(alloc: Global, pairs: Vec<(usize, &[u8])>) -> Result<Vec<usize>, AllocError>
+    ensures { (versions : List Record) → All IsParsed versions
+        → map (λ p. (p.0, p.1.now)) pairs.entry.items ≡ enumerate_from 0 (map key_bytes versions)
+        → IfOk result (λ found. ArrangesPositions (enumerate_from 0 versions) found.items) }
+{
+    let mut sorted = pairs;
+    sorted.sort_by(|a, b| cmp_keys(a, b))?;
+    collect_key_positions(alloc, sorted.as_slice())
+}
+
+// The positions of the strings in the order of their versions; of compiled versions alone, by their sort keys.
 fn sort(alloc: Global, texts: &[&[u8]]) -> Result<Vec<usize>, BatchError>
     ensures { HoldsOrBatchFaults (map (λ t. t.now) texts.now) (λ found. Sorts (map (λ t. t.now) texts.now) found.items) result }
 {
+    let keyed = find_keys(alloc, texts)?;
+    if let Some(pairs) = keyed {
+        return Ok(sort_by_keys(alloc, pairs)?);
+    }
     let pairs = read_all(alloc, texts)?;
     Ok(sort_pairs(alloc, pairs)?)
 }
@@ -195,6 +301,20 @@ pub fn write_sort_keys(
     }
 }
 
+// One more sort key: that of the version which the bytes denote, of a compiled one as it lies in them.
+fn push_key(alloc: Global, keys: &mut JoinedStrings, bytes: &[u8]) -> Result<(), Fault>
+    ensures { HoldsOrFaults (RejectsBytes bytes.now) ⊥ ⊥ (λ _. (key : List ℕ) × IsKey bytes.now key
+        × (keys.new.bytes.items ≡ keys.old.bytes.items ++ key)
+        × (keys.new.ends.items ≡ keys.old.ends.items ++ length keys.new.bytes.items ∷ [])) result }
+{
+    if has_version_format(bytes) {
+        let key = find_key(bytes)?;
+        return Ok(keys.push(key)?);
+    }
+    let version = read(alloc, bytes)?;
+    Ok(keys.push_key(&version)?)
+}
+
 // The sort keys of the strings.
 fn sort_keys(alloc: Global, texts: &[&[u8]]) -> Result<JoinedStrings, BatchError>
     ensures { HoldsOrBatchFaults (map (λ t. t.now) texts.now)
@@ -202,8 +322,8 @@ fn sort_keys(alloc: Global, texts: &[&[u8]]) -> Result<JoinedStrings, BatchError
 {
     let mut keys = JoinedStrings::with_capacity(alloc, texts.len())?;
     for (position, text) in texts.iter().enumerate() {
-        match read(alloc, text) {
-            Ok(version) => keys.push_key(&version)?,
+        match push_key(alloc, &mut keys, text) {
+            Ok(()) => {}
             Err(fault) => return Err(BatchError::from_fault(position, fault)),
         }
     }

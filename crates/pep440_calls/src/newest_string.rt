@@ -1,8 +1,10 @@
 //! The newest version of a batch that a list matches.
-ghost use Rattle.std.specs.Prelude.{IfOk, MatchOption, false, map, true, ◌≡◌, ◌⊎◌};
+ghost use Rattle.std.specs.Prelude.{IfOk, IfSome, MatchOption, false, map, not, true, ◌||◌, ◌≡◌, ◌⊎◌};
+ghost use Rattle.std.specs.Ordering.{is_lt};
 ghost use Rattle.pep440_pick.specs.Greatest.{Greatest, is_above};
 ghost use Rattle.pep440_pick.specs.Newest.{preference};
 ghost use Rattle.pep440_rs.specs.LiteralMatching.{list_matches_literally};
+ghost use Rattle.pep440_rs.specs.Matching.{any_prerelease};
 ghost use Rattle.pep440_version.specs.Record.{Record};
 ghost use Rattle.pep440_calls.specs.CallerBytes.{BytesDenote, ListFaults, RejectsBytes};
 ghost use Rattle.pep440_calls.specs.NewestString.{FindsNewestString, IsContainedString, NewestResult};
@@ -74,6 +76,38 @@ fn is_above(takes: bool, newest: &Option<(usize, Version)>, version: &Version) -
     }
 }
 
+// Whether it is a final release, or taken as one.
+fn is_taken(takes: bool, version: &Version) -> bool
+    ensures { result ≡ (takes || not (any_prerelease version.now)) }
+{
+    takes || !version.any_prerelease()
+}
+
+// Whether the bytes, as they lie, are those of a compiled version that is not preferred to the newest one, which the best denote.
+fn is_below(takes: bool, newest: &Version, best: &[u8], bytes: &[u8]) -> bool
+    requires { BytesDenote best.now newest.now }
+    ensures { result ≡ true → (r : Record) → BytesDenote bytes.now r → is_lt (preference takes newest.now r) ≡ false }
+{
+    if !is_taken(takes, newest) {
+        return false;
+    }
+    match pep440_compiled::compare(best, bytes) {
+        Ok(order) => order.is_ge(),
+        Err(_) => false,
+    }
+}
+
+// Whether the bytes need no other look, as those of most compiled versions of a batch.
+fn is_passed(takes: bool, newest: &Option<(usize, Version)>, best: &[u8], bytes: &[u8]) -> bool
+    requires { IfSome newest.now (λ p. BytesDenote best.now p.1) }
+    ensures { result ≡ true → (r : Record) → BytesDenote bytes.now r → is_above (preference takes) newest.now r ≡ false }
+{
+    match newest {
+        None => false,
+        Some((_, newest)) => is_below(takes, newest, best, bytes),
+    }
+}
+
 // The newest version that the list matches, and its index.
 fn find_newest(
     alloc: Global,
@@ -84,12 +118,17 @@ fn find_newest(
     ensures { IfOk result (Greatest (IsContainedString list.now) (preference takes) (map (λ t. t.now) texts.now)) }
 {
     let mut newest: Option<(usize, Version)> = None;
+    let mut best: &[u8] = &[];
     for (position, text) in texts.iter().enumerate() {
+        if is_passed(takes, &newest, best, text) {
+            continue;
+        }
         let Some(version) = parse_if_matched(alloc, list, text)? else {
             continue;
         };
         if is_above(takes, &newest, &version) {
             newest = Some((position, version));
+            best = text;
         }
     }
     Ok(newest)

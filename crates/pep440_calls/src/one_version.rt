@@ -63,7 +63,7 @@ pub fn write_sort_key(alloc: Global, text: &[u8], out: &mut [u8], written: &mut 
 }
 
 // The sort key of a compiled version, as it lies in the bytes.
-fn find_key(bytes: &[u8]) -> Result<&[u8], Fault>
+pub(crate) fn find_key(bytes: &[u8]) -> Result<&[u8], Fault>
     requires { HasVersionFormat bytes.now }
     ensures { HoldsOrFaults (RejectsBytes bytes.now) ⊥ ⊥ (λ key. IsKey bytes.now key.now) result }
 {
