@@ -1,12 +1,9 @@
-pub mod Ascii
 pub mod Refused
-pub mod Joining
 pub mod Placed
 pub mod KeyOrder
 pub mod Once
 pub mod Forms
 pub mod Allowed
-pub mod Choosing
 pub mod Compiling
 pub mod Combined
 pub mod Edited

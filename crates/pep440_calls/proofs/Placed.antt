@@ -1,11 +1,11 @@
 -- Many texts, read one after another: versions with their places, marks, sort keys.
-use Rattle.std.proofs.Common.{Bor, ◌≡◌, ◌<◌, ◌+◌, ◌∙◌, ℕ, zero, suc, Some, List, [], ◌∷◌, ◌++◌, length, get_or, take, map, refl, sym, ap, subst, arith}
-use Rattle.std.proofs.lemmas.List.{get_or_default, length-map, length-take-le, map-append, take_more}
+use Rattle.std.proofs.Common.{Bor, ◌≡◌, ◌<◌, ◌+◌, ◌∙◌, ℕ, zero, suc, Some, List, [], ◌∷◌, ◌++◌, length, get_or, take, map, refl, sym, ap, subst, arith, ◌⊎◌, ◌||◌, Bool, true, false, Option, inl, inr, not, append-nil, append_assoc}
+use Rattle.std.proofs.lemmas.List.{get_or_default, length-map, length-take-le, map-append, take_more, length-append}
 use Rattle.std.proofs.lemmas.List.Elements.{All-push}
 use Rattle.std.proofs.lemmas.Slice.Zip.{all_zipped_more}
-use Rattle.std.specs.List.{All, AllZip, enumerate_from}
+use Rattle.std.specs.List.{All, AllZip, enumerate_from, flat_map}
 use Rattle.std.specs.List.Sorted.{IsPermutation, IsSorted, IsStable}
-use Rattle.std.specs.Ordering.{on}
+use Rattle.std.specs.Ordering.{on, bool_cmp, is_ge, is_lt, ordering_then}
 use Rattle.std.specs.Prelude.{IfOk, IsSomeAnd, Result, Ok, Err, slice_get}
 use Rattle.std.specs.declared.cmp.Ordering.{Ordering}
 use Rattle.pep440_keys.specs.SortKeys.{key_bytes}
@@ -13,12 +13,27 @@ use Rattle.pep440_version.specs.Key.{record_cmp}
 use Rattle.pep440_version.specs.Record.{Record}
 use Rattle.pep440_version.specs.RoundTrip.{IsParsed}
 use Rattle.pep440_calls.specs.Batches.{ArrangesPositions, JoinsKeys, BatchFaults, batch_error_at}
-use Rattle.pep440_calls.specs.JoinedStrings.{Joins}
+use Rattle.pep440_calls.specs.JoinedStrings.{Joins, ends_from}
 use Rattle.pep440_calls.specs.Statuses.{Faults}
 use Rattle.pep440_calls.specs.declared.fault.Fault.{Fault}
 use Rattle.pep440_calls.specs.declared.fault.Fault.TheVariants.{InvalidVersion, InvalidList, InvalidRight, NoList, NoSet, NumberAtMax, OutOfMemory}
 use Rattle.pep440_calls.specs.declared.batch.BatchError.{BatchError}
 use Rattle.pep440_calls.specs.CallerBytes.{BytesDenote, RejectsBytes}
+use Rattle.std.specs.declared.cmp.Ordering.TheVariants.{Less, Equal, Greater}
+use Rattle.std.proofs.lemmas.Bool.{both_ways}
+use Rattle.pep440_pick.proofs.Choosing as greatest
+use Rattle.pep440_pick.proofs.Once.{preference_total}
+use Rattle.pep440_pick.specs.Greatest.{Greatest, is_above}
+use Rattle.pep440_pick.specs.Newest.{preference}
+use Rattle.pep440_rs.specs.LiteralMatching.{list_matches_literally}
+use Rattle.pep440_rs.specs.Matching.{any_prerelease}
+use Rattle.pep440_rs.specs.Specifiers.{Spec}
+use Rattle.pep440_calls.specs.NewestString.{IsContainedString}
+use Rattle.pep440_calls.proofs.Once.{never_both, one_version}
+use Rattle.std.proofs.lemmas.List.Concat.{flat_map-append}
+use Rattle.std.specs.declared.ops.Bound.{Bound}
+use Rattle.pep440_rs.specs.Bounds.{Segments}
+use Rattle.pep440_calls.specs.Ranges.{JoinsBounds, bound_bytes, segment_bounds}
 
 pub each_more : {A : Type 0} (Means : List ℕ → A → Type 0) (texts : List (Bor (List ℕ))) (i : ℕ) (x : Bor (List ℕ)) (found new : List A) (a : A) → i < length texts → x ≡ get_or texts i x → Means x.now a
     → new ≡ found ++ a ∷ [] → AllZip Means (map (λ t. t.now) (take i texts)) found → AllZip Means (map (λ t. t.now) (take (i + 1) texts)) new
@@ -140,3 +155,94 @@ keys_more texts i x bytes new ends new_ends key v inside means is more (versions
   each_more BytesDenote texts i (get_or texts i x) versions (versions ++ v ∷ []) v inside (get_or_default texts i x (get_or texts i x) inside) means refl all,
   subst (λ (l : List (List ℕ)). Joins l new new_ends) (ap (λ (k : List ℕ). map key_bytes versions ++ k ∷ []) is ∙ sym (map-append key_bytes versions (v ∷ []))) (more (map key_bytes versions) joins),
 )
+
+by_order : (a b : Bool) (o : Ordering) → a ≡ true → is_ge o ≡ true → is_lt (ordering_then (bool_cmp a b) o) ≡ false
+by_order false b o taken ge = cc taken
+by_order true false o taken ge = refl
+by_order true true Less taken ge = cc ge
+by_order true true Equal taken ge = refl
+by_order true true Greater taken ge = refl
+
+-- a version that is not above one which is taken is not preferred to it
+pub not_preferred : (takes : Bool) (p r : Record) (o : Ordering) → takes || not (any_prerelease p) ≡ true → o ≡ record_cmp p r → is_ge o ≡ true → is_lt (preference takes p r) ≡ false
+not_preferred takes p r o taken is ge = by_order (takes || not (any_prerelease p)) (takes || not (any_prerelease r)) (record_cmp p r) taken (ap is_ge (sym is) ∙ ge)
+
+module _ (takes : Bool) (list : List Spec) where
+  only : (t : List ℕ) (r q : Record) → IsContainedString list t r → IsContainedString list t q → r ≡ q
+  only t r q h k = one_version t r q h.0 k.0
+
+  abbrev NewestOf : List (List ℕ) → Option (ℕ × Record) → Type 0
+  NewestOf = Greatest (IsContainedString list) (preference takes)
+
+  pub out_of : (t : List ℕ) → RejectsBytes t ⊎ ((r : Record) × BytesDenote t r × (list_matches_literally list r ≡ false)) → (r : Record) → ¬ (IsContainedString list t r)
+  out_of t (inl why) r h = never_both t r h.0 why
+  out_of t (inr (q, means, out)) r h = both_ways (list_matches_literally list r) (ap (list_matches_literally list) (one_version t r q h.0 means) ∙ out) h.1
+
+  module _ (texts : List (Bor (List ℕ))) (i : ℕ) (x : Bor (List ℕ)) (newest : Option (ℕ × Record)) (inside : i < length texts) where
+    abbrev now : Bor (List ℕ) → List ℕ
+    now t = t.now
+
+    seen : map now (take (i + 1) texts) ≡ map now (take i texts) ++ (get_or texts i x).now ∷ []
+    seen = ap (map now) (take_more texts i x inside) ∙ map-append now (take i texts) (get_or texts i x ∷ [])
+
+    pub found_more : (v : Record) → IsContainedString list (get_or texts i x).now v → is_above (preference takes) newest v ≡ true → NewestOf (map now (take i texts)) newest → NewestOf (map now (take (i + 1) texts)) (Some (i, v))
+    found_more v has above n =
+        let long : length (map now (take i texts)) ≡ i = length-map (take i texts) now ∙ length-take-le i texts (omega (arith, inside)) in
+        subst (λ l. NewestOf l (Some (i, v))) (sym seen)
+        (subst (λ k. NewestOf (map now (take i texts) ++ (get_or texts i x).now ∷ []) (Some (k, v))) long
+        (greatest.found_more (IsContainedString list) only (preference takes) (preference_total takes) (map now (take i texts)) (get_or texts i x).now v newest n has above))
+
+    pub kept_more : ((r : Record) → IsContainedString list (get_or texts i x).now r → is_above (preference takes) newest r ≡ false) → NewestOf (map now (take i texts)) newest → NewestOf (map now (take (i + 1) texts)) newest
+    kept_more out n = subst (λ l. NewestOf l newest) (sym seen) (greatest.kept_more (IsContainedString list) only (preference takes) (preference_total takes) (map now (take i texts)) (get_or texts i x).now newest n out)
+
+    pub below_more : (v : Record) → IsContainedString list (get_or texts i x).now v → is_above (preference takes) newest v ≡ false → NewestOf (map now (take i texts)) newest → NewestOf (map now (take (i + 1) texts)) newest
+    below_more v has below = kept_more (λ r h. ap (is_above (preference takes) newest) (only (get_or texts i x).now r v h has) ∙ below)
+
+-- where one more string ends
+ends_push : (start : ℕ) (strings : List (List ℕ)) (s : List ℕ) → ends_from start (strings ++ s ∷ []) ≡ ends_from start strings ++ (start + (length (flat_map (λ (t : List ℕ). t) strings) + length s)) ∷ []
+ends_push start [] s = ap (λ (n : ℕ). n ∷ []) (omega arith)
+ends_push start (t ∷ rest) s =
+    let all : length (t ++ flat_map (λ (u : List ℕ). u) rest) ≡ length t + length (flat_map (λ (u : List ℕ). u) rest) = length-append t (flat_map (λ (u : List ℕ). u) rest) in
+    ap (λ (l : List ℕ). (start + length t) ∷ l) (ends_push (start + length t) rest s
+    ∙ ap (λ (n : ℕ). ends_from (start + length t) rest ++ n ∷ []) (omega (arith, all)))
+
+pub joined_more : (strings : List (List ℕ)) (s bytes new ends new_ends : List ℕ) → new ≡ bytes ++ s → new_ends ≡ ends ++ length new ∷ [] → Joins strings bytes ends → Joins (strings ++ s ∷ []) new new_ends
+joined_more strings s bytes new ends new_ends more ended joins =
+    let long : length (bytes ++ s) ≡ length bytes + length s = length-append bytes s in
+    let count : length new ≡ length (bytes ++ s) = ap length more in
+    let same : length bytes ≡ length (flat_map (λ (t : List ℕ). t) strings) = ap length joins.joined in record {
+      joined = more ∙ ap (λ (l : List ℕ). l ++ s) joins.joined ∙ ap (λ (l : List ℕ). flat_map (λ (t : List ℕ). t) strings ++ l) (sym (append-nil s))
+          ∙ sym (flat_map-append (λ (t : List ℕ). t) strings (s ∷ []));
+      ended = ended ∙ ap (λ (l : List ℕ). l ++ length new ∷ []) joins.ended ∙ ap (λ (n : ℕ). ends_from 0 strings ++ n ∷ []) (omega (arith, long, count, same)) ∙ sym (ends_push 0 strings s);
+    }
+
+-- the next of borrowed strings
+pub next_joined : (strings : List (Bor (List ℕ))) (i : ℕ) (x : Bor (List ℕ)) (bytes new ends new_ends : List ℕ) → i < length strings → new ≡ bytes ++ (get_or strings i x).now → new_ends ≡ ends ++ length new ∷ []
+    → Joins (map (λ s. s.now) (take i strings)) bytes ends → Joins (map (λ s. s.now) (take (i + 1) strings)) new new_ends
+next_joined strings i x bytes new ends new_ends inside more ended joins =
+    let now : Bor (List ℕ) → List ℕ = λ s. s.now in
+    let seen : map now (take (i + 1) strings) ≡ map now (take i strings) ++ now (get_or strings i x) ∷ [] =
+    ap (map now) (take_more strings i x inside) ∙ map-append now (take i strings) (get_or strings i x ∷ []) in
+    subst (λ (l : List (List ℕ)). Joins l new new_ends) (sym seen) (joined_more (map now (take i strings)) (now (get_or strings i x)) bytes new ends new_ends more ended joins)
+
+-- two strings more
+pub pushed : (k l : List ℕ) (strings : List (List ℕ)) (s t b m n e f g : List ℕ) → s ≡ k → t ≡ l → m ≡ b ++ s → f ≡ e ++ length m ∷ []
+    → n ≡ m ++ t → g ≡ f ++ length n ∷ [] → Joins strings b e → Joins (strings ++ k ∷ l ∷ []) n g
+pushed k l strings s t b m n e f g is_k is_l more ended again behind joins =
+    let first : Joins (strings ++ s ∷ []) m f = joined_more strings s b m e f more ended joins in
+    let second : Joins ((strings ++ s ∷ []) ++ t ∷ []) n g = joined_more (strings ++ s ∷ []) t m n f g again behind first in
+    subst (λ (p : List (List ℕ)). Joins p n g) (append_assoc strings (s ∷ []) (t ∷ []) ∙ (λ j. strings ++ (is_k j ∷ (is_l j ∷ [])))) second
+
+-- the first string is pushed, then the second
+pub segment_more : (range : Segments) (low high : Bound Record) (s t b m n e f g : List ℕ) → s ≡ bound_bytes low → t ≡ bound_bytes high → m ≡ b ++ s → f ≡ e ++ length m ∷ []
+    → n ≡ m ++ t → g ≡ f ++ length n ∷ [] → JoinsBounds range b e → JoinsBounds (range ++ (low, high) ∷ []) n g
+segment_more range low high s t b m n e f g first second more ended again behind joins =
+    subst (λ (strings : List (List ℕ)). Joins strings n g) (sym (flat_map-append segment_bounds range ((low, high) ∷ [])))
+    (pushed (bound_bytes low) (bound_bytes high) (flat_map segment_bounds range) s t b m n e f g first second more ended again behind joins)
+
+-- the next segment of the range is joined too
+pub segments_more : (range left rest : Segments) (low high : Bound Record) (b e n g : List ℕ) → left ≡ (low, high) ∷ rest
+    → ((done : Segments) → JoinsBounds done b e → JoinsBounds (done ++ (low, high) ∷ []) n g)
+    → ((done : Segments) × JoinsBounds done b e × (done ++ left ≡ range)) → (done : Segments) × JoinsBounds done n g × (done ++ rest ≡ range)
+segments_more range left rest low high b e n g next pushes (done, joins, seen) =
+    (done ++ (low, high) ∷ [], pushes done joins, append_assoc done ((low, high) ∷ []) rest ∙ ap (λ (l : Segments). done ++ l) (sym next) ∙ seen)

@@ -1,16 +1,15 @@
 -- Versions in order by the parts of their sort keys.
-use Rattle.std.proofs.Common.{◌≡◌, ◌∙◌, ◌==◌, ◌&&◌, ℕ, refl, sym, ap, arith, inl, inr, Bool, true, false, not, List, [], ◌∷◌, ◌++◌, length, nat_eq}
-use Rattle.std.proofs.lemmas.Bool.{cases_Bool, not-false, eqb-true}
+use Rattle.std.proofs.Common.{◌≡◌, ◌∙◌, ◌==◌, ◌&&◌, ℕ, refl, sym, ap, arith, inl, inr, Bool, true, false, not, List, [], ◌∷◌, ◌++◌, length, nat_eq, ◌-◌, append_assoc, nat_lt}
+use Rattle.std.proofs.lemmas.Bool.{cases_Bool, not-false, eqb-true, le-ltb, lt-ltb, ne_eqb}
 use Rattle.std.proofs.lemmas.Bool.Decides.{nat_tests}
-use Rattle.std.proofs.lemmas.List.{append-nil}
+use Rattle.std.proofs.lemmas.List.{append-nil, length-append, length-map}
 use Rattle.std.specs.Cmp.Lexicographic.{pointwise, slice_cmp}
 use Rattle.std.specs.Ordering.{is_eq, nat_cmp, ordering_then}
-use Rattle.std.specs.List.{starts_with}
+use Rattle.std.specs.List.{starts_with, flat_map}
 use Rattle.std.specs.Prelude.{drop, if◌then◌else◌}
 use Rattle.std.specs.declared.cmp.Ordering.{Ordering}
 use Rattle.std.specs.declared.cmp.Ordering.TheVariants.{Equal}
 use Rattle.pep440_compiled.proofs.Fronts.{both_tie, keyed, public_cmp, public_in_order, same_bytes, same_release_bytes, tied_last}
-use Rattle.pep440_compiled.proofs.Keys.{key_public, key_split}
 use Rattle.pep440_compiled.proofs.Prefixes.{none_continue}
 use Rattle.pep440_compiled.proofs.Suffixes.{no_local_left}
 use Rattle.pep440_compiled.proofs.Zeros.{prefix_by_bytes}
@@ -19,10 +18,13 @@ use Rattle.pep440_compiled.specs.KeyViews.{HasKey, IsDecided}
 use Rattle.pep440_version.specs.RoundTrip.{IsParsed}
 use Rattle.pep440_compiled.specs.declared.views.KeyView.{KeyView}
 use Rattle.pep440_keys.proofs.Order.{keys_in_order}
-use Rattle.pep440_keys.specs.SortKeys.{key_bytes, local_bytes}
+use Rattle.pep440_keys.specs.SortKeys.{key_bytes, local_bytes, number_bytes, rank_bytes, segment_bytes}
 use Rattle.pep440_rs.specs.Matching.{candidate, has_local, has_prefix, same_release}
-use Rattle.pep440_version.specs.Key.{record_cmp, release_cmp}
+use Rattle.pep440_version.specs.Key.{record_cmp, release_cmp, dev_rank, key, post_rank, stage_rank}
 use Rattle.pep440_version.specs.Record.{LocalSegmentValue, Record}
+use Rattle.pep440_compiled.specs.Version.{version_bytes, zero_bytes}
+use Rattle.pep440_keys.proofs.Codes.{segment_opens}
+use Rattle.pep440_version.specs.Key.Trim.{trim}
 
 -- ---- all but the local part
 
@@ -103,3 +105,36 @@ begins_by_base s v p q z w =
     let front = base_bytes s.epoch s.release in
     sym (and_true (starts_with nat_eq bytes front) (continues_with_zeros (ending_zeros s.release) (drop (length front) bytes)) (ap (λ n. continues_with_zeros n (drop (length front) bytes)) z ∙ none_continue (drop (length front) bytes)))
     ∙ prefix_by_bytes s.epoch s.release v.epoch v.release w p.valid.epoch p.valid.release q.valid.epoch q.valid.release
+
+regroup : (n f s p d l w : List ℕ) → (n ++ (f ++ 0 ∷ []) ++ s ++ p ++ d ++ l) ++ w ≡ (n ++ f) ++ 0 ∷ ((s ++ (p ++ d)) ++ (l ++ w))
+regroup n f s p d l w = simp append_assoc
+
+regroup_public : (n f s p d l : List ℕ) → n ++ (f ++ 0 ∷ []) ++ s ++ p ++ d ++ l ≡ ((n ++ f) ++ 0 ∷ (s ++ (p ++ d))) ++ l
+regroup_public n f s p d l = simp append_assoc
+
+pub key_split : (r : Record) (w : List ℕ) → key_bytes r ++ w ≡ base_bytes r.epoch r.release ++ 0 ∷ (suffix_bytes r ++ (local_bytes r.local ++ w))
+key_split r w =
+    regroup (number_bytes 0 r.epoch) (flat_map (number_bytes 1) (trim r.release)) (rank_bytes (stage_rank (key r).stage)) (rank_bytes (post_rank (key r).post)) (rank_bytes (dev_rank (key r).dev)) (local_bytes r.local) w
+
+pub version_split : (r : Record) (rest : List ℕ) → version_bytes r ++ rest ≡ base_bytes r.epoch r.release ++ 0 ∷ (suffix_bytes r ++ (local_bytes r.local ++ (zero_bytes r.release ++ rest)))
+version_split r rest = append_assoc (key_bytes r) (zero_bytes r.release) rest ∙ key_split r (zero_bytes r.release ++ rest)
+
+pub key_public : (r : Record) → key_bytes r ≡ public_bytes r ++ local_bytes r.local
+key_public r =
+    regroup_public (number_bytes 0 r.epoch) (flat_map (number_bytes 1) (trim r.release)) (rank_bytes (stage_rank (key r).stage)) (rank_bytes (post_rank (key r).post)) (rank_bytes (dev_rank (key r).dev)) (local_bytes r.local)
+
+-- the last byte of a key is 0
+pub key_ends : (r : Record) → key_bytes r ≡ (public_bytes r ++ flat_map segment_bytes r.local) ++ 0 ∷ []
+key_ends r = key_public r ∙ sym (append_assoc (public_bytes r) (flat_map segment_bytes r.local) (0 ∷ []))
+
+pub zeros_length : (release : List ℕ) → length (zero_bytes release) ≡ ending_zeros release
+zeros_length release = length-map (drop (length (trim release)) release) (λ n. 1)
+
+-- a local part that is not empty has more than its last byte
+pub local_flag : (local : List LocalSegmentValue) (a b : List ℕ) → a ≡ local_bytes local ++ b → nat_lt 1 (length a - length b) ≡ not (length local == 0)
+local_flag [] a b e = le-ltb 1 (length a - length b) (omega (arith, ap length e))
+local_flag (s ∷ local) a b e =
+    let o = segment_opens s in
+    lt-ltb 1 (length a - length b)
+    (omega (arith, ap length e, length-append (local_bytes (s ∷ local)) b, length-append (segment_bytes s ++ flat_map segment_bytes local) (0 ∷ []), length-append (segment_bytes s) (flat_map segment_bytes local), ap length o.is))
+    ∙ sym (ap not (ne_eqb (length (s ∷ local)) 0 (λ z. omega (arith, z))))

@@ -1,7 +1,7 @@
 -- Bytes denote at most one list.
-use Rattle.std.proofs.Common.{◌≡◌, ◌∙◌, ℕ, List, ◌++◌, append_assoc, length, sym, ap, take, ◌+◌, refl, arith, subst, Bool, true, false, inl, inr, [], ◌∷◌, get_or}
+use Rattle.std.proofs.Common.{◌≡◌, ◌∙◌, ℕ, List, ◌++◌, append_assoc, length, sym, ap, take, ◌+◌, refl, arith, subst, Bool, true, false, inl, inr, [], ◌∷◌, get_or, ◌<◌, All}
 use Rattle.std.proofs.Math.Seq.{drop-append_seam, take-append_seam}
-use Rattle.std.proofs.lemmas.List.Elements.{recursion_from_All}
+use Rattle.std.proofs.lemmas.List.Elements.{recursion_from_All, All-push}
 use Rattle.std.specs.Cmp.{nat_cmp_is}
 use Rattle.std.specs.Cmp.Lexicographic.{slice_cmp}
 use Rattle.std.specs.FinMap.{nat_cmp-IsAntisymmetric}
@@ -12,7 +12,6 @@ use Rattle.std.specs.declared.cmp.Ordering.TheVariants.{Equal}
 use Rattle.std.specs.declared.cmp.Ordering.TheVariants as ordering
 use Rattle.pep440_compiled.proofs.Exact.{member_version}
 use Rattle.pep440_compiled.proofs.Fronts.{both_tie, itself}
-use Rattle.pep440_compiled.proofs.Members.{no_zero_first}
 use Rattle.pep440_compiled.specs.Lists.{DenotesList, DenotesMembers, DenotesWithSet, IsFormBy, IsListForm, IsParsedMember, has_set, member_bytes, members_bytes}
 use Rattle.pep440_compiled.specs.SetBytes.{sized_bytes, set_bytes}
 use Rattle.pep440_keys.proofs.Codes.{number_is_code}
@@ -22,6 +21,10 @@ use Rattle.pep440_rs.specs.Operators.{operator_rank}
 use Rattle.pep440_rs.specs.Specifiers.{Spec}
 use Rattle.pep440_sets.specs.Sets.{list_set}
 use Rattle.pep440_version.specs.Record.{Fits}
+use Rattle.std.proofs.lemmas.List.{take_more}
+use Rattle.pep440_compiled.specs.KeyParts.{BeginsOtherwise}
+use Rattle.pep440_rs.proofs.Arranging.Arranged.{arranged_again, one_arrangement}
+use Rattle.pep440_rs.specs.Arrangement.{Arranges, IsArranged}
 
 -- ---- bytes after their count are told from what follows them
 
@@ -94,3 +97,36 @@ form_denotes bytes l p = go (has_set l) p
 
 pub set_is_form : (bytes : List ℕ) (l : List Spec) → DenotesWithSet bytes l → IsListForm bytes l
 set_is_form bytes l d = subst (λ e. IsFormBy e bytes l) (sym d.given) d
+
+pub more_holds : {A : Type 0} (P : A → Type 0) (xs : List A) (i : ℕ) (x : A) → x ≡ get_or xs i x → i < length xs → All P (take i xs) → P x → All P (take (i + 1) xs)
+more_holds P xs i x is inside all h = subst (All P) (sym (take_more xs i x inside)) (All-push P (take i xs) (get_or xs i x) all (subst P is h))
+
+-- ---- from the first of the members on
+
+-- no member begins as a zero of the version before it does
+pub no_zero_first : (list : List Spec) → BeginsOtherwise 1 (flat_map member_bytes list)
+no_zero_first [] = tt
+no_zero_first (s ∷ list) = λ e. omega (arith, e)
+
+-- bytes that are not empty begin with a member
+pub record First (left : List ℕ) (list : List Spec) : Type 0 where
+  pub member : Spec
+  pub more : List Spec
+  pub parsed : IsParsedMember member
+  pub all : AllByRecursion IsParsedMember more
+  pub split : list ≡ member ∷ more
+  pub bytes : left ≡ member_bytes member ++ flat_map member_bytes more
+
+pub first_member : (left : List ℕ) (list : List Spec) → 0 < length left → AllByRecursion IsParsedMember list → left ≡ flat_map member_bytes list → First left list
+first_member left [] some all e = absurd (omega (arith, some, ap length e))
+first_member left (s ∷ list) some all e = record { member = s; more = list; parsed = all.0; all = all.1; split = refl; bytes = e }
+
+-- no bytes, no member
+pub none_left : (left : List ℕ) (list : List Spec) → length left ≡ 0 → left ≡ flat_map member_bytes list → list ≡ []
+none_left left [] none e = refl
+none_left left (s ∷ list) none e = absurd (omega (arith, none, ap length e))
+
+-- ---- whole lists
+
+pub same_list : (members list arranged : List Spec) → members ≡ list → IsArranged list → Arranges members arranged → list ≡ arranged
+same_list members list arranged e up a = one_arrangement list list arranged (arranged_again list up) (subst (λ l. Arranges l arranged) e a)

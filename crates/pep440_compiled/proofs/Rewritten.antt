@@ -7,7 +7,7 @@ use Rattle.std.proofs.lemmas.List.{append-nil, length-append, length-drop, lengt
 use Rattle.std.proofs.lemmas.Nat.{be_bytes_8}
 use Rattle.std.specs.Int.{from_be_bytes, to_be_bytes}
 use Rattle.std.specs.List.{flat_map}
-use Rattle.pep440_compiled.proofs.Decoded.{key_in_turn, ones}
+use Rattle.pep440_compiled.proofs.Checking.{key_in_turn, ones}
 use Rattle.pep440_compiled.proofs.Numbers.{padded_is}
 use Rattle.pep440_compiled.proofs.Prefixes.{IsTrimmed, none_needed, same_number}
 use Rattle.pep440_compiled.proofs.Zeros.{trim_padded, zeros_none, zeros_padded}

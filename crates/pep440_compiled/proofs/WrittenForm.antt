@@ -1,16 +1,21 @@
 -- A compiled form that is written part by part.
-use Rattle.std.proofs.Common.{◌≡◌, ◌∙◌, ◌<◌, ◌-◌, ℕ, List, [], ◌∷◌, ◌++◌, true, false, ap, refl, sym, subst, append_assoc, arith, true≢false}
+use Rattle.std.proofs.Common.{◌≡◌, ◌∙◌, ◌<◌, ◌-◌, ℕ, List, [], ◌∷◌, ◌++◌, true, false, ap, refl, sym, subst, append_assoc, arith, true≢false, ◌≤◌, ◌+◌, suc, codes, drop, get_or, length}
 use Rattle.std.proofs.lemmas.Bool.Decides.{nat_tests}
 use Rattle.std.proofs.lemmas.Grind.{flat_map-append}
-use Rattle.std.proofs.lemmas.List.{append-nil}
+use Rattle.std.proofs.lemmas.List.{append-nil, length-append}
 use Rattle.std.specs.Char.{is_ascii_digit}
-use Rattle.std.specs.List.{flat_map, list_all}
-use Rattle.pep440_keys.specs.SortKeys.{segment_bytes}
+use Rattle.std.specs.List.{flat_map, list_all, All}
+use Rattle.pep440_keys.specs.SortKeys.{segment_bytes, local_bytes}
 use Rattle.pep440_version.proofs.Reading.LocalAgrees.{segments_cons}
 use Rattle.pep440_version.proofs.RoundTrip.PrintIsRead.{segment_reads}
-use Rattle.pep440_version.specs.Grammar.{AreSegments, IsSegment}
-use Rattle.pep440_version.specs.Record.{LocalSegmentValue, Text}
-use Rattle.pep440_version.specs.RoundTrip.{is_lower}
+use Rattle.pep440_version.specs.Grammar.{AreSegments, IsSegment, starts}
+use Rattle.pep440_version.specs.Record.{LocalSegmentValue, Text, Number}
+use Rattle.pep440_version.specs.RoundTrip.{is_lower, SegmentRoundTrips}
+use Rattle.std.proofs.lemmas.Fmt.{decimal_digit, digits_decimal}
+use Rattle.pep440_compiled.specs.Version.{IsShortSegment}
+use Rattle.pep440_version.proofs.Reading.Digits.{digits_model}
+use Rattle.pep440_version.proofs.Reading.Prefixes.{same_front}
+use Rattle.pep440_version.specs.Print.{dotted, local_text, print_segment}
 
 -- a segment that is a string
 pub string_segment : (text : List ℕ) → list_all is_lower text ≡ true → list_all is_ascii_digit text ≡ false → IsSegment text (Text text)
@@ -47,3 +52,148 @@ segment_more text rest old form new first later s before joined is next = record
 pub last_segment : (text rest old form new first : List ℕ) (s : LocalSegmentValue) → AreWritten text rest old form → rest ≡ first → IsSegment first s → new ≡ form ++ segment_bytes s → (segments : List LocalSegmentValue) × AreSegments text segments × (new ≡ old ++ flat_map segment_bytes segments)
 last_segment text rest old form new first s before joined is next =
     (before.seen ++ s ∷ [], before.whole (s ∷ []) (subst (λ t. IsSegment t s) (sym joined) is), one_written old form new before.seen s before.written next)
+
+-- ---- a segment, by its string
+
+-- a string that is not of digits alone, which has capacity beside the two bytes around it
+pub string_only : (old : ℕ) (text : List ℕ) (s : LocalSegmentValue) → IsShortSegment s → text ≡ print_segment s → list_all is_ascii_digit text ≡ false → old + length (segment_bytes s) ≤ 64
+    → (s ≡ Text text) × (old + (1 + (length text + 1)) ≤ 64)
+string_only old text (Text t) one is other fits = (ap Text (sym is), omega (arith, fits, ap length is, length-append t (0 ∷ [])))
+string_only old text (Number n) one is other fits =
+    let all = ap (list_all is_ascii_digit) is ∙ digits_decimal digits_model n (omega (arith, one)) in
+    absurd (true≢false (sym all ∙ other))
+
+-- a digit
+pub digit_only : (text : List ℕ) (s : LocalSegmentValue) → IsShortSegment s → text ≡ print_segment s → list_all is_ascii_digit text ≡ true
+    → (length text ≡ 1) × (s ≡ Number (get_or text 0 0 - 48))
+digit_only text (Text t) one is all = absurd (true≢false (sym all ∙ ap (list_all is_ascii_digit) is ∙ one))
+digit_only text (Number n) one is all =
+    let digit = is ∙ decimal_digit n one in
+    let value : get_or text 0 0 ≡ 48 + n = ap (λ l. get_or l 0 0) digit in
+    (ap length digit, ap Number (omega (arith, value)))
+
+lower_digit : (n : ℕ) → n < 10 → list_all is_lower ((48 + n) ∷ []) ≡ true
+lower_digit n small = grind (arith, nat_tests)
+
+lower_print : (s : LocalSegmentValue) → SegmentRoundTrips s → IsShortSegment s → list_all is_lower (print_segment s) ≡ true
+lower_print (Text t) again one = again.1
+lower_print (Number n) again one = ap (list_all is_lower) (decimal_digit n one) ∙ lower_digit n one
+
+some_print : (s : LocalSegmentValue) → SegmentRoundTrips s → IsShortSegment s → 0 < length (print_segment s)
+some_print (Text t) again one = again.0
+some_print (Number n) again one = omega (arith, ap length (decimal_digit n one))
+
+-- ---- the segments after those that are written
+
+-- the rest is of segments with which the form becomes the whole
+pub record AreLeft (rest form whole : List ℕ) : Type 0 where
+  pub left : List LocalSegmentValue
+  pub some : 0 < length left
+  pub again : All SegmentRoundTrips left
+  pub digits : All IsShortSegment left
+  pub is : rest ≡ dotted print_segment left
+  pub bytes : form ++ flat_map segment_bytes left ≡ whole
+
+pub all_left : (text old : List ℕ) (segments : List LocalSegmentValue) → 0 < length segments → All SegmentRoundTrips segments → All IsShortSegment segments → text ≡ dotted print_segment segments
+    → AreLeft text old (old ++ flat_map segment_bytes segments)
+all_left text old segments some again digits is = record { left = segments; some = some; again = again; digits = digits; is = is; bytes = refl }
+
+pub whole_fits : (old : List ℕ) (segments : List LocalSegmentValue) → length old + length (flat_map segment_bytes segments) ≤ 64 → length (old ++ flat_map segment_bytes segments) ≤ 64
+whole_fits old segments fits = omega (arith, fits, length-append old (flat_map segment_bytes segments))
+
+-- segments, each after a dot
+abbrev dotted_more : List LocalSegmentValue → List ℕ
+dotted_more others = flat_map (λ y. codes "." ++ print_segment y) others
+
+some_of : (left : List LocalSegmentValue) → 0 < length left → All SegmentRoundTrips left → All IsShortSegment left → 0 < length (dotted print_segment left)
+some_of [] some again digits = absurd (omega (arith, some))
+some_of (s ∷ others) some again digits =
+    omega (arith, some_print s (again 0 s (omega arith)) (digits 0 s (omega arith)), length-append (print_segment s) (dotted_more others))
+
+pub some_left : {rest form whole : List ℕ} → AreLeft rest form whole → 0 < length rest
+some_left h = omega (arith, ap length h.is, some_of h.left h.some h.again h.digits)
+
+-- ---- one of them is written
+
+-- what follows it are the others
+pub record AreAfter (after form whole : List ℕ) : Type 0 where
+  pub others : List LocalSegmentValue
+  pub again : All SegmentRoundTrips others
+  pub digits : All IsShortSegment others
+  pub is : after ≡ dotted_more others
+  pub bytes : form ++ flat_map segment_bytes others ≡ whole
+
+no_lower : (others : List LocalSegmentValue) → starts is_lower (dotted_more others) ≡ false
+no_lower [] = refl
+no_lower (s ∷ others) = refl
+
+-- the string of the first of them is written so
+abbrev pub IsPushed : Type 0 → List ℕ → List ℕ → List ℕ → Type 0
+IsPushed Done first form new =
+    (s : LocalSegmentValue) → SegmentRoundTrips s → IsShortSegment s → first ≡ print_segment s → length form + length (segment_bytes s) ≤ 64 → Done × (new ≡ form ++ segment_bytes s)
+
+after_of : {Done : Type 0} (left : List LocalSegmentValue) (rest first after form new whole : List ℕ) → 0 < length left → All SegmentRoundTrips left → All IsShortSegment left
+    → rest ≡ dotted print_segment left → form ++ flat_map segment_bytes left ≡ whole → length whole ≤ 64 → rest ≡ first ++ after → list_all is_lower first ≡ true → starts is_lower after ≡ false
+    → IsPushed Done first form new → Done × AreAfter after new whole
+after_of [] rest first after form new whole some again digits is bytes fits joined lower ended pushed = absurd (omega (arith, some))
+after_of (s ∷ others) rest first after form new whole some again digits is bytes fits joined lower ended pushed =
+    let one = again 0 s (omega arith) in
+    let digit = digits 0 s (omega arith) in
+    let same = same_front is_lower first after (print_segment s) (dotted_more others) lower ended (lower_print s one digit) (no_lower others) (sym joined ∙ is) in
+    let more = flat_map segment_bytes others in
+    let capacity : length form + length (segment_bytes s) ≤ 64 = omega (arith, fits, ap length bytes, length-append form (segment_bytes s ++ more), length-append (segment_bytes s) more) in
+    let done = pushed s one digit same.0 capacity in (
+      done.0,
+      record {
+        others = others;
+        again = λ k d lt. again (suc k) d (omega (arith, lt));
+        digits = λ k d lt. digits (suc k) d (omega (arith, lt));
+        is = same.1;
+        bytes = ap (λ l. l ++ more) done.1 ∙ append_assoc form (segment_bytes s) more ∙ bytes;
+      },
+    )
+
+pub one_more : {Done : Type 0} {rest first after form new whole : List ℕ} → AreLeft rest form whole → length whole ≤ 64
+    → rest ≡ first ++ after → list_all is_lower first ≡ true → starts is_lower after ≡ false → IsPushed Done first form new → Done × AreAfter after new whole
+one_more h fits joined lower ended pushed = after_of h.left _ _ _ _ _ _ h.some h.again h.digits h.is h.bytes fits joined lower ended pushed
+
+last_of : (others : List LocalSegmentValue) (form whole : List ℕ) → dotted_more others ≡ [] → form ++ flat_map segment_bytes others ≡ whole → form ≡ whole
+last_of [] form whole none bytes = sym (append-nil form) ∙ bytes
+last_of (s ∷ others) form whole none bytes = absurd (omega (arith, ap length none))
+
+-- nothing follows the last one
+pub last_written : {after form whole : List ℕ} → AreAfter after form whole → after ≡ [] → form ≡ whole
+last_written h none = last_of h.others _ _ (sym h.is ∙ none) h.bytes
+
+dot_of : (others : List LocalSegmentValue) → 0 < length (dotted_more others) → get_or (dotted_more others) 0 0 ≡ 46
+dot_of [] some = absurd (omega (arith, some))
+dot_of (s ∷ others) some = refl
+
+-- a dot follows the others
+pub dot_after : {after form whole : List ℕ} → AreAfter after form whole → 0 < length after → get_or after 0 0 ≡ 46
+dot_after h some = ap (λ l. get_or l 0 0) h.is ∙ dot_of h.others (omega (arith, some, ap length h.is))
+
+left_of : (others : List LocalSegmentValue) (later form whole : List ℕ) → All SegmentRoundTrips others → All IsShortSegment others
+    → dotted_more others ≡ 46 ∷ later → form ++ flat_map segment_bytes others ≡ whole → AreLeft later form whole
+left_of [] later form whole again digits dot bytes = absurd (omega (arith, ap length dot))
+left_of (s ∷ others) later form whole again digits dot bytes = record { left = s ∷ others; some = omega arith; again = again; digits = digits; is = ap (drop 1) (sym dot); bytes = bytes }
+
+pub left_after : {after later form whole : List ℕ} → AreAfter after form whole → after ≡ 46 ∷ later → AreLeft later form whole
+left_after h dot = left_of h.others _ _ _ h.again h.digits (sym h.is ∙ dot) h.bytes
+
+-- ---- a local part
+
+pub no_local : (local : List LocalSegmentValue) → local_text local ≡ [] → flat_map segment_bytes local ≡ []
+no_local [] none = refl
+no_local (s ∷ others) none = absurd (omega (arith, ap length none))
+
+pub after_plus : (local : List LocalSegmentValue) (first : ℕ) (rest : List ℕ) → local_text local ≡ first ∷ rest → (0 < length local) × (rest ≡ dotted print_segment local)
+after_plus [] first rest is = absurd (omega (arith, ap length is))
+after_plus (s ∷ others) first rest is = (omega arith, ap (drop 1) (sym is))
+
+-- the segments have capacity, and the byte after them
+pub local_fits : (old : List ℕ) (local : List LocalSegmentValue) → length old + length (local_bytes local) ≤ 64 → length old + length (flat_map segment_bytes local) ≤ 64
+local_fits old local fits = omega (arith, fits, length-append (flat_map segment_bytes local) (0 ∷ []))
+
+pub end_fits : (form old : List ℕ) (local : List LocalSegmentValue) → form ≡ old ++ flat_map segment_bytes local → length old + length (local_bytes local) ≤ 64 → length form + 1 ≤ 64
+end_fits form old local is fits = omega (arith, fits, ap length is, length-append old (flat_map segment_bytes local), length-append (flat_map segment_bytes local) (0 ∷ []))

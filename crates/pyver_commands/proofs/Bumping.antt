@@ -1,7 +1,7 @@
 -- What parts that are raised change of a version.
-use Rattle.std.proofs.Common.{◌≡◌, ◌+◌, ◌<◌, ◌≤◌, ◌==◌, ◌||◌, ◌∙◌, ◌⊎◌, ℕ, zero, suc, List, [], ◌∷◌, Bool, true, false, Option, Some, None, Result, Ok, Err, arith, get_or, if◌then◌else◌, is_some, inl, inr, length, map, nat_le, refl, sym, ap, subst, codes, ◌^◌, ◌&&◌, nat_lt}
+use Rattle.std.proofs.Common.{◌≡◌, ◌+◌, ◌<◌, ◌≤◌, ◌==◌, ◌||◌, ◌∙◌, ◌⊎◌, ℕ, zero, suc, List, [], ◌∷◌, Bool, true, false, Option, Some, None, Result, Ok, Err, arith, get_or, if◌then◌else◌, is_some, inl, inr, length, map, nat_le, refl, sym, ap, subst, codes, ◌^◌, ◌&&◌, nat_lt, ◌-◌, ◌++◌, IfOk, drop, take, take_all, append_assoc}
 use Rattle.std.proofs.lemmas.Bool.{and_parts, leb-false, ne_eqb, ltb-true}
-use Rattle.std.proofs.lemmas.List.{length-map}
+use Rattle.std.proofs.lemmas.List.{length-map, map-append, take_more}
 use Rattle.std.specs.Cmp.{nat_cmp_is}
 use Rattle.std.specs.List.{list_any, list_all}
 use Rattle.std.specs.Ordering.{is_gt, nat_cmp, ordering_reverse, ordering_then}
@@ -190,15 +190,15 @@ bumps_change_only to (part ∷ rest) v r is = parts_change false to part rest v 
 
 -- ---- a number of the release is raised
 
-one_more : (n : ℕ) → nat_cmp (n + 1) n ≡ Greater
-one_more n = let up : n < n + 1 = omega arith in sym (nat_cmp_is (n + 1) n Greater up)
+one_greater : (n : ℕ) → nat_cmp (n + 1) n ≡ Greater
+one_greater n = let up : n < n + 1 = omega arith in sym (nat_cmp_is (n + 1) n Greater up)
 
 same_number : (n : ℕ) → nat_cmp n n ≡ Equal
 same_number n = sym (nat_cmp_is n n Equal refl)
 
 raised_release : (index : ℕ) (release : List ℕ) → release_cmp (release_with index (get_or release index 0 + 1) release) release ≡ Greater
 raised_release zero [] = refl
-raised_release zero (m ∷ rest) = ap (λ o. ordering_then o (release_cmp (map (λ _. 0) rest) rest)) (one_more m)
+raised_release zero (m ∷ rest) = ap (λ o. ordering_then o (release_cmp (map (λ _. 0) rest) rest)) (one_greater m)
 raised_release (suc index) [] = raised_release index []
 raised_release (suc index) (m ∷ rest) = ap (λ o. ordering_then o (release_cmp (release_with index (get_or rest index 0 + 1) rest) rest)) (same_number m) ∙ raised_release index rest
 
@@ -232,3 +232,37 @@ number_when text r run p =
     let parts = and_parts (nat_lt 0 (length text)) (list_all is_ascii_digit text) run in
     value_of text r parts.1 (ltb-true 0 (length text) parts.0) p
     ∙ sym (first_holds (are_digits text) (nat_lt (digits_value 10 text) (2 ^ 64)) (Some (digits_value 10 text)) None run)
+
+with_more_empty : (index n : ℕ) → 0 < index → release_with index n [] ≡ 0 ∷ release_with (index - 1) n []
+with_more_empty zero n some = absurd (omega (arith, some))
+with_more_empty (suc i) n some = let one : suc i - 1 ≡ i = omega arith in ap (λ k. 0 ∷ release_with k n []) (sym one)
+
+with_more : (index n m : ℕ) (rest : List ℕ) → 0 < index → release_with index n (m ∷ rest) ≡ m ∷ release_with (index - 1) n rest
+with_more zero n m rest some = absurd (omega (arith, some))
+with_more (suc i) n m rest some = let one : suc i - 1 ≡ i = omega arith in ap (λ k. m ∷ release_with k n rest) (sym one)
+
+one_more : (old one new more all : List ℕ) (m : ℕ) → one ≡ old ++ m ∷ [] → new ≡ one ++ more → all ≡ m ∷ more → new ≡ old ++ all
+one_more old one new more all m first rest is = rest ∙ ap (λ l. l ++ more) first ∙ append_assoc old (m ∷ []) more ∙ ap (λ l. old ++ l) (sym is)
+
+behind_first : (m : ℕ) (rest : List ℕ) → take (length (m ∷ rest) - 1) (drop 1 (m ∷ rest)) ≡ rest
+behind_first m rest = let one : length (m ∷ rest) - 1 ≡ length rest = omega arith in ap (λ k. take k rest) one ∙ take_all (length rest) rest (omega arith)
+
+-- a missing number first
+pub empty_appended : {A E : Type 0} (r : Result A E) (index n : ℕ) (release old one new : List ℕ) → length release < 1 → 0 < index → one ≡ old ++ 0 ∷ [] → IfOk r (λ _. new ≡ one ++ release_with (index - 1) n release) → IfOk r (λ _. new ≡ old ++ release_with index n release)
+empty_appended (Err e) index n release old one new short some first rest = rest
+empty_appended (Ok x) index n [] old one new short some first rest = one_more old one new (release_with (index - 1) n []) _ 0 first rest (with_more_empty index n some)
+empty_appended (Ok x) index n (m ∷ release) old one new short some first rest = absurd (omega (arith, short))
+
+-- the first number as it is
+pub more_appended : {A E : Type 0} (r : Result A E) (index n : ℕ) (release old one new : List ℕ) → 1 ≤ length release → 0 < index → one ≡ old ++ get_or release 0 0 ∷ [] → IfOk r (λ _. new ≡ one ++ release_with (index - 1) n (take (length release - 1) (drop 1 release))) → IfOk r (λ _. new ≡ old ++ release_with index n release)
+more_appended (Err e) index n release old one new long some first rest = rest
+more_appended (Ok x) index n [] old one new long some first rest = absurd (omega (arith, long))
+more_appended (Ok x) index n (m ∷ release) old one new long some first rest = one_more old one new (release_with (index - 1) n release) _ m first (rest ∙ ap (λ l. one ++ release_with (index - 1) n l) (behind_first m release)) (with_more index n m release some)
+
+zeros_taken : (numbers : List ℕ) (i : ℕ) → i < length numbers → map {B = ℕ} (λ _. 0) (take (i + 1) numbers) ≡ map {B = ℕ} (λ _. 0) (take i numbers) ++ 0 ∷ []
+zeros_taken numbers i inside = ap (map {B = ℕ} (λ _. 0)) (take_more numbers i 0 inside) ∙ map-append (λ (_ : ℕ). 0) (take i numbers) (get_or numbers i 0 ∷ [])
+
+-- one zero more
+pub zeros_more : (numbers : List ℕ) (i : ℕ) (old a b : List ℕ) → i < length numbers → a ≡ old ++ map {B = ℕ} (λ _. 0) (take i numbers) → b ≡ a ++ 0 ∷ [] → b ≡ old ++ map {B = ℕ} (λ _. 0) (take (i + 1) numbers)
+zeros_more numbers i old a b inside is more =
+    more ∙ ap (λ l. l ++ 0 ∷ []) is ∙ append_assoc old (map {B = ℕ} (λ _. 0) (take i numbers)) (0 ∷ []) ∙ ap (λ l. old ++ l) (sym (zeros_taken numbers i inside))

@@ -9,5 +9,4 @@ pub mod NewestAnswers
 pub mod CommonRanges
 pub mod MarkerExtents
 pub mod Bumping
-pub mod Releases
 pub mod Outputs

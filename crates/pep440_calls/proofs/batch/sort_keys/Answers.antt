@@ -1,5 +1,4 @@
-use Rattle.pep440_calls.proofs.Joining.{joined_more}
-use Rattle.pep440_calls.proofs.Placed.{keys_more, stops_at}
+use Rattle.pep440_calls.proofs.Placed.{joined_more, keys_more, stops_at}
 use Rattle.pep440_calls.proofs.batch.sort_keys.Goals as goal
 
 pub returns-in-Err : goal.returns-in-Err

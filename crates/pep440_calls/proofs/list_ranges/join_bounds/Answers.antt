@@ -1,4 +1,4 @@
-use Rattle.pep440_calls.proofs.Joining.{segments_more}
+use Rattle.pep440_calls.proofs.Placed.{segments_more}
 use Rattle.pep440_calls.proofs.list_ranges.join_bounds.Goals as goal
 
 pub loop-low-preserved : goal.loop-low-preserved

@@ -1,5 +1,5 @@
 use Rattle.std.proofs.Common.{◌∙◌}
-use Rattle.pep440_calls.proofs.Joining.{segment_more}
+use Rattle.pep440_calls.proofs.Placed.{segment_more}
 use Rattle.pep440_calls.proofs.list_ranges.push_segment.Goals as goal
 
 pub returns : goal.returns

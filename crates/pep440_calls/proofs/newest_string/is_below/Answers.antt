@@ -1,5 +1,5 @@
 use Rattle.std.proofs.Common.{◌≡◌, ◌∙◌, sym}
-use Rattle.pep440_calls.proofs.Choosing.{not_preferred}
+use Rattle.pep440_calls.proofs.Placed.{not_preferred}
 use Rattle.pep440_calls.proofs.Forms.{as_compiled}
 use Rattle.pep440_calls.proofs.newest_string.is_below.Goals as goal
 use Rattle.pep440_version.specs.Key.{record_cmp}

@@ -1,7 +1,7 @@
 use Rattle.std.proofs.Common.{◌∙◌}
 use Rattle.pep440_rs.specs.Operators.{operator_text}
 use Rattle.pep440_calls.specs.CallResults.{version_string}
-use Rattle.pep440_calls.proofs.Joining.{pushed}
+use Rattle.pep440_calls.proofs.Placed.{pushed}
 use Rattle.pep440_calls.proofs.one_list.push_member.Goals as goal
 
 pub returns : goal.returns

@@ -1,4 +1,4 @@
-use Rattle.pep440_calls.proofs.Joining.{next_joined}
+use Rattle.pep440_calls.proofs.Placed.{next_joined}
 use Rattle.pep440_calls.proofs.set_calls.join_keys.Goals as goal
 
 pub loop-key-preserved : goal.loop-key-preserved

@@ -1,7 +1,6 @@
 use Rattle.std.proofs.Common.{◌∙◌, ◌-◌, ◌++◌, ◌∷◌, [], arith, refl, sym, true≢false}
 use Rattle.std.proofs.lemmas.List.Elements.{recursion_from_All}
-use Rattle.pep440_compiled.proofs.Checking.{ends_first, ends_next, may_end_there, one_more, release_tested}
-use Rattle.pep440_compiled.proofs.Decoded.{all_read, one_read}
+use Rattle.pep440_compiled.proofs.Checking.{ends_first, ends_next, may_end_there, one_more, release_tested, all_read, one_read}
 use Rattle.pep440_compiled.proofs.Loops.{end_of_numbers, next_number, not_nil}
 use Rattle.pep440_compiled.proofs.Rewritten.{coded_again, none_coded, one_coded}
 use Rattle.pep440_compiled.proofs.checked_version.check_release.Goals as goal

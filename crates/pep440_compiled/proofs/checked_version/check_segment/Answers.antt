@@ -1,6 +1,6 @@
 use Rattle.std.proofs.Common.{◌≡◌, ◌∙◌, ◌-◌, ◌∷◌, ◌++◌, ap, arith, refl, subst, sym, true≢false}
 use Rattle.std.specs.Str.{IsUtf8}
-use Rattle.pep440_compiled.proofs.Decoded.{lower_utf8}
+use Rattle.pep440_compiled.proofs.Checking.{lower_utf8}
 use Rattle.pep440_compiled.proofs.Loops.{after_text}
 use Rattle.pep440_compiled.proofs.Rewritten.{coded_again, text_again}
 use Rattle.pep440_compiled.proofs.checked_version.check_segment.Goals as goal

@@ -1,5 +1,5 @@
 use Rattle.std.proofs.Common.{◌∙◌, refl, sym, true≢false}
-use Rattle.pep440_compiled.proofs.Decoded.{key_in_turn}
+use Rattle.pep440_compiled.proofs.Checking.{key_in_turn}
 use Rattle.pep440_compiled.proofs.Fronts.{keyed}
 use Rattle.pep440_compiled.proofs.Rewritten.{denoted, version_again}
 use Rattle.pep440_compiled.proofs.checked_version.check_version.Goals as goal

@@ -1,5 +1,5 @@
 use Rattle.std.proofs.Common.{◌∙◌, Some, ap, map, sym}
-use Rattle.pep440_compiled.proofs.Decoded.{key_in_turn, without_sentinels}
+use Rattle.pep440_compiled.proofs.Checking.{key_in_turn, without_sentinels}
 use Rattle.pep440_compiled.proofs.Fronts.{keyed}
 use Rattle.pep440_compiled.proofs.Rewritten.{version_again}
 use Rattle.pep440_compiled.proofs.decode.decode_version.Goals as goal

@@ -1,5 +1,5 @@
 use Rattle.std.proofs.Common.{◌∙◌, ◌++◌, ap, sym}
-use Rattle.pep440_compiled.proofs.Decoded.{suffix_in_turn}
+use Rattle.pep440_compiled.proofs.Checking.{suffix_in_turn}
 use Rattle.pep440_compiled.proofs.Rewritten.{three_again}
 use Rattle.pep440_compiled.proofs.Suffixes.{dev_small, post_small, stage_small}
 use Rattle.pep440_compiled.proofs.decode.read_any_suffix.Goals as goal

@@ -2,7 +2,7 @@ use Rattle.std.proofs.Common.{◌≡◌, ◌∙◌, ◌<◌, ◌++◌, ◌∷◌
 use Rattle.std.proofs.lemmas.List.{map-append, nil_from_length}
 use Rattle.std.proofs.lemmas.List.Elements.{recursion_from_All}
 use Rattle.std.specs.List.{All, AllByRecursion, flat_map}
-use Rattle.pep440_compiled.proofs.Decoded.{all_read, one_read}
+use Rattle.pep440_compiled.proofs.Checking.{all_read, one_read}
 use Rattle.pep440_compiled.proofs.Loops.{end_of_segments, next_segment, not_nil}
 use Rattle.pep440_compiled.proofs.Rewritten.{none_coded, one_coded}
 use Rattle.pep440_compiled.proofs.decode.read_local.Goals as goal

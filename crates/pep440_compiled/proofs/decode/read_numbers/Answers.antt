@@ -1,6 +1,6 @@
 use Rattle.std.proofs.Common.{◌-◌, arith}
 use Rattle.std.proofs.lemmas.List.Elements.{recursion_from_All}
-use Rattle.pep440_compiled.proofs.Decoded.{all_read, one_read}
+use Rattle.pep440_compiled.proofs.Checking.{all_read, one_read}
 use Rattle.pep440_compiled.proofs.Loops.{end_of_numbers, next_number, not_nil}
 use Rattle.pep440_compiled.proofs.Rewritten.{coded_again, none_coded, one_coded}
 use Rattle.pep440_compiled.proofs.decode.read_numbers.Goals as goal

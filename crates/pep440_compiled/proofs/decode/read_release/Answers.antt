@@ -1,6 +1,6 @@
 use Rattle.std.proofs.Common.{◌≡◌, ◌∙◌, ◌++◌, ◌∷◌, ap, arith, length, rules, subst, sym, true≢false}
 use Rattle.std.specs.List.{flat_map}
-use Rattle.pep440_compiled.proofs.Decoded.{release_again}
+use Rattle.pep440_compiled.proofs.Checking.{release_again}
 use Rattle.pep440_compiled.proofs.Prefixes.{IsTrimmed}
 use Rattle.pep440_compiled.proofs.Rewritten.{release_written}
 use Rattle.pep440_compiled.proofs.Zeros.{trim_again}

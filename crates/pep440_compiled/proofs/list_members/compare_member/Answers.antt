@@ -1,6 +1,6 @@
 use Rattle.std.proofs.Common.{◌∙◌, ◌++◌, ap, append_assoc, length, sym}
 use Rattle.std.specs.Prelude.{drop}
-use Rattle.pep440_compiled.proofs.Shared.{key_first, shared_cmp}
+use Rattle.pep440_compiled.proofs.ByteOrder.{key_first, shared_cmp}
 use Rattle.pep440_compiled.proofs.list_members.compare_member.Goals as goal
 use Rattle.pep440_compiled.specs.Version.{zero_bytes}
 use Rattle.pep440_keys.specs.SortKeys.{key_bytes}

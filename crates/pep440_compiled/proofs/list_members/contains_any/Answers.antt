@@ -1,7 +1,7 @@
 use Rattle.std.proofs.Common.{◌≡◌, ◌∙◌, ◌&&◌, ◌<◌, ap, length, refl, rules, subst, sym}
 use Rattle.std.proofs.lemmas.List.Elements.{recursion_from_All}
 use Rattle.std.specs.Prelude.{Ok}
-use Rattle.pep440_compiled.proofs.Members.{first_member, no_zero_first, none_left}
+use Rattle.pep440_compiled.proofs.Listed.{first_member, no_zero_first, none_left}
 use Rattle.pep440_compiled.proofs.list_members.contains_any.Goals as goal
 use Rattle.pep440_compiled.specs.Lists.{IsParsedMember}
 use Rattle.pep440_rs.specs.Matching.{list_matches, matches}

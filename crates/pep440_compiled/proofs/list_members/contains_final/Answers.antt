@@ -2,7 +2,7 @@ use Rattle.std.proofs.Common.{◌≡◌, ◌∙◌, ◌&&◌, ◌++◌, ◌∷�
 use Rattle.std.proofs.lemmas.List.Elements.{recursion_from_All}
 use Rattle.std.specs.List.{flat_map}
 use Rattle.std.specs.Prelude.{drop}
-use Rattle.pep440_compiled.proofs.Members.{first_member, no_zero_first, none_left}
+use Rattle.pep440_compiled.proofs.Listed.{first_member, no_zero_first, none_left}
 use Rattle.pep440_compiled.proofs.list_members.contains_final.Goals as goal
 use Rattle.pep440_compiled.specs.Lists.{IsParsedMember, member_bytes}
 use Rattle.pep440_rs.specs.Matching.{list_matches}

@@ -1,6 +1,6 @@
 use Rattle.std.proofs.Common.{◌≡◌, ◌<◌, length, rules}
-use Rattle.pep440_compiled.proofs.Decoded.{all_read, one_read}
-use Rattle.pep440_compiled.proofs.Members.{first_member, no_zero_first, none_left}
+use Rattle.pep440_compiled.proofs.Checking.{all_read, one_read}
+use Rattle.pep440_compiled.proofs.Listed.{first_member, no_zero_first, none_left}
 use Rattle.pep440_compiled.proofs.list_members.decode_members.Goals as goal
 
 pub returns-in_default : goal.returns-in_default

@@ -1,6 +1,6 @@
 use Rattle.std.proofs.Common.{◌≡◌, subst, true, take_all, List}
 use Rattle.std.specs.List.{All}
-use Rattle.pep440_compiled.proofs.Members.{more_holds}
+use Rattle.pep440_compiled.proofs.Listed.{more_holds}
 use Rattle.pep440_compiled.proofs.list_members.have_parsed_versions.Goals as goal
 use Rattle.pep440_compiled.specs.Lists.{IsParsedMember}
 use Rattle.pep440_version.specs.RoundTrip.{IsParsed}

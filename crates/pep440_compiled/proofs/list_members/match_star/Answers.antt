@@ -2,7 +2,7 @@ use Rattle.std.proofs.Common.{◌≡◌, ◌∙◌, ◌++◌, Bool, true, false,
 use Rattle.std.proofs.lemmas.List.{length-append}
 use Rattle.std.specs.Bool.{beq}
 use Rattle.std.specs.Prelude.{drop, if◌then◌else◌}
-use Rattle.pep440_compiled.proofs.Keys.{zeros_length}
+use Rattle.pep440_compiled.proofs.Comparing.{zeros_length}
 use Rattle.pep440_compiled.proofs.list_members.match_star.Goals as goal
 use Rattle.pep440_compiled.specs.KeyParts.{ending_zeros}
 use Rattle.pep440_compiled.specs.Version.{zero_bytes}

@@ -1,5 +1,5 @@
 use Rattle.std.proofs.Common.{◌∙◌, subst, sym, true≢false}
-use Rattle.pep440_compiled.proofs.Members.{same_list}
+use Rattle.pep440_compiled.proofs.Listed.{same_list}
 use Rattle.pep440_compiled.proofs.list_members.read_members.Goals as goal
 use Rattle.pep440_compiled.specs.Lists.{DenotesMembers}
 

@@ -1,6 +1,6 @@
 use Rattle.std.proofs.Common.{◌≡◌, refl, sym, subst, true, true≢false, List, map, take_all}
 use Rattle.std.specs.List.{All}
-use Rattle.pep440_compiled.proofs.Decoded.{one_of}
+use Rattle.pep440_compiled.proofs.Checking.{one_of}
 use Rattle.pep440_compiled.proofs.parsed.are_normal.Goals as goal
 use Rattle.pep440_version.specs.RoundTrip.{SegmentRoundTrips}
 use Rattle.pep440_version.specs.Segments.{segment}

@@ -2,7 +2,7 @@ use Rattle.std.proofs.Common.{◌∙◌, ◌+◌, ◌≤◌, ℕ, List, Ok, ap, 
 use Rattle.std.proofs.lemmas.Bool.{false≢true}
 use Rattle.std.proofs.lemmas.List.{length-append}
 use Rattle.std.specs.Result.{is_ok}
-use Rattle.pep440_compiled.proofs.Decoded.{capacity_for_form}
+use Rattle.pep440_compiled.proofs.Checking.{capacity_for_form}
 use Rattle.pep440_compiled.proofs.stack_form.push_form.Goals as goal
 use Rattle.pep440_compiled.specs.Version.{zero_bytes}
 use Rattle.pep440_keys.specs.SortKeys.{key_bytes, local_bytes}

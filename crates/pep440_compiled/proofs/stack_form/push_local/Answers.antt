@@ -1,7 +1,7 @@
 use Rattle.std.proofs.Common.{◌≡◌, ◌∙◌, ◌++◌, [], ap, arith, get_or, refl, sym}
 use Rattle.std.proofs.lemmas.List.{append-nil, nil_from_length}
 use Rattle.std.specs.List.{flat_map}
-use Rattle.pep440_compiled.proofs.WrittenLocal.{after_plus, end_fits, local_fits, no_local}
+use Rattle.pep440_compiled.proofs.WrittenForm.{after_plus, end_fits, local_fits, no_local}
 use Rattle.pep440_compiled.proofs.stack_form.push_local.Goals as goal
 use Rattle.pep440_compiled.proofs.stack_form.push_local.Goals.{in-empty, in-43+in_ok-push_segments-in-43+else-not-branch}
 use Rattle.pep440_keys.specs.SortKeys.{segment_bytes}

@@ -1,6 +1,5 @@
 use Rattle.std.proofs.Common.{◌∙◌, ◌+◌, ◌++◌, ◌∷◌, ◌≤◌, [], ap, arith, length, refl, subst, sym}
-use Rattle.pep440_compiled.proofs.WrittenForm.{string_segment, string_written}
-use Rattle.pep440_compiled.proofs.WrittenLocal.{digit_only, string_only}
+use Rattle.pep440_compiled.proofs.WrittenForm.{string_segment, string_written, digit_only, string_only}
 use Rattle.pep440_compiled.proofs.stack_form.push_segment.Goals as goal
 use Rattle.pep440_keys.specs.SortKeys.{segment_bytes}
 use Rattle.pep440_version.specs.Record.{Text}

@@ -1,7 +1,6 @@
 use Rattle.std.proofs.Common.{◌≡◌, ◌∙◌, ◌∷◌, ◌++◌, ◌-◌, [], ap, arith, drop, get_or, length, refl, rules, take}
 use Rattle.std.proofs.lemmas.List.{append-nil, length-append, nil_from_length}
-use Rattle.pep440_compiled.proofs.WrittenForm.{last_segment, segment_more}
-use Rattle.pep440_compiled.proofs.WrittenLocal.{all_left, dot_after, last_written, left_after, one_more, some_left, whole_fits}
+use Rattle.pep440_compiled.proofs.WrittenForm.{last_segment, segment_more, all_left, dot_after, last_written, left_after, one_more, some_left, whole_fits}
 use Rattle.pep440_compiled.proofs.stack_form.push_segments.Goals as goal
 use Rattle.pep440_version.proofs.Reading.NormalParts.{by_first}
 

@@ -1,6 +1,5 @@
 use Rattle.std.proofs.Common.{◌+◌, ◌≤◌, List, length, ℕ}
-use Rattle.pep440_compiled.proofs.WrittenForm.{AreWritten}
-use Rattle.pep440_compiled.proofs.WrittenLocal.{AreLeft}
+use Rattle.pep440_compiled.proofs.WrittenForm.{AreWritten, AreLeft}
 use Rattle.pep440_compiled.proofs.stack_form.push_segments.Given as goal
 
 abbrev pub invariant-loop : goal.invariant-loop

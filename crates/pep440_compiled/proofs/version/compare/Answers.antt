@@ -1,6 +1,6 @@
 use Rattle.std.proofs.Common.{◌∙◌, ap}
 use Rattle.std.specs.Prelude.{Ok}
-use Rattle.pep440_compiled.proofs.Shared.{shared_cmp, versions_in_order}
+use Rattle.pep440_compiled.proofs.ByteOrder.{shared_cmp, versions_in_order}
 use Rattle.pep440_compiled.proofs.version.compare.Goals as goal
 
 pub returns-clause-found : goal.returns-clause-found

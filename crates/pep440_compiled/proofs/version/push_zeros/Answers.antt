@@ -1,6 +1,6 @@
 use Rattle.std.proofs.Common.{◌≡◌, ◌∙◌, ◌+◌, ◌-◌, ◌++◌, ap, length, arith, refl, subst}
 use Rattle.std.proofs.lemmas.Bool.{false≢true}
-use Rattle.pep440_compiled.proofs.Decoded.{one_written, trim_le, zeros_long, zeros_written}
+use Rattle.pep440_compiled.proofs.Checking.{one_written, trim_le, zeros_long, zeros_written}
 use Rattle.pep440_compiled.proofs.version.push_zeros.Goals as goal
 
 pub loop-preserved : goal.loop-preserved

@@ -1,5 +1,5 @@
 use Rattle.std.proofs.Common.{◌∙◌, ◌==◌, ◌++◌, ◌∷◌, ap, length, not, sym}
-use Rattle.pep440_compiled.proofs.Keys.{key_split}
+use Rattle.pep440_compiled.proofs.Comparing.{key_split}
 use Rattle.pep440_compiled.proofs.Suffixes.{final_parts, in_turn, no_local_left}
 use Rattle.pep440_compiled.proofs.views.split_final.Goals as goal
 use Rattle.pep440_keys.specs.SortKeys.{local_bytes}

@@ -1,7 +1,7 @@
 use Rattle.std.proofs.Common.{◌∙◌, ◌==◌, ◌++◌, ◌∷◌, ap, length, not, sym}
 use Rattle.std.specs.List.{flat_map}
 use Rattle.std.specs.Prelude.{drop}
-use Rattle.pep440_compiled.proofs.Keys.{key_ends, key_split}
+use Rattle.pep440_compiled.proofs.Comparing.{key_ends, key_split}
 use Rattle.pep440_compiled.proofs.Loops.{up_to}
 use Rattle.pep440_compiled.proofs.Suffixes.{final_parts, in_turn, no_local_left}
 use Rattle.pep440_compiled.proofs.views.view_key.Goals as goal

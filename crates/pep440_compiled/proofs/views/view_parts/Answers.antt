@@ -1,5 +1,5 @@
 use Rattle.std.proofs.Common.{◌∙◌}
-use Rattle.pep440_compiled.proofs.Keys.{version_split}
+use Rattle.pep440_compiled.proofs.Comparing.{version_split}
 use Rattle.pep440_compiled.proofs.views.view_parts.Goals as goal
 
 pub returns-in_err-release-clause-found : goal.returns-in_err-release-clause-found

@@ -2,7 +2,7 @@ use Rattle.std.proofs.Common.{◌≡◌, ◌∙◌, ◌++◌, List, ℕ, ap, app
 use Rattle.std.proofs.lemmas.List.{length-append}
 use Rattle.std.specs.Prelude.{drop}
 use Rattle.pep440_compiled.proofs.Fronts.{keyed}
-use Rattle.pep440_compiled.proofs.Keys.{key_public, local_flag, zeros_length}
+use Rattle.pep440_compiled.proofs.Comparing.{key_public, local_flag, zeros_length}
 use Rattle.pep440_compiled.proofs.Loops.{up_to}
 use Rattle.pep440_compiled.proofs.views.view_suffix.Goals as goal
 use Rattle.pep440_compiled.specs.KeyParts.{public_bytes}

@@ -2,7 +2,7 @@ use Rattle.std.proofs.Common.{◌∙◌, ◌++◌, ap, arith, length, sym}
 use Rattle.std.proofs.lemmas.List.{length-append}
 use Rattle.std.specs.List.{flat_map}
 use Rattle.std.specs.Prelude.{drop}
-use Rattle.pep440_compiled.proofs.Keys.{key_ends, zeros_length}
+use Rattle.pep440_compiled.proofs.Comparing.{key_ends, zeros_length}
 use Rattle.pep440_compiled.proofs.Rewritten.{view_again}
 use Rattle.pep440_compiled.proofs.views.view_version.Goals as goal
 use Rattle.pep440_compiled.specs.KeyParts.{public_bytes}
