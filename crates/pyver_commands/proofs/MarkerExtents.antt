@@ -1,5 +1,5 @@
 -- Where markers hold that words denote.
-use Rattle.std.proofs.Common.{◌≡◌, ◌∙◌, ℕ, List, Option, Some, None, Err, ap, inl, inr, refl, subst, sym}
+use Rattle.std.proofs.Common.{◌≡◌, ◌∙◌, ℕ, List, Option, Some, None, Err, ap, arith, inl, inr, refl, subst, sym}
 use Rattle.pyver_commands.specs.MarkerExtents.{DenoteBoth, FailsAsMarker, FindsExtent, HasSteps, HoldsOrNot, PrintsExtent, PrintsSteps, extent_outcome, marker_message}
 use Rattle.pyver_commands.specs.Outcomes.{message_outcome}
 use Rattle.cli_io.specs.Runs.{Outcome}
@@ -46,25 +46,25 @@ fault_is_two word o n (f, fails, is) so = sym (ap (λ (x : Outcome). x.status) i
 
 nowhere : (x : Extent) (o : Outcome) → o ≡ extent_outcome x → o.status ≡ 1 → x ≡ Nowhere
 nowhere Nowhere o is one = refl
-nowhere Always o is one = absurd (let no : 0 ≡ 1 = sym (ap (λ (y : Outcome). y.status) is) ∙ one in cc no)
-nowhere (Somewhere variables) o is one = absurd (let no : 0 ≡ 1 = sym (ap (λ (y : Outcome). y.status) is) ∙ one in cc no)
-nowhere Undecided o is one = absurd (let no : 2 ≡ 1 = sym (ap (λ (y : Outcome). y.status) is) ∙ one in cc no)
+nowhere Always o is one = absurd (let no : 0 ≡ 1 = sym (ap (λ (y : Outcome). y.status) is) ∙ one in omega (arith, no))
+nowhere (Somewhere variables) o is one = absurd (let no : 0 ≡ 1 = sym (ap (λ (y : Outcome). y.status) is) ∙ one in omega (arith, no))
+nowhere Undecided o is one = absurd (let no : 2 ≡ 1 = sym (ap (λ (y : Outcome). y.status) is) ∙ one in omega (arith, no))
 
 not_both : (m : Marker) (y : Extent) (b : Outcome) → IsExtent m Nowhere → IsExtent m y → b ≡ extent_outcome y → b.status ≡ 0 → ⊥
-not_both m Nowhere b never known is zero = let no : 1 ≡ 0 = sym (ap (λ (z : Outcome). z.status) is) ∙ zero in cc no
+not_both m Nowhere b never known is zero = let no : 1 ≡ 0 = sym (ap (λ (z : Outcome). z.status) is) ∙ zero in omega (arith, no)
 not_both m Always b never (e, is_one, holds, other) is zero = never e is_one holds
 not_both m (Somewhere variables) b never known is zero = never known.environment known.known (known.holds known.environment known.has)
-not_both m Undecided b never known is zero = let no : 2 ≡ 0 = sym (ap (λ (z : Outcome). z.status) is) ∙ zero in cc no
+not_both m Undecided b never known is zero = let no : 2 ≡ 0 = sym (ap (λ (z : Outcome). z.status) is) ∙ zero in omega (arith, no)
 
 one_or_other : (Is : Marker → Type 0) (a b : Outcome) → PrintsExtent Is a → PrintsExtent Is b → a.status ≡ 1 → b.status ≡ 0 → ⊥
 one_or_other Is a b (x, (m, denoted), known, is) (y, other, also, so) one zero =
     not_both m y b (subst (IsExtent m) (nowhere x a is one) (known m denoted)) (also m denoted) so zero
 
 two_not_one : 2 ≡ 1 → ⊥
-two_not_one is = cc is
+two_not_one is = omega (arith, is)
 
 two_not_zero : 2 ≡ 0 → ⊥
-two_not_zero is = cc is
+two_not_zero is = omega (arith, is)
 
 pub holds_or_not : HoldsOrNot
 holds_or_not word None a b (inl f) k one zero = two_not_one (fault_is_two word a 1 f one)

@@ -1,5 +1,5 @@
 -- `marker MARKER [MARKER]`: an environment in which the marker holds, or both do.
-use Rattle.std.specs.Prelude.{◌≡◌, ◌⊎◌, ℕ, suc, List, [], ◌∷◌, ◌++◌, Option, Some, None, Err, codes, length, min, if◌then◌else◌, ◌==◌}
+use Rattle.std.specs.Prelude.{◌≡◌, ◌⊎◌, ◌+◌, ℕ, List, [], ◌∷◌, ◌++◌, Option, Some, None, Err, codes, length, min, if◌then◌else◌, ◌==◌}
 use Rattle.std.specs.Fmt.{decimal}
 use Rattle.std.specs.List.{flat_map, list_any}
 use Rattle.cli_io.specs.Escapes.{escaped}
@@ -12,10 +12,16 @@ use Rattle.pyver_requirements.specs.MarkerSteps.{Misfit, Step, marker_reason, ma
 
 -- ---- messages
 
--- the message of a word that is no marker: from which byte on, counted from 1, and the reason
+-- the byte from which on a word is no marker, counted from 1
+abbrev pub fault_byte : List ℕ → ℕ → ℕ
+fault_byte word position = min position (length word) + 1
+
+-- the message of a word that is no marker from this byte on
+abbrev pub fault_message : List ℕ → ℕ → List ℕ → List ℕ
+fault_message word byte reason = codes "pyver: '" ++ (escaped word ++ (codes "' is not a marker: byte " ++ (decimal byte ++ (codes ": " ++ (reason ++ codes "\n")))))
+
 abbrev pub marker_message : List ℕ → Misfit → List ℕ
-marker_message word f =
-    codes "pyver: '" ++ (escaped word ++ (codes "' is not a marker: byte " ++ (decimal (suc (min f.position (length word))) ++ (codes ": " ++ (marker_reason f.fault ++ codes "\n")))))
+marker_message word f = fault_message word (fault_byte word f.position) (marker_reason f.fault)
 
 -- ---- environments
 

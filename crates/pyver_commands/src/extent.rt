@@ -2,7 +2,7 @@
 ghost use Rattle.std.specs.Prelude.{◌≡◌, ◌≤◌, ◌==◌, ◌++◌, ℕ, List, [], IfOk, None, Some, codes, map, option_map};
 ghost use Rattle.std.specs.List.{flat_map, list_any};
 ghost use Rattle.pyver_commands.specs.AnswerViews.{outcome_of};
-ghost use Rattle.pyver_commands.specs.MarkerExtents.{FindsExtent, HasSteps, PrintsSteps, assignment_text, environment_text, extent_outcome, marker_message, quoted_text};
+ghost use Rattle.pyver_commands.specs.MarkerExtents.{FindsExtent, HasSteps, PrintsSteps, assignment_text, environment_text, extent_outcome, fault_byte, fault_message, marker_message, quoted_text};
 ghost use Rattle.pyver_commands.specs.Outcomes.{message_outcome};
 ghost use Rattle.pyver_markers.specs.EnvironmentViews.{assignment_of, extent_of};
 ghost use Rattle.pyver_markers.specs.Extents.{Somewhere, Undecided};
@@ -15,22 +15,28 @@ use pyver_markers::{EnvironmentMarker, FoundVariable, MarkerExtent};
 use pyver_requirements::{MarkerError, MarkerFault};
 use std::alloc::{AllocError, Global};
 
-fn push_marker_message(
+fn fault_byte(word: &str, position: usize) -> usize
+    ensures { result ≡ fault_byte word.now position }
+{
+    position.min(word.len()) + 1
+}
+
+// The message of a word that is no marker from this byte on, at the end.
+fn push_fault_message(
     alloc: Global,
     errors: &mut Vec<u8>,
     word: &str,
-    fault: MarkerFault,
-    position: usize,
+    byte: usize,
+    reason: &str,
 ) -> Result<(), AllocError>
-    ensures { IfOk result (λ _. errors.new.items ≡ errors.old.items ++ marker_message word.now (record { fault = fault; position = position })) }
+    ensures { IfOk result (λ _. errors.new.items ≡ errors.old.items ++ fault_message word.now byte reason.now) }
 {
-    let byte = position.min(word.len()) + 1;
     errors.extend_from_slice(b"pyver: '")?;
     push_escaped(errors, word.as_bytes())?;
     errors.extend_from_slice(b"' is not a marker: byte ")?;
     errors.extend_from_slice(byte.to_string(alloc)?.as_bytes())?;
     errors.extend_from_slice(b": ")?;
-    errors.extend_from_slice(fault.reason().as_bytes())?;
+    errors.extend_from_slice(reason.as_bytes())?;
     errors.push(b'\n')?;
     Ok(())
 }
@@ -45,7 +51,8 @@ fn report_fault(
     ensures { IfOk result (λ a. outcome_of a ≡ message_outcome (marker_message word.now (record { fault = fault; position = position }))) }
 {
     let mut answer = Answer::silent(alloc, 2);
-    push_marker_message(alloc, &mut answer.errors, word, fault, position)?;
+    let byte = fault_byte(word, position);
+    push_fault_message(alloc, &mut answer.errors, word, byte, fault.reason())?;
     Ok(answer)
 }
 
