@@ -15,7 +15,7 @@ use Rattle.pyver_commands.specs.CommandLaws.{BumpsAreGreater, BumpsChangeOnly, C
 use Rattle.pyver_commands.specs.Bumps.{bump_dev, bump_from, bump_part, bump_post, bump_pre, bump_stable, is_later_kind, knows_release, release_with, require_greater, then_bump, with_number}
 use Rattle.pyver_commands.specs.declared.bump.BumpError.{BumpError}
 use Rattle.pyver_commands.specs.declared.bump.BumpPart.{BumpPart}
-use Rattle.pyver_commands.specs.BumpInputs.{only_outcome}
+use Rattle.pyver_commands.specs.WholeInputs.{only_outcome}
 use Rattle.pyver_commands.specs.Outcomes.{message_outcome}
 use Rattle.pyver_commands.specs.Sources.VersionLineViews.{version_line_of}
 use Rattle.pyver_commands.specs.declared.sources.version_line.VersionLine.{VersionLine}

@@ -4,7 +4,6 @@ pub mod SourceFilters
 pub mod Keeping
 pub mod SourceReads
 pub mod Sorting
-pub mod Choosing
 pub mod NewestAnswers
 pub mod CommonRanges
 pub mod MarkerExtents

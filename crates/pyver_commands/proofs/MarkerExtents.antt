@@ -41,8 +41,8 @@ second_fails text word other f o same is prints = inr (inl (fails text other f o
 
 -- ---- laws
 
-fault_is_two : (word : List ℕ) (o : Outcome) (n : ℕ) → FailsAsMarker word o → o.status ≡ n → 2 ≡ n
-fault_is_two word o n (f, fails, is) so = sym (ap (λ (x : Outcome). x.status) is) ∙ so
+fault_is_two : (word : List ℕ) (o : Outcome) → FailsAsMarker word o → o.status ≡ 2
+fault_is_two word o (f, fails, is) = ap (λ (x : Outcome). x.status) is
 
 nowhere : (x : Extent) (o : Outcome) → o ≡ extent_outcome x → o.status ≡ 1 → x ≡ Nowhere
 nowhere Nowhere o is one = refl
@@ -60,18 +60,18 @@ one_or_other : (Is : Marker → Type 0) (a b : Outcome) → PrintsExtent Is a �
 one_or_other Is a b (x, (m, denoted), known, is) (y, other, also, so) one zero =
     not_both m y b (subst (IsExtent m) (nowhere x a is one) (known m denoted)) (also m denoted) so zero
 
-two_not_one : 2 ≡ 1 → ⊥
-two_not_one is = omega (arith, is)
+fault_is_not_one : (word : List ℕ) (o : Outcome) → FailsAsMarker word o → o.status ≡ 1 → ⊥
+fault_is_not_one word o f one = let two : o.status ≡ 2 = fault_is_two word o f in omega (arith, two, one)
 
-two_not_zero : 2 ≡ 0 → ⊥
-two_not_zero is = omega (arith, is)
+fault_is_not_zero : (word : List ℕ) (o : Outcome) → FailsAsMarker word o → o.status ≡ 0 → ⊥
+fault_is_not_zero word o f none = let two : o.status ≡ 2 = fault_is_two word o f in omega (arith, two, none)
 
 pub holds_or_not : HoldsOrNot
-holds_or_not word None a b (inl f) k one zero = two_not_one (fault_is_two word a 1 f one)
-holds_or_not word None a b (inr h) (inl f) one zero = two_not_zero (fault_is_two word b 0 f zero)
+holds_or_not word None a b (inl f) k one zero = fault_is_not_one word a f one
+holds_or_not word None a b (inr h) (inl f) one zero = fault_is_not_zero word b f zero
 holds_or_not word None a b (inr h) (inr k) one zero = one_or_other (DenotesMarker word) a b h k one zero
-holds_or_not word (Some other) a b (inl f) k one zero = two_not_one (fault_is_two word a 1 f one)
-holds_or_not word (Some other) a b (inr (inl f)) k one zero = two_not_one (fault_is_two other a 1 f one)
-holds_or_not word (Some other) a b (inr (inr h)) (inl f) one zero = two_not_zero (fault_is_two word b 0 f zero)
-holds_or_not word (Some other) a b (inr (inr h)) (inr (inl f)) one zero = two_not_zero (fault_is_two other b 0 f zero)
+holds_or_not word (Some other) a b (inl f) k one zero = fault_is_not_one word a f one
+holds_or_not word (Some other) a b (inr (inl f)) k one zero = fault_is_not_one other a f one
+holds_or_not word (Some other) a b (inr (inr h)) (inl f) one zero = fault_is_not_zero word b f zero
+holds_or_not word (Some other) a b (inr (inr h)) (inr (inl f)) one zero = fault_is_not_zero other b f zero
 holds_or_not word (Some other) a b (inr (inr h)) (inr (inr k)) one zero = one_or_other (DenoteBoth word other) a b h k one zero

@@ -12,7 +12,7 @@ use Rattle.pyver_commands.specs.Filters.{filter_outcome, printed_lines}
 use Rattle.cli_io.specs.Newlines.{input_lines}
 use Rattle.pyver_commands.specs.Sources.InputLines.{Origin, Source}
 use Rattle.pyver_commands.specs.Sources.InvalidLines.{last_message, lines_status, message_limit}
-use Rattle.pyver_commands.proofs.Choosing.{no_lines}
+use Rattle.pyver_commands.proofs.NewestAnswers.{no_lines}
 use Rattle.pyver_commands.specs.AnswerViews.{KeepsNewest}
 use Rattle.pyver_commands.specs.Sources.ReadLines.{IsRead, faults}
 use Rattle.cli_io.specs.Streams.{WroteBeginning}

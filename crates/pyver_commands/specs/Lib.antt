@@ -12,7 +12,6 @@ pub mod CommonRanges
 pub mod MarkerExtents
 pub mod Numbers
 pub mod Bumps
-pub mod BumpInputs
 pub mod CommandLaws
 pub mod AnswerViews
 pub mod Sources

@@ -17,11 +17,11 @@ abbrev pub fault_byte : List ℕ → ℕ → ℕ
 fault_byte word position = min position (length word) + 1
 
 -- the message of a word that is no marker from this byte on
-abbrev pub fault_message : List ℕ → ℕ → List ℕ → List ℕ
-fault_message word byte reason = codes "pyver: '" ++ (escaped word ++ (codes "' is not a marker: byte " ++ (decimal byte ++ (codes ": " ++ (reason ++ codes "\n")))))
+abbrev pub marker_fault_message : List ℕ → ℕ → List ℕ → List ℕ
+marker_fault_message word byte reason = codes "pyver: '" ++ (escaped word ++ (codes "' is not a marker: byte " ++ (decimal byte ++ (codes ": " ++ (reason ++ codes "\n")))))
 
 abbrev pub marker_message : List ℕ → Misfit → List ℕ
-marker_message word f = fault_message word (fault_byte word f.position) (marker_reason f.fault)
+marker_message word f = marker_fault_message word (fault_byte word f.position) (marker_reason f.fault)
 
 -- ---- environments
 

@@ -1,7 +1,7 @@
 //! `bump` without a version among the words.
 ghost use Rattle.std.specs.Prelude.{◌≡◌, IfOk, map};
 ghost use Rattle.pyver_commands.specs.AnswerViews.{outcome_of};
-ghost use Rattle.pyver_commands.specs.BumpInputs.{BumpsOnly, only_outcome};
+ghost use Rattle.pyver_commands.specs.WholeInputs.{BumpsOnly, only_outcome};
 ghost use Rattle.pyver_commands.specs.Outcomes.{message_outcome};
 ghost use Rattle.pyver_commands.specs.Sources.VersionLineViews.{input_parts_of, version_line_of};
 

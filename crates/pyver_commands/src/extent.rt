@@ -2,7 +2,7 @@
 ghost use Rattle.std.specs.Prelude.{◌≡◌, ◌≤◌, ◌==◌, ◌++◌, ℕ, List, [], IfOk, None, Some, codes, map, option_map};
 ghost use Rattle.std.specs.List.{flat_map, list_any};
 ghost use Rattle.pyver_commands.specs.AnswerViews.{outcome_of};
-ghost use Rattle.pyver_commands.specs.MarkerExtents.{FindsExtent, HasSteps, PrintsSteps, assignment_text, environment_text, extent_outcome, fault_byte, fault_message, marker_message, quoted_text};
+ghost use Rattle.pyver_commands.specs.MarkerExtents.{FindsExtent, HasSteps, PrintsSteps, assignment_text, environment_text, extent_outcome, fault_byte, marker_fault_message, marker_message, quoted_text};
 ghost use Rattle.pyver_commands.specs.Outcomes.{message_outcome};
 ghost use Rattle.pyver_markers.specs.EnvironmentViews.{assignment_of, extent_of};
 ghost use Rattle.pyver_markers.specs.Extents.{Somewhere, Undecided};
@@ -22,14 +22,14 @@ fn fault_byte(word: &str, position: usize) -> usize
 }
 
 // The message of a word that is no marker from this byte on, at the end.
-fn push_fault_message(
+fn push_marker_message(
     alloc: Global,
     errors: &mut Vec<u8>,
     word: &str,
     byte: usize,
     reason: &str,
 ) -> Result<(), AllocError>
-    ensures { IfOk result (λ _. errors.new.items ≡ errors.old.items ++ fault_message word.now byte reason.now) }
+    ensures { IfOk result (λ _. errors.new.items ≡ errors.old.items ++ marker_fault_message word.now byte reason.now) }
 {
     errors.extend_from_slice(b"pyver: '")?;
     push_escaped(errors, word.as_bytes())?;
@@ -52,7 +52,7 @@ fn report_fault(
 {
     let mut answer = Answer::silent(alloc, 2);
     let byte = fault_byte(word, position);
-    push_fault_message(alloc, &mut answer.errors, word, byte, fault.reason())?;
+    push_marker_message(alloc, &mut answer.errors, word, byte, fault.reason())?;
     Ok(answer)
 }
 

@@ -8,9 +8,9 @@ use Rattle.pep440_rs.specs.Specifiers.{Spec}
 use Rattle.pep440_version.proofs.Reading.Agreement.{one_record}
 use Rattle.pep440_version.proofs.Rejections.ExactlyOne.{not_both, one_refusal}
 use Rattle.pep440_version.specs.ErrorTexts.{rejection_text}
-use Rattle.pyver_commands.specs.BumpInputs.{BumpsOnly}
+use Rattle.pyver_commands.specs.WholeInputs.{BumpsOnly}
 use Rattle.pyver_commands.specs.Bumps.{Bumps, bump_outcome}
-use Rattle.pyver_commands.proofs.Choosing.{one_newest}
+use Rattle.pyver_commands.proofs.NewestAnswers.{one_newest}
 use Rattle.pyver_commands.proofs.Sorting.{one_sorted}
 use Rattle.pyver_commands.proofs.CommonRanges.{one_printed}
 use Rattle.pyver_commands.specs.CommonRanges.{FindsCommon, ListReading, PrintsLists, ReadsMembers, list_reading, members_in, messages_in}

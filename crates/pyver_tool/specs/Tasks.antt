@@ -5,7 +5,7 @@ use Rattle.std.specs.List.{list_any}
 use Rattle.std.specs.Option.{option_map_or}
 use Rattle.pep440_rs.specs.Lists.ListGrammar.{DerivesList}
 use Rattle.pep440_rs.specs.Specifiers.{Spec}
-use Rattle.pyver_commands.specs.BumpInputs.{BumpsInput}
+use Rattle.pyver_commands.specs.WholeInputs.{BumpsInput}
 use Rattle.pyver_commands.specs.Bumps.{Bumps, bump_part_of}
 use Rattle.pyver_commands.specs.CommonRanges.{FindsCommon}
 use Rattle.pyver_commands.specs.Comparisons.{Compares, comparison_of}

@@ -2,7 +2,7 @@ use Rattle.std.proofs.Common.{codes}
 use Rattle.std.specs.Fmt.{decimal}
 use Rattle.pyver_commands.proofs.Outputs.{appended_more}
 use Rattle.cli_io.specs.Escapes.{escaped}
-use Rattle.pyver_commands.proofs.extent.push_fault_message.Goals as goal
+use Rattle.pyver_commands.proofs.extent.push_marker_message.Goals as goal
 
 pub returns : goal.returns
 returns c =
