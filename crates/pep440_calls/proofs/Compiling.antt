@@ -27,30 +27,6 @@ use Rattle.pep440_rs.proofs.Reread.Plain.{all_ascii, all_joined, all_weaker}
 use Rattle.pep440_version.proofs.Reading.Prefixes.{both_first, both_second}
 use Rattle.pep440_version.specs.declared.prerelease.Prerelease.{Prerelease}
 
-abbrev pub IsParsedSpec : Spec → Type 0
-IsParsedSpec s = IsParsed s.version
-
-pub specifier_parsed : (s : Spec) → IsDenotedSpecifier s → IsParsedSpec s
-specifier_parsed s has = let given = is_denotable s has in parsed given.1.0 s.version given.1.1
-
-pub means_parsed : (bytes : List ℕ) (r : Record) → BytesDenote bytes r → IsParsed r
-means_parsed bytes r (inl (plain, (utf8, d))) = parsed bytes r d
-means_parsed bytes r (inr d) = d.parsed
-
-pub members_parsed : (bytes : List ℕ) (list : List Spec) → BytesDenoteList bytes list → All IsParsedSpec list
-members_parsed bytes list (inl (plain, (utf8, means))) = All-weaker IsDenotedSpecifier IsParsedSpec specifier_parsed list (list_has_texts bytes list means)
-members_parsed bytes list (inr (inl d)) = All-weaker IsParsedMember IsParsedSpec (λ s p. p.version) list d.members
-members_parsed bytes list (inr (inr d)) = All-weaker IsParsedMember IsParsedSpec (λ s p. p.version) list d.members.members
-
--- so an error is out of memory
-pub only_memory : (version list range : Type 0) (f : Fault) (e : CompileError) → f ≡ fault_of_compile e → (e ≡ NotParsed → ⊥) → Faults version list range f
-only_memory version list range f NotParsed is never = absurd (never refl)
-only_memory version list range f OutOfMemory is never = subst (Faults version list range) (sym is) tt
-
--- the compiled form of a string that needs no version
-pub string_compiled : (bytes form : List ℕ) → (r : Record) × Derives bytes r × DenotesVersion form r → IsCompiled bytes form
-string_compiled bytes form (r, d, denotes) = (r, inl (no_format bytes r d, (derived_utf8 bytes r d, d)), denotes)
-
 abbrev AllAscii : List ℕ → Type 0
 AllAscii text = list_all is_ascii text ≡ true
 
@@ -153,3 +129,27 @@ derived text r d =
 
 pub derived_utf8 : (text : List ℕ) (r : Record) → Derives text r → IsUtf8 text
 derived_utf8 text r d = IsUtf8-from_ascii text (all_ascii is_ascii low text (derived text r d))
+
+abbrev pub IsParsedSpec : Spec → Type 0
+IsParsedSpec s = IsParsed s.version
+
+pub specifier_parsed : (s : Spec) → IsDenotedSpecifier s → IsParsedSpec s
+specifier_parsed s has = let given = is_denotable s has in parsed given.1.0 s.version given.1.1
+
+pub means_parsed : (bytes : List ℕ) (r : Record) → BytesDenote bytes r → IsParsed r
+means_parsed bytes r (inl (plain, (utf8, d))) = parsed bytes r d
+means_parsed bytes r (inr d) = d.parsed
+
+pub members_parsed : (bytes : List ℕ) (list : List Spec) → BytesDenoteList bytes list → All IsParsedSpec list
+members_parsed bytes list (inl (plain, (utf8, means))) = All-weaker IsDenotedSpecifier IsParsedSpec specifier_parsed list (list_has_texts bytes list means)
+members_parsed bytes list (inr (inl d)) = All-weaker IsParsedMember IsParsedSpec (λ s p. p.version) list d.members
+members_parsed bytes list (inr (inr d)) = All-weaker IsParsedMember IsParsedSpec (λ s p. p.version) list d.members.members
+
+-- so an error is out of memory
+pub only_memory : (version list range : Type 0) (f : Fault) (e : CompileError) → f ≡ fault_of_compile e → (e ≡ NotParsed → ⊥) → Faults version list range f
+only_memory version list range f NotParsed is never = absurd (never refl)
+only_memory version list range f OutOfMemory is never = subst (Faults version list range) (sym is) tt
+
+-- the compiled form of a string that needs no version
+pub string_compiled : (bytes form : List ℕ) → (r : Record) × Derives bytes r × DenotesVersion form r → IsCompiled bytes form
+string_compiled bytes form (r, d, denotes) = (r, inl (no_format bytes r d, (derived_utf8 bytes r d, d)), denotes)

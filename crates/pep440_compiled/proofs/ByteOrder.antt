@@ -38,13 +38,13 @@ read_on (suc count) m n (x ∷ xs) (y ∷ ys) p q b d =
     step m n x y xs ys (b 0) (d 0) ∙ read_on count (m * 256 + x) (n * 256 + y) xs ys (omega (arith, p)) (omega (arith, q)) (λ k. b (suc k)) (λ k. d (suc k))
 
 -- bytes that are one number
-same_bytes : (count m n : ℕ) (xs ys : List ℕ) → count ≤ length xs → count ≤ length ys → AreBytes xs → AreBytes ys
+bytes_of_one_number : (count m n : ℕ) (xs ys : List ℕ) → count ≤ length xs → count ≤ length ys → AreBytes xs → AreBytes ys
     → big_endian m (take count xs) ≡ big_endian n (take count ys) → (m ≡ n) × (take count xs ≡ take count ys)
-same_bytes zero m n xs ys p q b d e = (e, refl)
-same_bytes (suc count) m n [] ys p q b d e = absurd (omega (arith, p))
-same_bytes (suc count) m n (x ∷ xs) [] p q b d e = absurd (omega (arith, q))
-same_bytes (suc count) m n (x ∷ xs) (y ∷ ys) p q b d e =
-    let rest = same_bytes count (m * 256 + x) (n * 256 + y) xs ys (omega (arith, p)) (omega (arith, q)) (λ k. b (suc k)) (λ k. d (suc k)) e in
+bytes_of_one_number zero m n xs ys p q b d e = (e, refl)
+bytes_of_one_number (suc count) m n [] ys p q b d e = absurd (omega (arith, p))
+bytes_of_one_number (suc count) m n (x ∷ xs) [] p q b d e = absurd (omega (arith, q))
+bytes_of_one_number (suc count) m n (x ∷ xs) (y ∷ ys) p q b d e =
+    let rest = bytes_of_one_number count (m * 256 + x) (n * 256 + y) xs ys (omega (arith, p)) (omega (arith, q)) (λ k. b (suc k)) (λ k. d (suc k)) e in
     let small : x < 256 = b 0 in
     let other : y < 256 = d 0 in
     let first : x ≡ y = omega (arith, rest.0, small, other) in
@@ -92,7 +92,7 @@ eight_more a front xs e =
 pub alike_on : (m n : ℕ) (a b xs ys : List ℕ) → Alike a b xs ys → 8 ≤ length xs → 8 ≤ length ys → AreBytes xs → AreBytes ys → m ≡ big_endian 0 (take 8 xs) → n ≡ big_endian 0 (take 8 ys) → m ≡ n
     → Alike a b (take (length xs - 8) (drop 8 xs)) (take (length ys - 8) (drop 8 ys))
 alike_on m n a b xs ys h p q o d e f g =
-    let same = (same_bytes 8 0 0 xs ys p q o d (sym e ∙ g ∙ f)).1 in
+    let same = (bytes_of_one_number 8 0 0 xs ys p q o d (sym e ∙ g ∙ f)).1 in
     record {
       front = h.front ++ take 8 xs;
       first = eight_more a h.front xs h.first;

@@ -26,6 +26,39 @@ use Rattle.pep440_compiled.specs.Version.{version_bytes, zero_bytes}
 use Rattle.pep440_keys.proofs.Codes.{segment_opens}
 use Rattle.pep440_version.specs.Key.Trim.{trim}
 
+regroup : (n f s p d l w : List ℕ) → (n ++ (f ++ 0 ∷ []) ++ s ++ p ++ d ++ l) ++ w ≡ (n ++ f) ++ 0 ∷ ((s ++ (p ++ d)) ++ (l ++ w))
+regroup n f s p d l w = simp append_assoc
+
+regroup_public : (n f s p d l : List ℕ) → n ++ (f ++ 0 ∷ []) ++ s ++ p ++ d ++ l ≡ ((n ++ f) ++ 0 ∷ (s ++ (p ++ d))) ++ l
+regroup_public n f s p d l = simp append_assoc
+
+pub key_split : (r : Record) (w : List ℕ) → key_bytes r ++ w ≡ base_bytes r.epoch r.release ++ 0 ∷ (suffix_bytes r ++ (local_bytes r.local ++ w))
+key_split r w =
+    regroup (number_bytes 0 r.epoch) (flat_map (number_bytes 1) (trim r.release)) (rank_bytes (stage_rank (key r).stage)) (rank_bytes (post_rank (key r).post)) (rank_bytes (dev_rank (key r).dev)) (local_bytes r.local) w
+
+pub version_split : (r : Record) (rest : List ℕ) → version_bytes r ++ rest ≡ base_bytes r.epoch r.release ++ 0 ∷ (suffix_bytes r ++ (local_bytes r.local ++ (zero_bytes r.release ++ rest)))
+version_split r rest = append_assoc (key_bytes r) (zero_bytes r.release) rest ∙ key_split r (zero_bytes r.release ++ rest)
+
+pub key_public : (r : Record) → key_bytes r ≡ public_bytes r ++ local_bytes r.local
+key_public r =
+    regroup_public (number_bytes 0 r.epoch) (flat_map (number_bytes 1) (trim r.release)) (rank_bytes (stage_rank (key r).stage)) (rank_bytes (post_rank (key r).post)) (rank_bytes (dev_rank (key r).dev)) (local_bytes r.local)
+
+-- the last byte of a key is 0
+pub key_ends : (r : Record) → key_bytes r ≡ (public_bytes r ++ flat_map segment_bytes r.local) ++ 0 ∷ []
+key_ends r = key_public r ∙ sym (append_assoc (public_bytes r) (flat_map segment_bytes r.local) (0 ∷ []))
+
+pub zeros_length : (release : List ℕ) → length (zero_bytes release) ≡ ending_zeros release
+zeros_length release = length-map (drop (length (trim release)) release) (λ n. 1)
+
+-- a local part that is not empty has more than its last byte
+pub local_flag : (local : List LocalSegmentValue) (a b : List ℕ) → a ≡ local_bytes local ++ b → nat_lt 1 (length a - length b) ≡ not (length local == 0)
+local_flag [] a b e = le-ltb 1 (length a - length b) (omega (arith, ap length e))
+local_flag (s ∷ local) a b e =
+    let o = segment_opens s in
+    lt-ltb 1 (length a - length b)
+    (omega (arith, ap length e, length-append (local_bytes (s ∷ local)) b, length-append (segment_bytes s ++ flat_map segment_bytes local) (0 ∷ []), length-append (segment_bytes s) (flat_map segment_bytes local), ap length o.is))
+    ∙ sym (ap not (ne_eqb (length (s ∷ local)) 0 (λ z. omega (arith, z))))
+
 -- ---- all but the local part
 
 pub without_locals : (v s : Record) → IsParsed v → IsParsed s → slice_cmp nat_cmp (public_bytes v) (public_bytes s) ≡ public_cmp v s
@@ -105,36 +138,3 @@ begins_by_base s v p q z w =
     let front = base_bytes s.epoch s.release in
     sym (and_true (starts_with nat_eq bytes front) (continues_with_zeros (ending_zeros s.release) (drop (length front) bytes)) (ap (λ n. continues_with_zeros n (drop (length front) bytes)) z ∙ none_continue (drop (length front) bytes)))
     ∙ prefix_by_bytes s.epoch s.release v.epoch v.release w p.valid.epoch p.valid.release q.valid.epoch q.valid.release
-
-regroup : (n f s p d l w : List ℕ) → (n ++ (f ++ 0 ∷ []) ++ s ++ p ++ d ++ l) ++ w ≡ (n ++ f) ++ 0 ∷ ((s ++ (p ++ d)) ++ (l ++ w))
-regroup n f s p d l w = simp append_assoc
-
-regroup_public : (n f s p d l : List ℕ) → n ++ (f ++ 0 ∷ []) ++ s ++ p ++ d ++ l ≡ ((n ++ f) ++ 0 ∷ (s ++ (p ++ d))) ++ l
-regroup_public n f s p d l = simp append_assoc
-
-pub key_split : (r : Record) (w : List ℕ) → key_bytes r ++ w ≡ base_bytes r.epoch r.release ++ 0 ∷ (suffix_bytes r ++ (local_bytes r.local ++ w))
-key_split r w =
-    regroup (number_bytes 0 r.epoch) (flat_map (number_bytes 1) (trim r.release)) (rank_bytes (stage_rank (key r).stage)) (rank_bytes (post_rank (key r).post)) (rank_bytes (dev_rank (key r).dev)) (local_bytes r.local) w
-
-pub version_split : (r : Record) (rest : List ℕ) → version_bytes r ++ rest ≡ base_bytes r.epoch r.release ++ 0 ∷ (suffix_bytes r ++ (local_bytes r.local ++ (zero_bytes r.release ++ rest)))
-version_split r rest = append_assoc (key_bytes r) (zero_bytes r.release) rest ∙ key_split r (zero_bytes r.release ++ rest)
-
-pub key_public : (r : Record) → key_bytes r ≡ public_bytes r ++ local_bytes r.local
-key_public r =
-    regroup_public (number_bytes 0 r.epoch) (flat_map (number_bytes 1) (trim r.release)) (rank_bytes (stage_rank (key r).stage)) (rank_bytes (post_rank (key r).post)) (rank_bytes (dev_rank (key r).dev)) (local_bytes r.local)
-
--- the last byte of a key is 0
-pub key_ends : (r : Record) → key_bytes r ≡ (public_bytes r ++ flat_map segment_bytes r.local) ++ 0 ∷ []
-key_ends r = key_public r ∙ sym (append_assoc (public_bytes r) (flat_map segment_bytes r.local) (0 ∷ []))
-
-pub zeros_length : (release : List ℕ) → length (zero_bytes release) ≡ ending_zeros release
-zeros_length release = length-map (drop (length (trim release)) release) (λ n. 1)
-
--- a local part that is not empty has more than its last byte
-pub local_flag : (local : List LocalSegmentValue) (a b : List ℕ) → a ≡ local_bytes local ++ b → nat_lt 1 (length a - length b) ≡ not (length local == 0)
-local_flag [] a b e = le-ltb 1 (length a - length b) (omega (arith, ap length e))
-local_flag (s ∷ local) a b e =
-    let o = segment_opens s in
-    lt-ltb 1 (length a - length b)
-    (omega (arith, ap length e, length-append (local_bytes (s ∷ local)) b, length-append (segment_bytes s ++ flat_map segment_bytes local) (0 ∷ []), length-append (segment_bytes s) (flat_map segment_bytes local), ap length o.is))
-    ∙ sym (ap not (ne_eqb (length (s ∷ local)) 0 (λ z. omega (arith, z))))
