@@ -1,5 +1,4 @@
 use Rattle.std.proofs.Common.{◌∙◌, ◌==◌, ◌∷◌, [], ℕ, Bool, IfOk, ◌≡◌, codes, not, true, sym, subst, if◌then◌else◌}
-use Rattle.std.proofs.lemmas.Bool.{not-false}
 use Rattle.std.specs.List.{prefix_len}
 use Rattle.pyver_findings.specs.Findings.{NoRequirement}
 use Rattle.pyver_findings.specs.LineMeanings.{has_extras}
@@ -10,7 +9,7 @@ pub returns : goal.returns
 returns c =
     let line = file_line_of c.args.line.now in
     let requirement = c.args.requirement.now in
-    let holds : has_extras requirement ≡ true = sym c.has_extras.ensures ∙ not-false c.has_extras.result c.if-not-has_extras.false in
+    let holds : has_extras requirement ≡ true = sym c.has_extras.ensures ∙ c.if-not-has_extras.false in
     subst (λ (b : Bool). IfOk c.push_fault.result (λ _. AddsFindings c.args.findings.now.items c.push_fault.new.findings.items
         (if b then NoRequirement line (codes "constraints cannot have extras") (prefix_len (λ x. not (x == 91)) requirement) ∷ [] else []))) (sym holds)
     (rw c.count_before_bracket-column.ensures.count at c.push_fault.ensures)
