@@ -11,5 +11,5 @@ returns c =
     let requirement = c.args.requirement.now in
     let holds : has_extras requirement ≡ true = sym c.has_extras.ensures ∙ c.if-not-has_extras.false in
     subst (λ (b : Bool). IfOk c.push_fault.result (λ _. AddsFindings c.args.findings.now.items c.push_fault.new.findings.items
-        (if b then NoRequirement line (codes "constraints cannot have extras") (prefix_len (λ x. not (x == 91)) requirement) ∷ [] else []))) (sym holds)
+    (if b then NoRequirement line (codes "constraints cannot have extras") (prefix_len (λ x. not (x == 91)) requirement) ∷ [] else []))) (sym holds)
     (rw c.count_before_bracket-column.ensures.count at c.push_fault.ensures)
