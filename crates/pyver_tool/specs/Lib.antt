@@ -1,4 +1,3 @@
-pub mod Nearest
 pub mod MisuseMessages
 pub mod Options
 pub mod SplitWords

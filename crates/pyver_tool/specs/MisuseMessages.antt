@@ -1,10 +1,26 @@
 -- The messages of words that name no command, option or value, with a suggestion where a right word is near.
-use Rattle.std.specs.Prelude.{ℕ, List, [], ◌∷◌, ◌++◌, Option, Some, None, codes, if◌then◌else◌}
+use Rattle.std.specs.Prelude.{ℕ, List, [], ◌∷◌, ◌++◌, Option, Some, None, codes, if◌then◌else◌, ◌==◌, ◌&&◌, ◌||◌, Bool, false, bytes_eq, length, nat_le}
 use Rattle.std.specs.Fmt.{decimal}
 use Rattle.std.specs.List.{flat_map}
 use Rattle.cli_io.specs.Escapes.{escaped}
-use Rattle.pyver_tool.specs.Nearest.{nearest}
 use Rattle.pyver_tool.specs.SplitWords.{Named}
+
+-- the first two bytes are swapped, and the rest is the same
+abbrev pub is_swapped : List ℕ → List ℕ → Bool
+is_swapped (a ∷ b ∷ rest) (c ∷ d ∷ end) = (a == d) && ((b == c) && bytes_eq rest end)
+is_swapped _ _ = false
+
+-- from the first difference on, one insertion, deletion, replacement or swap of neighbours makes the name of the word
+abbrev pub is_near : List ℕ → List ℕ → Bool
+is_near [] name = nat_le (length name) 1
+is_near (a ∷ rest) [] = nat_le (length (a ∷ rest)) 1
+is_near (a ∷ rest) (b ∷ end) = if a == b then is_near rest end
+    else bytes_eq rest end || (bytes_eq rest (b ∷ end) || (bytes_eq (a ∷ rest) end || is_swapped (a ∷ rest) (b ∷ end)))
+
+-- the first name that is near the word
+abbrev pub nearest : List ℕ → List (List ℕ) → Option (List ℕ)
+nearest word [] = None
+nearest word (name ∷ names) = if is_near word name then Some name else nearest word names
 
 -- the suggestion of the nearest right word, if one is near
 abbrev pub hint : Option (List ℕ) → List ℕ
