@@ -182,18 +182,18 @@ module _ (takes : Bool) (list : List Spec) where
     abbrev now : Bor (List ℕ) → List ℕ
     now t = t.now
 
-    seen : map now (take (i + 1) texts) ≡ map now (take i texts) ++ (get_or texts i x).now ∷ []
-    seen = ap (map now) (take_more texts i x inside) ∙ map-append now (take i texts) (get_or texts i x ∷ [])
+    texts_seen : map now (take (i + 1) texts) ≡ map now (take i texts) ++ (get_or texts i x).now ∷ []
+    texts_seen = ap (map now) (take_more texts i x inside) ∙ map-append now (take i texts) (get_or texts i x ∷ [])
 
     pub found_more : (v : Record) → IsContainedString list (get_or texts i x).now v → is_above (preference takes) newest v ≡ true → NewestOf (map now (take i texts)) newest → NewestOf (map now (take (i + 1) texts)) (Some (i, v))
     found_more v has above n =
         let long : length (map now (take i texts)) ≡ i = length-map (take i texts) now ∙ length-take-le i texts (omega (arith, inside)) in
-        subst (λ l. NewestOf l (Some (i, v))) (sym seen)
+        subst (λ l. NewestOf l (Some (i, v))) (sym texts_seen)
         (subst (λ k. NewestOf (map now (take i texts) ++ (get_or texts i x).now ∷ []) (Some (k, v))) long
         (greatest.found_more (IsContainedString list) only (preference takes) (preference_total takes) (map now (take i texts)) (get_or texts i x).now v newest n has above))
 
     pub kept_more : ((r : Record) → IsContainedString list (get_or texts i x).now r → is_above (preference takes) newest r ≡ false) → NewestOf (map now (take i texts)) newest → NewestOf (map now (take (i + 1) texts)) newest
-    kept_more out n = subst (λ l. NewestOf l newest) (sym seen) (greatest.kept_more (IsContainedString list) only (preference takes) (preference_total takes) (map now (take i texts)) (get_or texts i x).now newest n out)
+    kept_more out n = subst (λ l. NewestOf l newest) (sym texts_seen) (greatest.kept_more (IsContainedString list) only (preference takes) (preference_total takes) (map now (take i texts)) (get_or texts i x).now newest n out)
 
     pub below_more : (v : Record) → IsContainedString list (get_or texts i x).now v → is_above (preference takes) newest v ≡ false → NewestOf (map now (take i texts)) newest → NewestOf (map now (take (i + 1) texts)) newest
     below_more v has below = kept_more (λ r h. ap (is_above (preference takes) newest) (only (get_or texts i x).now r v h has) ∙ below)
