@@ -8,5 +8,5 @@ use Rattle.pyver_projects.proofs.project.push_dynamic_items.Given as goal
 
 abbrev pub invariant-loop-item : goal.invariant-loop-item
 invariant-loop-item l =
-    let source = λ (d : Data). dynamic_source (option_map (λ v. view v.now) l.project.entry) (as_str d) in
+    let source = λ (d : Data). dynamic_source (option_map (λ v. view v.now) l.project) (as_str d) in
     map project_string_of l.sources.items ++ flat_map source (map view (drop l.item-index l.found)) ≡ map project_string_of l.initial.sources.items ++ flat_map source (map view l.found)
