@@ -6,5 +6,6 @@ pub mod SourceReads
 pub mod Sorting
 pub mod NewestAnswers
 pub mod CommonRanges
+pub mod MarkerExtents
 pub mod Bumping
 pub mod Outputs

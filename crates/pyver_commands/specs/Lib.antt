@@ -9,6 +9,7 @@ pub mod JsonObjects
 pub mod Shows
 pub mod RangeObjects
 pub mod CommonRanges
+pub mod MarkerExtents
 pub mod Numbers
 pub mod Bumps
 pub mod CommandLaws

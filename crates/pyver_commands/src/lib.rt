@@ -1,6 +1,6 @@
 //! The commands of the program `pyver` that read words, versions and lines: what each prints, as a function of its operands and options.
 //!
-//! In reading order: `Answer`; `compare`, `match_versions`, `show_versions`, `bump_version` and `find_common`, which read nothing; `Files`,
+//! In reading order: `Answer`; `compare`, `match_versions`, `show_versions`, `bump_version`, `find_common` and `find_extent`, which read nothing; `Files`,
 //! `filter_sources`, and `answer_input` for commands that read all lines before they write; and `laws`.
 #![tactic(auto)]
 
@@ -10,6 +10,7 @@ mod bump;
 mod bump_input;
 mod common_range;
 mod comparison;
+mod extent;
 mod filter;
 mod filter_input;
 pub mod filter_sources;
@@ -34,6 +35,7 @@ pub use bump::{BumpPart, bump_version, parse_bump_part};
 pub use bump_input::BumpRule;
 pub use common_range::find_common;
 pub use comparison::{Comparison, compare, parse_comparison};
+pub use extent::find_extent;
 pub use filter::{FilterOptions, FilterRule, Selection};
 pub use newest::{NewestOptions, NewestRule};
 pub use part::{VersionPart, parse_part};

@@ -1,0 +1,77 @@
+-- Where markers hold that words denote.
+use Rattle.std.proofs.Common.{◌≡◌, ◌∙◌, ℕ, List, Option, Some, None, Err, ap, arith, inl, inr, refl, subst, sym}
+use Rattle.pyver_commands.specs.MarkerExtents.{DenoteBoth, FailsAsMarker, FindsExtent, HasSteps, HoldsOrNot, PrintsExtent, PrintsSteps, extent_outcome, marker_message}
+use Rattle.pyver_commands.specs.Outcomes.{message_outcome}
+use Rattle.cli_io.specs.Runs.{Outcome}
+use Rattle.pyver_markers.specs.Extents.{Always, Extent, IsExtent, Nowhere, Somewhere, Undecided}
+use Rattle.pyver_requirements.specs.MarkerGrammar.{Both, DenotesMarker, Marker}
+use Rattle.pyver_requirements.specs.MarkerSteps.{Misfit, Step, marker_steps, steps}
+
+pub printed : (Is : Marker → Type 0) (all : List Step) (o : Outcome) → HasSteps Is all → PrintsSteps all o → PrintsExtent Is o
+printed Is all o has (x, known, is) = (x, has.0, (λ m denoted. known m (has.1 m denoted)), is)
+
+pub both_steps : (word other : List ℕ) (one all joined : List Step) → HasSteps (DenotesMarker word) one → HasSteps (DenotesMarker other) all
+    → ((m n : Marker) → one ≡ steps m → all ≡ steps n → joined ≡ steps (Both m n)) → HasSteps (DenoteBoth word other) joined
+both_steps word other one all joined ((a, first), only) ((b, second), alone) join =
+    ((Both a b, (a, b, first, second, refl)), (λ m d. join d.0 d.1 (only d.0 d.2) (alone d.1 d.3) ∙ ap steps (sym d.4)))
+
+pub parsed : (text word : List ℕ) (all : List Step) → text ≡ word → ((m : Marker) × DenotesMarker text m × (all ≡ steps m))
+    → ((m : Marker) → DenotesMarker text m → all ≡ steps m) → HasSteps (DenotesMarker word) all
+parsed text word all is (m, denoted, have) only = subst (λ t. HasSteps (DenotesMarker t) all) is ((m, denoted), only)
+
+pub found_one : (word : List ℕ) (all : List Step) (o : Outcome) → HasSteps (DenotesMarker word) all → PrintsSteps all o → FindsExtent word None o
+found_one word all o has prints = inr (printed (DenotesMarker word) all o has prints)
+
+pub found_both : (word other : List ℕ) (one all joined : List Step) (o : Outcome) → HasSteps (DenotesMarker word) one → HasSteps (DenotesMarker other) all
+    → ((m n : Marker) → one ≡ steps m → all ≡ steps n → joined ≡ steps (Both m n)) → PrintsSteps joined o → FindsExtent word (Some other) o
+found_both word other one all joined o has also join prints =
+    inr (inr (printed (DenoteBoth word other) joined o (both_steps word other one all joined has also join) prints))
+
+fails : (text word : List ℕ) (f : Misfit) (o : Outcome) → text ≡ word → marker_steps text ≡ Err f → o ≡ message_outcome (marker_message word f) → FailsAsMarker word o
+fails text word f o same is prints = (f, subst (λ t. marker_steps t ≡ Err f) same is, prints)
+
+pub first_fails : (text word : List ℕ) (other : Option (List ℕ)) (f : Misfit) (o : Outcome) → text ≡ word → marker_steps text ≡ Err f
+    → o ≡ message_outcome (marker_message word f) → FindsExtent word other o
+first_fails text word None f o same is prints = inl (fails text word f o same is prints)
+first_fails text word (Some other) f o same is prints = inl (fails text word f o same is prints)
+
+pub second_fails : (text word other : List ℕ) (f : Misfit) (o : Outcome) → text ≡ other → marker_steps text ≡ Err f
+    → o ≡ message_outcome (marker_message other f) → FindsExtent word (Some other) o
+second_fails text word other f o same is prints = inr (inl (fails text other f o same is prints))
+
+-- ---- laws
+
+fault_is_two : (word : List ℕ) (o : Outcome) → FailsAsMarker word o → o.status ≡ 2
+fault_is_two word o (f, fails, is) = ap (λ (x : Outcome). x.status) is
+
+nowhere : (x : Extent) (o : Outcome) → o ≡ extent_outcome x → o.status ≡ 1 → x ≡ Nowhere
+nowhere Nowhere o is one = refl
+nowhere Always o is one = absurd (let no : 0 ≡ 1 = sym (ap (λ (y : Outcome). y.status) is) ∙ one in omega (arith, no))
+nowhere (Somewhere variables) o is one = absurd (let no : 0 ≡ 1 = sym (ap (λ (y : Outcome). y.status) is) ∙ one in omega (arith, no))
+nowhere Undecided o is one = absurd (let no : 2 ≡ 1 = sym (ap (λ (y : Outcome). y.status) is) ∙ one in omega (arith, no))
+
+not_both : (m : Marker) (y : Extent) (b : Outcome) → IsExtent m Nowhere → IsExtent m y → b ≡ extent_outcome y → b.status ≡ 0 → ⊥
+not_both m Nowhere b never known is zero = let no : 1 ≡ 0 = sym (ap (λ (z : Outcome). z.status) is) ∙ zero in omega (arith, no)
+not_both m Always b never (e, is_one, holds, other) is zero = never e is_one holds
+not_both m (Somewhere variables) b never known is zero = never known.environment known.known (known.holds known.environment known.has)
+not_both m Undecided b never known is zero = let no : 2 ≡ 0 = sym (ap (λ (z : Outcome). z.status) is) ∙ zero in omega (arith, no)
+
+one_or_other : (Is : Marker → Type 0) (a b : Outcome) → PrintsExtent Is a → PrintsExtent Is b → a.status ≡ 1 → b.status ≡ 0 → ⊥
+one_or_other Is a b (x, (m, denoted), known, is) (y, other, also, so) one zero =
+    not_both m y b (subst (IsExtent m) (nowhere x a is one) (known m denoted)) (also m denoted) so zero
+
+fault_is_not_one : (word : List ℕ) (o : Outcome) → FailsAsMarker word o → o.status ≡ 1 → ⊥
+fault_is_not_one word o f one = let two : o.status ≡ 2 = fault_is_two word o f in omega (arith, two, one)
+
+fault_is_not_zero : (word : List ℕ) (o : Outcome) → FailsAsMarker word o → o.status ≡ 0 → ⊥
+fault_is_not_zero word o f none = let two : o.status ≡ 2 = fault_is_two word o f in omega (arith, two, none)
+
+pub holds_or_not : HoldsOrNot
+holds_or_not word None a b (inl f) k one zero = fault_is_not_one word a f one
+holds_or_not word None a b (inr h) (inl f) one zero = fault_is_not_zero word b f zero
+holds_or_not word None a b (inr h) (inr k) one zero = one_or_other (DenotesMarker word) a b h k one zero
+holds_or_not word (Some other) a b (inl f) k one zero = fault_is_not_one word a f one
+holds_or_not word (Some other) a b (inr (inl f)) k one zero = fault_is_not_one other a f one
+holds_or_not word (Some other) a b (inr (inr h)) (inl f) one zero = fault_is_not_zero word b f zero
+holds_or_not word (Some other) a b (inr (inr h)) (inr (inl f)) one zero = fault_is_not_zero other b f zero
+holds_or_not word (Some other) a b (inr (inr h)) (inr (inr k)) one zero = one_or_other (DenoteBoth word other) a b h k one zero

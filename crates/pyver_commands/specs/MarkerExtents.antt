@@ -1,0 +1,79 @@
+-- `marker MARKER [MARKER]`: an environment in which the marker holds, or both do.
+use Rattle.std.specs.Prelude.{◌≡◌, ◌⊎◌, ◌+◌, ℕ, List, [], ◌∷◌, ◌++◌, Option, Some, None, Err, codes, length, min, if◌then◌else◌, ◌==◌}
+use Rattle.std.specs.Fmt.{decimal}
+use Rattle.std.specs.List.{flat_map, list_any}
+use Rattle.cli_io.specs.Escapes.{escaped}
+use Rattle.cli_io.specs.Runs.{Outcome}
+use Rattle.pyver_commands.specs.Outcomes.{message_outcome}
+use Rattle.pyver_markers.specs.Environments.{Assignment}
+use Rattle.pyver_markers.specs.Extents.{Always, Extent, IsExtent, Nowhere, Somewhere, Undecided}
+use Rattle.pyver_requirements.specs.MarkerGrammar.{Both, DenotesMarker, Marker}
+use Rattle.pyver_requirements.specs.MarkerSteps.{Misfit, Step, marker_reason, marker_steps, steps}
+
+-- ---- messages
+
+-- the byte from which on a word is no marker, counted from 1
+abbrev pub fault_byte : List ℕ → ℕ → ℕ
+fault_byte word position = min position (length word) + 1
+
+-- the message of a word that is no marker from this byte on
+abbrev pub marker_fault_message : List ℕ → ℕ → List ℕ → List ℕ
+marker_fault_message word byte reason = codes "pyver: '" ++ (escaped word ++ (codes "' is not a marker: byte " ++ (decimal byte ++ (codes ": " ++ (reason ++ codes "\n")))))
+
+abbrev pub marker_message : List ℕ → Misfit → List ℕ
+marker_message word f = marker_fault_message word (fault_byte word f.position) (marker_reason f.fault)
+
+-- ---- environments
+
+-- the string in double quotes, or in single ones if it has a double one
+abbrev pub quoted_text : List ℕ → List ℕ
+quoted_text text = if list_any (λ b. b == 34) text then codes "'" ++ (text ++ codes "'") else codes "\"" ++ (text ++ codes "\"")
+
+-- the variable is the string, as a marker
+abbrev pub assignment_text : Assignment → List ℕ
+assignment_text v = v.name ++ (codes " == " ++ quoted_text v.text)
+
+-- all variables are their strings, as a marker
+abbrev pub environment_text : List Assignment → List ℕ
+environment_text [] = []
+environment_text (v ∷ rest) = assignment_text v ++ flat_map (λ (x : Assignment). codes " and " ++ assignment_text x) rest
+
+-- ---- outcomes
+
+-- the outcome of what is known
+abbrev pub extent_outcome : Extent → Outcome
+extent_outcome Nowhere = record { output = codes "nowhere\n"; errors = []; status = 1 }
+extent_outcome Always = record { output = codes "always\n"; errors = []; status = 0 }
+extent_outcome (Somewhere variables) = record { output = environment_text variables ++ codes "\n"; errors = []; status = 0 }
+extent_outcome Undecided = message_outcome (codes "pyver: undecided: no environment was found, and there may be one\n")
+
+-- the outcome of a word that is no marker
+abbrev pub FailsAsMarker : List ℕ → Outcome → Type 0
+FailsAsMarker word o = (f : Misfit) × (marker_steps word ≡ Err f) × (o ≡ message_outcome (marker_message word f))
+
+-- the marker of both words, joined by `and`
+abbrev pub DenoteBoth : List ℕ → List ℕ → Marker → Type 0
+DenoteBoth word other m = (a : Marker) × (b : Marker) × DenotesMarker word a × DenotesMarker other b × (m ≡ Both a b)
+
+-- the outcome of the marker that is denoted so
+abbrev pub PrintsExtent : (Marker → Type 0) → Outcome → Type 0
+PrintsExtent Is o = (x : Extent) × ((m : Marker) × Is m) × ((m : Marker) → Is m → IsExtent m x) × (o ≡ extent_outcome x)
+
+-- the outcome of `marker`: of one word, or of two
+abbrev pub FindsExtent : List ℕ → Option (List ℕ) → Outcome → Type 0
+FindsExtent word None o = FailsAsMarker word o ⊎ PrintsExtent (DenotesMarker word) o
+FindsExtent word (Some other) o = FailsAsMarker word o ⊎ (FailsAsMarker other o ⊎ PrintsExtent (DenoteBoth word other) o)
+
+-- the outcome of a marker with these steps
+abbrev pub PrintsSteps : List Step → Outcome → Type 0
+PrintsSteps all o = (x : Extent) × ((m : Marker) → all ≡ steps m → IsExtent m x) × (o ≡ extent_outcome x)
+
+-- the marker that is denoted so has these steps
+abbrev pub HasSteps : (Marker → Type 0) → List Step → Type 0
+HasSteps Is all = ((m : Marker) × Is m) × ((m : Marker) → Is m → all ≡ steps m)
+
+-- ---- laws
+
+-- of the same words it is never printed both that they hold nowhere and where they hold
+abbrev pub HoldsOrNot : Type 0
+HoldsOrNot = (word : List ℕ) (other : Option (List ℕ)) (a b : Outcome) → FindsExtent word other a → FindsExtent word other b → a.status ≡ 1 → ¬ (b.status ≡ 0)

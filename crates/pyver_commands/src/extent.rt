@@ -1,0 +1,218 @@
+//! The command `marker`.
+ghost use Rattle.std.specs.Prelude.{◌≡◌, ◌≤◌, ◌==◌, ◌++◌, ℕ, List, [], IfOk, None, Some, codes, map, option_map};
+ghost use Rattle.std.specs.List.{flat_map, list_any};
+ghost use Rattle.pyver_commands.specs.AnswerViews.{outcome_of};
+ghost use Rattle.pyver_commands.specs.MarkerExtents.{FindsExtent, HasSteps, PrintsSteps, assignment_text, environment_text, extent_outcome, fault_byte, marker_fault_message, marker_message, quoted_text};
+ghost use Rattle.pyver_commands.specs.Outcomes.{message_outcome};
+ghost use Rattle.pyver_markers.specs.EnvironmentViews.{assignment_of, extent_of};
+ghost use Rattle.pyver_markers.specs.Extents.{Somewhere, Undecided};
+ghost use Rattle.pyver_requirements.specs.MarkerGrammar.{DenotesMarker};
+
+use crate::answer::Answer;
+use crate::version_json::push_text;
+use cli_io::push_escaped;
+use pyver_markers::{EnvironmentMarker, FoundVariable, MarkerExtent};
+use pyver_requirements::{MarkerError, MarkerFault};
+use std::alloc::{AllocError, Global};
+
+fn fault_byte(word: &str, position: usize) -> usize
+    ensures { result ≡ fault_byte word.now position }
+{
+    position.min(word.len()) + 1
+}
+
+// The message of a word that is no marker from this byte on, at the end.
+fn push_marker_message(
+    alloc: Global,
+    errors: &mut Vec<u8>,
+    word: &str,
+    byte: usize,
+    reason: &str,
+) -> Result<(), AllocError>
+    ensures { IfOk result (λ _. errors.new.items ≡ errors.old.items ++ marker_fault_message word.now byte reason.now) }
+{
+    errors.extend_from_slice(b"pyver: '")?;
+    push_escaped(errors, word.as_bytes())?;
+    errors.extend_from_slice(b"' is not a marker: byte ")?;
+    errors.extend_from_slice(byte.to_string(alloc)?.as_bytes())?;
+    errors.extend_from_slice(b": ")?;
+    errors.extend_from_slice(reason.as_bytes())?;
+    errors.push(b'\n')?;
+    Ok(())
+}
+
+// The outcome of a word that is no marker.
+fn report_fault(
+    alloc: Global,
+    word: &str,
+    fault: MarkerFault,
+    position: usize,
+) -> Result<Answer, AllocError>
+    ensures { IfOk result (λ a. outcome_of a ≡ message_outcome (marker_message word.now (record { fault = fault; position = position }))) }
+{
+    let mut answer = Answer::silent(alloc, 2);
+    let byte = fault_byte(word, position);
+    push_marker_message(alloc, &mut answer.errors, word, byte, fault.reason())?;
+    Ok(answer)
+}
+
+fn has_double_quote(text: &[u8]) -> bool
+    ensures { result ≡ list_any (λ b. b == 34) text.now }
+{
+    text.iter().any(|byte| *byte == b'"')
+}
+
+fn push_quoted(output: &mut Vec<u8>, text: &[u8]) -> Result<(), AllocError>
+    ensures { IfOk result (λ _. output.new.items ≡ output.old.items ++ quoted_text text.now) }
+{
+    let quote = if has_double_quote(text) { b'\'' } else { b'"' };
+    output.push(quote)?;
+    output.extend_from_slice(text)?;
+    output.push(quote)?;
+    Ok(())
+}
+
+fn push_assignment(output: &mut Vec<u8>, variable: &FoundVariable<'_>) -> Result<(), AllocError>
+    ensures { IfOk result (λ _. output.new.items ≡ output.old.items ++ assignment_text (assignment_of variable.now)) }
+{
+    output.extend_from_slice(variable.name)?;
+    output.extend_from_slice(b" == ")?;
+    push_quoted(output, variable.text.as_slice())
+}
+
+// The variables behind the first one.
+fn push_others(output: &mut Vec<u8>, variables: &[FoundVariable<'_>]) -> Result<(), AllocError>
+    ensures { IfOk result (λ _. output.new.items ≡ output.old.items
+        ++ flat_map (λ x. codes " and " ++ assignment_text x) (map assignment_of variables.now)) }
+{
+    for variable in variables {
+        output.extend_from_slice(b" and ")?;
+        push_assignment(output, variable)?;
+    }
+    Ok(())
+}
+
+fn push_environment(output: &mut Vec<u8>, variables: &[FoundVariable<'_>]) -> Result<(), AllocError>
+    ensures { IfOk result (λ _. output.new.items ≡ output.old.items ++ environment_text (map assignment_of variables.now)) }
+{
+    match variables {
+        [] => Ok(()),
+        [first, others @ ..] => {
+            push_assignment(output, first)?;
+            push_others(output, others)
+        }
+    }
+}
+
+fn print_word(alloc: Global, word: &str, status: u8) -> Result<Answer, AllocError>
+    requires { status ≤ 2 }
+    ensures { IfOk result (λ a. outcome_of a ≡ record { output = word.now; errors = []; status = status }) }
+{
+    let mut answer = Answer::silent(alloc, status);
+    push_text(&mut answer.output, word)?;
+    Ok(answer)
+}
+
+fn print_environment(alloc: Global, variables: &[FoundVariable<'_>]) -> Result<Answer, AllocError>
+    ensures { IfOk result (λ a. outcome_of a ≡ extent_outcome (Somewhere (map assignment_of variables.now))) }
+{
+    let mut answer = Answer::silent(alloc, 0);
+    push_environment(&mut answer.output, variables)?;
+    push_text(&mut answer.output, "\n")?;
+    Ok(answer)
+}
+
+fn report_undecided(alloc: Global) -> Result<Answer, AllocError>
+    ensures { IfOk result (λ a. outcome_of a ≡ extent_outcome Undecided) }
+{
+    let mut answer = Answer::silent(alloc, 2);
+    push_text(
+        &mut answer.errors,
+        "pyver: undecided: no environment was found, and there may be one\n",
+    )?;
+    Ok(answer)
+}
+
+fn print_extent(alloc: Global, extent: &MarkerExtent<'_>) -> Result<Answer, AllocError>
+    ensures { IfOk result (λ a. outcome_of a ≡ extent_outcome (extent_of extent.now)) }
+{
+    match extent {
+        MarkerExtent::Nowhere => print_word(alloc, "nowhere\n", 1),
+        MarkerExtent::Always => print_word(alloc, "always\n", 0),
+        MarkerExtent::Somewhere(variables) => print_environment(alloc, variables.as_slice()),
+        MarkerExtent::Undecided => report_undecided(alloc),
+    }
+}
+
+fn print_marker(alloc: Global, marker: &EnvironmentMarker<'_>) -> Result<Answer, AllocError>
+    ensures { IfOk result (λ a. PrintsSteps marker.now (outcome_of a)) }
+{
+    let extent = marker.find_extent(alloc)?;
+    let answer = print_extent(alloc, &extent)?;
+    Ok(answer)
+}
+
+#[tactic(auto, using(crate::proofs::MarkerExtents::found_both, crate::proofs::MarkerExtents::parsed, crate::proofs::MarkerExtents::second_fails))]
+// Where the marker of the first word and that of the other both hold.
+fn find_both(
+    alloc: Global,
+    marker: EnvironmentMarker<'_>,
+    other: &str,
+) -> Result<Answer, AllocError>
+    ensures { (word : List ℕ) → HasSteps (DenotesMarker word) marker.entry → IfOk result (λ a. FindsExtent word (Some other.now) (outcome_of a)) }
+{
+    match EnvironmentMarker::parse(alloc, other.as_bytes()) {
+        Ok(second) => {
+            let both = marker.and(&second)?;
+            let answer = print_marker(alloc, &both)?;
+            Ok(answer)
+        }
+        Err(MarkerError::OutOfMemory) => Err(AllocError),
+        Err(MarkerError::Invalid(fault, position)) => {
+            let answer = report_fault(alloc, other, fault, position)?;
+            Ok(answer)
+        }
+    }
+}
+
+#[tactic(auto, using(crate::proofs::MarkerExtents::found_one))]
+// Where the marker of the first word holds.
+fn find_one(alloc: Global, marker: &EnvironmentMarker<'_>) -> Result<Answer, AllocError>
+    ensures { (word : List ℕ) → HasSteps (DenotesMarker word) marker.now → IfOk result (λ a. FindsExtent word None (outcome_of a)) }
+{
+    let answer = print_marker(alloc, marker)?;
+    Ok(answer)
+}
+
+// Where the marker of the first word, and that of the other if there is one, hold.
+fn find_with(
+    alloc: Global,
+    marker: EnvironmentMarker<'_>,
+    other: Option<&str>,
+) -> Result<Answer, AllocError>
+    ensures { (word : List ℕ) → HasSteps (DenotesMarker word) marker.entry
+        → IfOk result (λ a. FindsExtent word (option_map (λ w. w.now) other.entry) (outcome_of a)) }
+{
+    match other {
+        Some(other) => find_both(alloc, marker, other),
+        None => find_one(alloc, &marker),
+    }
+}
+
+#[tactic(auto, using(crate::proofs::MarkerExtents::first_fails, crate::proofs::MarkerExtents::parsed))]
+/// `marker MARKER [MARKER]`: an environment in which the marker holds, or both do, as a marker, `always` or `nowhere`. The status is 0, 1 if
+/// there is none, and 2 if a word is no marker, or if it is undecided.
+///
+/// Allocates.
+pub fn find_extent(alloc: Global, word: &str, other: Option<&str>) -> Result<Answer, AllocError>
+    ensures { IfOk result (λ a. FindsExtent word.now (option_map (λ w. w.now) other.entry) (outcome_of a)) }
+{
+    match EnvironmentMarker::parse(alloc, word.as_bytes()) {
+        Ok(marker) => find_with(alloc, marker, other),
+        Err(MarkerError::OutOfMemory) => Err(AllocError),
+        Err(MarkerError::Invalid(fault, position)) => {
+            let answer = report_fault(alloc, word, fault, position)?;
+            Ok(answer)
+        }
+    }
+}
