@@ -5,7 +5,7 @@ _pyver() {
     [[ $before != '=' ]] || before=${COMP_WORDS[COMP_CWORD - 2]}
     [[ $word != --*=* ]] || { before=${word%%=*} prefix=${word%%=*}= word=${word#*=}; }
     case $COMP_CWORD,${COMP_WORDS[1]},$before in
-        1,*) words='compare match filter sort newest show bump range check -h --help -V --version' ;;
+        1,*) words='compare match filter sort newest show bump range marker check -h --help -V --version' ;;
         3,compare,*) words='lt le eq ne ge gt' ;;
         *,compare,*) words='-h --help' ;;
         *,match,*) words='-h --help -q --quiet --pre --no-pre' ;;
@@ -27,6 +27,7 @@ _pyver() {
         *,bump,--to) words='' ;;
         *,bump,*) words='-h --help --to major minor patch stable alpha beta rc post dev' ;;
         *,range,*) words='-h --help --json' ;;
+        *,marker,*) words='-h --help' ;;
         *,check,--format) words='requirements pyproject pylock uv poetry pipfile' ;;
         *,check,--output) words='text json github sarif' ;;
         *,check,*) words='-h --help -q --quiet --each --format --output --json' ;;

@@ -59,6 +59,9 @@ complete -c pyver -n __fish_use_subcommand -a range -d 'print the range that all
 complete -c pyver -n '__fish_seen_subcommand_from range' -s h -l help -d 'print this help'
 complete -c pyver -n '__fish_seen_subcommand_from range' -l json -d 'print an array of intervals; without a version it is []'
 
+complete -c pyver -n __fish_use_subcommand -a marker -d 'print an environment in which the marker holds'
+complete -c pyver -n '__fish_seen_subcommand_from marker' -s h -l help -d 'print this help'
+
 complete -c pyver -n __fish_use_subcommand -a check -d 'check requirements files, projects and locks'
 complete -c pyver -n '__fish_seen_subcommand_from check' -s h -l help -d 'print this help'
 complete -c pyver -n '__fish_seen_subcommand_from check' -s q -l quiet -d 'print nothing; files that cannot be opened are named'

@@ -34,7 +34,7 @@ use Rattle.pyver_commands.specs.Readings.{Reading, Reads, Denotes, Fails}
 use Rattle.pyver_commands.specs.Shows.{Shows, ShowsWord, show_outcome}
 use Rattle.pyver_commands.specs.Sorts.{SortsParts, sort_outcome}
 use Rattle.pyver_commands.specs.Sources.{Input, UnopenedSource}
-use Rattle.pyver_tool.specs.Tasks.{Help, NameVersion, Compare, Match, Filter, Sort, Newest, Show, Bump, Range, Check, Misused, usage}
+use Rattle.pyver_tool.specs.Tasks.{Help, NameVersion, Compare, Match, Filter, Sort, Newest, Show, Bump, Range, Marker, Check, Misused, usage}
 use Rattle.pyver_tool.specs.declared.help.Topic.TheVariants as topic
 use Rattle.pyver_commands.specs.Sources.VersionLines.{InputParts, OfFound, OfSources, OfVersions, input_parts}
 use Rattle.pyver_commands.specs.declared.allowed.MatchOptions.{MatchOptions}
@@ -172,19 +172,20 @@ common_once json words a b (xs, h, is) (ys, k, so) =
     one_printed json (messages_in xs) (members_in xs) a b is (subst (λ (l : List ListReading). PrintsLists json (messages_in l) (members_in l) b) (sym (all_once ReadsMembers list_once words xs ys h k)) so)
 
 pub outcomes_once : OutcomesOnce
-outcomes_once (Help topic) input a b h k = h ∙ sym k
-outcomes_once NameVersion input a b h k = h ∙ sym k
-outcomes_once (Compare left operator right) input a b h k = compare_once left operator right a b h k
-outcomes_once (Match options specifiers words) input a b h k = match_once (usage topic.Match) options specifiers words a b h k
-outcomes_once (Filter options specifiers names) input a b h k = filter_once (usage topic.Filter) options specifiers input a b h k
-outcomes_once (Sort options names) input a b h k = of_versions_once options.lines (SortsParts options) (sort_once options) input a b h k
-outcomes_once (Newest options specifiers names) input a b h k = newest_once (usage topic.Newest) options specifiers input a b h k
-outcomes_once (Show format words) input a b h k = show_once format words a b h k
-outcomes_once (Bump to parts None) input a b h k = of_versions_once bare_line_options (BumpsOnly to parts) (λ lines a b is so. is ∙ sym so) input a b h k
-outcomes_once (Bump to parts (Some word)) input a b h k = bump_once to parts word a b h k
-outcomes_once (Range json words) input a b h k = common_once json words a b h k
-outcomes_once (Check options names) input a b h k = absurd h
-outcomes_once (Misused message) input a b h k = h ∙ sym k
+outcomes_once (Help topic) input a b few h k = h ∙ sym k
+outcomes_once NameVersion input a b few h k = h ∙ sym k
+outcomes_once (Compare left operator right) input a b few h k = compare_once left operator right a b h k
+outcomes_once (Match options specifiers words) input a b few h k = match_once (usage topic.Match) options specifiers words a b h k
+outcomes_once (Filter options specifiers names) input a b few h k = filter_once (usage topic.Filter) options specifiers input a b h k
+outcomes_once (Sort options names) input a b few h k = of_versions_once options.lines (SortsParts options) (sort_once options) input a b h k
+outcomes_once (Newest options specifiers names) input a b few h k = newest_once (usage topic.Newest) options specifiers input a b h k
+outcomes_once (Show format words) input a b few h k = show_once format words a b h k
+outcomes_once (Bump to parts None) input a b few h k = of_versions_once bare_line_options (BumpsOnly to parts) (λ lines a b is so. is ∙ sym so) input a b h k
+outcomes_once (Bump to parts (Some word)) input a b few h k = bump_once to parts word a b h k
+outcomes_once (Range json words) input a b few h k = common_once json words a b h k
+outcomes_once (Marker marker other) input a b few h k = absurd (few tt)
+outcomes_once (Check options names) input a b few h k = absurd h
+outcomes_once (Misused message) input a b few h k = h ∙ sym k
 
 pub checks_once : ChecksOnce
 checks_once read a b c readable (q, d, hq, hd, is) (p, e, hp, he, so) =

@@ -29,4 +29,5 @@ options topic.Newest = rows_of (λ s. s.now) (λ t. t.now) NEWEST_OPTIONS.now
 options topic.Show = rows_of (λ s. s.now) (λ t. t.now) SHOW_OPTIONS.now
 options topic.Bump = rows_of (λ s. s.now) (λ t. t.now) BUMP_OPTIONS.now
 options topic.Range = rows_of (λ s. s.now) (λ t. t.now) RANGE_OPTIONS.now
+options topic.Marker = rows_of (λ s. s.now) (λ t. t.now) COMPARE_OPTIONS.now
 options topic.Check = rows_of (λ s. s.now) (λ t. t.now) CHECK_OPTIONS.now

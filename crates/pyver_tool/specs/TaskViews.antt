@@ -1,7 +1,7 @@
 -- What the program's commands say, apart from where they lie in memory.
 use Rattle.std.specs.Prelude.{ℕ, List, [], map, option_map, string_bytes, Bool}
 use Rattle.pyver_tool.specs.MisuseMessages.{version_last_message}
-use Rattle.pyver_tool.specs.Tasks.{Task, Help, NameVersion, Compare, Match, Filter, Sort, Newest, Show, Range, Check, Misused, bump_from_words, by_split, help_text, wrong_command, wrong_count, wrong_end, wrong_operator, wrong_option, wrong_part, wrong_value}
+use Rattle.pyver_tool.specs.Tasks.{Task, Help, NameVersion, Compare, Match, Filter, Sort, Newest, Show, Range, Marker, Check, Misused, bump_from_words, by_split, help_text, wrong_command, wrong_count, wrong_end, wrong_operator, wrong_option, wrong_part, wrong_value}
 use Rattle.pyver_tool.specs.declared.command.Command.{Command}
 use Rattle.pyver_tool.specs.declared.command.Command.TheVariants as command
 use Rattle.pyver_tool.specs.declared.words.Words.{Words}
@@ -58,6 +58,7 @@ task (command.Newest options specifiers names) = Newest options specifiers.now (
 task (command.Show asked versions) = Show asked (map string_bytes versions.now)
 task (command.Bump to parts version) = bump_from_words to [] (map string_bytes parts.now) (option_map (λ v. v.now) version)
 task (command.Range options lists) = Range options (map string_bytes lists.now)
+task (command.Marker marker other) = Marker marker.now (option_map (λ w. w.now) other)
 task (command.Check options names) = Check options (map string_bytes names.now)
 task (command.Misused why) = Misused (misuse_message why)
 

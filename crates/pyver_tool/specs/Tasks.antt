@@ -10,6 +10,7 @@ use Rattle.pyver_commands.specs.Bumps.{Bumps, bump_part_of}
 use Rattle.pyver_commands.specs.CommonRanges.{FindsCommon}
 use Rattle.pyver_commands.specs.Comparisons.{Compares, comparison_of}
 use Rattle.pyver_commands.specs.Filters.{FiltersLines}
+use Rattle.pyver_commands.specs.MarkerExtents.{FindsExtent}
 use Rattle.pyver_commands.specs.Matches.{Matches}
 use Rattle.pyver_tool.specs.MisuseMessages.{version_last_message, missing_message, unknown_message, usage_message, value_message}
 use Rattle.pyver_commands.specs.NewestOutcomes.{FindsNewestLine}
@@ -28,7 +29,7 @@ use Rattle.pyver_commands.specs.declared.comparison.Comparison.{Comparison}
 use Rattle.pyver_commands.specs.declared.filter.FilterOptions.{FilterOptions}
 use Rattle.pyver_tool.specs.declared.help.Topic.{Topic}
 use Rattle.pyver_tool.specs.declared.help.Topic.TheVariants as topic
-use Rattle.pyver_tool.specs.declared.help.TheConstants.{PROGRAM_HELP, COMPARE_HELP, MATCH_HELP, FILTER_HELP, SORT_HELP, NEWEST_HELP, SHOW_HELP, BUMP_HELP, RANGE_HELP, CHECK_HELP, COMPARE_USAGE, MATCH_USAGE, FILTER_USAGE, SORT_USAGE, NEWEST_USAGE, SHOW_USAGE, BUMP_USAGE, RANGE_USAGE, CHECK_USAGE, PROGRAM_USAGE, VERSION_LINE}
+use Rattle.pyver_tool.specs.declared.help.TheConstants.{PROGRAM_HELP, COMPARE_HELP, MATCH_HELP, FILTER_HELP, SORT_HELP, NEWEST_HELP, SHOW_HELP, BUMP_HELP, RANGE_HELP, MARKER_HELP, CHECK_HELP, COMPARE_USAGE, MATCH_USAGE, FILTER_USAGE, SORT_USAGE, NEWEST_USAGE, SHOW_USAGE, BUMP_USAGE, RANGE_USAGE, MARKER_USAGE, CHECK_USAGE, PROGRAM_USAGE, VERSION_LINE}
 use Rattle.pyver_commands.specs.declared.newest.NewestOptions.{NewestOptions}
 use Rattle.pyver_tool.specs.declared.misuse.TheConstants.{BUMP_PART_NAMES, COMMAND_NAMES, OPERATOR_NAMES}
 use Rattle.pyver_tool.specs.declared.settings.Settings.{Settings}
@@ -48,6 +49,7 @@ pub data Task : Type 0 where
   Show : ShowFormat → List (List ℕ) → Task
   Bump : Option ℕ → List BumpPart → Option (List ℕ) → Task
   Range : Bool → List (List ℕ) → Task
+  Marker : List ℕ → Option (List ℕ) → Task
   Check : CheckOptions → List (List ℕ) → Task
   Misused : List ℕ → Task
 
@@ -64,6 +66,7 @@ topic_of word =
     else if bytes_eq word (codes "show") then Some topic.Show
     else if bytes_eq word (codes "bump") then Some topic.Bump
     else if bytes_eq word (codes "range") then Some topic.Range
+    else if bytes_eq word (codes "marker") then Some topic.Marker
     else if bytes_eq word (codes "check") then Some topic.Check
     else None
 
@@ -78,6 +81,7 @@ usage topic.Newest = NEWEST_USAGE.now
 usage topic.Show = SHOW_USAGE.now
 usage topic.Bump = BUMP_USAGE.now
 usage topic.Range = RANGE_USAGE.now
+usage topic.Marker = MARKER_USAGE.now
 usage topic.Check = CHECK_USAGE.now
 
 -- the words that print the help of a command
@@ -91,6 +95,7 @@ help_words topic.Newest = codes "pyver newest --help"
 help_words topic.Show = codes "pyver show --help"
 help_words topic.Bump = codes "pyver bump --help"
 help_words topic.Range = codes "pyver range --help"
+help_words topic.Marker = codes "pyver marker --help"
 help_words topic.Check = codes "pyver check --help"
 
 -- the text of `--help`
@@ -104,6 +109,7 @@ help_text topic.Newest = NEWEST_HELP.now
 help_text topic.Show = SHOW_HELP.now
 help_text topic.Bump = BUMP_HELP.now
 help_text topic.Range = RANGE_HELP.now
+help_text topic.Marker = MARKER_HELP.now
 help_text topic.Check = CHECK_HELP.now
 
 -- ---- wrong words
@@ -185,6 +191,8 @@ task_with settings topic.Newest (specifiers ∷ names) = Newest (record { prerel
 task_with settings topic.Show (word ∷ words) = Show settings.format (word ∷ words)
 task_with settings topic.Bump words = bump_operands settings.to words
 task_with settings topic.Range (word ∷ words) = Range (is_json settings.format) (word ∷ words)
+task_with settings topic.Marker (marker ∷ []) = Marker marker None
+task_with settings topic.Marker (marker ∷ other ∷ []) = Marker marker (Some other)
 task_with settings topic.Check names = Check (record { output = settings.output; each = settings.each; quiet = settings.quiet; kind = settings.kind }) names
 task_with settings topic _ = Misused (wrong_count topic)
 
@@ -245,6 +253,7 @@ IsOutcome (Show asked words) input o = Shows asked words o
 IsOutcome (Bump to parts None) input o = BumpsInput to parts input o
 IsOutcome (Bump to parts (Some word)) input o = Bumps to parts word o
 IsOutcome (Range options words) input o = FindsCommon options words o
+IsOutcome (Marker marker other) input o = FindsExtent marker other o
 IsOutcome (Check options names) input o = ⊥
 IsOutcome (Misused message) input o = o ≡ message_outcome message
 

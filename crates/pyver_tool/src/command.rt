@@ -16,8 +16,8 @@ use crate::words::Words;
 use pyver_commands::{
     Answer, BumpRule, Comparison, FilterOptions, FilterRule, LinesQuestion, MatchOptions,
     NewestOptions, NewestRule, Question, Selection, ShowFormat, SortOptions, SpecifiersReading,
-    bump_version, compare, find_common, match_versions, parse_bump_part, parse_comparison,
-    parse_specifiers, report_list_fault, show_versions, takes_prereleases,
+    bump_version, compare, find_common, find_extent, match_versions, parse_bump_part,
+    parse_comparison, parse_specifiers, report_list_fault, show_versions, takes_prereleases,
 };
 use std::alloc::{AllocError, Global};
 
@@ -38,6 +38,7 @@ pub(crate) enum Command<'a> {
     // The number of the last part, the names of the parts, and the version if it is among the words.
     Bump(Option<u64>, &'a [String], Option<&'a str>),
     Range(bool, &'a [String]),
+    Marker(&'a str, Option<&'a str>),
     // How, and the names of the files.
     Check(CheckOptions, &'a [String]),
     Misused(Misuse<'a>),
@@ -151,6 +152,16 @@ fn parse_range<'a>(settings: Settings, words: &'a [String]) -> Command<'a>
     Command::Range(is_json(settings.format), words)
 }
 
+fn parse_marker<'a>(words: &'a [String]) -> Command<'a>
+    ensures { (settings : Settings) → task result ≡ task_with settings Topic.Marker (map string_bytes words.now) }
+{
+    match words {
+        [marker] => Command::Marker(marker.as_str(), None),
+        [marker, other] => Command::Marker(marker.as_str(), Some(other.as_str())),
+        _ => Command::Misused(Misuse::Count(Topic::Marker)),
+    }
+}
+
 // Parts, at least one, and then the version.
 fn parse_bump_word<'a>(to: Option<u64>, parts: &'a [String], version: &'a str) -> Command<'a>
     ensures { task result ≡ bump_word to (map string_bytes parts.now) version.now }
@@ -244,6 +255,7 @@ fn parse_operands<'a>(topic: Topic, settings: Settings, words: &'a [String]) -> 
         Topic::Show => parse_show(settings, words),
         Topic::Bump => parse_bump(settings.to, words),
         Topic::Range => parse_range(settings, words),
+        Topic::Marker => parse_marker(words),
         Topic::Check => parse_check(settings, words),
     }
 }
@@ -337,6 +349,9 @@ impl<'a> Command<'a> {
             }
             Command::Bump(to, names, version) => start_bump(alloc, to, names, version),
             Command::Range(json, words) => { Ok(Work::Answer(find_common(alloc, json, words)?)) }
+            Command::Marker(marker, other) => {
+                Ok(Work::Answer(find_extent(alloc, marker, other)?))
+            }
             Command::Check(options, names) => Ok(Work::Check(options, names)),
             Command::Misused(misuse) => Ok(Work::Answer(report_misuse(alloc, misuse)?)),
         }

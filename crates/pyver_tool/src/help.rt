@@ -14,6 +14,7 @@ pub(crate) enum Topic {
     Show,
     Bump,
     Range,
+    Marker,
     Check,
 }
 
@@ -38,6 +39,8 @@ const BUMP_USAGE: &str = "pyver bump [--to N] PART.. [V]";
 
 const RANGE_USAGE: &str = "pyver range [--json] SPECS..";
 
+const MARKER_USAGE: &str = "pyver marker MARKER [MARKER]";
+
 const CHECK_USAGE: &str =
     "pyver check [-q] [--each] [--format KIND] [--output FORM | --json] [FILE..]";
 
@@ -56,6 +59,7 @@ commands:
   show V..           print versions in normal form, or their parts
   bump PART.. [V]    raise parts of a version
   range SPECS..      print the range that all specifiers allow
+  marker MARKER      print an environment in which the marker holds
   check              check requirements files, projects and locks
 
 'pyver COMMAND --help' explains a command. '--version' prints the program's version.
@@ -65,12 +69,11 @@ The exit status is 0 for yes or done, 1 for no, 2 for a wrong use or an invalid 
 examples:
   pyver compare 1.9 lt 1.10 && echo older
   pyver match '>=1.16,<2.0' 1.19
-  pyver filter '>=1.0,<2.0' versions.txt
   git tag | pyver sort -n 3 --invalid skip
   git tag | pyver newest --invalid skip '<2.0'
-  pyver show --part major 1.19
   pyver bump minor 1.19
   pyver range '>=1,<2' '>=1.5'
+  pyver marker 'python_version >= \"3.8\"' 'os_name == \"nt\"'
   pyver check requirements.txt
 ";
 
@@ -255,6 +258,23 @@ options:
   --      end of options
 ";
 
+const MARKER_HELP: &str = "usage: pyver marker MARKER [MARKER]
+
+examples:
+  pyver marker 'python_version >= \"3.8\" and python_version < \"3.8\"'
+  pyver marker 'python_version >= \"3.8\"' 'sys_platform == \"win32\"'
+
+Prints an environment in which the environment marker holds, or both do, as a marker: wherever the
+variables are so, they hold. Otherwise 'always' is printed, if they hold in some environment and are
+false in none, or 'nowhere', and the exit status is 1. If a word is no marker, or if nothing of this
+could be shown, standard error says so, and the exit status is 2.
+In an environment python_version is the first two numbers of python_full_version; what other
+variables are is independent.
+
+options:
+  --  end of options
+";
+
 const CHECK_HELP: &str =
     "usage: pyver check [-q] [--each] [--format KIND] [--output FORM | --json] [FILE..]
 
@@ -303,6 +323,7 @@ pub(crate) fn help(topic: Topic) -> &'static str
         Topic::Show => SHOW_HELP,
         Topic::Bump => BUMP_HELP,
         Topic::Range => RANGE_HELP,
+        Topic::Marker => MARKER_HELP,
         Topic::Check => CHECK_HELP,
     }
 }
@@ -321,6 +342,7 @@ pub(crate) fn help_words(topic: Topic) -> &'static str
         Topic::Show => "pyver show --help",
         Topic::Bump => "pyver bump --help",
         Topic::Range => "pyver range --help",
+        Topic::Marker => "pyver marker --help",
         Topic::Check => "pyver check --help",
     }
 }
@@ -339,6 +361,7 @@ pub(crate) fn usage(topic: Topic) -> &'static str
         Topic::Show => SHOW_USAGE,
         Topic::Bump => BUMP_USAGE,
         Topic::Range => RANGE_USAGE,
+        Topic::Marker => MARKER_USAGE,
         Topic::Check => CHECK_USAGE,
     }
 }

@@ -1,7 +1,7 @@
 //! What holds of the program's outcomes, as the contract of a function that does nothing.
 ghost use Rattle.pyver_tool.specs.OneOutcome.{ChecksOnce, OutcomesOnce};
 
-/// Of what is asked for there is at most one outcome.
+/// Of what is asked for there is at most one outcome; `marker` may have many.
 pub fn outcomes_once()
     ensures { OutcomesOnce }
 {}

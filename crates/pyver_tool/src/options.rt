@@ -122,6 +122,7 @@ pub(crate) fn options(topic: Topic) -> &'static [OptionRow]
         Topic::Show => SHOW_OPTIONS,
         Topic::Bump => BUMP_OPTIONS,
         Topic::Range => RANGE_OPTIONS,
+        Topic::Marker => COMPARE_OPTIONS,
         Topic::Check => CHECK_OPTIONS,
     }
 }

@@ -35,6 +35,7 @@ fn parse_topic(word: &str) -> Option<Topic>
         "show" => Some(Topic::Show),
         "bump" => Some(Topic::Bump),
         "range" => Some(Topic::Range),
+        "marker" => Some(Topic::Marker),
         "check" => Some(Topic::Check),
         _ => None,
     }
