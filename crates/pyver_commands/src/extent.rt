@@ -152,7 +152,21 @@ fn print_marker(alloc: Global, marker: &EnvironmentMarker<'_>) -> Result<Answer,
     Ok(answer)
 }
 
-#[tactic(auto, using(crate::proofs::MarkerExtents::found_both, crate::proofs::MarkerExtents::parsed, crate::proofs::MarkerExtents::second_fails))]
+// Where both markers hold.
+fn print_both(
+    alloc: Global,
+    marker: EnvironmentMarker<'_>,
+    second: &EnvironmentMarker<'_>,
+) -> Result<Answer, AllocError>
+    ensures { (word other : List ℕ) → HasSteps (DenotesMarker word) marker.entry → HasSteps (DenotesMarker other) second.now
+        → IfOk result (λ a. FindsExtent word (Some other) (outcome_of a)) }
+{
+    let both = marker.and(second)?;
+    let answer = print_marker(alloc, &both)?;
+    Ok(answer)
+}
+
+#[tactic(auto, using(crate::proofs::MarkerExtents::parsed, crate::proofs::MarkerExtents::second_fails))]
 // Where the marker of the first word and that of the other both hold.
 fn find_both(
     alloc: Global,
@@ -162,11 +176,7 @@ fn find_both(
     ensures { (word : List ℕ) → HasSteps (DenotesMarker word) marker.entry → IfOk result (λ a. FindsExtent word (Some other.now) (outcome_of a)) }
 {
     match EnvironmentMarker::parse(alloc, other.as_bytes()) {
-        Ok(second) => {
-            let both = marker.and(&second)?;
-            let answer = print_marker(alloc, &both)?;
-            Ok(answer)
-        }
+        Ok(second) => print_both(alloc, marker, &second),
         Err(MarkerError::OutOfMemory) => Err(AllocError),
         Err(MarkerError::Invalid(fault, position)) => {
             let answer = report_fault(alloc, other, fault, position)?;
