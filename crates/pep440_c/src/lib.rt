@@ -13,7 +13,7 @@
 ghost use Rattle.std.specs.Prelude.{map, not, ◌==◌, ◌≡◌, ◌≢◌};
 ghost use Rattle.pep440_rs.specs.Bounds.{range_of, release_range_of};
 ghost use Rattle.pep440_calls.specs.Batches.{FilterMarks, KeysResult, SortResult};
-ghost use Rattle.pep440_calls.specs.CallResults.{AllowsResult, AsksInPlace, ContainsResult, IsCompiled, IsCompiledList, IsKey, IsNormal, IsNormalList, IsVersionIn, MatchesInPlace, NamesPrerelease, OrderResult, PartsResult, JoinsMembers, WordResult};
+ghost use Rattle.pep440_calls.specs.CallResults.{AllowsResult, AsksInPlace, ContainsResult, IsCompiled, IsCompiledList, IsKey, IsNormal, IsNormalList, IsShortNormalForm, IsVersionIn, MatchesInPlace, NamesPrerelease, NeedsNoMemory, OrderResult, PartsResult, JoinsMembers, WordResult};
 ghost use Rattle.pep440_calls.specs.Edits.{IsEditError, WritesEdited};
 ghost use Rattle.pep440_calls.specs.Explanations.{ErrorResult, IsBuildError, IsNoOperator, RejectsNumbered};
 ghost use Rattle.pep440_calls.specs.JoinedStrings.{WritesJoinedOr};
@@ -238,7 +238,8 @@ pub extern "C" fn pep440_sort_key(
     out: &mut [u8],
     written: &mut usize,
 ) -> u8
-    ensures { WritesBytes (RejectsBytes text.now) ⊥ ⊥ (IsKey text.now) out.old out.new written.old written.new result }
+    ensures found { WritesBytes (RejectsBytes text.now) ⊥ ⊥ (IsKey text.now) out.old out.new written.old written.new result }
+    ensures memory { NeedsNoMemory text.now → result ≢ 3 }
 {
     write_sort_key(alloc, text, out, written)
 }
@@ -370,7 +371,8 @@ pub extern "C" fn pep440_compile(
     out: &mut [u8],
     written: &mut usize,
 ) -> u8
-    ensures { WritesBytes (RejectsBytes text.now) ⊥ ⊥ (IsCompiled text.now) out.old out.new written.old written.new result }
+    ensures found { WritesBytes (RejectsBytes text.now) ⊥ ⊥ (IsCompiled text.now) out.old out.new written.old written.new result }
+    ensures memory { IsShortNormalForm text.now → result ≢ 3 }
 {
     write_compiled(alloc, text, out, written)
 }

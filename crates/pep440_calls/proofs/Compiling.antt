@@ -2,6 +2,8 @@
 use Rattle.std.proofs.Common.{◌≡◌, ℕ, List, inl, inr, refl, subst, sym, ◌<◌, [], ◌∷◌, ◌++◌, true, arith, map, codes, Option, Some, None}
 use Rattle.std.proofs.lemmas.List.Elements.{All-weaker}
 use Rattle.std.specs.List.{All, list_all}
+use Rattle.std.specs.Prelude.{Err, IfSome, IsSome, MatchResult, Ok, Result}
+use Rattle.std.specs.Result.{result_ok}
 use Rattle.pep440_compiled.proofs.Exact.{parsed}
 use Rattle.pep440_compiled.specs.Lists.{IsParsedMember}
 use Rattle.pep440_compiled.specs.Version.{DenotesVersion}
@@ -12,10 +14,11 @@ use Rattle.pep440_rs.proofs.Agreement.Operands.{list_has_texts}
 use Rattle.pep440_rs.proofs.Denoted.{is_denotable}
 use Rattle.pep440_rs.specs.Specifiers.SpecifierGrammar.{IsDenotedSpecifier}
 use Rattle.pep440_rs.specs.Specifiers.{Spec}
+use Rattle.pep440_keys.specs.SortKeys.{key_bytes}
 use Rattle.pep440_version.specs.Grammar.{Derives, AreSegments, IsCount, IsDev, IsEpoch, IsLeadingV, IsLocal, IsNumber, IsPost, IsPre, IsRelease, IsSeparator, IsSpelled, IsSpelling, Spellings, dev_spellings, is_separator, post_spellings, pre_spellings}
 use Rattle.pep440_version.specs.Record.{Record, LocalSegmentValue}
 use Rattle.pep440_calls.proofs.Once.{no_format}
-use Rattle.pep440_calls.specs.CallResults.{IsCompiled}
+use Rattle.pep440_calls.specs.CallResults.{IsCompiled, IsKey}
 use Rattle.pep440_calls.specs.CallerBytes.{BytesDenote, BytesDenoteList}
 use Rattle.pep440_calls.specs.Statuses.{Faults, fault_of_compile}
 use Rattle.pep440_calls.specs.declared.fault.Fault.{Fault}
@@ -153,3 +156,14 @@ only_memory version list range f OutOfMemory is never = subst (Faults version li
 -- the compiled form of a string that needs no version
 pub string_compiled : (bytes form : List ℕ) → (r : Record) × Derives bytes r × DenotesVersion form r → IsCompiled bytes form
 string_compiled bytes form (r, d, denotes) = (r, inl (no_format bytes r d, (derived_utf8 bytes r d, d)), denotes)
+
+-- the sort key in the compiled form of a string
+pub string_key : {K E : Type 0} (now : K → List ℕ) (bytes form : List ℕ) (result : Result K E) → (r : Record) × Derives bytes r × DenotesVersion form r
+    → ((r : Record) → DenotesVersion form r → MatchResult result (λ key. now key ≡ key_bytes r) (λ _. ⊥)) → IfSome (result_ok result) (λ key. IsKey bytes (now key))
+string_key now bytes form (Ok key) (r, d, denotes) found = (r, inl (no_format bytes r d, (derived_utf8 bytes r d, d)), found r denotes)
+string_key now bytes form (Err e) compiled found = tt
+
+pub string_has_key : {K E : Type 0} (now : K → List ℕ) (bytes form : List ℕ) (result : Result K E) → (r : Record) × Derives bytes r × DenotesVersion form r
+    → ((r : Record) → DenotesVersion form r → MatchResult result (λ key. now key ≡ key_bytes r) (λ _. ⊥)) → IsSome (result_ok result)
+string_has_key now bytes form (Ok key) compiled found = refl
+string_has_key now bytes form (Err e) (r, d, denotes) found = absurd (found r denotes)

@@ -1,6 +1,7 @@
 -- Bytes that are a string or a compiled form: what is read of each, and what is found in compiled bytes as they lie.
-use Rattle.std.proofs.Common.{◌≡◌, ◌∙◌, ℕ, List, Bool, ap, arith, codes, inl, inr, refl, sym}
-use Rattle.std.specs.Prelude.{Err, Ok, Result, slice_get, unwrap_or}
+use Rattle.std.proofs.Common.{◌≡◌, ◌∙◌, ℕ, List, Bool, ap, arith, codes, inl, inr, refl, subst, sym}
+use Rattle.std.specs.Prelude.{Err, IfSome, Ok, Result, slice_get, unwrap_or}
+use Rattle.std.specs.Result.{result_ok}
 use Rattle.std.specs.declared.cmp.Ordering.{Ordering}
 use Rattle.pep440_compiled.specs.Lists.{DenotesList, DenotesWithSet, HasListFormat, HasSetFormat}
 use Rattle.pep440_compiled.specs.SetForms.{HasLoneSetFormat}
@@ -10,9 +11,10 @@ use Rattle.pep440_rs.specs.Specifiers.{Spec}
 use Rattle.pep440_version.specs.Key.{record_cmp}
 use Rattle.pep440_version.specs.Record.{Record}
 use Rattle.pep440_calls.proofs.Once.{never_both, one_bytes_list, one_version}
-use Rattle.pep440_calls.specs.CallResults.{Contains, IsOrder, IsPrerelease, RejectsSecond, order_number}
+use Rattle.pep440_calls.specs.Buffers.{WritesResult}
+use Rattle.pep440_calls.specs.CallResults.{Contains, IsCompiled, IsOrder, IsPrerelease, RejectsSecond, order_number}
 use Rattle.pep440_calls.specs.CallerBytes.{IsNoCompiledList, IsNoCompiledVersion, BytesDenote, BytesDenoteList, ListFaults, StringDenotesList, StringDenotes, RejectsBytes, RejectsListBytes, RejectsListString, RejectsString}
-use Rattle.pep440_calls.specs.Statuses.{Faults, HoldsOr, HoldsOrFaults}
+use Rattle.pep440_calls.specs.Statuses.{Faults, HoldsOr, HoldsOrFaults, WritesBytesOr}
 use Rattle.pep440_calls.specs.declared.fault.Fault.{Fault}
 use Rattle.pep440_calls.specs.declared.fault.Fault.TheVariants as fault
 
@@ -46,6 +48,12 @@ list_faults A bytes plain fault.NoList h = absurd h
 pub members_read : (bytes : List ℕ) → (¬ HasLoneSetFormat bytes) → (result : Result (List Spec) Fault) → HoldsOrFaults ⊥ (RejectsListBytes bytes) ⊥ (BytesDenoteList bytes) result → HoldsOr (ListFaults ⊥ bytes ⊥) (BytesDenoteList bytes) result
 members_read bytes plain (Ok l) means = means
 members_read bytes plain (Err f) h = list_faults ⊥ bytes plain f h
+
+-- what is written of a result
+pub writes : {X : Type 0} (Cause : Fault → Type 0) (P : List ℕ → Type 0) (view : X → List ℕ) (given : Result X Fault) (old new : List ℕ) (old_written written status : ℕ)
+    → HoldsOr Cause (λ x. P (view x)) given → WritesResult view given old new old_written written status → WritesBytesOr Cause P old new old_written written status
+writes Cause P view (Ok x) old new old_written written status holds is = inl (view x, holds, is.0, is.1)
+writes Cause P view (Err f) old new old_written written status cause is = inr (is.0, is.1, (f, cause, is.2))
 
 -- ---- versions
 
@@ -125,6 +133,17 @@ order_read left right r q o means also is = (
   inr ((r, means), (q, also)),
   λ x y first second. ap order_number (is ∙ (λ i. record_cmp (one_version left r x means first i) (one_version right q y also second i))),
 )
+
+-- the order of a compiled version and of the compiled form of a string
+pub order_beside_string : {E : Type 0} (left text form : List ℕ) (result : Result Ordering E) → (r : Record) × DenotesVersion left r → IsCompiled text form
+    → ((r q : Record) → DenotesVersion left r → DenotesVersion form q → result ≡ Ok (record_cmp r q)) → IfSome (result_ok result) (λ o. IsOrder left text (order_number o))
+order_beside_string left text form result (r, d) (q, means, denotes) found =
+    subst (λ x. IfSome (result_ok x) (λ o. IsOrder left text (order_number o))) (sym (found r q d denotes)) (order_read left text r q (record_cmp r q) (inr d) means refl)
+
+pub order_of_string : {E : Type 0} (text form right : List ℕ) (result : Result Ordering E) → IsCompiled text form → (q : Record) × DenotesVersion right q
+    → ((r q : Record) → DenotesVersion form r → DenotesVersion right q → result ≡ Ok (record_cmp r q)) → IfSome (result_ok result) (λ o. IsOrder text right (order_number o))
+order_of_string text form right result (r, means, denotes) (q, d) found =
+    subst (λ x. IfSome (result_ok x) (λ o. IsOrder text right (order_number o))) (sym (found r q denotes d)) (order_read text right r q (record_cmp r q) means (inr d) refl)
 
 -- matching of a compiled list and the compiled form of a string
 module _ (list text form : List ℕ) (format : HasListFormat list) (r : Record) (means : BytesDenote text r) (compiled : DenotesVersion form r) where

@@ -111,9 +111,13 @@ module _ (left right : List ℕ) where
 abbrev pub IsTakenAsVersion : List ℕ → Type 0
 IsTakenAsVersion text = HasVersionFormat text ⊎ ((r : Record) × BytesDenote text r)
 
+-- the normalized form of a version whose compiled form is short
+abbrev pub IsShortNormalForm : List ℕ → Type 0
+IsShortNormalForm text = (r : Record) × HasShortForm r × (text ≡ print r)
+
 -- nothing is allocated for the version: the bytes begin as its compiled form, or are its normalized form and the compiled one is short
 abbrev pub NeedsNoMemory : List ℕ → Type 0
-NeedsNoMemory text = HasVersionFormat text ⊎ ((r : Record) × HasShortForm r × (text ≡ print r))
+NeedsNoMemory text = HasVersionFormat text ⊎ IsShortNormalForm text
 
 -- nothing is allocated for either
 abbrev pub MatchesInPlace : List ℕ → List ℕ → Type 0

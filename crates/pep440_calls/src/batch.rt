@@ -19,8 +19,9 @@ ghost use Rattle.pep440_calls.specs.declared.batch.BatchError.TheVariants.{OutOf
 use crate::buffer::{put, put_both};
 use crate::fault::Fault;
 use crate::joined_strings::JoinedStrings;
-use crate::one_version::find_key;
+use crate::one_version::{find_key, find_string_key};
 use crate::read::{read, to_list};
+use arrayvec::ArrayVec;
 use pep440_compiled::{
     ContainsError, compare_sort_keys, has_set_format, has_version_format, read_membership,
 };
@@ -117,7 +118,7 @@ fn mark_string(alloc: Global, list: &VersionSpecifiers, text: &[u8]) -> Result<u
 }
 
 // What the set of a compiled list says of a compiled version, both as they lie.
-fn mark_compiled(form: &[u8], version: &[u8]) -> u8
+fn compiled_mark(form: &[u8], version: &[u8]) -> u8
     requires form { HasSetFormat form.now }
     requires version { HasVersionFormat version.now }
     ensures { (list : List Spec) → BytesDenoteList form.now list → IsMark list version.now result }
@@ -135,7 +136,7 @@ fn mark(alloc: Global, form: &[u8], list: &VersionSpecifiers, text: &[u8]) -> Re
     ensures { IfOk result (IsMark list.now text.now) }
 {
     if has_set_format(form) && has_version_format(text) {
-        return Ok(mark_compiled(form, text));
+        return Ok(compiled_mark(form, text));
     }
     mark_string(alloc, list, text)
 }
@@ -227,8 +228,8 @@ fn cmp_versions(a: &(usize, Version), b: &(usize, Version)) -> Ordering
     a.1.cmp(&b.1)
 }
 
-// The positions, without the versions.
-fn collect_positions(alloc: Global, pairs: &[(usize, Version)]) -> Result<Vec<usize>, AllocError>
+// The positions, without what stands at them.
+fn collect_positions<T>(alloc: Global, pairs: &[(usize, T)]) -> Result<Vec<usize>, AllocError>
     ensures { IfOk result (λ found. found.items ≡ map (λ p. p.0) pairs.now) }
 {
     let mut found = Vec::with_capacity(alloc, pairs.len())?;
@@ -247,17 +248,6 @@ fn sort_pairs(alloc: Global, pairs: Vec<(usize, Version)>) -> Result<Vec<usize>,
     collect_positions(alloc, sorted.as_slice())
 }
 
-// The positions, without the sort keys.
-fn collect_key_positions(alloc: Global, pairs: &[(usize, &[u8])]) -> Result<Vec<usize>, AllocError>
-    ensures { IfOk result (λ found. found.items ≡ map (λ p. p.0) pairs.now) }
-{
-    let mut found = Vec::with_capacity(alloc, pairs.len())?;
-    for pair in pairs {
-        found.push(pair.0)?;
-    }
-    Ok(found)
-}
-
 // The positions of the sort keys in order, equal ones in the order given.
 fn sort_by_keys(alloc: Global, pairs: Vec<(usize, &[u8])>) -> Result<Vec<usize>, AllocError>
     ensures { (versions : List Record) → All IsParsed versions
@@ -266,7 +256,7 @@ fn sort_by_keys(alloc: Global, pairs: Vec<(usize, &[u8])>) -> Result<Vec<usize>,
 {
     let mut sorted = pairs;
     sorted.sort_by(|a, b| cmp_keys(a, b))?;
-    collect_key_positions(alloc, sorted.as_slice())
+    collect_positions(alloc, sorted.as_slice())
 }
 
 // The positions of the strings in the order of their versions; of compiled versions alone, by their sort keys.
@@ -309,6 +299,10 @@ fn push_key(alloc: Global, keys: &mut JoinedStrings, bytes: &[u8]) -> Result<(),
 {
     if has_version_format(bytes) {
         let key = find_key(bytes)?;
+        return Ok(keys.push(key)?);
+    }
+    let mut form = ArrayVec::new();
+    if let Some(key) = find_string_key(&mut form, bytes) {
         return Ok(keys.push(key)?);
     }
     let version = read(alloc, bytes)?;

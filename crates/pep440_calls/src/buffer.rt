@@ -1,7 +1,8 @@
 //! What is written to the caller's memory.
-ghost use Rattle.std.specs.Prelude.{length, string_bytes, ◌≡◌};
+ghost use Rattle.std.specs.Prelude.{IfErr, length, string_bytes, ◌≡◌, ◌≢◌};
 ghost use Rattle.pep440_calls.specs.Buffers.{WritesResult, WritesJoinedResult};
 ghost use Rattle.pep440_calls.specs.Statuses.{WritesBoth, WritesAtStart, flag};
+ghost use Rattle.pep440_calls.specs.declared.fault.Fault.TheVariants.{OutOfMemory};
 
 use crate::fault::Fault;
 use crate::joined_strings::JoinedStrings;
@@ -52,7 +53,8 @@ pub(crate) fn put_text(given: Result<String, Fault>, out: &mut [u8], written: &m
 
 // Writes the bytes that a call finds at the start of the buffer if it has room, and reports how many they are.
 pub(crate) fn put_slice(given: Result<&[u8], Fault>, out: &mut [u8], written: &mut usize) -> u8
-    ensures { WritesResult (λ bytes. bytes.now) given.entry out.old out.new written.old written.new result }
+    ensures found { WritesResult (λ bytes. bytes.now) given.entry out.old out.new written.old written.new result }
+    ensures memory { IfErr given.entry (λ f. f ≢ OutOfMemory) → result ≢ 3 }
 {
     match given {
         Ok(bytes) => put_and_count(bytes, out, written),

@@ -1,9 +1,10 @@
 //! What is made of one version: its normal form, compiled form, parts, sort key and word.
-ghost use Rattle.std.specs.Prelude.{string_bytes, ◌≡◌};
+ghost use Rattle.std.specs.Prelude.{IfErr, IfSome, IsSome, [], string_bytes, ◌≡◌, ◌≢◌};
 ghost use Rattle.pep440_compiled.specs.Version.{HasVersionFormat};
-ghost use Rattle.pep440_calls.specs.CallResults.{IsCompiled, IsKey, IsNormal, PartsResult, HasPartsOf, IsPackedWord, WordResult, kind_number};
+ghost use Rattle.pep440_calls.specs.CallResults.{IsCompiled, IsKey, IsShortNormalForm, IsNormal, PartsResult, HasPartsOf, IsPackedWord, NeedsNoMemory, WordResult, kind_number};
 ghost use Rattle.pep440_calls.specs.CallerBytes.{RejectsBytes};
 ghost use Rattle.pep440_calls.specs.Statuses.{HoldsOrFaults, WritesBytes};
+ghost use Rattle.pep440_calls.specs.declared.fault.Fault.TheVariants.{OutOfMemory};
 
 use crate::buffer::{NOT_PACKED, OK, flag, put, put_and_count, put_bytes, put_slice, put_text};
 use crate::fault::Fault;
@@ -33,7 +34,8 @@ fn normalize(alloc: Global, bytes: &[u8]) -> Result<String, Fault>
 /// Writes the compiled form of the version.
 #[tactic(auto, using(crate::proofs::Compiling::string_compiled))]
 pub fn write_compiled(alloc: Global, text: &[u8], out: &mut [u8], written: &mut usize) -> u8
-    ensures { WritesBytes (RejectsBytes text.now) ⊥ ⊥ (IsCompiled text.now) out.old out.new written.old written.new result }
+    ensures found { WritesBytes (RejectsBytes text.now) ⊥ ⊥ (IsCompiled text.now) out.old out.new written.old written.new result }
+    ensures memory { IsShortNormalForm text.now → result ≢ 3 }
 {
     let mut form = ArrayVec::new();
     // no string in a normal spelling has the format of a compiled version
@@ -52,12 +54,26 @@ pub(crate) fn compile(alloc: Global, text: &[u8]) -> Result<Vec<u8>, Fault>
 }
 
 /// Writes the sort key of the version: `memcmp` orders keys as their versions (PEP 440, "Summary of permitted
-/// suffixes and relative ordering"). Allocates nothing for a compiled version.
+/// suffixes and relative ordering"). Allocates nothing for a compiled version, or for a string in a normal spelling.
 pub fn write_sort_key(alloc: Global, text: &[u8], out: &mut [u8], written: &mut usize) -> u8
-    ensures { WritesBytes (RejectsBytes text.now) ⊥ ⊥ (IsKey text.now) out.old out.new written.old written.new result }
+    ensures found { WritesBytes (RejectsBytes text.now) ⊥ ⊥ (IsKey text.now) out.old out.new written.old written.new result }
+    ensures memory { NeedsNoMemory text.now → result ≢ 3 }
 {
     if has_version_format(text) {
         return put_slice(find_key(text), out, written);
+    }
+    write_string_key(alloc, text, out, written)
+}
+
+// Writes the sort key of a string.
+fn write_string_key(alloc: Global, text: &[u8], out: &mut [u8], written: &mut usize) -> u8
+    requires { ¬ HasVersionFormat text.now }
+    ensures found { WritesBytes (RejectsBytes text.now) ⊥ ⊥ (IsKey text.now) out.old out.new written.old written.new result }
+    ensures memory { NeedsNoMemory text.now → result ≢ 3 }
+{
+    let mut form = ArrayVec::new();
+    if let Some(key) = find_string_key(&mut form, text) {
+        return put_and_count(key, out, written);
     }
     put_bytes(make_key(alloc, text), out, written)
 }
@@ -65,12 +81,25 @@ pub fn write_sort_key(alloc: Global, text: &[u8], out: &mut [u8], written: &mut 
 // The sort key of a compiled version, as it lies in the bytes.
 pub(crate) fn find_key(bytes: &[u8]) -> Result<&[u8], Fault>
     requires { HasVersionFormat bytes.now }
-    ensures { HoldsOrFaults (RejectsBytes bytes.now) ⊥ ⊥ (λ key. IsKey bytes.now key.now) result }
+    ensures found { HoldsOrFaults (RejectsBytes bytes.now) ⊥ ⊥ (λ key. IsKey bytes.now key.now) result }
+    ensures memory { IfErr result (λ f. f ≢ OutOfMemory) }
 {
     match pep440_compiled::read_sort_key(bytes) {
         Ok(key) => Ok(key),
         Err(_) => Err(Fault::InvalidVersion),
     }
+}
+
+// The sort key of a string, which is compiled in the form; `None` if it is to be parsed.
+pub(crate) fn find_string_key<'a>(form: &'a mut ArrayVec<u8, 64>, text: &[u8]) -> Option<&'a [u8]>
+    requires { form.old.items ≡ [] }
+    ensures found { IfSome result (λ key. IsKey text.now key.now) }
+    ensures short { IsShortNormalForm text.now → IsSome result }
+{
+    if !compile_normal(form, text) {
+        return None;
+    }
+    pep440_compiled::sort_key(form.as_slice()).ok()
 }
 
 // The sort key of a version.

@@ -1,16 +1,21 @@
 //! How two versions compare.
-ghost use Rattle.std.specs.Prelude.{◌≡◌};
-ghost use Rattle.pep440_calls.specs.CallResults.{ReturnsOrder, OrderResult, order_number};
+ghost use Rattle.std.specs.Prelude.{IfSome, true, ◌≡◌};
+ghost use Rattle.pep440_compiled.specs.Version.{DenotesVersion};
+ghost use Rattle.pep440_version.specs.Record.{Record};
+ghost use Rattle.pep440_calls.specs.CallResults.{IsOrder, ReturnsOrder, OrderResult, order_number};
 ghost use Rattle.pep440_calls.specs.declared.fault.Fault.TheVariants.{OutOfMemory};
 
 use crate::buffer::OK;
 use crate::fault::Fault;
 use crate::read::read;
+use arrayvec::ArrayVec;
+use pep440_compiled::{compile_normal, read_sort_key};
 use std::alloc::Global;
 use std::cmp::Ordering;
 
 /// How the left version compares with the right one: -1 below, 0 equal, 1 above (PEP 440, "Summary of permitted
-/// suffixes and relative ordering"). Status 6 if only the right one is invalid. Allocates nothing for two compiled versions.
+/// suffixes and relative ordering"). Status 6 if only the right one is invalid. Allocates nothing for two
+/// compiled versions, or for one and a string in a normal spelling.
 pub fn write_order(alloc: Global, left: &[u8], right: &[u8], order: &mut i8) -> u8
     ensures { OrderResult left.now right.now order.old order.new result }
 {
@@ -34,12 +39,39 @@ fn order_number(order: Ordering) -> i8
     }
 }
 
+// Whether the bytes are a compiled version, all of them.
+fn is_compiled(bytes: &[u8]) -> bool
+    ensures { result ≡ true → (r : Record) × DenotesVersion bytes.now r }
+{
+    read_sort_key(bytes).is_ok()
+}
+
+// How a compiled version and a string compare, which is compiled on the stack; `None` if it is to be parsed, and of two strings.
+fn compare_mixed(left: &[u8], right: &[u8]) -> Option<Ordering>
+    ensures { IfSome result (λ order. IsOrder left.now right.now (order_number order)) }
+{
+    let mut form = ArrayVec::new();
+    if is_compiled(left) {
+        if !compile_normal(&mut form, right) {
+            return None;
+        }
+        return pep440_compiled::compare(left, form.as_slice()).ok();
+    }
+    if !is_compiled(right) || !compile_normal(&mut form, left) {
+        return None;
+    }
+    pep440_compiled::compare(form.as_slice(), right).ok()
+}
+
 // How the left version compares with the right one.
 fn compare(alloc: Global, left: &[u8], right: &[u8]) -> Result<Ordering, Fault>
     ensures { ReturnsOrder left.now right.now result }
 {
     if let Ok(order) = pep440_compiled::compare(left, right) {
         return Ok(order);
+    }
+    if let Some(found) = compare_mixed(left, right) {
+        return Ok(found);
     }
     let first = read(alloc, left)?;
     match read(alloc, right) {

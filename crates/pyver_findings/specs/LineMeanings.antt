@@ -1,5 +1,5 @@
 -- What a line of a requirements file is to the check: a requirement, none, a line that is left out, or one that asks for no package.
-use Rattle.std.specs.Prelude.{◌≡◌, ◌⊎◌, ◌==◌, ◌&&◌, ◌||◌, ℕ, List, [], ◌∷◌, Bool, true, false, Option, Some, None, Result, Ok, Err, codes, length, nat_eq, not, if◌then◌else◌}
+use Rattle.std.specs.Prelude.{◌≡◌, ◌⊎◌, ◌==◌, ◌&&◌, ◌||◌, ℕ, List, [], ◌∷◌, Bool, true, false, Option, Some, None, Result, Ok, Err, codes, is_none, length, nat_eq, not, if◌then◌else◌}
 use Rattle.std.specs.Char.{is_ascii_whitespace}
 use Rattle.std.specs.List.{list_all, list_any, prefix_len, starts_with}
 use Rattle.pep440_pick.specs.RequirementGrammar.{DerivesRequirement, Needed, RejectsRequirement, RequirementRejection, Specifiers}
@@ -8,6 +8,7 @@ use Rattle.pep440_rs.specs.ErrorTexts.{specifier_rejection_text}
 use Rattle.pep440_rs.specs.Lists.ListGrammar.{DerivesList, PieceRejection, RejectsList}
 use Rattle.pep440_rs.specs.Specifiers.{Spec}
 use Rattle.pep440_rs.specs.Blanks.{opens}
+use Rattle.pep440_sets.specs.Common.{common_version}
 use Rattle.pep440_version.specs.Reading.{lead, past}
 use Rattle.pyver_requirements.specs.LineKinds.{ConstraintsFile, Editable, Invalid, LineKind, Location, PipOption, Requirement, RequirementsFile, Variable, has_variable, line_kind}
 use Rattle.pyver_requirements.specs.LineParts.{LineParts, is_blank_byte, pip_parts}
@@ -125,9 +126,13 @@ IsPartsMeaning line p x = ((¬ IsPlain p.requirement) × (x ≡ not_plain line p
 
 -- ---- a list
 
+-- what a list of specifiers is, which asks for no package: some version matches it, or none
+abbrev pub list_meaning : FileLine → List Spec → LineMeaning
+list_meaning line list = if is_none (common_version list) then IsNone (NoRequirement line (codes "no version satisfies it") 0) else AsksNothing
+
 -- what a string of this line is that is to be a list of specifiers
 abbrev pub IsListMeaning : FileLine → List ℕ → LineMeaning → Type 0
-IsListMeaning line text x = ((list : List Spec) × DerivesList text list × (x ≡ AsksNothing))
+IsListMeaning line text x = ((list : List Spec) × DerivesList text list × (x ≡ list_meaning line list))
     ⊎ ((f : PieceRejection) × RejectsList text f × (x ≡ IsNone (NoRequirement line (specifier_rejection_text f.error) (list_column text f))))
 
 -- ---- all lines

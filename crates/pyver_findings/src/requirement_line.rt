@@ -11,7 +11,7 @@ ghost use Rattle.pep440_rs.specs.Lists.ListErrorTexts.{list_rejection_text, list
 ghost use Rattle.pep440_rs.specs.Lists.ListGrammar.{PieceRejection};
 ghost use Rattle.pyver_findings.specs.Columns.{list_column};
 ghost use Rattle.pyver_findings.specs.Findings.{NoRequirement};
-ghost use Rattle.pyver_findings.specs.LineMeanings.{IsNone, IsPartsMeaning, IsPlain, before_url, requirement_meaning, rejection_meaning, under_marker, with_url, IsListMeaning};
+ghost use Rattle.pyver_findings.specs.LineMeanings.{IsNone, IsPartsMeaning, IsPlain, before_url, requirement_meaning, rejection_meaning, under_marker, with_url, IsListMeaning, list_meaning};
 ghost use Rattle.pyver_findings.specs.ReadingViews.{is_memory_error, piece_text_of, reason_text_of};
 ghost use Rattle.pyver_findings.specs.Views.{file_line_of, line_meaning_of};
 ghost use Rattle.pyver_requirements.specs.LineParts.{is_blank_byte, line_parts, pip_parts};
@@ -27,6 +27,7 @@ use crate::line_meaning::LineMeaning;
 use crate::plain::plain_text;
 use pep440_pick::{Requirement, RequirementError, RequirementParseError};
 use pep440_rs::{SpecifiersErrorKind, VersionSpecifiers, VersionSpecifiersParseError};
+use pep440_sets::find_version;
 use pyver_requirements::{LineParts, MarkerError, parse_marker, split_pip_line, split_requirement};
 use std::alloc::{AllocError, Global};
 
@@ -224,8 +225,22 @@ fn reject_list(
     reject(alloc, line, reason.as_str(), column)
 }
 
-/// What the string of this line is, which is to be a list of specifiers: it asks for no package, or is invalid for the reason and at
-/// the column of its first invalid piece.
+// What a list of specifiers is.
+fn list_meaning(
+    alloc: Global,
+    line: &FileLine,
+    list: &VersionSpecifiers,
+) -> Result<LineMeaning, AllocError>
+    ensures { IfOk result (λ x. line_meaning_of x ≡ list_meaning (file_line_of line.now) list.now) }
+{
+    match find_version(alloc, list.as_slice())? {
+        Some(_) => Ok(LineMeaning::AsksNothing),
+        None => reject(alloc, line, "no version satisfies it", 0),
+    }
+}
+
+/// What the string of this line is, which is to be a list of specifiers: it asks for no package, no version satisfies it, or it is invalid
+/// for the reason and at the column of its first invalid piece.
 ///
 /// Allocates.
 pub fn parse_specifiers(
@@ -236,7 +251,7 @@ pub fn parse_specifiers(
     ensures { IfOk result (λ x. IsListMeaning (file_line_of line.now) text.now (line_meaning_of x)) }
 {
     match VersionSpecifiers::from_str(alloc, text) {
-        Ok(_) => Ok(LineMeaning::AsksNothing),
+        Ok(list) => list_meaning(alloc, line, &list),
         Err(error) => reject_list(alloc, line, text, &error),
     }
 }

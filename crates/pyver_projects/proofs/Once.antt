@@ -17,7 +17,7 @@ use Rattle.pyver_findings.specs.Columns.{list_column}
 use Rattle.pyver_findings.specs.Demands.{line_demand}
 use Rattle.pyver_findings.specs.FileLines.{File, FileLine}
 use Rattle.pyver_findings.specs.Findings.{NoRequirement}
-use Rattle.pyver_findings.specs.LineMeanings.{Asks, IsNone, LineMeaning}
+use Rattle.pyver_findings.specs.LineMeanings.{Asks, IsNone, LineMeaning, list_meaning}
 use Rattle.pyver_requirements.specs.LineParts.{line_parts}
 use Rattle.toml.specs.Data.{Members}
 use Rattle.pyver_projects.proofs.Walks.{zip_once}
@@ -37,7 +37,7 @@ one_meaning all line text (Group name) x y a b = one_parts line (line_parts line
 one_meaning all line text (Include group included) x y a b = a ∙ sym b
 one_meaning all line text (Invalid reason) x y a b = a ∙ sym b
 one_meaning all line text Build x y a b = one_parts line (line_parts line.text) x y a b
-one_meaning all line text Python x y (inl (l, d, a)) (inl (m, e, b)) = a ∙ sym b
+one_meaning all line text Python x y (inl (l, d, a)) (inl (m, e, b)) = a ∙ ap (list_meaning line) (one_list text l m d e) ∙ sym b
 one_meaning all line text Python x y (inl (l, d, a)) (inr (f, r, b)) = absurd (not_both_list text l f d r)
 one_meaning all line text Python x y (inr (f, r, a)) (inl (l, d, b)) = absurd (not_both_list text l f d r)
 one_meaning all line text Python x y (inr (f, r, a)) (inr (g, s, b)) = a ∙ ap (λ (h : PieceRejection). IsNone (NoRequirement line (specifier_rejection_text h.error) (list_column text h))) (one_list_refusal text f g r s) ∙ sym b

@@ -1,7 +1,7 @@
 use Rattle.std.proofs.Common.{inr, refl}
 use Rattle.pep440_calls.proofs.Allowed.{marked_in_set}
 use Rattle.pep440_calls.proofs.Forms.{as_set_list, no_compiled}
-use Rattle.pep440_calls.proofs.batch.mark_compiled.Goals as goal
+use Rattle.pep440_calls.proofs.batch.compiled_mark.Goals as goal
 use Rattle.pep440_sets.specs.Sets.{list_set}
 
 pub returns-in-Ok : goal.returns-in-Ok

@@ -1,0 +1,16 @@
+use Rattle.std.proofs.Common.{IfSome, IsSome, sym, subst}
+use Rattle.pep440_calls.proofs.Compiling.{string_has_key, string_key}
+use Rattle.pep440_calls.proofs.one_version.find_string_key.Goals as goal
+use Rattle.pep440_calls.specs.CallResults.{IsKey}
+use Rattle.pep440_compiled.specs.Version.{DenotesVersion}
+use Rattle.pep440_version.specs.Grammar.{Derives}
+use Rattle.pep440_version.specs.Record.{Record}
+
+pub returns : goal.returns
+returns c =
+    let text = c.args.text.now in
+    let form = subst (λ bytes. (r : Record) × Derives text r × DenotesVersion bytes r) (sym c.as_slice.ensures.value) (c.compile_normal.ensures.form c.if-not-compile_normal.false) in
+    record {
+      found = subst (λ o. IfSome o (λ key. IsKey text key.now)) (sym c.ok.ensures.value) (string_key (λ key. key.now) text c.as_slice.result.now c.sort_key.result form c.sort_key.ensures.found);
+      short = λ h. subst IsSome (sym c.ok.ensures.value) (string_has_key (λ key. key.now) text c.as_slice.result.now c.sort_key.result form c.sort_key.ensures.found);
+    }
