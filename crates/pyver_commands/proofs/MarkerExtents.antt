@@ -27,17 +27,12 @@ pub found_both : (word other : List ℕ) (one all joined : List Step) (o : Outco
 found_both word other one all joined o has also join prints =
     inr (inr (printed (DenoteBoth word other) joined o (both_steps word other one all joined has also join) prints))
 
-fails : (text word : List ℕ) (f : Misfit) (o : Outcome) → text ≡ word → marker_steps text ≡ Err f → o ≡ message_outcome (marker_message word f) → FailsAsMarker word o
-fails text word f o same is prints = (f, subst (λ t. marker_steps t ≡ Err f) same is, prints)
+pub first_fails : (word : List ℕ) (other : Option (List ℕ)) (o : Outcome) → FailsAsMarker word o → FindsExtent word other o
+first_fails word None o fails = inl fails
+first_fails word (Some other) o fails = inl fails
 
-pub first_fails : (text word : List ℕ) (other : Option (List ℕ)) (f : Misfit) (o : Outcome) → text ≡ word → marker_steps text ≡ Err f
-    → o ≡ message_outcome (marker_message word f) → FindsExtent word other o
-first_fails text word None f o same is prints = inl (fails text word f o same is prints)
-first_fails text word (Some other) f o same is prints = inl (fails text word f o same is prints)
-
-pub second_fails : (text word other : List ℕ) (f : Misfit) (o : Outcome) → text ≡ other → marker_steps text ≡ Err f
-    → o ≡ message_outcome (marker_message other f) → FindsExtent word (Some other) o
-second_fails text word other f o same is prints = inr (inl (fails text other f o same is prints))
+pub second_fails : (word other : List ℕ) (o : Outcome) → FailsAsMarker other o → FindsExtent word (Some other) o
+second_fails word other o fails = inr (inl fails)
 
 -- ---- laws
 

@@ -2,11 +2,13 @@
 ghost use Rattle.std.specs.Prelude.{◌≡◌, ◌≤◌, ◌==◌, ◌++◌, ℕ, List, [], IfOk, None, Some, codes, map, option_map};
 ghost use Rattle.std.specs.List.{flat_map, list_any};
 ghost use Rattle.pyver_commands.specs.AnswerViews.{outcome_of};
-ghost use Rattle.pyver_commands.specs.MarkerExtents.{FindsExtent, HasSteps, PrintsSteps, assignment_text, environment_text, extent_outcome, fault_byte, marker_fault_message, marker_message, quoted_text};
+ghost use Rattle.pyver_commands.specs.MarkerExtents.{FailsAsMarker, FindsExtent, HasSteps, PrintsSteps, assignment_text, environment_text, extent_outcome, fault_byte, marker_fault_message, marker_message, quoted_text};
 ghost use Rattle.pyver_commands.specs.Outcomes.{message_outcome};
 ghost use Rattle.pyver_markers.specs.EnvironmentViews.{assignment_of, extent_of};
 ghost use Rattle.pyver_markers.specs.Extents.{Somewhere, Undecided};
 ghost use Rattle.pyver_requirements.specs.MarkerGrammar.{DenotesMarker};
+ghost use Rattle.pyver_requirements.specs.MarkerSteps.{marker_steps};
+ghost use Rattle.pyver_requirements.specs.MarkerViews.{IsMarkerFault};
 
 use crate::answer::Answer;
 use crate::version_json::push_text;
@@ -41,7 +43,7 @@ fn push_marker_message(
     Ok(())
 }
 
-// The outcome of a word that is no marker.
+// The outcome of a word that is no marker, for this fault.
 fn report_fault(
     alloc: Global,
     word: &str,
@@ -54,6 +56,20 @@ fn report_fault(
     let byte = fault_byte(word, position);
     push_marker_message(alloc, &mut answer.errors, word, byte, fault.reason())?;
     Ok(answer)
+}
+
+// The outcome of a word that is no marker, for this error.
+fn report_error(alloc: Global, word: &str, error: MarkerError) -> Result<Answer, AllocError>
+    requires { IsMarkerFault (marker_steps word.now) error }
+    ensures { IfOk result (λ a. FailsAsMarker word.now (outcome_of a)) }
+{
+    match error {
+        MarkerError::OutOfMemory => Err(AllocError),
+        MarkerError::Invalid(fault, position) => {
+            let answer = report_fault(alloc, word, fault, position)?;
+            Ok(answer)
+        }
+    }
 }
 
 fn has_double_quote(text: &[u8]) -> bool
@@ -177,9 +193,8 @@ fn find_both(
 {
     match EnvironmentMarker::parse(alloc, other.as_bytes()) {
         Ok(second) => print_both(alloc, marker, &second),
-        Err(MarkerError::OutOfMemory) => Err(AllocError),
-        Err(MarkerError::Invalid(fault, position)) => {
-            let answer = report_fault(alloc, other, fault, position)?;
+        Err(error) => {
+            let answer = report_error(alloc, other, error)?;
             Ok(answer)
         }
     }
@@ -219,9 +234,8 @@ pub fn find_extent(alloc: Global, word: &str, other: Option<&str>) -> Result<Ans
 {
     match EnvironmentMarker::parse(alloc, word.as_bytes()) {
         Ok(marker) => find_with(alloc, marker, other),
-        Err(MarkerError::OutOfMemory) => Err(AllocError),
-        Err(MarkerError::Invalid(fault, position)) => {
-            let answer = report_fault(alloc, word, fault, position)?;
+        Err(error) => {
+            let answer = report_error(alloc, word, error)?;
             Ok(answer)
         }
     }
