@@ -11,7 +11,7 @@ use Rattle.pep440_rs.specs.Specifiers.{Spec}
 use Rattle.pep440_version.specs.Key.{record_cmp}
 use Rattle.pep440_version.specs.Record.{Record}
 use Rattle.pep440_calls.proofs.Once.{never_both, one_bytes_list, one_version}
-use Rattle.pep440_calls.specs.Buffers.{WritesResult}
+use Rattle.pep440_calls.specs.JoinedStrings.{WritesResult}
 use Rattle.pep440_calls.specs.CallResults.{Contains, IsCompiled, IsOrder, IsPrerelease, RejectsSecond, order_number}
 use Rattle.pep440_calls.specs.CallerBytes.{IsNoCompiledList, IsNoCompiledVersion, BytesDenote, BytesDenoteList, ListFaults, StringDenotesList, StringDenotes, RejectsBytes, RejectsListBytes, RejectsListString, RejectsString}
 use Rattle.pep440_calls.specs.Statuses.{Faults, HoldsOr, HoldsOrFaults, WritesBytesOr}

@@ -5,7 +5,6 @@ pub mod CallResults
 pub mod Ranges
 pub mod SetCalls
 pub mod Batches
-pub mod Buffers
 pub mod PatternCalls
 pub mod Edits
 pub mod Explanations

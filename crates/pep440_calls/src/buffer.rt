@@ -1,6 +1,6 @@
 //! What is written to the caller's memory.
 ghost use Rattle.std.specs.Prelude.{IfErr, length, string_bytes, ◌≡◌, ◌≢◌};
-ghost use Rattle.pep440_calls.specs.Buffers.{WritesResult, WritesJoinedResult};
+ghost use Rattle.pep440_calls.specs.JoinedStrings.{WritesResult, WritesJoinedResult};
 ghost use Rattle.pep440_calls.specs.Statuses.{WritesBoth, WritesAtStart, flag};
 ghost use Rattle.pep440_calls.specs.declared.fault.Fault.TheVariants.{OutOfMemory};
 

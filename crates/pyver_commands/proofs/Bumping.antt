@@ -23,7 +23,7 @@ use Rattle.std.specs.Char.{is_ascii_digit}
 use Rattle.std.specs.Result.{result_ok}
 use Rattle.std.specs.Str.Parse.{digits_value, ParsesUnsigned}
 use Rattle.pep440_version.proofs.Reading.Digits.{value_of}
-use Rattle.pyver_commands.specs.Numbers.{are_digits, word_number}
+use Rattle.pyver_commands.specs.Readings.{are_digits, word_number}
 use Rattle.pyver_commands.specs.declared.bump.BumpError.TheVariants as error
 use Rattle.pyver_commands.specs.declared.bump.BumpPart.TheVariants as part
 

@@ -1,11 +1,10 @@
 -- Where markers hold that words denote.
-use Rattle.std.proofs.Common.{◌≡◌, ◌∙◌, ℕ, List, Option, Some, None, Err, ap, arith, inl, inr, refl, subst, sym}
-use Rattle.pyver_commands.specs.MarkerExtents.{DenoteBoth, FailsAsMarker, FindsExtent, HasSteps, HoldsOrNot, PrintsExtent, PrintsSteps, extent_outcome, marker_message}
-use Rattle.pyver_commands.specs.Outcomes.{message_outcome}
+use Rattle.std.proofs.Common.{◌≡◌, ◌∙◌, ℕ, List, Option, Some, None, ap, arith, inl, inr, refl, subst, sym}
+use Rattle.pyver_commands.specs.MarkerExtents.{DenoteBoth, FailsAsMarker, FindsExtent, HasSteps, HoldsOrNot, PrintsExtent, PrintsSteps, extent_outcome}
 use Rattle.cli_io.specs.Runs.{Outcome}
 use Rattle.pyver_markers.specs.Extents.{Always, Extent, IsExtent, Nowhere, Somewhere, Undecided}
 use Rattle.pyver_requirements.specs.MarkerGrammar.{Both, DenotesMarker, Marker}
-use Rattle.pyver_requirements.specs.MarkerSteps.{Misfit, Step, marker_steps, steps}
+use Rattle.pyver_requirements.specs.MarkerSteps.{Step, steps}
 
 pub printed : (Is : Marker → Type 0) (all : List Step) (o : Outcome) → HasSteps Is all → PrintsSteps all o → PrintsExtent Is o
 printed Is all o has (x, known, is) = (x, has.0, (λ m denoted. known m (has.1 m denoted)), is)

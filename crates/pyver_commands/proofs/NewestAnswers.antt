@@ -6,7 +6,7 @@ use Rattle.pyver_commands.specs.FilterSteps.{AllFinish, AllFail}
 use Rattle.pyver_commands.specs.Sources.InvalidLines.{last_message, lines_status, message_limit}
 use Rattle.pyver_commands.specs.NewestOutcomes.{FindsNewest, NewestLine, newest_outcome, taken, IsMatchedLine}
 use Rattle.pyver_commands.specs.AnswerViews.{kept_line}
-use Rattle.pyver_commands.specs.PrereleaseRules.{takes_prereleases}
+use Rattle.pyver_commands.specs.Matches.{takes_prereleases}
 use Rattle.pyver_commands.specs.Sources.ReadLines.{faults}
 use Rattle.pyver_commands.specs.Sources.RunFailures.{IsRunFailureOf, FailsWithoutOutcome}
 use Rattle.pyver_commands.specs.Sources.{IsOutcomeOfSources, KnownFile, FailsReading, UnopenedSource, last_name}

@@ -5,9 +5,8 @@ use Rattle.pep440_rs.specs.LiteralMatching.{list_allows_literally}
 use Rattle.pep440_rs.specs.Specifiers.{Spec}
 use Rattle.pyver_commands.specs.Sources.InputLines.{filled_lines}
 use Rattle.pyver_commands.specs.Sources.InvalidLines.{last_message, lines_status, message_limit}
-use Rattle.pyver_commands.specs.Matches.{DenotesList, ListFails, ReadsSpecifiers, SpecifiersReading, list_fault}
+use Rattle.pyver_commands.specs.Matches.{DenotesList, ListFails, ReadsSpecifiers, SpecifiersReading, list_fault, takes_prereleases}
 use Rattle.cli_io.specs.Runs.{Outcome}
-use Rattle.pyver_commands.specs.PrereleaseRules.{takes_prereleases}
 use Rattle.pyver_commands.specs.Sources.ReadLines.{Entry, Header, IsRead, LineReading, ReadLine, faults}
 use Rattle.pyver_commands.specs.Readings.{Denotes, Fails}
 use Rattle.pyver_commands.specs.Sources.{Input, UnopenedSource, unopened_message, unopened_status}

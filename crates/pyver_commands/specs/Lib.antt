@@ -2,7 +2,6 @@ pub mod Messages
 pub mod Outcomes
 pub mod Readings
 pub mod Comparisons
-pub mod PrereleaseRules
 pub mod Matches
 pub mod Parts
 pub mod JsonObjects
@@ -10,7 +9,6 @@ pub mod Shows
 pub mod RangeObjects
 pub mod CommonRanges
 pub mod MarkerExtents
-pub mod Numbers
 pub mod Bumps
 pub mod CommandLaws
 pub mod AnswerViews

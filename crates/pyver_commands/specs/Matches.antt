@@ -1,5 +1,5 @@
 -- `match SPECS V..`: which of the versions the list allows.
-use Rattle.std.specs.Prelude.{◌≡◌, ℕ, List, [], ◌++◌, Bool, codes, drop, if◌then◌else◌}
+use Rattle.std.specs.Prelude.{◌≡◌, ℕ, List, [], ◌++◌, Bool, codes, drop, if◌then◌else◌, true, false}
 use Rattle.std.specs.List.{AllZip}
 use Rattle.pep440_rs.specs.Lists.ListErrorTexts.{list_rejection_text}
 use Rattle.pep440_rs.specs.Lists.ListGrammar.{DerivesList, PieceRejection, RejectsList}
@@ -8,9 +8,17 @@ use Rattle.pep440_rs.specs.Specifiers.{Spec}
 use Rattle.cli_io.specs.Escapes.{escaped, escaped_lines}
 use Rattle.cli_io.specs.Runs.{Outcome}
 use Rattle.pyver_commands.specs.Outcomes.{fault, in_turn, message_outcome}
-use Rattle.pyver_commands.specs.PrereleaseRules.{takes_prereleases}
 use Rattle.pyver_commands.specs.Readings.{Denotes, Fails, Reading, Reads}
 use Rattle.pyver_commands.specs.declared.allowed.MatchOptions.{MatchOptions}
+use Rattle.pep440_rs.specs.Prereleases.{requests_prereleases}
+use Rattle.pyver_commands.specs.declared.prerelease_rule.Prereleases.{Prereleases}
+use Rattle.pyver_commands.specs.declared.prerelease_rule.Prereleases.TheVariants as prereleases
+
+-- as the options say; without such an option, if the list asks for them
+abbrev pub takes_prereleases : Prereleases → List Spec → Bool
+takes_prereleases prereleases.Listed list = requests_prereleases list
+takes_prereleases prereleases.Always list = true
+takes_prereleases prereleases.Never list = false
 
 -- a list of specifiers, or the message of an invalid list
 pub data SpecifiersReading : Type 0 where

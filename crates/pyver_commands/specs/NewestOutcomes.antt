@@ -7,9 +7,8 @@ use Rattle.pep440_pick.specs.Newest.{preference}
 use Rattle.pep440_rs.specs.LiteralMatching.{list_matches_literally}
 use Rattle.pep440_rs.specs.Matching.{any_prerelease}
 use Rattle.pep440_rs.specs.Specifiers.{Spec}
-use Rattle.pyver_commands.specs.Matches.{DenotesList, ListFails, ReadsSpecifiers, SpecifiersReading, list_fault}
+use Rattle.pyver_commands.specs.Matches.{DenotesList, ListFails, ReadsSpecifiers, SpecifiersReading, list_fault, takes_prereleases}
 use Rattle.cli_io.specs.Runs.{Outcome}
-use Rattle.pyver_commands.specs.PrereleaseRules.{takes_prereleases}
 use Rattle.pyver_commands.specs.Sources.{Input}
 use Rattle.pyver_commands.specs.Sources.VersionLines.{InputParts, OfVersions, VersionLine}
 use Rattle.pyver_commands.specs.declared.newest.NewestOptions.{NewestOptions}

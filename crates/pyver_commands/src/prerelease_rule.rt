@@ -1,6 +1,6 @@
 //! Which pre-releases a list allows (PEP 440, "Handling of pre-releases").
 ghost use Rattle.std.specs.Prelude.{◌≡◌};
-ghost use Rattle.pyver_commands.specs.PrereleaseRules.{takes_prereleases};
+ghost use Rattle.pyver_commands.specs.Matches.{takes_prereleases};
 
 use pep440_rs::VersionSpecifiers;
 

@@ -1,6 +1,6 @@
 //! Numbers that words write.
 ghost use Rattle.std.specs.Prelude.{◌≡◌};
-ghost use Rattle.pyver_commands.specs.Numbers.{are_digits, word_number};
+ghost use Rattle.pyver_commands.specs.Readings.{are_digits, word_number};
 
 fn is_digits(text: &str) -> bool
     ensures { result ≡ are_digits text.now }

@@ -15,12 +15,11 @@ use Rattle.pyver_commands.proofs.Sorting.{one_sorted}
 use Rattle.pyver_commands.proofs.CommonRanges.{one_printed}
 use Rattle.pyver_commands.specs.CommonRanges.{FindsCommon, ListReading, PrintsLists, ReadsMembers, list_reading, members_in, messages_in}
 use Rattle.pyver_commands.specs.Comparisons.{Compares, comparison_outcome}
-use Rattle.pyver_commands.specs.Sources.ReadLines.{field}
+use Rattle.pyver_commands.specs.Sources.ReadLines.{field, Entry, Header, IsEntry, IsRead, LineReading, ReadLine, ReadsBytes, ReadsField, ReadsPart}
 use Rattle.pyver_commands.specs.Filters.{Filters, FiltersBy, FiltersLines, filter_outcome, rule_of}
 use Rattle.pyver_commands.specs.Sources.InputLines.{SourceLine, Source, filled_lines}
 use Rattle.pyver_commands.specs.Sources.LineOptions.{bare_line_options, is_header}
-use Rattle.pyver_commands.specs.Matches.{Matches, MatchesBy, MatchesWord, MatchesWords, ReadsSpecifiers, SpecifiersReading, DenotesList, ListFails, word_outcome}
-use Rattle.pyver_commands.specs.PrereleaseRules.{takes_prereleases}
+use Rattle.pyver_commands.specs.Matches.{Matches, MatchesBy, MatchesWord, MatchesWords, ReadsSpecifiers, SpecifiersReading, DenotesList, ListFails, word_outcome, takes_prereleases}
 use Rattle.pyver_commands.specs.NewestOutcomes.{FindsNewest, FindsNewestBy, FindsNewestLine, newest_outcome, newest_rule, taken}
 use Rattle.pyver_tool.specs.OneOutcome.{ChecksOnce, OutcomesOnce}
 use Rattle.pyver_tool.specs.Checks.{with_report}
@@ -29,7 +28,6 @@ use Rattle.pyver_findings.specs.Reports.{joined_report, without_ignored}
 use Rattle.pyver_projects.proofs.Once.{document_reports_once}
 use Rattle.cli_io.specs.Runs.{Outcome}
 use Rattle.pyver_commands.specs.Outcomes.{in_turn}
-use Rattle.pyver_commands.specs.Sources.ReadLines.{Entry, Header, IsEntry, IsRead, LineReading, ReadLine, ReadsBytes, ReadsField, ReadsPart}
 use Rattle.pyver_commands.specs.Readings.{Reading, Reads, Denotes, Fails}
 use Rattle.pyver_commands.specs.Shows.{Shows, ShowsWord, show_outcome}
 use Rattle.pyver_commands.specs.Sorts.{SortsParts, sort_outcome}

@@ -3,7 +3,7 @@ use Rattle.std.specs.Prelude.{◌≡◌, ◌⊎◌, ℕ, List, [], ◌∷◌, �
 use Rattle.std.specs.Fmt.{decimal}
 use Rattle.std.specs.List.{flat_map, list_any}
 use Rattle.cli_io.specs.Runs.{Outcome}
-use Rattle.pyver_tool.specs.OutputForms.{findings_text}
+use Rattle.pyver_tool.specs.Settings.{findings_text}
 use Rattle.pyver_tool.specs.RequirementFiles.{FilesRead, ReadsFiles, FailsInFiles, UnopenedFile}
 use Rattle.pyver_commands.specs.Sources.{KnownFile, failure_reason, source_names}
 use Rattle.pyver_tool.specs.declared.check.CheckOptions.{CheckOptions}

@@ -2,7 +2,6 @@ pub mod MisuseMessages
 pub mod Options
 pub mod SplitWords
 pub mod FileKinds
-pub mod OutputForms
 pub mod Settings
 pub mod Tasks
 pub mod TaskViews

@@ -1,11 +1,10 @@
--- What options set: of two that contradict each other the last counts.
+-- What options set: of two that contradict each other the last counts. And the forms in which findings are printed.
 use Rattle.std.specs.Prelude.{ℕ, ◌==◌, List, [], ◌∷◌, true, false, Option, Some, None, bytes_eq, codes, if◌then◌else◌}
 use Rattle.std.specs.Option.{option_map}
 use Rattle.pyver_tool.specs.FileKinds.{file_kind_of, unknown_kind}
-use Rattle.pyver_tool.specs.OutputForms.{output_form_of}
 use Rattle.pyver_commands.specs.Sources.InvalidLines.{invalid_lines_of}
 use Rattle.pyver_commands.specs.Sources.LineOptions.{no_line_options}
-use Rattle.pyver_commands.specs.Numbers.{word_number}
+use Rattle.pyver_commands.specs.Readings.{word_number}
 use Rattle.pyver_tool.specs.SplitWords.{Named}
 use Rattle.pyver_commands.specs.Parts.{part_of}
 use Rattle.pyver_tool.specs.declared.output_form.OutputForm.TheVariants as output_form
@@ -13,6 +12,28 @@ use Rattle.pyver_commands.specs.declared.sources.line_options.LineOptions.{LineO
 use Rattle.pyver_commands.specs.declared.prerelease_rule.Prereleases.TheVariants as prereleases
 use Rattle.pyver_tool.specs.declared.settings.Settings.{Settings}
 use Rattle.pyver_commands.specs.declared.show.ShowFormat.TheVariants as format
+use Rattle.pyver_tool.specs.declared.output_form.OutputForm.{OutputForm}
+use Rattle.pyver_findings.specs.GithubCommands.{report_commands}
+use Rattle.pyver_findings.specs.ReportObjects.{report_object}
+use Rattle.pyver_findings.specs.ReportTexts.{report_text}
+use Rattle.pyver_findings.specs.Reports.{Report}
+use Rattle.pyver_findings.specs.SarifLogs.{report_log}
+
+-- the value of `--output`
+abbrev pub output_form_of : List ℕ → Option OutputForm
+output_form_of word =
+    if bytes_eq word (codes "text") then Some output_form.Text
+    else if bytes_eq word (codes "json") then Some output_form.Json
+    else if bytes_eq word (codes "github") then Some output_form.Github
+    else if bytes_eq word (codes "sarif") then Some output_form.Sarif
+    else None
+
+-- the findings in this form
+abbrev pub findings_text : OutputForm → Report → List ℕ
+findings_text output_form.Text r = report_text r
+findings_text output_form.Json r = report_object r
+findings_text output_form.Github r = report_commands r
+findings_text output_form.Sarif r = report_log r
 
 -- the number without 0
 abbrev pub from_one : Option ℕ → Option ℕ

@@ -1,6 +1,6 @@
 //! The forms in which findings are printed.
 ghost use Rattle.std.specs.Prelude.{◌≡◌};
-ghost use Rattle.pyver_tool.specs.OutputForms.{output_form_of};
+ghost use Rattle.pyver_tool.specs.Settings.{output_form_of};
 
 // How findings are printed.
 #[derive(Clone, Copy)]
