@@ -1,6 +1,6 @@
 -- Where nothing is found, each requirement contains each locked version of its name.
 use Rattle.std.proofs.Common.{◌≡◌, ◌∙◌, ℕ, List, [], ◌∷◌, ◌++◌, Bool, true, false, Option, Some, None, refl, sym, ap, subst, inl, inr, if◌then◌else◌}
-use Rattle.std.specs.List.{AllZip, flat_map}
+use Rattle.std.specs.List.{AllZip, flat_map, zip}
 use Rattle.pep440_pick.specs.Names.{same_name}
 use Rattle.pep440_pick.specs.RequirementGrammar.{Needed}
 use Rattle.pep440_rs.proofs.Reading.OneMeaning.{not_both_list, one_list}
@@ -13,15 +13,15 @@ use Rattle.pep440_version.specs.Grammar.{Derives}
 use Rattle.pep440_version.specs.Record.{Record}
 use Rattle.pyver_findings.specs.Demands.{Demand, line_demand}
 use Rattle.pyver_findings.specs.FileLines.{File, FileLine}
-use Rattle.pyver_findings.specs.Findings.{Conflicting}
+use Rattle.pyver_findings.specs.Findings.{Conflicting, Finding}
 use Rattle.pyver_findings.specs.LineMeanings.{Asks, LineMeaning}
 use Rattle.pyver_findings.specs.Reports.{Report, demands_in, empty_report}
 use Rattle.pyver_findings.specs.declared.finding.Conflict.TheVariants.{PinOutside}
 use Rattle.toml.specs.Data.{Members}
 use Rattle.pyver_projects.proofs.Asking.{asks_always}
 use Rattle.pyver_projects.proofs.Holding.{findings_of}
-use Rattle.pyver_projects.proofs.Walks.{beside_it, left_nil, nil_at, right_nil}
-use Rattle.pyver_projects.specs.Comparing.{found_beside, beside_all, compared, compared_demand, excluded, invalid_package, is_locked, missing, own_report, unmet, with_own_reports}
+use Rattle.pyver_projects.proofs.Walks.{beside_it, beside_pair, left_nil, nil_at, right_nil}
+use Rattle.pyver_projects.specs.Comparing.{found_beside, found_in_pair, beside_all, is_beside, compared, compared_demand, excluded, invalid_package, is_locked, missing, own_report, unmet, with_own_reports}
 use Rattle.pyver_projects.specs.Documents.{sources}
 use Rattle.pyver_projects.specs.Groups.{groups}
 use Rattle.pyver_projects.specs.Meanings.{Document, DocumentReading, IsDocumentReading, IsLockReading, IsLockedReading, IsProject, IsRequirementReading, IsStringReading, IsVersionReading, LockedReading, StringReading, package_line, requirement_line, string_line}
@@ -78,13 +78,22 @@ not_compared ys a section x same is counts e =
     let counted : flat_map (compared_demand ys section) (demands_in (Asks a)) ≡ [] = ap (λ (b : Bool). if b then flat_map (compared_demand ys section) (demands_in (Asks a)) else []) (sym counts) ∙ here in
     left_nil (compared_demand ys section a) [] counted
 
-all_contained : (documents : List Document) (zs : List DocumentReading) → AllZip IsDocumentReading documents zs → flat_map (beside_all zs) zs ≡ [] → AllContained documents
-all_contained documents zs h found file lock s p n text v (t, ((k, inside, at), table), (i, within, here)) (kind, l, ((m, below, there), other), (j, under, this)) counts asks same written d =
-    let (x, (a, in_x, is_x), rx) = beside_it IsDocumentReading documents zs (record { kind = Project; file = file }) k inside at h in
-    let (y, (b, in_y, is_y), ry) = beside_it IsDocumentReading documents zs (record { kind = Lock kind; file = lock }) m below there h in
+counted : (b : Bool) (found : List Finding) → b ≡ true → (if b then found else []) ≡ [] → found ≡ []
+counted true found is none = none
+counted false found is none = cc is
+
+all_contained : (documents : List Document) (zs : List DocumentReading) → AllZip IsDocumentReading documents zs → flat_map (beside_all documents (zip documents zs)) (zip documents zs) ≡ [] → AllContained documents
+all_contained documents zs h found file lock kind l s p n text v (t, ((k, inside, at), table), (i, within, here)) ((m, below, there), other) (j, under, this) beside counts asks same written d =
+    let project : Document = record { kind = Project; file = file } in
+    let locked : Document = record { kind = Lock kind; file = lock } in
+    let pairs = zip documents zs in
+    let (x, (a, in_x, is_x), rx) = beside_pair IsDocumentReading documents zs project k inside at h in
+    let (y, (b, in_y, is_y), ry) = beside_pair IsDocumentReading documents zs locked m below there h in
     let (xs, g, is_project) = project_read file t x table rx in
     let (ys, ms, q, required, is_lock) = lock_read lock kind l y other ry in
-    let nothing : found_beside x y ≡ [] = nil_at (found_beside x) zs y b in_y is_y (nil_at (beside_all zs) zs x a in_x is_x found) in
+    let nothing : found_beside x y ≡ [] =
+    counted (is_beside documents project locked) (found_beside x y) beside
+    (nil_at (found_in_pair documents (project, x)) pairs (locked, y) b in_y is_y (nil_at (beside_all documents pairs) pairs (project, x) a in_x is_x found)) in
     let compares : flat_map (compared ys) xs ≡ [] = (λ e. found_beside (sym is_project e) (sym is_lock e)) ∙ nothing in
     let (z, (c, in_z, is_z), rz) = beside_it (IsStringReading (groups t) file) (sources t) xs s i within here g in
     let (w, (o, in_w, is_w), rl) = beside_it (IsLockedReading lock.name) l.packages ys p j under this q in
@@ -116,6 +125,7 @@ all_met documents zs h own lock q p list text v (kind, l, ((m, below, there), ot
 
 pub no_finding_means_contained : NoFindingImpliesContained
 no_finding_means_contained documents r (zs, h, is) none =
-    let found : (with_own_reports empty_report zs).findings ++ flat_map (beside_all zs) zs ≡ [] = sym (ap (λ (e : Report). e.findings) is) ∙ none in
-    let own : flat_map (λ x. (own_report x).findings) zs ≡ [] = sym (findings_of documents empty_report zs) ∙ left_nil (with_own_reports empty_report zs).findings (flat_map (beside_all zs) zs) found in
-    (all_contained documents zs h (right_nil (with_own_reports empty_report zs).findings (flat_map (beside_all zs) zs) found), all_met documents zs h own)
+    let compared = flat_map (beside_all documents (zip documents zs)) (zip documents zs) in
+    let found : (with_own_reports empty_report zs).findings ++ compared ≡ [] = sym (ap (λ (e : Report). e.findings) is) ∙ none in
+    let own : flat_map (λ x. (own_report x).findings) zs ≡ [] = sym (findings_of documents empty_report zs) ∙ left_nil (with_own_reports empty_report zs).findings compared found in
+    (all_contained documents zs h (right_nil (with_own_reports empty_report zs).findings compared found), all_met documents zs h own)

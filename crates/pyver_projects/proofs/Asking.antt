@@ -58,13 +58,13 @@ no_include a line true false one other e = cc e
 no_include a line false c one other e = cc e
 
 -- nor does a list
-no_list : (a : Demand) (line : FileLine) (b : Bool) (reason : List ℕ) → Asks a ≡ (if b then IsNone (NoRequirement line reason 0) else AsksNothing) → ⊥
-no_list a line true reason e = cc e
-no_list a line false reason e = cc e
+never_asks : (a : Demand) (line : FileLine) (b : Bool) (reason : List ℕ) → Asks a ≡ (if b then IsNone (NoRequirement line reason 0) else AsksNothing) → ⊥
+never_asks a line true reason e = cc e
+never_asks a line false reason e = cc e
 
 -- what a string asks for
 pub of_section : (all : Groups) (line : FileLine) (text : List ℕ) (a : Demand) (section : Section) → IsSectionMeaning all section line text (Asks a) → AsksFor line (line_parts line.text) a
-of_section all line text a Python (inl (list, d, e)) = absurd (no_list a line _ _ e)
+of_section all line text a Python (inl (list, d, e)) = absurd (never_asks a line _ _ e)
 of_section all line text a Python (inr (f, r, e)) = cc e
 of_section all line text a Version (inl (v, d, e)) = cc e
 of_section all line text a Version (inr (f, r, e)) = cc e

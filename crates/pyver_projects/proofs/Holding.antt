@@ -3,7 +3,7 @@ use Rattle.std.proofs.Common.{◌≡◌, ◌∙◌, ℕ, ◌+◌, List, [], ◌�
 use Rattle.std.proofs.lemmas.Bool.{true≢false}
 use Rattle.std.proofs.lemmas.List.{append_assoc, append-nil}
 use Rattle.std.proofs.lemmas.List.Elements.{All-append, All-cons, All-contains_itself, All-nil}
-use Rattle.std.specs.List.{All, AllZip, Contains, flat_map, list_any}
+use Rattle.std.specs.List.{All, AllZip, Contains, flat_map, list_any, zip}
 use Rattle.std.specs.Str.{IsUtf8}
 use Rattle.pep440_pick.specs.Names.{same_name}
 use Rattle.pep440_pick.specs.RequirementGrammar.{Needed}
@@ -23,8 +23,8 @@ use Rattle.toml.specs.Parse.{parse_document}
 use Rattle.pyver_projects.proofs.Asking.{AsksFor, of_section}
 use Rattle.pyver_projects.proofs.HoldingTogether.{conflicts_hold}
 use Rattle.pyver_projects.specs.Together.{project_conflicts}
-use Rattle.pyver_projects.proofs.Walks.{all_flat, left_false, right_false, zip_each}
-use Rattle.pyver_projects.specs.Comparing.{found_beside, beside_all, compared, compared_demand, documents_report, excluded, has_name, invalid_package, invalid_string, is_locked, is_needed, own_report, unmet, with_own_reports}
+use Rattle.pyver_projects.proofs.Walks.{all_flat, left_false, pairs_each, right_false, zip_each}
+use Rattle.pyver_projects.specs.Comparing.{found_beside, found_in_pair, beside_all, is_beside, compared, compared_demand, documents_report, excluded, has_name, invalid_package, invalid_string, is_locked, is_needed, own_report, unmet, with_own_reports}
 use Rattle.pyver_projects.specs.Documents.{sources}
 use Rattle.pyver_projects.specs.Groups.{groups}
 use Rattle.pyver_projects.specs.Locks.{locked}
@@ -266,15 +266,22 @@ module _ (documents : List Document) where
   findings_of a [] = sym (append-nil a.findings)
   findings_of a (x ∷ xs) = findings_of (joined_report a (own_report x)) xs ∙ append_assoc a.findings (own_report x).findings (flat_map (λ y. (own_report y).findings) xs)
 
-  pub all_right : (xs : List DocumentReading) → AllZip IsDocumentReading documents xs → All Right (documents_report xs).findings
+  counted_right : (b : Bool) (x y : DocumentReading) → All Right (found_beside x y) → All Right (if b then found_beside x y else [])
+  counted_right true x y k = k
+  counted_right false x y k = All-nil Right
+
+  pub all_right : (xs : List DocumentReading) → AllZip IsDocumentReading documents xs → All Right (documents_report documents xs).findings
   all_right xs h =
-      All-append Right (with_own_reports empty_report xs).findings (flat_map (beside_all xs) xs)
+      let pairs = zip documents xs in
+      All-append Right (with_own_reports empty_report xs).findings (flat_map (beside_all documents pairs) pairs)
       (subst (λ fs. All Right fs) (sym (findings_of empty_report xs))
       (all_flat Right (λ x. (own_report x).findings) xs
       (zip_each IsDocumentReading (Contains documents) (λ x. All Right (own_report x).findings) (λ d x known r. of_document d.kind d.file x known r) documents xs (All-contains_itself documents) h)))
-      (all_flat Right (beside_all xs) xs
-      (zip_each IsDocumentReading (Contains documents) (λ x. All Right (beside_all xs x))
-      (λ d x known r. all_flat Right (found_beside x) xs (zip_each IsDocumentReading (Contains documents) (λ y. All Right (found_beside x y)) (λ e y at s. beside_right d.kind d.file e x y known at r s) documents xs (All-contains_itself documents) h)) documents xs
+      (all_flat Right (beside_all documents pairs) pairs
+      (pairs_each IsDocumentReading (Contains documents) (λ a. All Right (beside_all documents pairs a))
+      (λ d x known r. all_flat Right (found_in_pair documents (d, x)) pairs
+      (pairs_each IsDocumentReading (Contains documents) (λ b. All Right (found_in_pair documents (d, x) b))
+      (λ e y at s. counted_right (is_beside documents d e) x y (beside_right d.kind d.file e x y known at r s)) documents xs (All-contains_itself documents) h)) documents xs
       (All-contains_itself documents) h))
 
 pub findings_hold : DocumentFindingsHold

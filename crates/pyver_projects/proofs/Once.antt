@@ -97,4 +97,4 @@ one_document (Lock kind) file x y (ps, (text, e)) (inr (u, inl (ms, f, a))) (inr
     one_lock file.name ms x y a (subst (λ (l : LockContents). IsLockReading file.name l y) equal b)
 
 pub document_reports_once : DocumentReportsOnce
-document_reports_once documents r s readable (xs, g, a) (ys, h, b) = a ∙ ap documents_report (zip_once IsDocumentReading IsReadable (λ d v w known p q. one_document d.kind d.file v w known p q) documents xs ys readable g h) ∙ sym b
+document_reports_once documents r s readable (xs, g, a) (ys, h, b) = a ∙ ap (documents_report documents) (zip_once IsDocumentReading IsReadable (λ d v w known p q. one_document d.kind d.file v w known p q) documents xs ys readable g h) ∙ sym b

@@ -4,7 +4,7 @@ use Rattle.std.proofs.lemmas.Bool.{true≢false}
 use Rattle.std.proofs.lemmas.Grind.{flat_map-append}
 use Rattle.std.proofs.lemmas.List.Elements.{All-contains_itself, All-filter}
 use Rattle.std.proofs.lemmas.Slice.Eq.{bytes_eq-Decides}
-use Rattle.std.specs.List.{All, Contains, filter, flat_map, list_any}
+use Rattle.std.specs.List.{All, Contains, filter, flat_map, list_any, zip}
 use Rattle.pyver_findings.proofs.Complete.{none_found}
 use Rattle.pyver_findings.proofs.Found.{Fits, Some_is, some_found}
 use Rattle.pyver_findings.specs.Conflicts.{conflicts, counts_under, has_same_name, under}
@@ -95,8 +95,9 @@ no_finding_means_satisfiable documents r (zs, h, is) none file t s xs a m ((k, i
     let (x, (c, in_x, is_x), rx) = beside_it IsDocumentReading documents zs (record { kind = Project; file = file }) k inside at h in
     let (ys, q, is_project) = project_read file t x table rx in
     let one : ys ≡ xs = zip_once (IsStringReading all file) (Contains (sources t)) (λ p v w known n o. one_string all file p v w n o) (sources t) ys xs (All-contains_itself (sources t)) q g in
-    let found : (with_own_reports empty_report zs).findings ++ flat_map (beside_all zs) zs ≡ [] = sym (ap (λ (e : Report). e.findings) is) ∙ none in
-    let own : flat_map (λ x. (own_report x).findings) zs ≡ [] = sym (findings_of documents empty_report zs) ∙ left_nil (with_own_reports empty_report zs).findings (flat_map (beside_all zs) zs) found in
+    let compared = flat_map (beside_all documents (zip documents zs)) (zip documents zs) in
+    let found : (with_own_reports empty_report zs).findings ++ compared ≡ [] = sym (ap (λ (e : Report). e.findings) is) ∙ none in
+    let own : flat_map (λ x. (own_report x).findings) zs ≡ [] = sym (findings_of documents empty_report zs) ∙ left_nil (with_own_reports empty_report zs).findings compared found in
     let nothing : flat_map invalid_string xs ++ project_conflicts xs ≡ [] =
     ap (λ (e : List StringReading). (own_report (IsProject e)).findings) (sym one) ∙ ap (λ (e : DocumentReading). (own_report e).findings) (sym is_project) ∙ nil_at (λ x. (own_report x).findings) zs x c in_x is_x own in
     let conflicts_nil : flat_map (part_conflicts xs) (parts xs) ≡ [] = none_new (flat_map (part_conflicts xs) (parts xs)) (right_nil (flat_map invalid_string xs) (project_conflicts xs) nothing) in

@@ -8,9 +8,9 @@ use Rattle.pyver_projects.proofs.Walks.{zip_each}
 use Rattle.pyver_projects.specs.Documents.{sources}
 use Rattle.pyver_projects.specs.Groups.{groups}
 use Rattle.pyver_projects.specs.Meanings.{Document, DocumentReading, IsBrokenReading, IsDocumentReading, IsStringReading, IsSoundDocument, IsSoundString}
-use Rattle.pyver_projects.specs.ProjectViews.{document_reading_of}
+use Rattle.pyver_projects.specs.ProjectViews.{reading_in}
 use Rattle.pyver_projects.specs.declared.document_kind.DocumentKind.{DocumentKind}
-use Rattle.pyver_projects.specs.declared.document_reading.DocumentReading.{DocumentReading as DocumentReadingValue}
+use Rattle.pyver_projects.specs.declared.document_reading.ReadDocument.{ReadDocument}
 use Rattle.pyver_projects.specs.declared.document_kind.DocumentKind.TheVariants.{Lock, Project}
 
 sound_broken : (file : File) (x : DocumentReading) → IsBrokenReading file x → IsSoundDocument x
@@ -29,10 +29,8 @@ pub sound_documents : (documents : List Document) (xs : List DocumentReading) �
 sound_documents documents xs h = zip_each IsDocumentReading (Contains documents) IsSoundDocument (λ d x known r. sound_document d.kind d.file x r) documents xs (All-contains_itself documents) h
 
 -- of documents that are taken one after another
-pub sound_head : (x : DocumentReadingValue) (rest all : List DocumentReadingValue) → all ≡ x ∷ rest → All IsSoundDocument (map document_reading_of all) → IsSoundDocument (document_reading_of x)
-sound_head x rest all is k =
-    All-head IsSoundDocument (document_reading_of x) (map document_reading_of rest) (subst (λ (xs : List DocumentReadingValue). All IsSoundDocument (map document_reading_of xs)) is k)
+pub sound_head : (x : ReadDocument) (rest all : List ReadDocument) → all ≡ x ∷ rest → All IsSoundDocument (map reading_in all) → IsSoundDocument (reading_in x)
+sound_head x rest all is k = All-head IsSoundDocument (reading_in x) (map reading_in rest) (subst (λ (xs : List ReadDocument). All IsSoundDocument (map reading_in xs)) is k)
 
-pub sound_rest : (x : DocumentReadingValue) (rest all : List DocumentReadingValue) → all ≡ x ∷ rest → All IsSoundDocument (map document_reading_of all) → All IsSoundDocument (map document_reading_of rest)
-sound_rest x rest all is k =
-    All-tail IsSoundDocument (document_reading_of x) (map document_reading_of rest) (subst (λ (xs : List DocumentReadingValue). All IsSoundDocument (map document_reading_of xs)) is k)
+pub sound_rest : (x : ReadDocument) (rest all : List ReadDocument) → all ≡ x ∷ rest → All IsSoundDocument (map reading_in all) → All IsSoundDocument (map reading_in rest)
+sound_rest x rest all is k = All-tail IsSoundDocument (reading_in x) (map reading_in rest) (subst (λ (xs : List ReadDocument). All IsSoundDocument (map reading_in xs)) is k)

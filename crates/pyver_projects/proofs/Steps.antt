@@ -33,6 +33,13 @@ read_more view show R xs i x old new y inside is more reads h =
     let shown : map show new ≡ map show old ++ show y ∷ [] = ap (map show) more ∙ map-append show old (y ∷ []) in
     subst (λ ls. AllZip R ls (map show new)) (sym taken) (subst (λ ms. AllZip R (map view (take i xs) ++ view x ∷ []) ms) (sym shown) (all_zipped_more R (map view (take i xs)) (map show old) (view x) (show y) h reads))
 
+-- and the lists go on alike
+pub alike_more : {L M B : Type 0} (view : L → B) (show : M → B) (xs : List L) (i : ℕ) (x : L) (old new : List M) (y : M) → i < length xs → x ≡ get_or xs i x → new ≡ old ++ y ∷ [] → show y ≡ view x
+    → map show old ≡ map view (take i xs) → map show new ≡ map view (take (i + 1) xs)
+alike_more view show xs i x old new y inside is more same alike =
+    let taken : map view (take (i + 1) xs) ≡ map view (take i xs) ++ view x ∷ [] = ap (map view) (take_more xs i x inside ∙ ap (λ z. take i xs ++ z ∷ []) (sym is)) ∙ map-append view (take i xs) (x ∷ []) in
+    ap (map show) more ∙ (map-append show old (y ∷ []) ∙ ((λ j. alike j ++ same j ∷ []) ∙ sym taken))
+
 -- all were read
 pub read_all : {L M A B : Type 0} (view : L → A) (show : M → B) (R : A → B → Type 0) (xs : List L) (i : ℕ) (ys : List M) → length xs ≤ i → AllZip R (map view (take i xs)) (map show ys) → AllZip R (map view xs) (map show ys)
 read_all view show R xs i ys end h = subst (λ ls. AllZip R (map view ls) (map show ys)) (take_all i xs end) h

@@ -1,8 +1,10 @@
 -- Lists beside lists, and lists that are made of each element.
-use Rattle.std.proofs.Common.{arith, ◌≡◌, ◌<◌, ◌∙◌, ℕ, List, [], ◌∷◌, ◌++◌, Bool, true, false, ◌||◌, get_or, length, refl, sym, ap, subst, suc, zero}
+use Rattle.std.proofs.Common.{arith, ◌≡◌, ◌<◌, ◌≤◌, ◌-◌, ◌∙◌, ℕ, List, [], ◌∷◌, ◌++◌, Bool, true, false, ◌||◌, get_or, if◌then◌else◌, length, map, refl, sym, ap, subst, suc, take, zero}
 use Rattle.std.proofs.lemmas.Bool.{true≢false}
 use Rattle.std.proofs.lemmas.List.Elements.{All-append, All-cons, All-head, All-nil, All-tail}
-use Rattle.std.specs.List.{All, AllZip, Contains, flat_map}
+use Rattle.pyver_findings.specs.NamedFiles.{folder}
+use Rattle.pyver_projects.specs.DocumentKinds.{has_slash, last_section}
+use Rattle.std.specs.List.{All, AllZip, Contains, flat_map, list_any, zip}
 
 pub left_nil : {X : Type 0} (xs ys : List X) → xs ++ ys ≡ [] → xs ≡ []
 left_nil [] ys e = refl
@@ -28,6 +30,52 @@ beside_it R (z ∷ xs) (y ∷ ys) x zero inside at h = (y, (zero, omega arith, r
 beside_it R (z ∷ xs) (y ∷ ys) x (suc k) inside at h =
     let (w, (j, within, here), r) = beside_it R xs ys x k (omega (arith, inside)) at h.1 in
     (w, (suc j, omega (arith, within), here), r)
+
+-- and they are a pair
+pub beside_pair : {X Y : Type 0} (R : X → Y → Type 0) (xs : List X) (ys : List Y) (x : X) (k : ℕ) → k < length xs → get_or xs k x ≡ x → AllZip R xs ys → (y : Y) × Contains (zip xs ys) (x, y) × R x y
+beside_pair R [] ys x k inside at h = absurd (omega (arith, inside))
+beside_pair R (z ∷ xs) [] x k inside at h = absurd h
+beside_pair R (z ∷ xs) (y ∷ ys) x zero inside at h = (y, (zero, omega arith, λ j. (at j, y)), subst (λ q. R q y) at h.0)
+beside_pair R (z ∷ xs) (y ∷ ys) x (suc k) inside at h =
+    let (w, (j, within, here), r) = beside_pair R xs ys x k (omega (arith, inside)) at h.1 in
+    (w, (suc j, omega (arith, within), here), r)
+
+-- what holds of elements and those beside them holds of the pairs
+pub pairs_each : {X Y : Type 0} (R : X → Y → Type 0) (K : X → Type 0) (Q : X × Y → Type 0) → ((x : X) (y : Y) → K x → R x y → Q (x, y)) → (xs : List X) (ys : List Y) → All K xs → AllZip R xs ys → All Q (zip xs ys)
+pairs_each R K Q f [] [] known h = All-nil Q
+pairs_each R K Q f [] (y ∷ ys) known h = absurd h
+pairs_each R K Q f (x ∷ xs) [] known h = absurd h
+pairs_each R K Q f (x ∷ xs) (y ∷ ys) known h = All-cons Q (x, y) (zip xs ys) (f x y (All-head K x xs known) h.0) (pairs_each R K Q f xs ys (All-tail K x xs known) h.1)
+
+-- what stands after the last `/` is no longer than all
+pub section_fits : (path : List ℕ) → length (last_section path) ≤ length path
+section_fits [] = omega arith
+section_fits (b ∷ rest) = fits_by (has_slash (b ∷ rest)) b rest (section_fits rest)
+  where
+    fits_by : (c : Bool) (b : ℕ) (rest : List ℕ) → length (last_section rest) ≤ length rest → length (if c then last_section rest else b ∷ rest) ≤ suc (length rest)
+    fits_by true b rest k = omega (arith, k)
+    fits_by false b rest k = omega arith
+
+-- what stands before it is the folder
+pub folder_is : (path : List ℕ) → take (length path - length (last_section path)) path ≡ folder path
+folder_is [] = refl
+folder_is (b ∷ rest) = by (folder_is rest) (has_slash (b ∷ rest))
+  where
+    by : take (length rest - length (last_section rest)) rest ≡ folder rest → (c : Bool) → take (suc (length rest) - length (if c then last_section rest else b ∷ rest)) (b ∷ rest) ≡ (if c then b ∷ folder rest else [])
+    by is true =
+        let less : suc (length rest) - length (last_section rest) ≡ suc (length rest - length (last_section rest)) = omega (arith, section_fits rest) in
+        ap (λ n. take n (b ∷ rest)) less ∙ ap (λ front. b ∷ front) is
+    by is false = let none : suc (length rest) - suc (length rest) ≡ 0 = omega arith in ap (λ n. take n (b ∷ rest)) none
+
+-- some element of a list that was made of another
+pub any_of : {X Y : Type 0} (p : Y → Bool) (f : X → Y) (xs : List X) → list_any p (map f xs) ≡ list_any (λ x. p (f x)) xs
+any_of p f [] = refl
+any_of p f (x ∷ xs) = ap (λ b. p (f x) || b) (any_of p f xs)
+
+-- pairs are made of their parts
+pub zip_of : {Z X Y : Type 0} (f : Z → X) (g : Z → Y) (zs : List Z) → zip (map f zs) (map g zs) ≡ map (λ z. (f z, g z)) zs
+zip_of f g [] = refl
+zip_of f g (z ∷ zs) = ap (λ rest. (f z, g z) ∷ rest) (zip_of f g zs)
 
 -- what holds of each element holds of those beside them
 pub zip_each : {X Y : Type 0} (R : X → Y → Type 0) (K : X → Type 0) (Q : Y → Type 0) → ((x : X) (y : Y) → K x → R x y → Q y) → (xs : List X) (ys : List Y) → All K xs → AllZip R xs ys → All Q ys

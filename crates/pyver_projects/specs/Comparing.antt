@@ -1,6 +1,6 @@
 -- What is found in documents: in each by itself, and in each project beside each lock.
-use Rattle.std.specs.Prelude.{◌≡◌, List, [], ◌∷◌, ◌++◌, Bool, true, false, Option, Some, None, bytes_eq, codes, is_none, length, if◌then◌else◌}
-use Rattle.std.specs.List.{AllZip, flat_map, list_any}
+use Rattle.std.specs.Prelude.{◌≡◌, ◌&&◌, List, [], ◌∷◌, ◌++◌, Bool, true, false, Option, Some, None, bytes_eq, codes, is_none, length, nat_lt, not, if◌then◌else◌}
+use Rattle.std.specs.List.{AllZip, flat_map, list_any, zip}
 use Rattle.pep440_rs.specs.LiteralMatching.{list_matches_literally}
 use Rattle.pep440_version.specs.Record.{Record}
 use Rattle.pyver_findings.specs.Demands.{Demand}
@@ -13,6 +13,10 @@ use Rattle.pyver_findings.specs.declared.finding.Conflict.TheVariants.{PinOutsid
 use Rattle.pyver_projects.specs.Meanings.{Document, DocumentReading, IsBroken, IsDocumentReading, IsLock, IsProject, LockedReading, StringReading}
 use Rattle.pyver_projects.specs.ProjectStrings.{Dependencies, Extra, Group, Section}
 use Rattle.pyver_projects.specs.Together.{project_conflicts}
+use Rattle.pyver_findings.specs.NamedFiles.{folder}
+use Rattle.pyver_projects.specs.DocumentKinds.{lies_above}
+use Rattle.pyver_projects.specs.declared.document_kind.DocumentKind.{DocumentKind}
+use Rattle.pyver_projects.specs.declared.document_kind.DocumentKind.TheVariants.{Lock, Project}
 
 -- ---- a document by itself
 
@@ -95,9 +99,33 @@ found_beside (IsProject xs) (IsBroken f) = []
 found_beside (IsLock ys ms) other = []
 found_beside (IsBroken f) other = []
 
+-- ---- which lock is compared with which project
+
+abbrev pub is_project : DocumentKind → Bool
+is_project Project = true
+is_project (Lock kind) = false
+
+-- the document is a project in the folder of the lock, or in one below
+abbrev pub is_below : Document → Document → Bool
+is_below lock d = is_project d.kind && lies_above lock.file.name d.file.name
+
+-- the document is a lock in a folder nearer to the project
+abbrev pub is_nearer : Document → Document → Document → Bool
+is_nearer project lock d = not (is_project d.kind) && (lies_above d.file.name project.file.name && nat_lt (length (folder lock.file.name)) (length (folder d.file.name)))
+
+-- a lock counts for the projects in its folder and below that have none nearer, or for all, if there is none
+abbrev pub is_beside : List Document → Document → Document → Bool
+is_beside documents project lock =
+    if list_any (is_below lock) documents then lies_above lock.file.name project.file.name && not (list_any (is_nearer project lock) documents)
+    else true
+
+-- a document that was read beside another, if it is compared with it
+abbrev pub found_in_pair : List Document → Document × DocumentReading → Document × DocumentReading → List Finding
+found_in_pair documents a b = if is_beside documents a.0 b.0 then found_beside a.1 b.1 else []
+
 -- a document beside each of these
-abbrev pub beside_all : List DocumentReading → DocumentReading → List Finding
-beside_all others x = flat_map (found_beside x) others
+abbrev pub beside_all : List Document → List (Document × DocumentReading) → Document × DocumentReading → List Finding
+beside_all documents others a = flat_map (found_in_pair documents a) others
 
 -- ---- all documents
 
@@ -105,10 +133,10 @@ beside_all others x = flat_map (found_beside x) others
 abbrev pub with_findings : Report → List Finding → Report
 with_findings a found = record { findings = a.findings ++ found; ignored = a.ignored; lines = a.lines; files = a.files; left_out = a.left_out }
 
--- the report of documents that were read: of each by itself, in order, and then of each project beside each lock
-abbrev pub documents_report : List DocumentReading → Report
-documents_report xs = with_findings (with_own_reports empty_report xs) (flat_map (beside_all xs) xs)
+-- the report of documents that were read: of each by itself, in order, and then of each project beside each lock that counts for it
+abbrev pub documents_report : List Document → List DocumentReading → Report
+documents_report documents xs = with_findings (with_own_reports empty_report xs) (flat_map (beside_all documents (zip documents xs)) (zip documents xs))
 
 -- the report of the documents
 abbrev pub IsDocumentsReport : List Document → Report → Type 0
-IsDocumentsReport documents r = (xs : List DocumentReading) × AllZip IsDocumentReading documents xs × (r ≡ documents_report xs)
+IsDocumentsReport documents r = (xs : List DocumentReading) × AllZip IsDocumentReading documents xs × (r ≡ documents_report documents xs)

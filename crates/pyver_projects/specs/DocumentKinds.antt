@@ -1,6 +1,7 @@
 -- The kinds of documents, by their paths and by words.
 use Rattle.std.specs.Prelude.{ℕ, ◌==◌, ◌&&◌, ◌||◌, List, Bool, Option, Some, None, bytes_eq, codes, count_by, length, nat_eq, nat_lt, [], ◌∷◌, if◌then◌else◌}
 use Rattle.std.specs.List.{ends_with, list_any, starts_with}
+use Rattle.pyver_findings.specs.NamedFiles.{folder}
 use Rattle.pyver_projects.specs.declared.document_kind.DocumentKind.{DocumentKind}
 use Rattle.pyver_projects.specs.declared.document_kind.DocumentKind.TheVariants.{Lock, Project}
 use Rattle.pyver_projects.specs.declared.document_kind.LockKind.TheVariants.{Pipfile, Poetry, Pylock, Uv}
@@ -16,6 +17,10 @@ has_slash path = list_any (λ b. b == 47) path
 abbrev pub last_section : List ℕ → List ℕ
 last_section [] = []
 last_section (b ∷ rest) = if has_slash (b ∷ rest) then last_section rest else b ∷ rest
+
+-- the first path names a file in the folder of the second, or in one above
+abbrev pub lies_above : List ℕ → List ℕ → Bool
+lies_above path other = starts_with nat_eq other (folder path)
 
 -- `pylock.NAME.toml`, where NAME has no dot (PEP 751)
 abbrev pub is_named_pylock : List ℕ → Bool

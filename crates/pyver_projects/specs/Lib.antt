@@ -1,3 +1,4 @@
+pub mod DocumentKinds
 pub mod ProjectStrings
 pub mod TomlValues
 pub mod PackageRequirements
@@ -13,4 +14,3 @@ pub mod PackageIndexes
 pub mod Together
 pub mod Comparing
 pub mod ProjectLaws
-pub mod DocumentKinds

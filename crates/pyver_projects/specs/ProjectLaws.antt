@@ -23,7 +23,7 @@ use Rattle.pyver_findings.specs.declared.finding.Conflict.TheVariants.{PinOutsid
 use Rattle.pyver_requirements.specs.LineParts.{line_parts}
 use Rattle.toml.specs.Data.{Members}
 use Rattle.toml.specs.Parse.{parse_document}
-use Rattle.pyver_projects.specs.Comparing.{IsDocumentsReport, is_locked, is_needed}
+use Rattle.pyver_projects.specs.Comparing.{IsDocumentsReport, is_beside, is_locked, is_needed}
 use Rattle.pyver_projects.specs.Documents.{sources}
 use Rattle.pyver_projects.specs.Groups.{groups}
 use Rattle.pyver_projects.specs.Locks.{locked}
@@ -183,9 +183,10 @@ DocumentFindingsHold = (documents : List Document) (r : Report) → IsDocumentsR
 
 -- ---- no finding
 
--- each requirement of each project contains each version of its name in each lock
+-- each requirement of each project contains each version of its name in each lock that counts for it
 abbrev pub AllContained : List Document → Type 0
-AllContained documents = (file lock : File) (s : ProjectString) (p : LockedPackage) (n : Needed) (text : List ℕ) (v : Record) → HasString documents file s → HasPackage documents lock p
+AllContained documents = (file lock : File) (kind : LockKind) (l : LockContents) (s : ProjectString) (p : LockedPackage) (n : Needed) (text : List ℕ) (v : Record)
+    → HasString documents file s → HasLock documents kind lock l → Contains l.packages p → IsTrue (is_beside documents (record { kind = Project; file = file }) (record { kind = Lock kind; file = lock }))
     → IsTrue (is_locked s.section) → AlwaysAsks s n → IsTrue (same_name n.name p.name) → p.version ≡ Some text → Derives text v → IsTrue (list_matches_literally n.specifiers v)
 
 -- each requirement of a package whose list is one contains each version of its name in the same lock

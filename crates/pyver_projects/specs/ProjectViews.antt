@@ -6,6 +6,7 @@ use Rattle.pyver_projects.specs.Meanings.{Document, DocumentReading, IsBroken, I
 use Rattle.pyver_projects.specs.ProjectStrings.{Build, Dependencies, Extra, Group, Include, Invalid, LockContents, LockedPackage, LockedRequirement, Section, Python, ProjectString, Version}
 use Rattle.pyver_projects.specs.declared.document_kind.Document.{Document as DocumentValue}
 use Rattle.pyver_projects.specs.declared.document_reading.DocumentReading.{DocumentReading as DocumentReadingValue}
+use Rattle.pyver_projects.specs.declared.document_reading.ReadDocument.{ReadDocument as ReadDocumentValue}
 use Rattle.pyver_projects.specs.declared.document_reading.DocumentReading.TheVariants as reading
 use Rattle.pyver_projects.specs.declared.groups.Inclusion.{Inclusion as InclusionValue}
 use Rattle.pyver_projects.specs.declared.locked_package.LockContents.{LockContents as ContentsValue}
@@ -55,3 +56,11 @@ abbrev pub document_reading_of : DocumentReadingValue → DocumentReading
 document_reading_of (reading.Project xs) = IsProject (map string_reading_of xs.items)
 document_reading_of (reading.Lock ys ms) = IsLock (map locked_reading_of ys.items) (map line_meaning_of ms.items)
 document_reading_of (reading.Broken f) = IsBroken (finding_of f)
+
+-- what a document was read as
+abbrev pub reading_in : ReadDocumentValue → DocumentReading
+reading_in d = document_reading_of d.reading
+
+-- the document, and what it was read as
+abbrev pub read_pair : ReadDocumentValue → Document × DocumentReading
+read_pair d = (document_of d.document.now, reading_in d)

@@ -1,6 +1,10 @@
 //! Documents, and their kinds by paths and by words.
-ghost use Rattle.std.specs.Prelude.{◌≡◌, ◌==◌, count_by};
-ghost use Rattle.pyver_projects.specs.DocumentKinds.{ends_path, has_slash, is_document_path, is_named_pylock, kind_of_path, kind_of_word, last_section};
+ghost use Rattle.std.specs.List.{list_any};
+ghost use Rattle.std.specs.Prelude.{◌≡◌, ◌==◌, count_by, map};
+ghost use Rattle.pyver_findings.specs.NamedFiles.{folder};
+ghost use Rattle.pyver_projects.specs.Comparing.{is_below, is_beside, is_nearer, is_project};
+ghost use Rattle.pyver_projects.specs.ProjectViews.{document_of};
+ghost use Rattle.pyver_projects.specs.DocumentKinds.{ends_path, has_slash, lies_above, is_document_path, is_named_pylock, kind_of_path, kind_of_word, last_section};
 
 use pyver_findings::SourceFile;
 
@@ -35,6 +39,63 @@ pub struct Document {
     pub file: SourceFile,
 }
 
+impl Document {
+    fn path(&self) -> &[u8]
+        ensures { result.now ≡ (document_of self.now).file.name }
+    {
+        self.file.name.as_slice()
+    }
+
+    fn is_project(&self) -> bool
+        ensures { result ≡ is_project (document_of self.now).kind }
+    {
+        matches!(self.kind, DocumentKind::Project)
+    }
+
+    // It is a project in the folder of the lock, or in one below.
+    fn is_below(&self, lock: &Document) -> bool
+        ensures { result ≡ is_below (document_of lock.now) (document_of self.now) }
+    {
+        self.is_project() && lies_above(lock.path(), self.path())
+    }
+
+    // It is a lock in a folder nearer to the project than that of the other lock.
+    fn is_nearer(&self, project: &Document, lock: &Document) -> bool
+        ensures { result ≡ is_nearer (document_of project.now) (document_of lock.now) (document_of self.now) }
+    {
+        !self.is_project()
+            && lies_above(self.path(), project.path())
+            && folder(lock.path()).len() < folder(self.path()).len()
+    }
+}
+
+// Some document is a project in the folder of the lock, or in one below.
+fn has_below(documents: &[Document], lock: &Document) -> bool
+    ensures { result ≡ list_any (λ d. is_below (document_of lock.now) (document_of d)) documents.now }
+{
+    documents.iter().any(|document| document.is_below(lock))
+}
+
+// Some document is a lock in a folder nearer to the project.
+fn has_nearer(documents: &[Document], project: &Document, lock: &Document) -> bool
+    ensures { result ≡ list_any (λ d. is_nearer (document_of project.now) (document_of lock.now) (document_of d)) documents.now }
+{
+    documents
+        .iter()
+        .any(|document| document.is_nearer(project, lock))
+}
+
+// The lock counts for the project, of these documents.
+#[tactic(auto, using(crate::proofs::Walks::any_of))]
+pub(crate) fn is_beside(documents: &[Document], project: &Document, lock: &Document) -> bool
+    ensures { result ≡ is_beside (map document_of documents.now) (document_of project.now) (document_of lock.now) }
+{
+    if !has_below(documents, lock) {
+        return true;
+    }
+    lies_above(lock.path(), project.path()) && !has_nearer(documents, project, lock)
+}
+
 // The path is this name, or ends with it after a `/`.
 fn ends_path(path: &[u8], name: &[u8], after_slash: &[u8]) -> bool
     ensures { result ≡ ends_path path.now name.now after_slash.now }
@@ -59,6 +120,21 @@ fn last_section(path: &[u8]) -> &[u8]
         rest = later;
     }
     rest
+}
+
+// Up to the last `/`, with it.
+#[tactic(auto, using(crate::proofs::Walks::folder_is, crate::proofs::Walks::section_fits))]
+fn folder(path: &[u8]) -> &[u8]
+    ensures { result.now ≡ folder path.now }
+{
+    &path[..path.len() - last_section(path).len()]
+}
+
+// The first path names a file in the folder of the second, or in one above.
+fn lies_above(path: &[u8], other: &[u8]) -> bool
+    ensures { result ≡ lies_above path.now other.now }
+{
+    other.starts_with(folder(path))
 }
 
 fn count_dots(name: &[u8]) -> usize

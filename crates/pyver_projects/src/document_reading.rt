@@ -34,6 +34,13 @@ pub(crate) enum DocumentReading {
     Broken(Finding),
 }
 
+// A document, and what it was read as.
+#[derive(Drop)]
+pub(crate) struct ReadDocument<'a> {
+    pub(crate) document: &'a Document,
+    pub(crate) reading: DocumentReading,
+}
+
 fn read_project(
     alloc: Global,
     name: &[u8],

@@ -6,10 +6,10 @@ ghost use Rattle.pyver_findings.specs.Views.{finding_of, line_meaning_of, report
 ghost use Rattle.pyver_projects.specs.Comparing.{IsDocumentsReport, beside_all, invalid_package, invalid_string, left_out_string, own_report, with_own_reports};
 ghost use Rattle.pyver_projects.specs.Meanings.{IsDocumentReading, IsLock, IsProject, IsSoundDocument, IsSoundString};
 ghost use Rattle.pyver_projects.specs.Together.{project_conflicts};
-ghost use Rattle.pyver_projects.specs.ProjectViews.{document_of, document_reading_of, locked_reading_of, string_reading_of};
+ghost use Rattle.pyver_projects.specs.ProjectViews.{document_of, document_reading_of, locked_reading_of, read_pair, reading_in, string_reading_of};
 
 use crate::document_kind::Document;
-use crate::document_reading::{DocumentReading, read_document};
+use crate::document_reading::{DocumentReading, ReadDocument, read_document};
 use crate::lock_comparison::{push_beside_all, push_unmet_requirements};
 use crate::locked_reading::LockedReading;
 use crate::string_reading::StringReading;
@@ -138,36 +138,49 @@ fn report_document(alloc: Global, document: DocumentReading) -> Result<Report, A
     }
 }
 
-fn report_all(alloc: Global, documents: Vec<DocumentReading>) -> Result<Report, AllocError>
-    requires { All IsSoundDocument (map document_reading_of documents.items) }
-    ensures { IfOk result (λ r. report_of r ≡ with_own_reports empty_report (map document_reading_of documents.items)) }
+fn report_all(alloc: Global, documents: Vec<ReadDocument<'_>>) -> Result<Report, AllocError>
+    requires { All IsSoundDocument (map reading_in documents.items) }
+    ensures { IfOk result (λ r. report_of r ≡ with_own_reports empty_report (map reading_in documents.entry.items)) }
 {
     let mut report = Report::empty(alloc);
-    for document in documents {
-        report.append(report_document(alloc, document)?)?;
+    for read in documents {
+        let ReadDocument {
+            document: _document,
+            reading,
+        } = read;
+        report.append(report_document(alloc, reading)?)?;
     }
     Ok(report)
 }
 
-// What is found in each project beside each lock.
-fn compare_all(alloc: Global, documents: &[DocumentReading]) -> Result<Vec<Finding>, AllocError>
-    ensures { IfOk result (λ found. map finding_of found.items ≡ flat_map (beside_all (map document_reading_of documents.now)) (map document_reading_of documents.now)) }
+// What is found in each project beside each lock that counts for it, of these documents.
+fn compare_all(
+    alloc: Global,
+    documents: &[Document],
+    read: &[ReadDocument<'_>],
+) -> Result<Vec<Finding>, AllocError>
+    ensures { IfOk result (λ found. map finding_of found.items ≡ flat_map (beside_all (map document_of documents.now) (map read_pair read.now)) (map read_pair read.now)) }
 {
     let mut findings = Vec::new(alloc);
-    for document in documents {
-        push_beside_all(alloc, &mut findings, documents, document)?;
+    for document in read {
+        push_beside_all(alloc, &mut findings, documents, read, document)?;
     }
     Ok(findings)
 }
 
-fn read_documents(alloc: Global, documents: &[Document]) -> Result<Vec<DocumentReading>, AllocError>
-    ensures { IfOk result (λ xs. AllZip IsDocumentReading (map document_of documents.now) (map document_reading_of xs.items)) }
+fn read_documents<'a>(
+    alloc: Global,
+    documents: &'a [Document],
+) -> Result<Vec<ReadDocument<'a>>, AllocError>
+    ensures read { IfOk result (λ xs. AllZip IsDocumentReading (map document_of documents.now) (map reading_in xs.items)) }
+    ensures documents { IfOk result (λ xs. map (λ x. document_of x.document.now) xs.items ≡ map document_of documents.now) }
 {
-    let mut readings = Vec::new(alloc);
+    let mut read = Vec::new(alloc);
     for document in documents {
-        readings.push(read_document(alloc, document)?)?;
+        let reading = read_document(alloc, document)?;
+        read.push(ReadDocument { document, reading })?;
     }
-    Ok(readings)
+    Ok(read)
 }
 
 #[tactic(auto, using(crate::proofs::Sound::sound_documents))]
@@ -177,7 +190,8 @@ fn read_documents(alloc: Global, documents: &[Document]) -> Result<Vec<DocumentR
 /// document that is not TOML, or JSON, in UTF-8. After the strings of a project its requirements that hold together and have no version in
 /// common, as `pyver_findings` reports them, each once: `project.dependencies`; these with each extra, and with each group and all that it
 /// includes; and what the build requires. After the packages of a lock, for each of their requirements, the locked versions of its name that
-/// it does not contain. Then what is wrong in each project beside each lock: for each requirement, in order, whether the lock lacks a
+/// it does not contain. Then what is wrong in each project beside each lock in its folder, or in the nearest above that has one, and
+/// beside each lock for which that is no project: for each requirement, in order, whether the lock lacks a
 /// package of its name, and the lines of the locked versions of its name that it does not contain, each with the line of the requirement.
 ///
 /// Of `pyproject.toml` these are read: `project.dependencies`, `project.optional-dependencies`, `project.requires-python`,
@@ -197,9 +211,9 @@ fn read_documents(alloc: Global, documents: &[Document]) -> Result<Vec<DocumentR
 pub fn find_document_problems(alloc: Global, documents: &[Document]) -> Result<Report, AllocError>
     ensures { IfOk result (λ r. IsDocumentsReport (map document_of documents.now) (report_of r)) }
 {
-    let readings = read_documents(alloc, documents)?;
-    let mut compared = compare_all(alloc, readings.as_slice())?;
-    let mut report = report_all(alloc, readings)?;
+    let read = read_documents(alloc, documents)?;
+    let mut compared = compare_all(alloc, documents, read.as_slice())?;
+    let mut report = report_all(alloc, read)?;
     report.findings.append(&mut compared)?;
     Ok(report)
 }

@@ -5,11 +5,12 @@ ghost use Rattle.pyver_findings.specs.Findings.{Conflicting};
 ghost use Rattle.pyver_findings.specs.Reports.{demands_in};
 ghost use Rattle.pyver_findings.specs.Views.{demand_of, file_line_of, finding_of, line_meaning_of};
 ghost use Rattle.pyver_findings.specs.declared.finding.Conflict.TheVariants.{PinOutside};
-ghost use Rattle.pyver_projects.specs.Comparing.{found_beside, beside_all, compared, compared_demand, excluded, excluded_by, has_name, is_locked, is_needed, missing, unmet};
+ghost use Rattle.pyver_projects.specs.Comparing.{found_beside, found_in_pair, beside_all, compared, compared_demand, excluded, excluded_by, has_name, is_locked, is_needed, missing, unmet};
 ghost use Rattle.pyver_projects.specs.PackageIndexes.{IsIndex, packages_of};
-ghost use Rattle.pyver_projects.specs.ProjectViews.{document_reading_of, locked_reading_of, section_of, string_reading_of};
+ghost use Rattle.pyver_projects.specs.ProjectViews.{document_of, document_reading_of, locked_reading_of, read_pair, section_of, string_reading_of};
 
-use crate::document_reading::DocumentReading;
+use crate::document_kind::{Document, is_beside};
+use crate::document_reading::{DocumentReading, ReadDocument};
 use crate::locked_reading::LockedReading;
 use crate::package_index::PackageIndex;
 use crate::section::Section;
@@ -253,17 +254,34 @@ fn push_beside(
     push_all_compared(alloc, findings, &packages, strings.as_slice())
 }
 
+// What is found in the first document beside the second, if this counts for it, of these documents.
+fn push_pair_of_documents(
+    alloc: Global,
+    findings: &mut Vec<Finding>,
+    documents: &[Document],
+    read: &ReadDocument<'_>,
+    other: &ReadDocument<'_>,
+) -> Result<(), AllocError>
+    ensures { IfOk result (λ _. map finding_of findings.new.items ≡ map finding_of findings.old.items ++ found_in_pair (map document_of documents.now) (read_pair read.now) (read_pair other.now)) }
+{
+    if !is_beside(documents, read.document, other.document) {
+        return Ok(());
+    }
+    push_beside(alloc, findings, &read.reading, &other.reading)
+}
+
 // What is found in the document beside each of the others.
 pub(crate) fn push_beside_all(
     alloc: Global,
     findings: &mut Vec<Finding>,
-    others: &[DocumentReading],
-    document: &DocumentReading,
+    documents: &[Document],
+    others: &[ReadDocument<'_>],
+    read: &ReadDocument<'_>,
 ) -> Result<(), AllocError>
-    ensures { IfOk result (λ _. map finding_of findings.new.items ≡ map finding_of findings.old.items ++ beside_all (map document_reading_of others.now) (document_reading_of document.now)) }
+    ensures { IfOk result (λ _. map finding_of findings.new.items ≡ map finding_of findings.old.items ++ beside_all (map document_of documents.now) (map read_pair others.now) (read_pair read.now)) }
 {
     for other in others {
-        push_beside(alloc, findings, document, other)?;
+        push_pair_of_documents(alloc, findings, documents, read, other)?;
     }
     Ok(())
 }

@@ -1,12 +1,15 @@
+use Rattle.std.proofs.Common.{refl}
 use Rattle.pyver_projects.specs.Meanings.{IsDocumentReading}
-use Rattle.pyver_projects.specs.ProjectViews.{document_of, document_reading_of}
-use Rattle.pyver_projects.proofs.Steps.{read_all, read_more}
+use Rattle.pyver_projects.specs.ProjectViews.{document_of, reading_in}
+use Rattle.pyver_projects.proofs.Steps.{alike_more, read_more}
 use Rattle.pyver_projects.proofs.document_report.read_documents.Goals as goal
 
 pub loop-document-preserved : goal.loop-document-preserved
 loop-document-preserved c =
-    read_more document_of document_reading_of IsDocumentReading c.args.documents.now c.loop-document.document-index c.document-item.result c.loop-document.readings.items c.push.new.self.items c.in_ok-read_document.field-0
-    c.loop-document-test.true c.document-item.is c.in_ok-push.ensures.items c.in_ok-read_document.ensures c.loop-document.invariant
-
-pub returns : goal.returns
-returns c = read_all document_of document_reading_of IsDocumentReading c.args.documents.now c.loop-document.document-index c.loop-document.readings.items c.loop-document-test.false c.loop-document.invariant
+    let documents = c.args.documents.now in
+    let at = c.loop-document.document-index in (
+      read_more document_of reading_in IsDocumentReading documents at c.document-item.result c.loop-document.read.items c.push.new.self.items _ c.loop-document-test.true c.document-item.is
+          c.in_ok-push.ensures.items c.in_ok-reading.ensures c.loop-document.invariant.0,
+      alike_more document_of (λ x. document_of x.document.now) documents at c.document-item.result c.loop-document.read.items c.push.new.self.items _ c.loop-document-test.true c.document-item.is
+          c.in_ok-push.ensures.items refl c.loop-document.invariant.1,
+    )
