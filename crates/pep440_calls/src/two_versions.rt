@@ -9,7 +9,7 @@ use crate::buffer::OK;
 use crate::fault::Fault;
 use crate::read::read;
 use arrayvec::ArrayVec;
-use pep440_compiled::{compile_normal, read_sort_key};
+use pep440_compiled::{compile_normal, has_version_format, read_sort_key};
 use std::alloc::Global;
 use std::cmp::Ordering;
 
@@ -47,6 +47,7 @@ fn is_compiled(bytes: &[u8]) -> bool
 }
 
 // How a compiled version and a string compare, which is compiled on the stack; `None` if it is to be parsed, and of two strings.
+#[inline(never)]
 fn compare_mixed(left: &[u8], right: &[u8]) -> Option<Ordering>
     ensures { IfSome result (λ order. IsOrder left.now right.now (order_number order)) }
 {
@@ -63,20 +64,30 @@ fn compare_mixed(left: &[u8], right: &[u8]) -> Option<Ordering>
     pep440_compiled::compare(form.as_slice(), right).ok()
 }
 
-// How the left version compares with the right one.
-fn compare(alloc: Global, left: &[u8], right: &[u8]) -> Result<Ordering, Fault>
+// How versions compare of which at least one is a string.
+#[inline(never)]
+fn compare_string(alloc: Global, left: &[u8], right: &[u8]) -> Result<Ordering, Fault>
     ensures { ReturnsOrder left.now right.now result }
 {
-    if let Ok(order) = pep440_compiled::compare(left, right) {
-        return Ok(order);
-    }
-    if let Some(found) = compare_mixed(left, right) {
-        return Ok(found);
+    if has_version_format(left) || has_version_format(right) {
+        if let Some(found) = compare_mixed(left, right) {
+            return Ok(found);
+        }
     }
     let first = read(alloc, left)?;
     match read(alloc, right) {
         Ok(second) => Ok(first.cmp(&second)),
         Err(Fault::OutOfMemory) => Err(Fault::OutOfMemory),
         Err(_) => Err(Fault::InvalidRight),
+    }
+}
+
+// How the left version compares with the right one.
+fn compare(alloc: Global, left: &[u8], right: &[u8]) -> Result<Ordering, Fault>
+    ensures { ReturnsOrder left.now right.now result }
+{
+    match pep440_compiled::compare(left, right) {
+        Ok(order) => Ok(order),
+        Err(_) => compare_string(alloc, left, right),
     }
 }

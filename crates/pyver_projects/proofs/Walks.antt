@@ -1,5 +1,5 @@
 -- Lists beside lists, and lists that are made of each element.
-use Rattle.std.proofs.Common.{arith, ◌≡◌, ◌<◌, ◌≤◌, ◌-◌, ◌∙◌, ℕ, List, [], ◌∷◌, ◌++◌, Bool, true, false, ◌||◌, get_or, if◌then◌else◌, length, map, refl, sym, ap, subst, suc, take, zero}
+use Rattle.std.proofs.Common.{arith, ◌≡◌, ◌<◌, ◌≤◌, ◌-◌, ◌∙◌, ℕ, List, [], ◌∷◌, ◌++◌, Bool, true, false, ◌||◌, get_or, if◌then◌else◌, length, map, refl, sym, ap, subst, suc, take, take_all, zero}
 use Rattle.std.proofs.lemmas.Bool.{true≢false}
 use Rattle.std.proofs.lemmas.List.Elements.{All-append, All-cons, All-head, All-nil, All-tail}
 use Rattle.pyver_findings.specs.NamedFiles.{folder}
@@ -47,6 +47,16 @@ pairs_each R K Q f [] (y ∷ ys) known h = absurd h
 pairs_each R K Q f (x ∷ xs) [] known h = absurd h
 pairs_each R K Q f (x ∷ xs) (y ∷ ys) known h = All-cons Q (x, y) (zip xs ys) (f x y (All-head K x xs known) h.0) (pairs_each R K Q f xs ys (All-tail K x xs known) h.1)
 
+-- pairs are made of their parts
+pub zip_of : {Z X Y : Type 0} (f : Z → X) (g : Z → Y) (zs : List Z) → zip (map f zs) (map g zs) ≡ map (λ z. (f z, g z)) zs
+zip_of f g [] = refl
+zip_of f g (z ∷ zs) = ap (λ rest. (f z, g z) ∷ rest) (zip_of f g zs)
+
+-- all were read, each of its own
+pub paired : {L M B C : Type 0} (view : L → B) (show : M → B) (other : M → C) (xs : List L) (i : ℕ) (ys : List M) → length xs ≤ i → map show ys ≡ map view (take i xs)
+    → zip (map view xs) (map other ys) ≡ map (λ y. (show y, other y)) ys
+paired view show other xs i ys end alike = (λ j. zip (sym (alike ∙ ap (map view) (take_all i xs end)) j) (map other ys)) ∙ zip_of show other ys
+
 -- what stands after the last `/` is no longer than all
 pub section_fits : (path : List ℕ) → length (last_section path) ≤ length path
 section_fits [] = omega arith
@@ -71,11 +81,6 @@ folder_is (b ∷ rest) = by (folder_is rest) (has_slash (b ∷ rest))
 pub any_of : {X Y : Type 0} (p : Y → Bool) (f : X → Y) (xs : List X) → list_any p (map f xs) ≡ list_any (λ x. p (f x)) xs
 any_of p f [] = refl
 any_of p f (x ∷ xs) = ap (λ b. p (f x) || b) (any_of p f xs)
-
--- pairs are made of their parts
-pub zip_of : {Z X Y : Type 0} (f : Z → X) (g : Z → Y) (zs : List Z) → zip (map f zs) (map g zs) ≡ map (λ z. (f z, g z)) zs
-zip_of f g [] = refl
-zip_of f g (z ∷ zs) = ap (λ rest. (f z, g z) ∷ rest) (zip_of f g zs)
 
 -- what holds of each element holds of those beside them
 pub zip_each : {X Y : Type 0} (R : X → Y → Type 0) (K : X → Type 0) (Q : Y → Type 0) → ((x : X) (y : Y) → K x → R x y → Q y) → (xs : List X) (ys : List Y) → All K xs → AllZip R xs ys → All Q ys

@@ -1,6 +1,6 @@
 //! The report of documents.
 ghost use Rattle.std.specs.Prelude.{◌≡◌, ◌++◌, IfOk, map};
-ghost use Rattle.std.specs.List.{All, AllZip, flat_map};
+ghost use Rattle.std.specs.List.{All, AllZip, flat_map, zip};
 ghost use Rattle.pyver_findings.specs.Reports.{empty_report, left_out_in};
 ghost use Rattle.pyver_findings.specs.Views.{finding_of, line_meaning_of, report_of};
 ghost use Rattle.pyver_projects.specs.Comparing.{IsDocumentsReport, beside_all, invalid_package, invalid_string, left_out_string, own_report, with_own_reports};
@@ -173,7 +173,7 @@ fn read_documents<'a>(
     documents: &'a [Document],
 ) -> Result<Vec<ReadDocument<'a>>, AllocError>
     ensures read { IfOk result (λ xs. AllZip IsDocumentReading (map document_of documents.now) (map reading_in xs.items)) }
-    ensures documents { IfOk result (λ xs. map (λ x. document_of x.document.now) xs.items ≡ map document_of documents.now) }
+    ensures pairs { IfOk result (λ xs. zip (map document_of documents.now) (map reading_in xs.items) ≡ map read_pair xs.items) }
 {
     let mut read = Vec::new(alloc);
     for document in documents {

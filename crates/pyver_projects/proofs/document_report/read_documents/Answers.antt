@@ -2,6 +2,7 @@ use Rattle.std.proofs.Common.{refl}
 use Rattle.pyver_projects.specs.Meanings.{IsDocumentReading}
 use Rattle.pyver_projects.specs.ProjectViews.{document_of, reading_in}
 use Rattle.pyver_projects.proofs.Steps.{alike_more, read_more}
+use Rattle.pyver_projects.proofs.Walks.{paired}
 use Rattle.pyver_projects.proofs.document_report.read_documents.Goals as goal
 
 pub loop-document-preserved : goal.loop-document-preserved
@@ -13,3 +14,8 @@ loop-document-preserved c =
       alike_more document_of (λ x. document_of x.document.now) documents at c.document-item.result c.loop-document.read.items c.push.new.self.items _ c.loop-document-test.true c.document-item.is
           c.in_ok-push.ensures.items refl c.loop-document.invariant.1,
     )
+
+pub returns-clause-pairs : goal.returns-clause-pairs
+returns-clause-pairs c =
+    paired document_of (λ x. document_of x.document.now) reading_in c.args.documents.now c.loop-document.document-index c.loop-document.read.items c.loop-document-test.false
+    c.loop-document.invariant.1
