@@ -10,7 +10,7 @@ pub fn findings_hold()
 {}
 
 /// Where nothing is reported, each requirement of a project without a marker and a URL, but of its build, contains each version of its
-/// name in a lock, and each requirement of a locked package that is read and is in PEP 440's syntax contains each version of its name in
+/// name in a lock that counts for it, and each requirement of a locked package that is read and is in PEP 440's syntax contains each version of its name in
 /// the same lock.
 pub fn no_finding_means_contained()
     ensures { NoFindingImpliesContained }
