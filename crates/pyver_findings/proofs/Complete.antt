@@ -1,25 +1,28 @@
 -- What is reported: each line that ought to be a requirement and is none, each constraint that pip does not take, and some of the lines of a name
 -- that have no version in common.
-use Rattle.std.proofs.Common.{arith, ◌≡◌, ◌<◌, ◌∙◌, ◌++◌, ℕ, List, [], ◌∷◌, Bool, true, false, Option, Some, None, Result, Ok, Err, ap, get_or, length, map, option_map, refl, sym, subst, inl, inr, suc, zero, if◌then◌else◌}
+use Rattle.std.proofs.Common.{arith, ◌≡◌, ◌<◌, ◌∙◌, ◌++◌, ℕ, List, [], ◌∷◌, Bool, true, false, Option, Some, None, Result, Ok, Err, ap, append_assoc, get_or, length, map, option_map, refl, sym, subst, inl, inr, suc, zero, if◌then◌else◌}
 use Rattle.std.proofs.lemmas.Bool.{true≢false}
 use Rattle.std.proofs.lemmas.List.Elements.{All-contains_itself, All-filter, All-weaker}
 use Rattle.std.specs.List.{All, AllZip, filter, flat_map}
 use Rattle.pep440_pick.specs.RequirementGrammar.{DerivesRequirement, Needed}
-use Rattle.pyver_findings.proofs.Found.{Fits, Some_is, any_is, in_left, in_right, some_found}
+use Rattle.pyver_findings.proofs.Found.{Some_is, any_is, in_left, in_right, ones_of, some_found}
 use Rattle.pyver_findings.proofs.Holding.{IsAsked, all_asked, derived_sound}
 use Rattle.pyver_findings.proofs.Once.{of_lines}
 use Rattle.pyver_findings.proofs.SmallestLists.{none_by, some_allowed}
 use Rattle.pyver_findings.specs.Conflicts.{conflicts, counts_under, has_same_name, have_none, under}
 use Rattle.pyver_findings.specs.Demands.{Demand, IsSound}
-use Rattle.pyver_findings.specs.FileLines.{FileLine, all_lines}
-use Rattle.pyver_findings.specs.FindingLaws.{ConflictsHaveFindings, FitsUrl, HasMarker, HaveNone, InvalidLinesHaveFindings, IsAlone, IsRequirementLine, IsWrongConstraint, LacksRequirement, WrongConstraintsHaveFindings}
+use Rattle.pyver_findings.specs.FileLines.{File, FileLine, all_lines}
+use Rattle.pyver_findings.specs.FindingLaws.{ConflictsHaveFindings, FitsUrl, HasMarker, HaveNone, InvalidLinesHaveFindings, IsAlone, IsAmong, IsRequirementLine, IsWrongConstraint, LacksRequirement, WrongConstraintsHaveFindings}
 use Rattle.pyver_findings.specs.Findings.{Finding, NoRequirement}
 use Rattle.pyver_findings.specs.LineMeanings.{IsNone, LeftOut, LineMeaning, IsKindMeaning, IsMeaning, constraint_faults, has_extras, has_right_url, kind_faults, not_plain, rejection_meaning, requirement_meaning, invalid_line, under_marker, with_marker, with_url, IsPlain}
+use Rattle.pyver_findings.specs.MarkerPairs.{FindsOfNames}
 use Rattle.pyver_findings.specs.NamedFiles.{constraints_files}
 use Rattle.pyver_findings.specs.ReadingViews.{KeepsReadings}
-use Rattle.pyver_findings.specs.Reports.{Report, constraint_findings, demands_in, invalid_in}
-use Rattle.pyver_findings.specs.Views.{demand_of}
+use Rattle.pyver_findings.specs.Reports.{IsReport, Report, constraint_findings, demands_in, found_in, invalid_in, left_out_in}
+use Rattle.pyver_findings.specs.Views.{AddsFindings, AddsFound, demand_of, finding_of}
+use Rattle.pyver_findings.specs.declared.cause.Cause.{Cause}
 use Rattle.pyver_findings.specs.declared.cause.Cause.TheVariants as cause
+use Rattle.pyver_findings.specs.declared.finding.Finding.{Finding as FindingValue}
 use Rattle.pyver_findings.specs.declared.report.Readings.{Readings}
 use Rattle.pyver_requirements.specs.LineKinds.{ConstraintsFile, Editable, Invalid, LineKind, Location, PipOption, Requirement, RequirementsFile, Variable, line_kind}
 use Rattle.pyver_requirements.specs.declared.line_fault.LineFault.{LineFault}
@@ -79,10 +82,11 @@ module _ (l : FileLine) where
   in_lines lacks (m ∷ lines) (x ∷ xs) (suc k) inside is h = in_right (IsAlone l) (invalid_in x) (flat_map invalid_in xs) (in_lines lacks lines xs k (omega (arith, inside)) is h.1)
 
 pub invalid_lines_have_findings : InvalidLinesHaveFindings
-invalid_lines_have_findings files r l (xs, h, is) (k, inside, at) lacks =
+invalid_lines_have_findings files r l (xs, h, fs, cs, finds, is) (k, inside, at) lacks =
     any_is (IsAlone l) r.findings
     (subst (λ (q : Report). Some_is (IsAlone l) q.findings) (sym is)
-    (in_left (IsAlone l) (flat_map invalid_in xs) (constraint_findings (constraints_files files) ++ conflicts (flat_map demands_in xs)) (in_lines l lacks (all_lines files) xs k inside at h)))
+    (in_left (IsAlone l) (found_in files xs) fs
+    (in_left (IsAlone l) (flat_map invalid_in xs) (constraint_findings (constraints_files files) ++ conflicts (flat_map demands_in xs)) (in_lines l lacks (all_lines files) xs k inside at h))))
 
 -- ---- constraints
 
@@ -103,16 +107,17 @@ module _ (l : FileLine) where
   in_constraints wrong (m ∷ lines) (suc k) inside is = in_right (IsAlone l) (constraint_faults m) (flat_map constraint_faults lines) (in_constraints wrong lines k (omega (arith, inside)) is)
 
 pub wrong_constraints_have_findings : WrongConstraintsHaveFindings
-wrong_constraints_have_findings files r l (xs, h, is) (k, inside, at) wrong =
+wrong_constraints_have_findings files r l (xs, h, fs, cs, finds, is) (k, inside, at) wrong =
     any_is (IsAlone l) r.findings
     (subst (λ (q : Report). Some_is (IsAlone l) q.findings) (sym is)
+    (in_left (IsAlone l) (found_in files xs) fs
     (in_right (IsAlone l) (flat_map invalid_in xs) (constraint_findings (constraints_files files) ++ conflicts (flat_map demands_in xs))
-    (in_left (IsAlone l) (constraint_findings (constraints_files files)) (conflicts (flat_map demands_in xs)) (in_constraints l wrong (all_lines (constraints_files files)) k inside at))))
+    (in_left (IsAlone l) (constraint_findings (constraints_files files)) (conflicts (flat_map demands_in xs)) (in_constraints l wrong (all_lines (constraints_files files)) k inside at)))))
 
 -- ---- lines of a name
 
 -- strings give the members of the lists of lines
-asked_sound : (lines : List FileLine) (xs : List LineMeaning) → AllZip IsMeaning lines xs → All IsSound (flat_map demands_in xs)
+pub asked_sound : (lines : List FileLine) (xs : List LineMeaning) → AllZip IsMeaning lines xs → All IsSound (flat_map demands_in xs)
 asked_sound lines xs h = All-weaker (IsAsked pip_parts lines) IsSound (λ a asked. derived_sound pip_parts a asked.1) (flat_map demands_in xs) (all_asked lines lines xs (All-contains_itself lines) h)
 
 pub readings_sound : (lines : List FileLine) (kept : Readings) → KeepsReadings lines kept → All IsSound (map demand_of kept.demands.items)
@@ -122,14 +127,36 @@ readings_sound lines kept (xs, h, invalid, demands, left_out) = subst (All IsSou
 pub none_found : (lines : List Demand) → All IsSound lines → HaveNone lines → have_none lines ≡ true
 none_found lines sound none = none_by lines (have_none lines) refl (λ some. let found = some_allowed lines sound some in none found.0 found.1 found.2)
 
+-- a finding of lines together is in the report
+pub in_conflicts : (P : Finding → Type 0) (files : List File) (xs : List LineMeaning) (fs : List Finding) → Some_is P (conflicts (flat_map demands_in xs)) → Some_is P (found_in files xs ++ fs)
+in_conflicts P files xs fs some =
+    in_left P (found_in files xs) fs
+    (in_right P (flat_map invalid_in xs) (constraint_findings (constraints_files files) ++ conflicts (flat_map demands_in xs))
+    (in_right P (constraint_findings (constraints_files files)) (conflicts (flat_map demands_in xs)) some))
+
 pub conflicts_have_findings : ConflictsHaveFindings
-conflicts_have_findings files r lines a marker (xs, h, is) (ys, k, are) inside none =
-    let P = Fits (filter (has_same_name a) lines) marker in
+conflicts_have_findings files r lines a marker (xs, h, fs, cs, finds, is) (ys, k, are) inside none =
+    let these = under marker (filter (has_same_name a) lines) in
+    let P = IsAmong (map (λ (b : Demand). b.line) these) in
     let same : lines ≡ flat_map demands_in xs = are ∙ ap (flat_map demands_in) (of_lines (all_lines files) ys xs k h) in
     let sound : All IsSound lines = subst (All IsSound) (sym same) (asked_sound (all_lines files) xs h) in
-    let these = All-filter (counts_under marker) IsSound (filter (has_same_name a) lines) (All-filter (has_same_name a) IsSound lines sound) in
+    let so = All-filter (counts_under marker) IsSound (filter (has_same_name a) lines) (All-filter (has_same_name a) IsSound lines sound) in
     any_is P r.findings
     (subst (λ (q : Report). Some_is P q.findings) (sym is)
-    (in_right P (flat_map invalid_in xs) (constraint_findings (constraints_files files) ++ conflicts (flat_map demands_in xs))
-    (in_right P (constraint_findings (constraints_files files)) (conflicts (flat_map demands_in xs))
-    (subst (λ (demands : List Demand). Some_is P (conflicts demands)) same (some_found lines a marker inside (none_found (under marker (filter (has_same_name a) lines)) these none))))))
+    (in_conflicts P files xs fs
+    (subst (λ (demands : List Demand). Some_is P (conflicts demands)) same (some_found (map (λ (b : Demand). b.line) these) lines a marker (ones_of these) inside (none_found these so none)))))
+
+-- ---- the report
+
+-- what was read and found of the files, step by step
+pub is_report : (files : List File) (kept : Readings) (one two all : List FindingValue) (left : List Cause) (r : Report) → KeepsReadings (all_lines files) kept → AddsFindings kept.invalid.items one (constraint_findings (constraints_files files))
+    → AddsFindings one two (conflicts (map demand_of kept.demands.items)) → AddsFound (FindsOfNames (map demand_of kept.demands.items)) two all kept.left_out.items left
+    → r ≡ record { findings = map finding_of all; ignored = []; lines = length (all_lines files); files = length files; left_out = left } → IsReport files r
+is_report files kept one two all left r (xs, h, invalid, demands, left_out) constraints together (fs, cs, finds, adds, also) is =
+    let first = flat_map invalid_in xs in
+    let second = constraint_findings (constraints_files files) in
+    let third = conflicts (flat_map demands_in xs) in
+    let found : map finding_of all ≡ found_in files xs ++ fs =
+    adds ∙ ap (λ l. l ++ fs) (together ∙ (λ j. (constraints ∙ ap (λ l. l ++ second) invalid) j ++ conflicts (demands j)) ∙ append_assoc first second third) in
+    let rest : left ≡ flat_map left_out_in xs ++ cs = also ∙ ap (λ l. l ++ cs) left_out in
+    (xs, h, fs, cs, subst (λ d. FindsOfNames d fs cs) demands finds, is ∙ (λ j. record { findings = found j; ignored = []; lines = length (all_lines files); files = length files; left_out = rest j }))

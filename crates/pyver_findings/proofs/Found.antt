@@ -57,7 +57,7 @@ module _ (lines : List FileLine) where
   unmapped (a ∷ some) k = All-cons IsOne a some (All-head (Contains lines) a.line (map (λ (b : Demand). b.line) some) k) (unmapped some (All-tail (Contains lines) a.line (map (λ (b : Demand). b.line) some) k))
 
   -- of lines with nothing in common some are reported
-  all_found : (some : List Demand) → All IsOne some → have_none some ≡ true → Some_is (IsAmong lines) (of_all some)
+  pub all_found : (some : List Demand) → All IsOne some → have_none some ≡ true → Some_is (IsAmong lines) (of_all some)
   all_found some k empty =
       subst (λ e. Some_is (IsAmong lines) (if e then Conflicting (conflict_kind (smallest some)) (map (λ (a : Demand). a.line) (smallest some)) ∷ [] else [])) (sym empty)
       (inl (some_lines (smallest some) (smallest_none some empty), mapped (smallest some) (all_smallest IsOne some k)))
@@ -82,13 +82,13 @@ module _ {K : Type 0} (key : Demand → K) where
   HasKey k [] = ⊥
   HasKey k (x ∷ rest) = (key x ≡ k) ⊎ HasKey k rest
 
-  contains_key : (a : Demand) (lines : List Demand) (k : ℕ) → k < length lines → get_or lines k a ≡ a → HasKey (key a) lines
+  pub contains_key : (a : Demand) (lines : List Demand) (k : ℕ) → k < length lines → get_or lines k a ≡ a → HasKey (key a) lines
   contains_key a [] k inside is = absurd (omega arith)
   contains_key a (x ∷ lines) zero inside is = inl (ap key is)
   contains_key a (x ∷ lines) (suc k) inside is = inr (contains_key a lines k (omega arith) is)
 
   module _ (same : Demand → Demand → Bool) (keyed : (a b : Demand) → same a b ≡ true → key a ≡ key b) (alike : (a b : Demand) → key a ≡ key b → same a b ≡ true) where
-    none_before : (a x : Demand) → key x ≡ key a → (before : List Demand) → list_any (same a) before ≡ false → list_any (same x) before ≡ false
+    pub none_before : (a x : Demand) → key x ≡ key a → (before : List Demand) → list_any (same a) before ≡ false → list_any (same x) before ≡ false
     none_before a x k [] none = refl
     none_before a x k (y ∷ before) none =
         let here = left_false (same a y) (list_any (same a) before) none in
@@ -121,10 +121,10 @@ module _ {K : Type 0} (key : Demand → K) where
 
 -- ---- names and markers
 
-name_yes : (a b : Demand) → has_same_name a b ≡ true → a.name ≡ b.name
+pub name_yes : (a b : Demand) → has_same_name a b ≡ true → a.name ≡ b.name
 name_yes a b e = (bytes_eq-Decides a.name b.name).0 e
 
-name_alike : (a b : Demand) → a.name ≡ b.name → has_same_name a b ≡ true
+pub name_alike : (a b : Demand) → a.name ≡ b.name → has_same_name a b ≡ true
 name_alike a b e = (bytes_eq-Decides a.name b.name).1 e
 
 pub marker_yes : (m n : Option (List ℕ)) → same_marker m n ≡ true → m ≡ n
@@ -172,53 +172,50 @@ sub_by Q p q true false x rest so others k = absurd (true≢false (sym (so refl)
 sub_by Q p q false true x rest so others k = others (All-tail Q x (filter q rest) k)
 sub_by Q p q false false x rest so others k = others k
 
-all_sub : (Q : Demand → Type 0) (p q : Demand → Bool) → ((x : Demand) → p x ≡ true → q x ≡ true) → (lines : List Demand) → All Q (filter q lines) → All Q (filter p lines)
+pub all_sub : (Q : Demand → Type 0) (p q : Demand → Bool) → ((x : Demand) → p x ≡ true → q x ≡ true) → (lines : List Demand) → All Q (filter q lines) → All Q (filter p lines)
 all_sub Q p q so [] k = k
 all_sub Q p q so (x ∷ rest) k = sub_by Q p q (p x) (q x) x rest (so x) (all_sub Q p q so rest) k
 
 -- ---- all together
 
-module _ (lines : List Demand) (marker : Option (List ℕ)) where
-  -- a finding of some of the lines under the marker
-  abbrev pub Fits : Finding → Type 0
-  Fits = IsAmong (map (λ (a : Demand). a.line) (under marker lines))
+-- lines are some of themselves
+pub ones_of : (some : List Demand) → All (IsOne (map (λ (a : Demand). a.line) some)) some
+ones_of some = unmapped (map (λ (a : Demand). a.line) some) some (All-contains_itself (map (λ (a : Demand). a.line) some))
 
-  all_ones : All (IsOne (map (λ (a : Demand). a.line) (under marker lines))) (under marker lines)
-  all_ones = unmapped (map (λ (a : Demand). a.line) (under marker lines)) (under marker lines) (All-contains_itself (map (λ (a : Demand). a.line) (under marker lines)))
-
+-- the lines under the marker are among these
+module _ (known : List FileLine) (lines : List Demand) (marker : Option (List ℕ)) (ones : All (IsOne known) (under marker lines)) where
   -- the lines without a marker have nothing in common
-  by_none : have_none (under None lines) ≡ true → Some_is Fits (of_all (under None lines))
-  by_none e =
-      all_found (map (λ (a : Demand). a.line) (under marker lines)) (under None lines)
-      (all_sub (IsOne (map (λ (a : Demand). a.line) (under marker lines))) (counts_under None) (counts_under marker) (λ x. none_counts x.marker marker) lines all_ones) e
+  by_none : have_none (under None lines) ≡ true → Some_is (IsAmong known) (of_all (under None lines))
+  by_none e = all_found known (under None lines) (all_sub (IsOne known) (counts_under None) (counts_under marker) (λ x. none_counts x.marker marker) lines ones) e
 
   -- a line has the marker
   by_line : have_none (under marker lines) ≡ true → (a : Demand) → HasKey (λ (x : Demand). x.marker) a.marker lines → a.marker ≡ marker
-      → Some_is Fits (flat_map (λ (b : Demand). of_all (under b.marker lines)) (first_mentions has_same_marker [] lines))
+      → Some_is (IsAmong known) (flat_map (λ (b : Demand). of_all (under b.marker lines)) (first_mentions has_same_marker [] lines))
   by_line none a has is =
-      reach (λ (x : Demand). x.marker) has_same_marker (λ x y. marker_yes x.marker y.marker) (λ x y. marker_alike x.marker y.marker) Fits (λ (b : Demand). of_all (under b.marker lines)) a
-      (λ b e. subst (λ n. Some_is Fits (of_all (under n lines))) (sym (e ∙ is)) (all_found (map (λ (c : Demand). c.line) (under marker lines)) (under marker lines) all_ones none)) [] lines refl has
+      reach (λ (x : Demand). x.marker) has_same_marker (λ x y. marker_yes x.marker y.marker) (λ x y. marker_alike x.marker y.marker) (IsAmong known) (λ (b : Demand). of_all (under b.marker lines)) a
+      (λ b e. subst (λ n. Some_is (IsAmong known) (of_all (under n lines))) (sym (e ∙ is)) (all_found known (under marker lines) ones none)) [] lines refl has
 
-by_marker : (lines : List Demand) (marker : Option (List ℕ)) → have_none (under marker lines) ≡ true → have_none (under None lines) ≡ false
-    → Some_is (Fits lines marker) (flat_map (λ (b : Demand). of_all (under b.marker lines)) (first_mentions has_same_marker [] lines))
-by_marker lines None none e = absurd (true≢false (sym none ∙ e))
-by_marker lines (Some m) none e =
+by_marker : (known : List FileLine) (lines : List Demand) (marker : Option (List ℕ)) → All (IsOne known) (under marker lines) → have_none (under marker lines) ≡ true → have_none (under None lines) ≡ false
+    → Some_is (IsAmong known) (flat_map (λ (b : Demand). of_all (under b.marker lines)) (first_mentions has_same_marker [] lines))
+by_marker known lines None ones none e = absurd (true≢false (sym none ∙ e))
+by_marker known lines (Some m) ones none e =
     elim (marked m lines) [
-      | inl r ↦ by_line lines (Some m) none r.0 r.1 r.2
+      | inl r ↦ by_line known lines (Some m) ones none r.0 r.1 r.2
       | inr same ↦ absurd (true≢false (sym none ∙ ap have_none same ∙ e))
     ]
 
-by_both : (lines : List Demand) (marker : Option (List ℕ)) (b : Bool) → have_none (under marker lines) ≡ true → have_none (under None lines) ≡ b
-    → Some_is (Fits lines marker) (if b then of_all (under None lines) else flat_map (λ (a : Demand). of_all (under a.marker lines)) (first_mentions has_same_marker [] lines))
-by_both lines marker true none e = by_none lines marker e
-by_both lines marker false none e = by_marker lines marker none e
+by_both : (known : List FileLine) (lines : List Demand) (marker : Option (List ℕ)) → All (IsOne known) (under marker lines) → (b : Bool) → have_none (under marker lines) ≡ true → have_none (under None lines) ≡ b
+    → Some_is (IsAmong known) (if b then of_all (under None lines) else flat_map (λ (a : Demand). of_all (under a.marker lines)) (first_mentions has_same_marker [] lines))
+by_both known lines marker ones true none e = by_none known lines marker ones e
+by_both known lines marker ones false none e = by_marker known lines marker ones none e
 
-in_name : (lines : List Demand) (marker : Option (List ℕ)) → have_none (under marker lines) ≡ true → Some_is (Fits lines marker) (of_name lines)
-in_name lines marker none = by_both lines marker (have_none (under None lines)) none refl
+in_name : (known : List FileLine) (lines : List Demand) (marker : Option (List ℕ)) → All (IsOne known) (under marker lines) → have_none (under marker lines) ≡ true → Some_is (IsAmong known) (of_name lines)
+in_name known lines marker ones none = by_both known lines marker ones (have_none (under None lines)) none refl
 
-pub some_found : (lines : List Demand) (a : Demand) (marker : Option (List ℕ)) → Contains lines a → have_none (under marker (filter (has_same_name a) lines)) ≡ true → Some_is (Fits (filter (has_same_name a) lines) marker) (conflicts lines)
-some_found lines a marker (k, inside, is) none =
-    let P = Fits (filter (has_same_name a) lines) marker in
+pub some_found : (known : List FileLine) (lines : List Demand) (a : Demand) (marker : Option (List ℕ)) → All (IsOne known) (under marker (filter (has_same_name a) lines)) → Contains lines a
+    → have_none (under marker (filter (has_same_name a) lines)) ≡ true → Some_is (IsAmong known) (conflicts lines)
+some_found known lines a marker ones (k, inside, is) none =
+    let P = IsAmong known in
     reach (λ (x : Demand). x.name) has_same_name name_yes name_alike P (λ (b : Demand). of_name (filter (has_same_name b) lines)) a
-    (λ b e. subst (λ n. Some_is P (of_name (filter (λ (c : Demand). bytes_eq n c.name) lines))) (sym e) (in_name (filter (has_same_name a) lines) marker none)) [] lines refl
+    (λ b e. subst (λ n. Some_is P (of_name (filter (λ (c : Demand). bytes_eq n c.name) lines))) (sym e) (in_name known (filter (has_same_name a) lines) marker ones none)) [] lines refl
     (contains_key (λ (x : Demand). x.name) a lines k inside is)

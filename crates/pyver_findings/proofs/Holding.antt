@@ -16,16 +16,23 @@ use Rattle.pep440_version.specs.Record.{Record}
 use Rattle.pyver_findings.specs.Demands.{Demand, IsSound, is_pinned, line_demand}
 use Rattle.pyver_findings.specs.Conflicts.{conflict_kind, conflicts, counts_under, first_mentions, have_none, of_all, of_name, has_same_marker, has_same_name, same_marker, smallest, under}
 use Rattle.pyver_findings.specs.FileLines.{File, FileLine, all_lines}
-use Rattle.pyver_findings.specs.FindingLaws.{AreNeeded, AsksFor, CountsUnder, FindingsHold, FitsConflict, HasMarker, IsRight, IsRightConflict, IsRightConstraint, LineAllows, NamesVersion}
+use Rattle.pyver_findings.specs.FindingLaws.{AreNeeded, AsksFor, CountTogether, CountsIn, CountsUnder, FindingsHold, FitsConflict, HasMarker, HoldTogether, HoldsIn, IsRight, IsRightBy, IsRightConflict, IsRightConstraint, IsRightPair, LineAllows, NamesVersion}
 use Rattle.pyver_findings.specs.Findings.{Conflicting, Finding, NoRequirement}
 use Rattle.pyver_findings.specs.LineMeanings.{IsNone, LeftOut, LineMeaning, AsksNothing, IsKindMeaning, IsMeaning, constraint_faults, has_extras, has_right_url, kind_faults, requirement_meaning, has_scheme, names_file, under_marker, with_marker, with_url}
+use Rattle.pyver_findings.specs.MarkerPairs.{FindsDecided, FindsOfEach, FindsOfFirsts, FindsOfName, FindsOfNames, FindsOfPair, FindsOfPairs, IsDecision, few_first_lines, lines_to_pair, under_either}
 use Rattle.pyver_findings.specs.NamedFiles.{constraints_files}
 use Rattle.pyver_findings.proofs.Found.{marker_yes}
 use Rattle.pyver_findings.proofs.SmallestLists.{Allows, IsSpared, all_smallest, none_allowed, smallest_none, smallest_right}
 use Rattle.pyver_findings.proofs.Rejecting.{invalid_right}
 use Rattle.pyver_findings.specs.Reports.{Report, demands_in, invalid_in}
+use Rattle.pyver_findings.specs.declared.cause.Cause.{Cause}
 use Rattle.pyver_findings.specs.declared.cause.Cause.TheVariants as cause
 use Rattle.pyver_findings.specs.declared.finding.Conflict.TheVariants.{NoVersion, PinOutside, TwoPins}
+use Rattle.pyver_findings.specs.declared.marker_pairs.Decision.{Decision}
+use Rattle.pyver_findings.specs.declared.marker_pairs.Decision.TheVariants.{Apart, Together, Unknown}
+use Rattle.pyver_markers.specs.Conditions.{IsEnvironment}
+use Rattle.pyver_markers.specs.Environments.{Environment}
+use Rattle.pyver_markers.specs.MarkerValues.{both_hold, value}
 use Rattle.pyver_requirements.specs.LineKinds.{ConstraintsFile, Editable, Invalid, LineKind, Location, PipOption, Requirement, RequirementsFile, Variable, has_variable, line_kind}
 use Rattle.pyver_requirements.specs.LineParts.{LineParts, pip_parts}
 use Rattle.pyver_requirements.specs.MarkerReading.{marker}
@@ -154,7 +161,42 @@ pub counted_marker : (n m : Option (List ℕ)) → (is_none n || same_marker n m
 counted_marker None m e = inl refl
 counted_marker (Some n) m e = inr (marker_yes (Some n) m e)
 
+-- ---- two markers that hold together
+
+-- the marker holds in the environment
+abbrev pub MarkerIn : Environment → Option (List ℕ) → Type 0
+MarkerIn e m = (text : List ℕ) × (m ≡ Some text) × HoldsIn e text
+
+both_true : (p q : Option Bool) → both_hold p q ≡ Some true → (p ≡ Some true) × (q ≡ Some true)
+both_true (Some true) (Some true) e = (refl, refl)
+both_true (Some true) (Some false) e = cc e
+both_true (Some false) (Some b) e = cc e
+both_true (Some a) None e = cc e
+both_true None (Some b) e = cc e
+both_true None None e = cc e
+
+pub environment_of_pair : (one other : Option (List ℕ)) → IsDecision one other Together → (e : Environment) × IsEnvironment e × MarkerIn e one × MarkerIn e other
+environment_of_pair (Some one) (Some other) (m, variables, (a, b, first, second, is), example, system) =
+    let e = example.environment in
+    let holds = both_true (value e a) (value e b) (ap (value e) (sym is) ∙ example.holds e example.has) in
+    (e, example.known, (one, refl, (a, first, holds.0)), (other, refl, (b, second, holds.1)))
+environment_of_pair (Some one) None decided = cc decided
+environment_of_pair None other decided = cc decided
+
+either_by : (n one other : Option (List ℕ)) (b : Bool) → (is_none n || same_marker n one) ≡ b → (b || (is_none n || same_marker n other)) ≡ true → (n ≡ None) ⊎ ((n ≡ one) ⊎ (n ≡ other))
+either_by n one other true is e = elim (counted_marker n one is) [ inl none ↦ inl none | inr here ↦ inr (inl here) ]
+either_by n one other false is e = elim (counted_marker n other e) [ inl none ↦ inl none | inr there ↦ inr (inr there) ]
+
+counted_either : (n one other : Option (List ℕ)) → ((is_none n || same_marker n one) || (is_none n || same_marker n other)) ≡ true → (n ≡ None) ⊎ ((n ≡ one) ⊎ (n ≡ other))
+counted_either n one other e = either_by n one other (is_none n || same_marker n one) refl e
+
 -- ---- what holds of each finding
+
+-- it holds of what is found of each element
+pub found_each : {X : Type 0} (Q : Finding → Type 0) (P : X → List Finding → List Cause → Type 0) → ((x : X) (fs : List Finding) (cs : List Cause) → P x fs cs → All Q fs) → (xs : List X) (fs : List Finding) (cs : List Cause)
+    → FindsOfEach P xs fs cs → All Q fs
+found_each Q P right [] fs cs (is, also) = subst (All Q) (sym is) (All-nil Q)
+found_each Q P right (x ∷ rest) fs cs (f, g, c, d, here, later, is, also) = subst (All Q) (sym is) (All-append Q f g (right x f c here) (found_each Q P right rest g d later))
 
 module _ (P : Finding → Type 0) where
   pub where_true : (b : Bool) (f : Finding) → (b ≡ true → P f) → All P (if b then f ∷ [] else [])
@@ -211,17 +253,23 @@ module _ (parts : List ℕ → LineParts) where
       abbrev pub Counts : Option (List ℕ) → Demand → Type 0
       Counts marker a = IsNamed a × (counts_under marker a ≡ true)
 
-      all_right : (marker : Option (List ℕ)) (lines : List Demand) → All IsNamed lines → All (Counts marker) lines → All (IsRightConflict parts read) (of_all lines)
-      all_right marker lines named k =
+      right_by : (Count : List FileLine → Type 0) (lines : List Demand) → All IsNamed lines → Count (map (λ (a : Demand). a.line) (smallest lines)) → All (IsRightBy parts Count read) (of_all lines)
+      right_by Count lines named counts =
           let some = smallest lines in
           let these = all_smallest IsNamed lines named in
-          where_true (IsRightConflict parts read) (have_none lines) (Conflicting (conflict_kind some) (map (λ (a : Demand). a.line) some)) (λ e. (
+          where_true (IsRightBy parts Count read) (have_none lines) (Conflicting (conflict_kind some) (map (λ (a : Demand). a.line) some)) (λ e. (
             mapped (Contains read) IsNamed (λ a one. one.0.0) some these,
-            (name, marker, mapped (AsksFor parts name) IsNamed asks_for some these, mapped (CountsUnder parts marker) (Counts marker) (λ a one. counts_line marker a one.0 (counted_marker a.marker marker one.1)) some (all_smallest (Counts marker) lines k)),
+            counts,
             kind_fits some these,
             λ v denoted all. none_allowed some (sound parts some (derived some these)) (smallest_none lines e) v denoted (all_allow parts v some (derived some these) all),
             needed parts [] some (All-nil (IsDerived parts)) (derived some these) (smallest_right lines (sound parts lines (derived lines named)) e).2,
           ))
+
+      all_right : (marker : Option (List ℕ)) (lines : List Demand) → All IsNamed lines → All (Counts marker) lines → All (IsRightConflict parts read) (of_all lines)
+      all_right marker lines named k =
+          let some = smallest lines in
+          right_by (CountTogether parts) lines named
+          (name, marker, mapped (AsksFor parts name) IsNamed asks_for some (all_smallest IsNamed lines named), mapped (CountsUnder parts marker) (Counts marker) (λ a one. counts_line marker a one.0 (counted_marker a.marker marker one.1)) some (all_smallest (Counts marker) lines k))
 
       under_right : (marker : Option (List ℕ)) (lines : List Demand) → All IsNamed lines → All (IsRightConflict parts read) (of_all (under marker lines))
       under_right marker lines k =
@@ -233,6 +281,56 @@ module _ (parts : List ℕ → LineParts) where
           by_empty (IsRightConflict parts read) (have_none (under None lines)) _ _ (under_right None lines k)
           (of_each (IsRightConflict parts read) (λ (a : Demand). of_all (under a.marker lines)) (λ a. under_right a.marker lines k) (first_mentions has_same_marker [] lines))
 
+      -- ---- two markers
+
+      abbrev pub CountsEither : Option (List ℕ) → Option (List ℕ) → Demand → Type 0
+      CountsEither one other c = IsNamed c × ((counts_under one c || counts_under other c) ≡ true)
+
+      in_environment : (e : Environment) (one other : Option (List ℕ)) → MarkerIn e one → MarkerIn e other → (c : Demand) → CountsEither one other c → CountsIn parts e c.line
+      in_environment e one other (s, is, first) (t, so, second) c (((known, derived, marked), same), counts) =
+          elim (counted_either c.marker one other counts) [
+            | inl none ↦ inl (marked ∙ ap (option_map Ok) none)
+            | inr found ↦ elim found [
+              | inl here ↦ inr (s, marked ∙ ap (option_map Ok) (here ∙ is), first)
+              | inr there ↦ inr (t, marked ∙ ap (option_map Ok) (there ∙ so), second)
+            ]
+          ]
+
+      either_right : (one other : Option (List ℕ)) (lines : List Demand) → All IsNamed lines → IsDecision one other Together → All (IsRightPair parts read) (of_all (under_either one other lines))
+      either_right one other lines k decided =
+          let (e, is_one, first, second) = environment_of_pair one other decided in
+          let these = under_either one other lines in
+          let named = All-filter (λ (c : Demand). counts_under one c || counts_under other c) IsNamed lines k in
+          let counted = both IsNamed (λ (c : Demand). (counts_under one c || counts_under other c) ≡ true) these named (filter_passes (λ (c : Demand). counts_under one c || counts_under other c) lines) in
+          right_by (HoldTogether parts) these named
+          (name, e, is_one, mapped (AsksFor parts name) IsNamed asks_for (smallest these) (all_smallest IsNamed these named), mapped (CountsIn parts e) (CountsEither one other) (in_environment e one other first second) (smallest these) (all_smallest (CountsEither one other) these counted))
+
+      none_right : (fs : List Finding) → fs ≡ [] → All (IsRightPair parts read) fs
+      none_right fs none = subst (All (IsRightPair parts read)) (sym none) (All-nil (IsRightPair parts read))
+
+      decided_right : (d : Decision) (one other : Option (List ℕ)) (lines : List Demand) → All IsNamed lines → IsDecision one other d → (fs : List Finding) (cs : List Cause) → FindsDecided d (under_either one other lines) fs cs → All (IsRightPair parts read) fs
+      decided_right Together one other lines k decided fs cs (is, also) = subst (All (IsRightPair parts read)) (sym is) (either_right one other lines k decided)
+      decided_right Apart one other lines k decided fs cs (is, also) = none_right fs is
+      decided_right Unknown one other lines k decided fs cs (is, also) = none_right fs is
+
+      pairs_right : (lines firsts : List Demand) → All IsNamed lines → (fs : List Finding) (cs : List Cause) → FindsOfPairs lines firsts fs cs → All (IsRightPair parts read) fs
+      pairs_right lines [] k fs cs (is, also) = none_right fs is
+      pairs_right lines (a ∷ rest) k fs cs (f, g, c, d, here, later, is, also) =
+          subst (All (IsRightPair parts read)) (sym is)
+          (All-append (IsRightPair parts read) f g
+          (found_each (IsRightPair parts read) (FindsOfPair lines a) (λ b fs cs finds. decided_right finds.0 a.marker b.marker lines k finds.1 fs cs finds.2) rest f c here)
+          (pairs_right lines rest k g d later))
+
+      firsts_right : (lines : List Demand) → All IsNamed lines → (firsts : Option (List Demand)) (fs : List Finding) (cs : List Cause) → FindsOfFirsts lines firsts fs cs → All (IsRightPair parts read) fs
+      firsts_right lines k None fs cs (is, also) = none_right fs is
+      firsts_right lines k (Some firsts) fs cs finds = pairs_right lines (lines_to_pair lines firsts) k fs cs finds
+
+    pub pairs_of_names_right : (lines : List Demand) → All (IsAsked parts read) lines → (fs : List Finding) (cs : List Cause) → FindsOfNames lines fs cs → All (IsRightPair parts read) fs
+    pairs_of_names_right lines k =
+        found_each (IsRightPair parts read) (λ (a : Demand). FindsOfName (filter (has_same_name a) lines))
+        (λ a fs cs finds. let these = filter (has_same_name a) lines in firsts_right a.name these (both (IsAsked parts read) (λ b. has_same_name a b ≡ true) these (All-filter (has_same_name a) (IsAsked parts read) lines k) (filter_passes (has_same_name a) lines)) (few_first_lines these) fs cs finds)
+        (first_mentions has_same_name [] lines)
+
     pub conflicts_right : (lines : List Demand) → All (IsAsked parts read) lines → All (IsRightConflict parts read) (conflicts lines)
     conflicts_right lines k =
         of_each (IsRightConflict parts read) (λ (a : Demand). of_name (filter (has_same_name a) lines))
@@ -243,7 +341,11 @@ module _ (parts : List ℕ → LineParts) where
 
 rightly : (lines : List FileLine) (f : Finding) → IsRightConflict pip_parts lines f → IsRight lines f
 rightly lines (NoRequirement l reason column) right = absurd right
-rightly lines (Conflicting conflict together) right = right
+rightly lines (Conflicting conflict together) right = inl right
+
+paired : (lines : List FileLine) (f : Finding) → IsRightPair pip_parts lines f → IsRight lines f
+paired lines (NoRequirement l reason column) right = absurd right
+paired lines (Conflicting conflict together) right = inr right
 
 -- a constraint that is reported is one that pip does not take
 module _ (files : List File) where
@@ -266,14 +368,16 @@ module _ (files : List File) where
       (constraints_right lines (All-tail (Contains (all_lines (constraints_files files))) l lines known))
 
 pub findings_hold : FindingsHold
-findings_hold files r (xs, h, is) =
+findings_hold files r (xs, h, fs, cs, finds, is) =
     let lines = all_lines files in
     let some = all_lines (constraints_files files) in
     let P = λ (f : Finding). IsRight lines f ⊎ IsRightConstraint files f in
+    let asked = all_asked lines lines xs (All-contains_itself lines) h in
     subst (λ (q : Report). All P q.findings) (sym is)
+    (All-append P (flat_map invalid_in xs ++ (flat_map constraint_faults some ++ conflicts (flat_map demands_in xs))) fs
     (All-append P (flat_map invalid_in xs) (flat_map constraint_faults some ++ conflicts (flat_map demands_in xs))
     (All-weaker (IsRight lines) P (λ f right. inl right) (flat_map invalid_in xs) (invalid_right lines lines xs (All-contains_itself lines) h))
     (All-append P (flat_map constraint_faults some) (conflicts (flat_map demands_in xs))
     (All-weaker (IsRightConstraint files) P (λ f right. inr right) (flat_map constraint_faults some) (constraints_right files some (All-contains_itself some)))
-    (All-weaker (IsRightConflict pip_parts lines) P (λ f right. inl (rightly lines f right)) (conflicts (flat_map demands_in xs))
-    (conflicts_right pip_parts lines (flat_map demands_in xs) (all_asked lines lines xs (All-contains_itself lines) h)))))
+    (All-weaker (IsRightConflict pip_parts lines) P (λ f right. inl (rightly lines f right)) (conflicts (flat_map demands_in xs)) (conflicts_right pip_parts lines (flat_map demands_in xs) asked))))
+    (All-weaker (IsRightPair pip_parts lines) P (λ f right. inl (paired lines f right)) fs (pairs_of_names_right pip_parts lines (flat_map demands_in xs) asked fs cs finds)))

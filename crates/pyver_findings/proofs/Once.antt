@@ -1,12 +1,15 @@
 -- A line has at most one meaning, and files have at most one report.
-use Rattle.std.proofs.Common.{◌≡◌, ◌∙◌, List, [], ◌∷◌, length, refl, sym, ap, inl, inr}
-use Rattle.std.specs.List.{AllZip, flat_map}
+use Rattle.std.proofs.Common.{◌≡◌, ◌∙◌, List, [], ◌∷◌, ◌++◌, length, refl, subst, sym, ap, inl, inr}
+use Rattle.std.specs.List.{AllZip, Contains, flat_map}
 use Rattle.pep440_pick.proofs.Once.{not_both_requirement, one_refusal, one_requirement}
 use Rattle.pep440_pick.specs.RequirementGrammar.{Needed, RequirementRejection}
 use Rattle.pyver_findings.specs.FileLines.{FileLine, all_lines}
 use Rattle.pyver_findings.specs.FindingLaws.{MeaningsOnce, ReportsOnce}
 use Rattle.pyver_findings.specs.LineMeanings.{IsKindMeaning, IsMeaning, IsPartsMeaning, LineMeaning, rejection_meaning, requirement_meaning}
-use Rattle.pyver_findings.specs.Reports.{found_in, left_out_in}
+use Rattle.pyver_findings.specs.MarkerPairs.{FindsOfNames}
+use Rattle.pyver_findings.specs.Reports.{Report, demands_in, found_in, left_out_in}
+use Rattle.pyver_findings.specs.declared.cause.Cause.TheVariants as cause
+use Rattle.pyver_findings.proofs.MarkerPairs.{names_once, names_tell, no_causes}
 use Rattle.pyver_requirements.specs.LineKinds.{ConstraintsFile, Editable, Invalid, LineKind, Location, PipOption, Requirement, RequirementsFile, Variable, line_kind}
 use Rattle.pyver_requirements.specs.LineParts.{LineParts, pip_parts}
 
@@ -42,6 +45,12 @@ of_lines (l ∷ lines) (x ∷ xs) [] h k = absurd k
 of_lines (l ∷ lines) (x ∷ xs) (y ∷ ys) h k = λ j. meanings_once l x y h.0 k.0 j ∷ of_lines lines xs ys h.1 k.1 j
 
 pub reports_once : ReportsOnce
-reports_once files r s (xs, h, a) (ys, k, b) =
+reports_once files r s (xs, h, fs, cs, finds, a) (ys, k, gs, ds, also, b) decided again =
     let same = of_lines (all_lines files) xs ys h k in
-    a ∙ (λ j. record { findings = found_in files (same j); ignored = []; lines = length (all_lines files); files = length files; left_out = flat_map left_out_in (same j) }) ∙ sym b
+    let asked : flat_map demands_in ys ≡ flat_map demands_in xs = ap (flat_map demands_in) (sym same) in
+    let none = no_causes (flat_map left_out_in xs) cs (names_tell (flat_map demands_in xs) fs cs finds) (λ known. decided (subst (λ (q : Report). Contains q.left_out cause.Undecided) (sym a) known)) in
+    let nothing = no_causes (flat_map left_out_in ys) ds (names_tell (flat_map demands_in ys) gs ds also) (λ known. again (subst (λ (q : Report). Contains q.left_out cause.Undecided) (sym b) known)) in
+    let found : fs ≡ gs =
+    names_once (flat_map demands_in xs) fs gs (subst (FindsOfNames (flat_map demands_in xs) fs) none finds) (subst (FindsOfNames (flat_map demands_in xs) gs) nothing (subst (λ demands. FindsOfNames demands gs ds) asked also)) in
+    let left : cs ≡ ds = none ∙ sym nothing in
+    a ∙ (λ j. record { findings = found_in files (same j) ++ found j; ignored = []; lines = length (all_lines files); files = length files; left_out = flat_map left_out_in (same j) ++ left j }) ∙ sym b

@@ -162,7 +162,7 @@ keeps : (kept before : List Demand) → Keeping kept before → IsSmallestOf (ke
 keeps kept [] (sound, ahead, none, spared) = (sound, none, spared)
 keeps kept (a ∷ before) k = step kept a before (have_none (reverse before ++ kept)) refl k (λ more m. keeps more before m)
 
-nothing_after : (xs : List Demand) → xs ++ [] ≡ xs
+pub nothing_after : (xs : List Demand) → xs ++ [] ≡ xs
 nothing_after [] = refl
 nothing_after (x ∷ xs) = ap (λ r. x ∷ r) (nothing_after xs)
 

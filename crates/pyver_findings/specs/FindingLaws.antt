@@ -1,7 +1,7 @@
 -- What holds of findings: a line that is reported by itself is no requirement or no constraint, and each that is none is reported; lines that are
 -- reported together count together and cannot be satisfied, and none of them can be left out; those that have no version in common are
--- reported; there is one report.
-use Rattle.std.specs.Prelude.{◌≡◌, ◌⊎◌, ⊤, ℕ, List, [], ◌∷◌, ◌++◌, IsTrue, Option, Some, None, Ok, bytes_eq, map, option_map}
+-- reported; there is one report, if nothing is undecided.
+use Rattle.std.specs.Prelude.{◌≡◌, ◌⊎◌, ⊤, ℕ, List, [], ◌∷◌, ◌++◌, IsTrue, Option, Some, None, Ok, bytes_eq, map, option_map, true}
 use Rattle.std.specs.List.{All, AllZip, Any, Contains, filter, flat_map}
 use Rattle.pep440_pick.specs.Names.{normal}
 use Rattle.pep440_pick.specs.RequirementGrammar.{DerivesRequirement, Needed}
@@ -13,12 +13,18 @@ use Rattle.pyver_findings.specs.Demands.{Demand, is_pinned}
 use Rattle.pyver_findings.specs.FileLines.{File, FileLine, all_lines}
 use Rattle.pyver_findings.specs.Findings.{Conflicting, Finding, NoRequirement}
 use Rattle.pyver_findings.specs.LineMeanings.{IsMeaning, IsNone, IsPlain, LineMeaning, has_extras, has_right_url}
+use Rattle.pyver_findings.specs.MarkerPairs.{under_either}
 use Rattle.pyver_findings.specs.NamedFiles.{constraints_files}
 use Rattle.pyver_findings.specs.Reports.{IsReport, Report, demands_in}
+use Rattle.pyver_findings.specs.declared.cause.Cause.TheVariants as cause
 use Rattle.pyver_findings.specs.declared.finding.Conflict.{Conflict}
 use Rattle.pyver_findings.specs.declared.finding.Conflict.TheVariants.{NoVersion, PinOutside, TwoPins}
+use Rattle.pyver_markers.specs.Conditions.{IsEnvironment}
+use Rattle.pyver_markers.specs.Environments.{Environment}
+use Rattle.pyver_markers.specs.MarkerValues.{value}
 use Rattle.pyver_requirements.specs.LineKinds.{Editable, Invalid, Requirement, line_kind}
 use Rattle.pyver_requirements.specs.LineParts.{LineParts, pip_parts}
+use Rattle.pyver_requirements.specs.MarkerGrammar.{DenotesMarker, Marker}
 use Rattle.pyver_requirements.specs.MarkerReading.{marker}
 use Rattle.pyver_requirements.specs.declared.line_fault.LineFault.{LineFault}
 
@@ -42,6 +48,10 @@ AreParts p = IsPlain p.requirement × ((n : Needed) × DerivesRequirement p.requ
 -- the line is a requirement
 abbrev pub IsRequirementLine : FileLine → Type 0
 IsRequirementLine l = (line_kind l.text ≡ Requirement) × AreParts (pip_parts l.text)
+
+-- the marker, in its normal form, holds in the environment
+abbrev pub HoldsIn : Environment → List ℕ → Type 0
+HoldsIn e text = (m : Marker) × DenotesMarker text m × (value e m ≡ Some true)
 
 -- ---- lines, or strings, with these parts
 
@@ -82,13 +92,28 @@ module _ (parts : List ℕ → LineParts) where
   AreNeeded front [] = ⊤
   AreNeeded front (l ∷ lines) = HaveSome (front ++ lines) × AreNeeded (front ++ l ∷ []) lines
 
-  -- lines that are reported together are some of these, count together, no version is allowed by all, and without any one of them some
-  -- version is
-  abbrev pub IsRightConflict : List FileLine → Finding → Type 0
-  IsRightConflict lines (NoRequirement l reason column) = ⊥
-  IsRightConflict lines (Conflicting conflict together) =
-      All (Contains lines) together × CountTogether together × FitsConflict conflict together × ((v : Record) → IsDenoted v → ¬ All (LineAllows v) together)
+  -- the line has no marker, or one that holds in the environment
+  abbrev pub CountsIn : Environment → FileLine → Type 0
+  CountsIn e l = HasMarker (parts l.text) None ⊎ ((m : List ℕ) × HasMarker (parts l.text) (Some m) × HoldsIn e m)
+
+  -- the lines ask for one name in one environment
+  abbrev pub HoldTogether : List FileLine → Type 0
+  HoldTogether together = (name : List ℕ) × (e : Environment) × IsEnvironment e × All (AsksFor name) together × All (CountsIn e) together
+
+  -- lines that are reported together are some of these, count so, no version is allowed by all, and without any one of them some version is
+  abbrev pub IsRightBy : (List FileLine → Type 0) → List FileLine → Finding → Type 0
+  IsRightBy Count lines (NoRequirement l reason column) = ⊥
+  IsRightBy Count lines (Conflicting conflict together) =
+      All (Contains lines) together × Count together × FitsConflict conflict together × ((v : Record) → IsDenoted v → ¬ All (LineAllows v) together)
       × AreNeeded [] together
+
+  -- no two of them have different markers
+  abbrev pub IsRightConflict : List FileLine → Finding → Type 0
+  IsRightConflict lines f = IsRightBy CountTogether lines f
+
+  -- their markers hold in one environment
+  abbrev pub IsRightPair : List FileLine → Finding → Type 0
+  IsRightPair lines f = IsRightBy HoldTogether lines f
 
 -- ---- requirements files
 
@@ -96,7 +121,8 @@ module _ (parts : List ℕ → LineParts) where
 -- together are rightly so
 abbrev pub IsRight : List FileLine → Finding → Type 0
 IsRight lines (NoRequirement l reason column) = Contains lines l × (¬ IsRequirementLine l) × IsMeaning l (IsNone (NoRequirement l reason column))
-IsRight lines (Conflicting conflict together) = IsRightConflict pip_parts lines (Conflicting conflict together)
+IsRight lines (Conflicting conflict together) =
+    IsRightConflict pip_parts lines (Conflicting conflict together) ⊎ IsRightPair pip_parts lines (Conflicting conflict together)
 
 -- the line is of a file that a line names after `-c`
 abbrev pub IsConstraint : List File → FileLine → Type 0
@@ -150,10 +176,26 @@ abbrev pub ConflictsHaveFindings : Type 0
 ConflictsHaveFindings = (files : List File) (r : Report) (lines : List Demand) (a : Demand) (m : Option (List ℕ)) → IsReport files r → AreDemands files lines → Contains lines a
     → HaveNone (under m (filter (has_same_name a) lines)) → Any (IsAmong (map (λ (b : Demand). b.line) (under m (filter (has_same_name a) lines)))) r.findings
 
+-- something is said to be undecided
+abbrev pub IsUndecided : Report → Type 0
+IsUndecided r = Contains r.left_out cause.Undecided
+
+-- the marker of the line holds in the environment
+abbrev pub AsksIn : Environment → Demand → Type 0
+AsksIn e a = (m : List ℕ) × (a.marker ≡ Some m) × HoldsIn e m
+
+-- where the lines of a name under one of two markers have no version in common, and both markers hold in one environment, some of these lines
+-- are reported together, or something is said to be undecided
+abbrev pub PairsHaveFindings : Type 0
+PairsHaveFindings = (files : List File) (r : Report) (lines : List Demand) (a b : Demand) (e : Environment) → IsReport files r → AreDemands files lines
+    → Contains lines a → Contains lines b → IsTrue (has_same_name a b) → IsEnvironment e → AsksIn e a → AsksIn e b
+    → HaveNone (under_either a.marker b.marker (filter (has_same_name a) lines))
+    → Any (IsAmong (map (λ (c : Demand). c.line) (under_either a.marker b.marker (filter (has_same_name a) lines)))) r.findings ⊎ IsUndecided r
+
 -- a line has at most one meaning
 abbrev pub MeaningsOnce : Type 0
 MeaningsOnce = (l : FileLine) (x y : LineMeaning) → IsMeaning l x → IsMeaning l y → x ≡ y
 
--- files have at most one report
+-- files have at most one report in which nothing is undecided
 abbrev pub ReportsOnce : Type 0
-ReportsOnce = (files : List File) (r s : Report) → IsReport files r → IsReport files s → r ≡ s
+ReportsOnce = (files : List File) (r s : Report) → IsReport files r → IsReport files s → ¬ IsUndecided r → ¬ IsUndecided s → r ≡ s

@@ -7,6 +7,7 @@ pub mod NamedFiles
 pub mod Findings
 pub mod FindingKinds
 pub mod Conflicts
+pub mod MarkerPairs
 pub mod Reports
 pub mod Views
 pub mod ReadingViews

@@ -79,6 +79,7 @@ same_cause cause.Variable cause.Variable = true
 same_cause cause.Location cause.Location = true
 same_cause cause.Url cause.Url = true
 same_cause cause.OtherSyntax cause.OtherSyntax = true
+same_cause cause.Undecided cause.Undecided = true
 same_cause _ _ = false
 
 abbrev pub cause_text : Cause → List ℕ
@@ -88,6 +89,7 @@ cause_text cause.Variable = codes "pyver: lines with a variable left out: "
 cause_text cause.Location = codes "pyver: paths, archives and URLs left out: "
 cause_text cause.Url = codes "pyver: requirements and files by URL left out: "
 cause_text cause.OtherSyntax = codes "pyver: requirements of packages in another syntax left out: "
+cause_text cause.Undecided = codes "pyver: pairs of markers not decided: "
 
 -- a line with a number
 abbrev pub count_text : List ℕ → ℕ → List ℕ
@@ -98,9 +100,13 @@ abbrev pub left_out_text : List Cause → Cause → List ℕ
 left_out_text causes c = if count_by (same_cause c) causes == 0 then [] else count_text (cause_text c) (count_by (same_cause c) causes)
 
 -- how many lines were left out, by cause
-abbrev pub left_out_texts : List Cause → List ℕ
-left_out_texts causes = left_out_text causes cause.Editable ++ (left_out_text causes cause.PipOption ++ (left_out_text causes cause.Variable
+abbrev pub left_out_lines : List Cause → List ℕ
+left_out_lines causes = left_out_text causes cause.Editable ++ (left_out_text causes cause.PipOption ++ (left_out_text causes cause.Variable
     ++ (left_out_text causes cause.Location ++ (left_out_text causes cause.Url ++ left_out_text causes cause.OtherSyntax))))
+
+-- and how many pairs of markers
+abbrev pub left_out_texts : List Cause → List ℕ
+left_out_texts causes = left_out_lines causes ++ left_out_text causes cause.Undecided
 
 -- so many of this noun
 abbrev pub counted : ℕ → List ℕ → List ℕ

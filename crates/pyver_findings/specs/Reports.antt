@@ -7,10 +7,11 @@ use Rattle.pyver_findings.specs.FileLines.{File, FileLine, all_lines}
 use Rattle.pyver_findings.specs.FindingKinds.{is_ignored}
 use Rattle.pyver_findings.specs.Findings.{Conflicting, Finding, NoRequirement}
 use Rattle.pyver_findings.specs.LineMeanings.{Asks, IsNone, LeftOut, LineMeaning, AsksNothing, IsMeaning, constraint_faults}
+use Rattle.pyver_findings.specs.MarkerPairs.{FindsOfNames}
 use Rattle.pyver_findings.specs.NamedFiles.{constraints_files}
 use Rattle.pyver_findings.specs.declared.cause.Cause.{Cause}
 
--- the findings, those that a comment ignores, the number of lines and of files, and for each line that was left out why
+-- the findings, those that a comment ignores, the number of lines and of files, and for each line and pair of markers that was left out why
 pub record Report : Type 0 where
   pub findings : List Finding
   pub ignored : List Finding
@@ -47,10 +48,16 @@ constraint_findings files = flat_map constraint_faults (all_lines files)
 abbrev pub found_in : List File → List LineMeaning → List Finding
 found_in files xs = flat_map invalid_in xs ++ (constraint_findings (constraints_files files) ++ conflicts (flat_map demands_in xs))
 
--- the report of the files, whatever comments ignore
+-- the report of the files, whatever comments ignore: behind these findings those of lines under two markers
 abbrev pub IsReport : List File → Report → Type 0
 IsReport files r = (xs : List LineMeaning) × AllZip IsMeaning (all_lines files) xs
-    × (r ≡ record { findings = found_in files xs; ignored = []; lines = length (all_lines files); files = length files; left_out = flat_map left_out_in xs })
+    × (fs : List Finding) × (cs : List Cause) × FindsOfNames (flat_map demands_in xs) fs cs × (r ≡ record {
+      findings = found_in files xs ++ fs;
+      ignored = [];
+      lines = length (all_lines files);
+      files = length files;
+      left_out = flat_map left_out_in xs ++ cs;
+    })
 
 -- the report of no files
 abbrev pub empty_report : Report

@@ -10,6 +10,7 @@ use Rattle.pyver_findings.specs.Findings.{Conflicting, Finding, NoRequirement}
 use Rattle.pyver_findings.specs.LineMeanings.{Asks, IsNone, LeftOut, LineMeaning, AsksNothing}
 use Rattle.pyver_findings.specs.NamedFiles.{NamedFile, Position}
 use Rattle.pyver_findings.specs.Reports.{Report}
+use Rattle.pyver_findings.specs.declared.cause.Cause.{Cause}
 use Rattle.pyver_findings.specs.declared.demand.Demand.{Demand as DemandValue}
 use Rattle.pyver_findings.specs.declared.file_line.FileLine.{FileLine as FileLineValue}
 use Rattle.pyver_findings.specs.declared.file_line.SourceFile.{SourceFile}
@@ -55,6 +56,10 @@ finding_of (finding.Conflicting kind lines) = Conflicting kind (map file_line_of
 -- the second findings are the first, and these behind them
 abbrev pub AddsFindings : List FindingValue → List FindingValue → List Finding → Type 0
 AddsFindings old new more = map finding_of new ≡ map finding_of old ++ more
+
+-- behind the first findings and causes stand such findings and causes
+abbrev pub AddsFound : (List Finding → List Cause → Type 0) → List FindingValue → List FindingValue → List Cause → List Cause → Type 0
+AddsFound Finds old new before after = (fs : List Finding) × (cs : List Cause) × Finds fs cs × AddsFindings old new fs × (after ≡ before ++ cs)
 
 abbrev pub line_meaning_of : LineMeaningValue → LineMeaning
 line_meaning_of (reading.Asks a) = Asks (demand_of a)

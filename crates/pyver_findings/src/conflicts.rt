@@ -15,7 +15,7 @@ use std::alloc::{AllocError, Global};
 use std::collections::HashMap;
 
 // The lines of each name, in their order.
-fn group_by_name<'a>(
+pub(crate) fn group_by_name<'a>(
     alloc: Global,
     lines: &'a [Demand],
 ) -> Result<HashMap<&'a [u8], Vec<&'a Demand>>, AllocError>

@@ -63,7 +63,7 @@ fn push_conflict(
 }
 
 // What is wrong with these lines together.
-fn push_of_all(
+pub(crate) fn push_of_all(
     alloc: Global,
     findings: &mut Vec<Finding>,
     lines: &[&Demand],

@@ -1,11 +1,11 @@
 //! What holds of findings, as the contract of a function that does nothing.
 ghost use Rattle.pyver_findings.specs.JsonStrings.{JsonStringsDiffer};
-ghost use Rattle.pyver_findings.specs.FindingLaws.{ConflictsHaveFindings, FindingsHold, InvalidLinesHaveFindings, MeaningsOnce, ReportsOnce, WrongConstraintsHaveFindings};
+ghost use Rattle.pyver_findings.specs.FindingLaws.{ConflictsHaveFindings, FindingsHold, InvalidLinesHaveFindings, MeaningsOnce, PairsHaveFindings, ReportsOnce, WrongConstraintsHaveFindings};
 ghost use Rattle.pyver_findings.specs.StringGrammar.{StringsHaveGrammar};
 
 /// A line that is reported by itself is a line of the files and no requirement, for the reason and at the column that are
-/// reported, or an editable or has extras and is of a file that a line names after `-c`. Lines that are reported together are lines of the files, ask for one name and have no two markers; no
-/// version is allowed by all, and without any one of them some version is; and one or two of them name a version if that is reported.
+/// reported, or an editable or has extras and is of a file that a line names after `-c`. Lines that are reported together are lines of the files, ask for one name and have no two markers, or
+/// markers that hold in one environment; no version is allowed by all, and without any one of them some version is; and one or two of them name a version if that is reported.
 pub fn findings_hold()
     ensures { FindingsHold }
 {}
@@ -17,12 +17,14 @@ pub fn invalid_lines_have_findings()
     ensures constraint { WrongConstraintsHaveFindings }
 {}
 
-/// If no version is allowed by all lines of a name that count under a marker, some of these lines are reported together.
+/// If no version is allowed by all lines of a name that count under a marker, or under either of two markers that hold in one environment, some
+/// of these lines are reported together; or, of two markers, something is said to be undecided.
 pub fn conflicts_have_findings()
-    ensures { ConflictsHaveFindings }
+    ensures one { ConflictsHaveFindings }
+    ensures two { PairsHaveFindings }
 {}
 
-/// A line has at most one meaning, and files have at most one report.
+/// A line has at most one meaning, and files have at most one report in which nothing is undecided.
 pub fn reports_once()
     ensures meaning { MeaningsOnce }
     ensures report { ReportsOnce }

@@ -15,6 +15,7 @@ mod key_groups;
 pub mod laws;
 mod line_meaning;
 mod marker;
+mod marker_pairs;
 mod named_files;
 mod normal_name;
 mod plain;

@@ -12,7 +12,7 @@ use std::alloc::{AllocError, Global};
 use std::collections::HashMap;
 
 // Both markers have the same normal form, or there is neither.
-fn same_marker(one: &Option<Vec<u8>>, other: &Option<Vec<u8>>) -> bool
+pub(crate) fn same_marker(one: &Option<Vec<u8>>, other: &Option<Vec<u8>>) -> bool
     ensures { result ≡ same_marker (option_map (λ m. m.items) one.now) (option_map (λ m. m.items) other.now) }
 {
     match one {
@@ -25,7 +25,7 @@ fn same_marker(one: &Option<Vec<u8>>, other: &Option<Vec<u8>>) -> bool
 }
 
 // The line counts under the marker.
-fn counts_under(marker: &Option<Vec<u8>>, line: &Demand) -> bool
+pub(crate) fn counts_under(marker: &Option<Vec<u8>>, line: &Demand) -> bool
     ensures { result ≡ counts_under (option_map (λ m. m.items) marker.now) (demand_of line.now) }
 {
     line.marker.is_none() || same_marker(&line.marker, marker)

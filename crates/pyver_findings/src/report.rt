@@ -13,6 +13,7 @@ use crate::demand::Demand;
 use crate::file_line::{FileLine, SourceFile, all_lines};
 use crate::finding::Finding;
 use crate::line_meaning::{LineMeaning, parse_line};
+use crate::marker_pairs::push_pair_conflicts;
 use std::alloc::{AllocError, Global};
 
 /// What is wrong in requirements files, and how much of them was read.
@@ -26,7 +27,7 @@ pub struct Report {
     pub lines: usize,
     /// How many files were read.
     pub files: usize,
-    /// Of each line that was left out, why.
+    /// Of each line that was left out, why, and of each two markers.
     pub left_out: Vec<Cause>,
 }
 
@@ -74,8 +75,9 @@ fn parse_lines(alloc: Global, lines: &[FileLine]) -> Result<Readings, AllocError
 
 /// What is wrong in these files, each of which is read once, in this order: first the lines that are no requirements, in
 /// order; then editables, and requirements with extras, in files that a line names after `-c`; then for each name, in the order in which names are first mentioned, lines that no version satisfies together: of these a
-/// smallest list, from which no line can be left out. Lines with different markers do not count together, and lines without a marker count
-/// with the lines of each; if the lines without a marker have no version in common, some of them are reported, and no line with a marker.
+/// smallest list, from which no line can be left out. Lines without a marker count with the lines of each marker; if they have no version in
+/// common, some of them are reported, and no line with a marker. Behind these follow, for each name, lines under two different markers that
+/// no version satisfies, where both hold in one environment of one system; of three and more markers nothing is asked.
 ///
 /// A line names a version if a member of its list is `==` without a star, or `===`; a finding of two lines says whether one or both do.
 /// Takes n log n steps for n lines, and for a finding as many each time that its lines can be halved. But each marker of a name takes time
@@ -89,14 +91,17 @@ pub fn find_problems(alloc: Global, files: &[SourceFile]) -> Result<Report, Allo
     let lines = all_lines(alloc, files)?;
     let readings = parse_lines(alloc, lines.as_slice())?;
     let mut findings = readings.invalid;
+    let mut left_out = readings.left_out;
     push_constraint_findings(alloc, &mut findings, files, lines.as_slice())?;
-    push_conflicts(alloc, &mut findings, readings.demands.as_slice())?;
+    let demands = readings.demands;
+    push_conflicts(alloc, &mut findings, demands.as_slice())?;
+    push_pair_conflicts(alloc, &mut findings, &mut left_out, demands.as_slice())?;
     Ok(Report {
         findings,
         ignored: Vec::new(alloc),
         lines: lines.len(),
         files: files.len(),
-        left_out: readings.left_out,
+        left_out,
     })
 }
 

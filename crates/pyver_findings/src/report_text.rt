@@ -2,7 +2,7 @@
 ghost use Rattle.std.specs.Prelude.{◌≡◌, ◌+◌, ◌++◌, IfOk, count_by, map, take};
 ghost use Rattle.std.specs.Fmt.{decimal};
 ghost use Rattle.std.specs.List.{flat_map};
-ghost use Rattle.pyver_findings.specs.ReportTexts.{caret_text, cause_text, column_position_text, conflict_text, count_text, counted, finding_caret, finding_message, finding_position, finding_text, first_position_text, ignored_text, left_out_text, left_out_texts, more_text, line_position_text, problems_text, quoted_line, quoted_lines, report_text, same_cause, summary_text};
+ghost use Rattle.pyver_findings.specs.ReportTexts.{caret_text, cause_text, column_position_text, conflict_text, count_text, counted, finding_caret, finding_message, finding_position, finding_text, first_position_text, ignored_text, left_out_lines, left_out_text, left_out_texts, more_text, line_position_text, problems_text, quoted_line, quoted_lines, report_text, same_cause, summary_text};
 ghost use Rattle.pyver_findings.specs.Views.{file_line_of, finding_of, report_of};
 
 use crate::cause::Cause;
@@ -258,6 +258,7 @@ fn same_cause(one: Cause, other: Cause) -> bool
             | (Cause::Location, Cause::Location)
             | (Cause::Url, Cause::Url)
             | (Cause::OtherSyntax, Cause::OtherSyntax)
+            | (Cause::Undecided, Cause::Undecided)
     )
 }
 
@@ -271,6 +272,7 @@ fn cause_text(cause: Cause) -> &'static str
         Cause::Location => "pyver: paths, archives and URLs left out: ",
         Cause::Url => "pyver: requirements and files by URL left out: ",
         Cause::OtherSyntax => "pyver: requirements of packages in another syntax left out: ",
+        Cause::Undecided => "pyver: pairs of markers not decided: ",
     }
 }
 
@@ -311,8 +313,12 @@ fn push_left_out(
     push_count(alloc, bytes, cause_text(cause), count)
 }
 
-fn push_all_left_out(alloc: Global, bytes: &mut Vec<u8>, causes: &[Cause]) -> Result<(), AllocError>
-    ensures { IfOk result (λ _. bytes.new.items ≡ bytes.old.items ++ left_out_texts causes.now) }
+fn push_lines_left_out(
+    alloc: Global,
+    bytes: &mut Vec<u8>,
+    causes: &[Cause],
+) -> Result<(), AllocError>
+    ensures { IfOk result (λ _. bytes.new.items ≡ bytes.old.items ++ left_out_lines causes.now) }
 {
     push_left_out(alloc, bytes, causes, Cause::Editable)?;
     push_left_out(alloc, bytes, causes, Cause::PipOption)?;
@@ -320,6 +326,13 @@ fn push_all_left_out(alloc: Global, bytes: &mut Vec<u8>, causes: &[Cause]) -> Re
     push_left_out(alloc, bytes, causes, Cause::Location)?;
     push_left_out(alloc, bytes, causes, Cause::Url)?;
     push_left_out(alloc, bytes, causes, Cause::OtherSyntax)
+}
+
+fn push_all_left_out(alloc: Global, bytes: &mut Vec<u8>, causes: &[Cause]) -> Result<(), AllocError>
+    ensures { IfOk result (λ _. bytes.new.items ≡ bytes.old.items ++ left_out_texts causes.now) }
+{
+    push_lines_left_out(alloc, bytes, causes)?;
+    push_left_out(alloc, bytes, causes, Cause::Undecided)
 }
 
 // How many findings comments ignore, if any.

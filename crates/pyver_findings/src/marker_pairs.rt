@@ -1,0 +1,420 @@
+//! Lines of one name with two different markers, where both markers hold in one environment.
+ghost use Rattle.std.specs.Prelude.{◌≡◌, ◌&&◌, ◌||◌, ◌∷◌, ◌++◌, [], IfOk, IfSome, List, bytes_eq, codes, map, option_map, true, ℕ};
+ghost use Rattle.std.specs.HashMap.{get_by};
+ghost use Rattle.std.specs.List.{All, list_all, list_any};
+ghost use Rattle.std.specs.Option.{option_map_or};
+ghost use Rattle.pyver_findings.specs.Conflicts.{has_same_marker, have_none};
+ghost use Rattle.pyver_findings.specs.Demands.{IsSound};
+ghost use Rattle.pyver_findings.specs.MarkerPairs.{DenoteBoth, FindsDecided, FindsOfEach, FindsOfName, FindsOfNames, FindsOfPair, FindsOfPairs, HasSteps, IsDecision, IsKnown, KnowsSteps, are_of_system, few_first_lines, has_variable, is_of_system, is_one_system, lines_to_pair, names_system_once, open_lines, under_either, with_first};
+ghost use Rattle.pyver_findings.specs.Views.{AddsFound, demand_of, demands_at, demands_of_group};
+ghost use Rattle.pyver_findings.specs.declared.cause.Cause.TheVariants as cause;
+ghost use Rattle.pyver_markers.specs.EnvironmentViews.{assignment_of};
+ghost use Rattle.pyver_requirements.specs.MarkerGrammar.{DenotesMarker};
+
+use crate::cause::Cause;
+use crate::conflicts::group_by_name;
+use crate::demand::Demand;
+use crate::finding::Finding;
+use crate::group::push_of_all;
+use crate::marker::{counts_under, same_marker, under};
+use crate::smallest::have_none;
+use pyver_markers::{EnvironmentMarker, FoundVariable};
+use pyver_requirements::MarkerError;
+use std::alloc::{AllocError, Global};
+
+// The most markers of one name of which each is looked at beside each other one.
+const MOST: usize = 32;
+
+// What is known of two markers.
+#[derive(Clone, Copy)]
+enum Decision {
+    // Both hold in some environment of one system.
+    Together,
+    // Both hold in no environment.
+    Apart,
+    Unknown,
+}
+
+// Whether the system has the variable so.
+fn is_of_system(variable: &FoundVariable<'_>, os: &str, sys: &str, platform: &str) -> bool
+    ensures { result ≡ is_of_system os.now sys.now platform.now (assignment_of variable.now) }
+{
+    let text = variable.text.as_slice();
+    if variable.name == "os_name".as_bytes() {
+        return text == os.as_bytes();
+    }
+    if variable.name == "sys_platform".as_bytes() {
+        return text == sys.as_bytes();
+    }
+    if variable.name == "platform_system".as_bytes() {
+        return text == platform.as_bytes();
+    }
+    true
+}
+
+fn are_of_system(variables: &[FoundVariable<'_>], os: &str, sys: &str, platform: &str) -> bool
+    ensures { result ≡ are_of_system os.now sys.now platform.now (map assignment_of variables.now) }
+{
+    let mut rest = variables;
+    while let [variable, later @ ..] = rest {
+        if !is_of_system(variable, os, sys, platform) {
+            return false;
+        }
+        rest = later;
+    }
+    true
+}
+
+fn has_variable(variables: &[FoundVariable<'_>], name: &[u8]) -> bool
+    ensures { result ≡ has_variable name.now (map assignment_of variables.now) }
+{
+    let mut rest = variables;
+    while let [variable, later @ ..] = rest {
+        if variable.name == name {
+            return true;
+        }
+        rest = later;
+    }
+    false
+}
+
+// Whether two are, or all three.
+fn are_several(one: bool, other: bool, third: bool) -> bool
+    ensures { result ≡ (one && other || third && (one || other)) }
+{
+    if one && other {
+        return true;
+    }
+    third && (one || other)
+}
+
+// Whether at most one of the variables names the system.
+fn names_system_once(variables: &[FoundVariable<'_>]) -> bool
+    ensures { result ≡ names_system_once (map assignment_of variables.now) }
+{
+    let os = has_variable(variables, "os_name".as_bytes());
+    let sys = has_variable(variables, "sys_platform".as_bytes());
+    let platform = has_variable(variables, "platform_system".as_bytes());
+    !are_several(os, sys, platform)
+}
+
+// Whether the variables are those of one system.
+fn is_one_system(variables: &[FoundVariable<'_>]) -> bool
+    ensures { result ≡ is_one_system (map assignment_of variables.now) }
+{
+    names_system_once(variables)
+        || are_of_system(variables, "posix", "linux", "Linux")
+        || are_of_system(variables, "nt", "win32", "Windows")
+        || are_of_system(variables, "posix", "darwin", "Darwin")
+        || are_of_system(variables, "posix", "android", "Android")
+        || are_of_system(variables, "posix", "ios", "iOS")
+}
+
+#[tactic(auto, using(crate::proofs::MarkerPairs::parsed))]
+// The marker, or none if the string is none.
+fn parse_marker<'a>(
+    alloc: Global,
+    text: &'a [u8],
+) -> Result<Option<EnvironmentMarker<'a>>, AllocError>
+    ensures { IfOk result (λ read. IfSome read (HasSteps (DenotesMarker text.now))) }
+{
+    match EnvironmentMarker::parse(alloc, text) {
+        Ok(marker) => Ok(Some(marker)),
+        Err(MarkerError::Invalid(_, _)) => Ok(None),
+        Err(MarkerError::OutOfMemory) => Err(AllocError),
+    }
+}
+
+// The marker that holds where both do, or none if one of the strings is none.
+fn join_markers<'a>(
+    alloc: Global,
+    one: &'a [u8],
+    other: &'a [u8],
+) -> Result<Option<EnvironmentMarker<'a>>, AllocError>
+    ensures { IfOk result (λ joined. IfSome joined (HasSteps (DenoteBoth one.now other.now))) }
+{
+    let Some(one) = parse_marker(alloc, one)? else {
+        return Ok(None);
+    };
+    let Some(other) = parse_marker(alloc, other)? else {
+        return Ok(None);
+    };
+    Ok(Some(one.and(&other)?))
+}
+
+// What is known of the marker that holds where both do.
+fn decide_joined(alloc: Global, both: &EnvironmentMarker<'_>) -> Result<Decision, AllocError>
+    ensures { IfOk result (KnowsSteps both.now) }
+{
+    if both.is_never(alloc, true)? {
+        return Ok(Decision::Apart);
+    }
+    match both.find_environment(alloc)? {
+        Some(variables) if is_one_system(variables.as_slice()) => Ok(Decision::Together),
+        _ => Ok(Decision::Unknown),
+    }
+}
+
+#[tactic(auto, using(crate::proofs::MarkerPairs::known))]
+// What is known of two markers.
+fn decide(alloc: Global, one: &[u8], other: &[u8]) -> Result<Decision, AllocError>
+    ensures { IfOk result (IsKnown (DenoteBoth one.now other.now)) }
+{
+    match join_markers(alloc, one, other)? {
+        Some(both) => decide_joined(alloc, &both),
+        None => Ok(Decision::Unknown),
+    }
+}
+
+fn decide_lines(alloc: Global, one: &Demand, other: &Demand) -> Result<Decision, AllocError>
+    ensures { IfOk result (IsDecision (demand_of one.now).marker (demand_of other.now).marker) }
+{
+    match (&one.marker, &other.marker) {
+        (Some(one), Some(other)) => decide(alloc, one.as_slice(), other.as_slice()),
+        _ => Ok(Decision::Unknown),
+    }
+}
+
+// The lines without a marker, and those with the marker of one of the two.
+fn under_either<'a>(
+    alloc: Global,
+    one: &Demand,
+    other: &Demand,
+    lines: &[&'a Demand],
+) -> Result<Vec<&'a Demand>, AllocError>
+    ensures { IfOk result (λ kept. demands_at kept.items ≡ under_either (demand_of one.now).marker (demand_of other.now).marker
+        (demands_at lines.now)) }
+{
+    let mut kept = Vec::new(alloc);
+    for line in lines {
+        if counts_under(&one.marker, line) || counts_under(&other.marker, line) {
+            kept.push(*line)?;
+        }
+    }
+    Ok(kept)
+}
+
+fn push_undecided(left_out: &mut Vec<Cause>) -> Result<(), AllocError>
+    ensures { IfOk result (λ _. left_out.new.items ≡ left_out.old.items ++ cause.Undecided ∷ []) }
+{
+    left_out.push(Cause::Undecided)?;
+    Ok(())
+}
+
+// What is wrong with lines that have no version in common, by what is known of the two markers.
+fn push_decided(
+    alloc: Global,
+    findings: &mut Vec<Finding>,
+    left_out: &mut Vec<Cause>,
+    decision: Decision,
+    together: &[&Demand],
+) -> Result<(), AllocError>
+    requires sound { All IsSound (demands_at together.now) }
+    requires none { have_none (demands_at together.now) ≡ true }
+    ensures { IfOk result (λ _. AddsFound (FindsDecided decision (demands_at together.now)) findings.old.items findings.new.items
+        left_out.old.items left_out.new.items) }
+{
+    match decision {
+        Decision::Together => push_of_all(alloc, findings, together),
+        Decision::Apart => Ok(()),
+        Decision::Unknown => push_undecided(left_out),
+    }
+}
+
+// What is wrong with the lines of one name under these two markers.
+fn push_of_pair(
+    alloc: Global,
+    findings: &mut Vec<Finding>,
+    left_out: &mut Vec<Cause>,
+    lines: &[&Demand],
+    one: &Demand,
+    other: &Demand,
+) -> Result<(), AllocError>
+    requires { All IsSound (demands_at lines.now) }
+    ensures { IfOk result (λ _. AddsFound (FindsOfPair (demands_at lines.now) (demand_of one.now) (demand_of other.now)) findings.old.items
+        findings.new.items left_out.old.items left_out.new.items) }
+{
+    let together = under_either(alloc, one, other, lines)?;
+    if !have_none(alloc, together.as_slice(), &[])? {
+        return Ok(());
+    }
+    let decision = decide_lines(alloc, one, other)?;
+    push_decided(alloc, findings, left_out, decision, together.as_slice())?;
+    Ok(())
+}
+
+// The same of each of the others.
+fn push_of_first(
+    alloc: Global,
+    findings: &mut Vec<Finding>,
+    left_out: &mut Vec<Cause>,
+    lines: &[&Demand],
+    one: &Demand,
+    others: &[&Demand],
+) -> Result<(), AllocError>
+    requires { All IsSound (demands_at lines.now) }
+    ensures { IfOk result (λ _. AddsFound (FindsOfEach (FindsOfPair (demands_at lines.now) (demand_of one.now)) (demands_at others.now))
+        findings.old.items findings.new.items left_out.old.items left_out.new.items) }
+{
+    for other in others {
+        push_of_pair(alloc, findings, left_out, lines, one, *other)?;
+    }
+    Ok(())
+}
+
+// The same of each two of these.
+fn push_of_pairs(
+    alloc: Global,
+    findings: &mut Vec<Finding>,
+    left_out: &mut Vec<Cause>,
+    lines: &[&Demand],
+    firsts: &[&Demand],
+) -> Result<(), AllocError>
+    requires { All IsSound (demands_at lines.now) }
+    ensures { IfOk result (λ _. AddsFound (FindsOfPairs (demands_at lines.now) (demands_at firsts.now)) findings.old.items findings.new.items
+        left_out.old.items left_out.new.items) }
+{
+    let mut rest = firsts;
+    while let [one, later @ ..] = rest {
+        push_of_first(alloc, findings, left_out, lines, *one, later)?;
+        rest = later;
+    }
+    Ok(())
+}
+
+// Whether one of these has the marker of the line.
+fn have_same_marker(firsts: &[&Demand], line: &Demand) -> bool
+    ensures { result ≡ list_any (has_same_marker (demand_of line.now)) (demands_at firsts.now) }
+{
+    let mut rest = firsts;
+    while let [first, later @ ..] = rest {
+        if same_marker(&line.marker, &first.marker) {
+            return true;
+        }
+        rest = later;
+    }
+    false
+}
+
+// Adds the line, if it has a marker that none of these has.
+fn push_first<'a>(firsts: &mut Vec<&'a Demand>, line: &'a Demand) -> Result<(), AllocError>
+    ensures { IfOk result (λ _. demands_at firsts.new.items ≡ with_first (demands_at firsts.old.items) (demand_of line.now)) }
+{
+    if line.marker.is_none() || have_same_marker(firsts.as_slice(), line) {
+        return Ok(());
+    }
+    firsts.push(line)?;
+    Ok(())
+}
+
+// Of each marker the first line, unless these are too many.
+fn few_first_lines<'a>(
+    alloc: Global,
+    lines: &[&'a Demand],
+) -> Result<Option<Vec<&'a Demand>>, AllocError>
+    ensures { IfOk result (λ found. option_map (λ f. demands_at f.items) found ≡ few_first_lines (demands_at lines.now)) }
+{
+    let mut firsts = Vec::new(alloc);
+    for line in lines {
+        push_first(&mut firsts, *line)?;
+        if firsts.len() > MOST {
+            return Ok(None);
+        }
+    }
+    Ok(Some(firsts))
+}
+
+// Those whose lines have a version in common with the lines without a marker.
+fn open_lines<'a>(
+    alloc: Global,
+    lines: &[&Demand],
+    firsts: &[&'a Demand],
+) -> Result<Vec<&'a Demand>, AllocError>
+    ensures { IfOk result (λ paired. demands_at paired.items ≡ open_lines (demands_at lines.now) (demands_at firsts.now)) }
+{
+    let mut paired = Vec::new(alloc);
+    for first in firsts {
+        let together = under(alloc, &first.marker, lines)?;
+        if !have_none(alloc, together.as_slice(), &[])? {
+            paired.push(*first)?;
+        }
+    }
+    Ok(paired)
+}
+
+// Of these lines those that are to be paired.
+fn lines_to_pair<'a>(
+    alloc: Global,
+    lines: &[&Demand],
+    firsts: &[&'a Demand],
+) -> Result<Vec<&'a Demand>, AllocError>
+    ensures { IfOk result (λ paired. demands_at paired.items ≡ lines_to_pair (demands_at lines.now) (demands_at firsts.now)) }
+{
+    if firsts.len() < 2 {
+        return Ok(Vec::new(alloc));
+    }
+    let always = under(alloc, &None, lines)?;
+    if have_none(alloc, always.as_slice(), &[])? {
+        return Ok(Vec::new(alloc));
+    }
+    open_lines(alloc, lines, firsts)
+}
+
+// What is wrong with lines of one name under two markers.
+fn push_of_name(
+    alloc: Global,
+    findings: &mut Vec<Finding>,
+    left_out: &mut Vec<Cause>,
+    lines: &[&Demand],
+) -> Result<(), AllocError>
+    requires { All IsSound (demands_at lines.now) }
+    ensures { IfOk result (λ _. AddsFound (FindsOfName (demands_at lines.now)) findings.old.items findings.new.items left_out.old.items
+        left_out.new.items) }
+{
+    let Some(firsts) = few_first_lines(alloc, lines)? else {
+        return push_undecided(left_out);
+    };
+    let paired = lines_to_pair(alloc, lines, firsts.as_slice())?;
+    push_of_pairs(alloc, findings, left_out, lines, paired.as_slice())
+}
+
+// The same, if there are any.
+fn push_of_group(
+    alloc: Global,
+    findings: &mut Vec<Finding>,
+    left_out: &mut Vec<Cause>,
+    group: Option<Vec<&Demand>>,
+) -> Result<(), AllocError>
+    requires { All IsSound (demands_of_group group) }
+    ensures { IfOk result (λ _. AddsFound (FindsOfName (demands_of_group group.entry)) findings.old.items findings.new.items left_out.old.items
+        left_out.new.items) }
+{
+    match group {
+        Some(lines) => push_of_name(alloc, findings, left_out, lines.as_slice()),
+        None => Ok(()),
+    }
+}
+
+/// Adds what is wrong with lines of one name that have two different markers, where both markers hold in one environment, for each name, in
+/// the order in which names are first mentioned. A cause is added for each two markers of which this is not known while their lines have no
+/// version in common, and for a name with more than 32 markers, whose lines are not looked at. Fails if memory runs out; then findings of
+/// some names may have been added.
+///
+/// Allocates.
+pub(crate) fn push_pair_conflicts(
+    alloc: Global,
+    findings: &mut Vec<Finding>,
+    left_out: &mut Vec<Cause>,
+    lines: &[Demand],
+) -> Result<(), AllocError>
+    requires { All IsSound (map demand_of lines.now) }
+    ensures { IfOk result (λ _. AddsFound (FindsOfNames (map demand_of lines.now)) findings.old.items findings.new.items left_out.old.items
+        left_out.new.items) }
+{
+    let mut groups = group_by_name(alloc, lines)?;
+    for line in lines {
+        let group = groups.remove(line.name.as_slice());
+        push_of_group(alloc, findings, left_out, group)?;
+    }
+    Ok(())
+}
