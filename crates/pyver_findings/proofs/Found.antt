@@ -9,9 +9,8 @@ use Rattle.std.specs.List.{All, Any, Contains, filter, flat_map, list_any}
 use Rattle.pyver_findings.proofs.SmallestLists.{all_smallest, smallest_none}
 use Rattle.pyver_findings.specs.Demands.{Demand}
 use Rattle.pyver_findings.specs.Conflicts.{conflict_kind, conflicts, counts_under, first_mentions, have_none, of_all, of_name, has_same_marker, same_marker, has_same_name, smallest, under}
-use Rattle.pyver_findings.specs.FileLines.{FileLine}
+use Rattle.pyver_findings.specs.FileLines.{Conflicting, FileLine, Finding}
 use Rattle.pyver_findings.specs.FindingLaws.{IsAmong}
-use Rattle.pyver_findings.specs.Findings.{Conflicting, Finding}
 
 -- ---- some finding
 

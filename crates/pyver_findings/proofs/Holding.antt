@@ -15,14 +15,14 @@ use Rattle.pep440_rs.specs.Specifiers.SpecifierGrammar.{IsDenotedSpecifier}
 use Rattle.pep440_version.specs.Record.{Record}
 use Rattle.pyver_findings.specs.Demands.{Demand, IsSound, is_pinned, line_demand}
 use Rattle.pyver_findings.specs.Conflicts.{conflict_kind, conflicts, counts_under, first_mentions, have_none, of_all, of_name, has_same_marker, has_same_name, same_marker, smallest, under}
-use Rattle.pyver_findings.specs.FileLines.{File, FileLine, all_lines}
+use Rattle.pyver_findings.specs.FileLines.{Conflicting, File, FileLine, Finding, NoRequirement, all_lines}
+use Rattle.pyver_findings.specs.NamedFiles.{constraints_files}
 use Rattle.pyver_findings.specs.FindingLaws.{AreNeeded, AsksFor, CountTogether, CountsIn, CountsUnder, FindingsHold, FitsConflict, HasMarker, HoldTogether, HoldsIn, IsRight, IsRightBy, IsRightConflict, IsRightConstraint, IsRightPair, LineAllows, NamesVersion}
-use Rattle.pyver_findings.specs.Findings.{Conflicting, Finding, NoRequirement}
 use Rattle.pyver_findings.specs.LineMeanings.{IsNone, LeftOut, LineMeaning, AsksNothing, IsKindMeaning, IsMeaning, constraint_faults, has_extras, has_right_url, kind_faults, requirement_meaning, has_scheme, names_file, under_marker, with_marker, with_url}
 use Rattle.pyver_findings.specs.MarkerPairs.{FindsDecided, FindsOfEach, FindsOfFirsts, FindsOfName, FindsOfNames, FindsOfPair, FindsOfPairs, IsDecision, few_first_lines, lines_to_pair, under_either}
-use Rattle.pyver_findings.specs.NamedFiles.{constraints_files}
 use Rattle.pyver_findings.proofs.Found.{marker_yes}
 use Rattle.pyver_findings.proofs.SmallestLists.{Allows, IsSpared, all_smallest, none_allowed, smallest_none, smallest_right}
+use Rattle.pyver_findings.proofs.MarkerPairs.{both_true}
 use Rattle.pyver_findings.proofs.Rejecting.{invalid_right}
 use Rattle.pyver_findings.specs.Reports.{Report, demands_in, invalid_in}
 use Rattle.pyver_findings.specs.declared.cause.Cause.{Cause}
@@ -32,7 +32,7 @@ use Rattle.pyver_findings.specs.declared.marker_pairs.Decision.{Decision}
 use Rattle.pyver_findings.specs.declared.marker_pairs.Decision.TheVariants.{Apart, Together, Unknown}
 use Rattle.pyver_markers.specs.Conditions.{IsEnvironment}
 use Rattle.pyver_markers.specs.Environments.{Environment}
-use Rattle.pyver_markers.specs.MarkerValues.{both_hold, value}
+use Rattle.pyver_markers.specs.MarkerValues.{value}
 use Rattle.pyver_requirements.specs.LineKinds.{ConstraintsFile, Editable, Invalid, LineKind, Location, PipOption, Requirement, RequirementsFile, Variable, has_variable, line_kind}
 use Rattle.pyver_requirements.specs.LineParts.{LineParts, pip_parts}
 use Rattle.pyver_requirements.specs.MarkerReading.{marker}
@@ -166,14 +166,6 @@ counted_marker (Some n) m e = inr (marker_yes (Some n) m e)
 -- the marker holds in the environment
 abbrev pub MarkerIn : Environment → Option (List ℕ) → Type 0
 MarkerIn e m = (text : List ℕ) × (m ≡ Some text) × HoldsIn e text
-
-both_true : (p q : Option Bool) → both_hold p q ≡ Some true → (p ≡ Some true) × (q ≡ Some true)
-both_true (Some true) (Some true) e = (refl, refl)
-both_true (Some true) (Some false) e = cc e
-both_true (Some false) (Some b) e = cc e
-both_true (Some a) None e = cc e
-both_true None (Some b) e = cc e
-both_true None None e = cc e
 
 pub environment_of_pair : (one other : Option (List ℕ)) → IsDecision one other Together → (e : Environment) × IsEnvironment e × MarkerIn e one × MarkerIn e other
 environment_of_pair (Some one) (Some other) (m, variables, (a, b, first, second, is), example, system) =

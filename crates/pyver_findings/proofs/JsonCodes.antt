@@ -1,11 +1,16 @@
--- Different bytes are different JSON strings: each byte can be read again at the front.
-use Rattle.std.proofs.Common.{◌≡◌, ◌∙◌, ◌+◌, ◌-◌, ◌*◌, ◌/◌, ◌%◌, ◌<◌, ◌==◌, ◌||◌, ◌&&◌, ℕ, List, [], ◌∷◌, ◌++◌, Bool, true, false, cond, refl, sym, ap, arith, append_assoc, length, length-append, nat_le, nat_lt, if◌then◌else◌}
-use Rattle.std.proofs.lemmas.Bool.{cond-false, cond-true, eqb-true, le-ltb, lt-ltb, ltb-false, ltb-true, ne_eqb}
-use Rattle.std.proofs.lemmas.List.Elements.{All-head, All-tail}
-use Rattle.std.specs.List.{All, flat_map}
-use Rattle.std.specs.Str.{is_utf8}
+-- Different bytes are different JSON strings: each byte can be read again at the front. Tabs and printable ASCII are UTF-8.
+use Rattle.std.proofs.Common.{Bool, List, [], ap, append_assoc, arith, cond, false, if◌then◌else◌, length, length-append, nat_le, nat_lt, refl, sym, true, ℕ, ◌%◌, ◌&&◌, ◌*◌, ◌++◌, ◌+◌, ◌-◌, ◌/◌, ◌<◌, ◌==◌, ◌||◌, ◌∙◌, ◌∷◌, ◌≡◌, ◌≤◌}
+use Rattle.std.proofs.lemmas.Bool.{and_parts, cond-false, cond-true, eqb-true, le-ltb, lt-ltb, ltb-false, ltb-true, ne_eqb, true≢false}
+use Rattle.std.proofs.lemmas.List.Elements.{All-cons, All-head, All-nil, All-tail}
+use Rattle.std.specs.List.{All, flat_map, list_all, prefix_len}
+use Rattle.std.specs.Str.{IsUtf8, is_utf8}
 use Rattle.cli_io.specs.Escapes.{hex_digit, hex_digits, is_printable}
-use Rattle.pyver_findings.specs.JsonStrings.{JsonStringsDiffer, json_byte}
+use Rattle.pyver_findings.specs.ReportObjects.{JsonStringsDiffer, json_byte}
+use Rattle.std.proofs.lemmas.List.Sums.{prefix_len-le-length}
+use Rattle.std.proofs.lemmas.Str.{IsUtf8-from_ascii}
+use Rattle.std.proofs.lemmas.Str.Ascii.{IsAscii-from_all}
+use Rattle.pep440_version.proofs.Reading.WordAsPrefix.{all_prefix}
+use Rattle.pyver_findings.specs.LineMeanings.{IsPlain, is_plain_byte}
 
 -- ---- a byte read again
 
@@ -72,3 +77,32 @@ all_are m n (x ∷ a) (y ∷ b) small below e =
 
 pub strings_differ : JsonStringsDiffer
 strings_differ a b small below e = all_are (is_utf8 a) (is_utf8 b) a b small below (cc e)
+
+plain_is_ascii : (b : ℕ) → is_plain_byte b ≡ true → b < 128
+plain_is_ascii b e = grind arith
+
+all_ascii : (text : List ℕ) → IsPlain text → All (λ b. b < 128) text
+all_ascii [] plain = All-nil (λ b. b < 128)
+all_ascii (b ∷ text) plain =
+    let (here, later) = and_parts (is_plain_byte b) (list_all is_plain_byte text) plain in
+    All-cons (λ c. c < 128) b text (plain_is_ascii b here) (all_ascii text later)
+
+pub plain_utf8 : (text : List ℕ) → IsPlain text → IsUtf8 text
+plain_utf8 text plain = IsUtf8-from_ascii text (IsAscii-from_all text (all_ascii text plain))
+
+are_equal : (m n : ℕ) → m ≤ n → n ≤ m → (m == n) ≡ true
+are_equal m n below above = grind arith
+
+are_apart : (m n : ℕ) → m < n → (m == n) ≡ false
+are_apart m n below = grind arith
+
+-- the string has another byte where fewer bytes come first than it has
+pub another_byte : (text : List ℕ) (count : ℕ) → count ≡ prefix_len is_plain_byte text → count < length text → IsPlain text → ⊥
+another_byte text count is short plain =
+    let below : prefix_len is_plain_byte text < length text = omega (arith, is, short) in
+    true≢false (sym plain ∙ sym (all_prefix is_plain_byte text false (are_apart (prefix_len is_plain_byte text) (length text) below)))
+
+pub no_other_byte : (text : List ℕ) (count : ℕ) → count ≡ prefix_len is_plain_byte text → length text ≤ count → IsPlain text
+no_other_byte text count is long =
+    let above : length text ≤ prefix_len is_plain_byte text = omega (arith, is, long) in
+    sym (all_prefix is_plain_byte text true (are_equal (prefix_len is_plain_byte text) (length text) (prefix_len-le-length is_plain_byte text) above))

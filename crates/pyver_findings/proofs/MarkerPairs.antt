@@ -7,28 +7,55 @@ use Rattle.std.specs.List.{All, Contains, filter, list_any}
 use Rattle.pyver_findings.proofs.Steps.{rest_at}
 use Rattle.pyver_findings.specs.Conflicts.{conflict_kind, counts_under, first_mentions, has_same_marker, has_same_name, have_none, of_all, smallest}
 use Rattle.pyver_findings.specs.Demands.{Demand, IsSound}
-use Rattle.pyver_findings.specs.Findings.{Conflicting, Finding}
-use Rattle.pyver_findings.specs.MarkerPairs.{DenoteBoth, FindsDecided, FindsNothing, FindsOfEach, FindsOfFirsts, FindsOfName, FindsOfNames, FindsOfPair, FindsOfPairs, HasSteps, IsDecision, IsKnown, KnowsSteps, few_first_lines, first_lines, lines_to_pair, under_either, with_first}
+use Rattle.pyver_findings.specs.FileLines.{Conflicting, Finding}
+use Rattle.pyver_findings.specs.MarkerPairs.{AreJoined, FindsDecided, FindsNothing, FindsOfEach, FindsOfFirsts, FindsOfName, FindsOfNames, FindsOfPair, FindsOfPairs, IsDenotedBySteps, IsDecision, IsRightDecision, KnowsSteps, few_first_lines, first_lines, lines_to_pair, under_either, with_first}
 use Rattle.pyver_findings.specs.Views.{AddsFindings, AddsFound, finding_of}
 use Rattle.pyver_findings.specs.declared.cause.Cause.{Cause}
 use Rattle.pyver_findings.specs.declared.cause.Cause.TheVariants as cause
 use Rattle.pyver_findings.specs.declared.finding.Finding.{Finding as FindingValue}
 use Rattle.pyver_findings.specs.declared.marker_pairs.Decision.{Decision}
 use Rattle.pyver_findings.specs.declared.marker_pairs.Decision.TheVariants.{Apart, Together, Unknown}
+use Rattle.pyver_markers.specs.Environments.{Assignment}
+use Rattle.pyver_markers.specs.Extents.{IsExample}
+use Rattle.pyver_markers.specs.MarkerValues.{both_hold, value}
 use Rattle.pyver_requirements.specs.MarkerGrammar.{Both, DenotesMarker, Marker}
 use Rattle.pyver_requirements.specs.MarkerSteps.{Step, steps}
 
 -- ---- two markers
 
-pub parsed : (text : List ℕ) (all : List Step) → ((m : Marker) × DenotesMarker text m × (all ≡ steps m)) → ((m : Marker) → DenotesMarker text m → all ≡ steps m) → HasSteps (DenotesMarker text) all
+pub parsed : (text : List ℕ) (all : List Step) → ((m : Marker) × DenotesMarker text m × (all ≡ steps m)) → ((m : Marker) → DenotesMarker text m → all ≡ steps m) → IsDenotedBySteps (DenotesMarker text) all
 parsed text all (m, denoted, have) only = ((m, denoted), only)
 
-pub both_steps : (word other : List ℕ) (one all joined : List Step) → HasSteps (DenotesMarker word) one → HasSteps (DenotesMarker other) all
-    → ((m n : Marker) → one ≡ steps m → all ≡ steps n → joined ≡ steps (Both m n)) → HasSteps (DenoteBoth word other) joined
+pub both_steps : (word other : List ℕ) (one all joined : List Step) → IsDenotedBySteps (DenotesMarker word) one → IsDenotedBySteps (DenotesMarker other) all
+    → ((m n : Marker) → one ≡ steps m → all ≡ steps n → joined ≡ steps (Both m n)) → IsDenotedBySteps (AreJoined word other) joined
 both_steps word other one all joined ((a, first), only) ((b, second), alone) join =
     ((Both a b, (a, b, first, second, refl)), (λ m d. join d.0 d.1 (only d.0 d.2) (alone d.1 d.3) ∙ ap steps (sym d.4)))
 
-pub known : (Is : Marker → Type 0) (all : List Step) (d : Decision) → HasSteps Is all → KnowsSteps all d → IsKnown Is d
+pub both_true : (p q : Option Bool) → both_hold p q ≡ Some true → (p ≡ Some true) × (q ≡ Some true)
+both_true (Some true) (Some true) e = (refl, refl)
+both_true (Some true) (Some false) e = cc e
+both_true (Some false) (Some b) e = cc e
+both_true (Some a) None e = cc e
+both_true None (Some b) e = cc e
+both_true None None e = cc e
+
+-- where both markers hold, the second one does
+of_second : (m n : Marker) (variables : List Assignment) → IsExample (Both m n) variables → IsExample n variables
+of_second m n variables x = record {
+  environment = x.environment;
+  known = x.known;
+  has = x.has;
+  holds = λ e extends. (both_true (value e m) (value e n) (x.holds e extends)).1;
+  writable = x.writable;
+}
+
+pub found_on_system : (Is : Marker → Type 0) (system all joined : List Step) (b : Bool) → IsDenotedBySteps Is system → ((m n : Marker) → system ≡ steps m → all ≡ steps n → joined ≡ steps (Both m n)) → (b ≡ true → KnowsSteps joined Together)
+    → b ≡ true → KnowsSteps all Together
+found_on_system Is system all joined b ((m, is), only) join found so =
+    let (variables, example, one) = found so in
+    (variables, (λ n e. of_second m n variables (example (Both m n) (join m n (only m is) e))), one)
+
+pub known : (Is : Marker → Type 0) (all : List Step) (d : Decision) → IsDenotedBySteps Is all → KnowsSteps all d → IsRightDecision Is d
 known Is all Together ((m, is), only) (variables, example, system) = (m, variables, is, example m (only m is), system)
 known Is all Apart ((m, is), only) never = λ n it. never n (only n it)
 known Is all Unknown has knows = tt
@@ -54,12 +81,12 @@ pub found_more : (Rest Later Whole P : List Finding → List Cause → Type 0) (
     → ((f g : List Finding) (c d : List Cause) → P f c → Later g d → Rest (f ++ g) (c ++ d)) → AddsFound P new more after last → AddsFound (Continues Rest Whole) old new before after
     → AddsFound (Continues Later Whole) old more before last
 found_more Rest Later Whole P old new more before after last join (f, c, p, adds, also) (fs, cs, k, so_far, so) = (
-    fs ++ f,
-    cs ++ c,
-    λ gs ds r. subst (λ l. Whole l ((cs ++ c) ++ ds)) (sym (append_assoc fs f gs)) (subst (λ l. Whole (fs ++ (f ++ gs)) l) (sym (append_assoc cs c ds)) (k (f ++ gs) (c ++ ds) (join f gs c ds p r))),
-    adds ∙ ap (λ l. l ++ f) so_far ∙ append_assoc (map finding_of old) fs f,
-    also ∙ ap (λ l. l ++ c) so ∙ append_assoc before cs c,
-  )
+  fs ++ f,
+  cs ++ c,
+  λ gs ds r. subst (λ l. Whole l ((cs ++ c) ++ ds)) (sym (append_assoc fs f gs)) (subst (λ l. Whole (fs ++ (f ++ gs)) l) (sym (append_assoc cs c ds)) (k (f ++ gs) (c ++ ds) (join f gs c ds p r))),
+  adds ∙ ap (λ l. l ++ f) so_far ∙ append_assoc (map finding_of old) fs f,
+  also ∙ ap (λ l. l ++ c) so ∙ append_assoc before cs c,
+)
 
 pub finish : (Rest Whole : List Finding → List Cause → Type 0) (old new : List FindingValue) (before after : List Cause) → Rest [] [] → AddsFound (Continues Rest Whole) old new before after → AddsFound Whole old new before after
 finish Rest Whole old new before after r (fs, cs, k, so_far, so) =

@@ -5,16 +5,14 @@ use Rattle.std.proofs.lemmas.List.Elements.{All-filter}
 use Rattle.std.proofs.lemmas.List.Folds.{list_any-append}
 use Rattle.std.proofs.lemmas.Slice.Eq.{bytes_eq-Decides}
 use Rattle.std.specs.List.{All, Any, Contains, filter, flat_map, list_any}
-use Rattle.pyver_findings.proofs.Complete.{asked_sound, in_conflicts, none_found}
+use Rattle.pyver_findings.proofs.Complete.{asked_sound, in_conflicts, none_found, of_lines}
 use Rattle.pyver_findings.proofs.Found.{HasKey, IsOne, Some_is, all_found, all_sub, any_is, contains_key, in_left, in_right, marker_yes, name_alike, name_yes, none_before, none_counts, ones_of, some_found}
 use Rattle.pyver_findings.proofs.Holding.{MarkerIn}
 use Rattle.pyver_findings.proofs.MarkerPairs.{Tells, contains_told, of_name_of, tells_left, tells_right}
-use Rattle.pyver_findings.proofs.Once.{of_lines}
 use Rattle.pyver_findings.specs.Conflicts.{conflicts, counts_under, first_mentions, has_same_marker, has_same_name, have_none, under}
 use Rattle.pyver_findings.specs.Demands.{Demand, IsSound}
-use Rattle.pyver_findings.specs.FileLines.{File, FileLine, all_lines}
+use Rattle.pyver_findings.specs.FileLines.{File, FileLine, Finding, all_lines}
 use Rattle.pyver_findings.specs.FindingLaws.{IsAmong, IsUndecided, PairsHaveFindings}
-use Rattle.pyver_findings.specs.Findings.{Finding}
 use Rattle.pyver_findings.specs.LineMeanings.{LineMeaning}
 use Rattle.pyver_findings.specs.MarkerPairs.{FindsDecided, FindsOfEach, FindsOfFirsts, FindsOfName, FindsOfNames, FindsOfPair, FindsOfPairs, IsDecision, first_lines, lines_to_pair, open_lines, under_either, with_first}
 use Rattle.pyver_findings.specs.Reports.{Report, demands_in, found_in, left_out_in}
@@ -296,7 +294,7 @@ apart_by true s t is = inl ((bytes_eq-Decides s t).0 is)
 apart_by false s t is = inr (λ same. true≢false (sym ((bytes_eq-Decides s t).1 (some_same s t same)) ∙ is))
 
 module _ (a b : Demand) (lines : List Demand) (e : Environment) (is_one : IsEnvironment e) (s t : List ℕ) (is_s : a.marker ≡ Some s) (is_t : b.marker ≡ Some t) (first : MarkerIn e a.marker) (second : MarkerIn e b.marker)
-  (inside : Contains lines a) (beside : Contains lines b) (named : has_same_name a b ≡ true) (none : have_none (under_either a.marker b.marker (filter (has_same_name a) lines)) ≡ true) where
+    (inside : Contains lines a) (beside : Contains lines b) (named : has_same_name a b ≡ true) (none : have_none (under_either a.marker b.marker (filter (has_same_name a) lines)) ≡ true) where
   -- what is found of all lines
   abbrev Finds : Type 0
   Finds = Some_is (Among a b lines) (conflicts lines) ⊎ ((fs : List Finding) (cs : List Cause) → FindsOfNames lines fs cs → FindsOrTells (Among a b lines) fs cs)

@@ -1,8 +1,8 @@
--- A string has the parts of a requirement if and only if the grammar derives it.
-use Rattle.std.proofs.Common.{◌≡◌, ◌⊎◌, ◌∙◌, ◌==◌, ◌||◌, ◌&&◌, ℕ, List, [], ◌∷◌, ◌++◌, Bool, true, false, not, Option, Some, None, Ok, length, option_map, refl, sym, ap, subst, inl, inr, if◌then◌else◌}
+-- A string has the parts of a requirement if and only if the grammar derives it. Lines that are read one after another.
+use Rattle.std.proofs.Common.{Bool, List, None, Ok, Option, Some, [], ap, false, get_or, if◌then◌else◌, inl, inr, length, map, not, option_map, refl, subst, sym, take, take_all, true, ℕ, ◌&&◌, ◌++◌, ◌+◌, ◌<◌, ◌==◌, ◌||◌, ◌∙◌, ◌∷◌, ◌≡◌, ◌≤◌, ◌⊎◌}
 use Rattle.std.proofs.lemmas.Bool.{and_parts, eqb-true, not-false, not-true, or_cases, or_parts, true≢false}
-use Rattle.std.proofs.lemmas.List.{append-nil}
-use Rattle.std.specs.List.{list_all, list_any}
+use Rattle.std.proofs.lemmas.List.{append-nil, map-append, take_more}
+use Rattle.std.specs.List.{AllZip, flat_map, list_all, list_any}
 use Rattle.pep440_pick.specs.RequirementGrammar.{DerivesRequirement, Needed, has_byte}
 use Rattle.pep440_version.proofs.Reading.Prefixes.{lead-all, lead-run, past-run, past-stops}
 use Rattle.pep440_version.proofs.Reading.ReadIsDerived.{split}
@@ -10,13 +10,19 @@ use Rattle.pep440_version.specs.Grammar.{starts}
 use Rattle.pep440_version.specs.Reading.{lead, past}
 use Rattle.pyver_findings.proofs.SmallestLists.{is_nil}
 use Rattle.pyver_findings.specs.FindingLaws.{AreParts, FitsUrl, HasMarker}
-use Rattle.pyver_findings.specs.LineMeanings.{IsPlain, has_right_url}
+use Rattle.pyver_findings.specs.LineMeanings.{IsMeaning, IsPlain, LineMeaning, has_right_url}
 use Rattle.pyver_findings.specs.StringGrammar.{AreSpaces, DerivesString, IsLinked, IsMarkerPart, IsUrl, StringsHaveGrammar}
 use Rattle.pyver_requirements.proofs.MarkerReadings.{markers_are_read, read_markers_are_derived}
 use Rattle.pyver_requirements.specs.LineParts.{LineParts, behind_url, is_blank_byte, is_list_byte, is_url_byte, line_parts, parts_before, parts_behind, skip_blanks, url_parts}
 use Rattle.pyver_requirements.specs.MarkerGrammar.{DenotesMarker, Marker, terms}
 use Rattle.pyver_requirements.specs.MarkerReading.{marker}
 use Rattle.pyver_requirements.specs.MarkerTerms.{terms_text}
+use Rattle.std.proofs.lemmas.List.Concat.{flat_map-append}
+use Rattle.std.proofs.lemmas.Slice.Zip.{all_zipped_more}
+use Rattle.pyver_findings.specs.FileLines.{FileLine}
+use Rattle.pyver_findings.specs.Views.{KeepsReadings, demand_of, finding_of}
+use Rattle.pyver_findings.specs.Reports.{demands_in, invalid_in, left_out_in}
+use Rattle.pyver_findings.specs.declared.report.Readings.{Readings}
 
 -- ---- bytes
 
@@ -229,3 +235,25 @@ derived text (inr is) = linked text is
 
 pub strings_have_grammar : StringsHaveGrammar
 strings_have_grammar text = (derived text, by_rest text (past is_list_byte text) refl)
+
+-- what is made of one more
+made_more : {X B : Type 0} (f : X → List B) (xs : List X) (x : X) (old new : List B) → new ≡ old ++ f x → old ≡ flat_map f xs → new ≡ flat_map f (xs ++ x ∷ [])
+made_more f xs x old new is was =
+    is ∙ ap (λ o. o ++ f x) was ∙ ap (λ m. flat_map f xs ++ m) (sym (append-nil (f x))) ∙ sym (flat_map-append f xs (x ∷ []))
+
+-- one line more
+pub kept_more : {L : Type 0} (view : L → FileLine) (lines : List L) (i : ℕ) (l : L) (x : LineMeaning) (old new : Readings) → i < length lines → l ≡ get_or lines i l → IsMeaning (view l) x
+    → map finding_of new.invalid.items ≡ map finding_of old.invalid.items ++ invalid_in x → map demand_of new.demands.items ≡ map demand_of old.demands.items ++ demands_in x → new.left_out.items ≡ old.left_out.items ++ left_out_in x
+    → KeepsReadings (map view (take i lines)) old → KeepsReadings (map view (take (i + 1) lines)) new
+kept_more view lines i l x old new inside is reads invalid demands left_out k =
+    let taken : map view (take (i + 1) lines) ≡ map view (take i lines) ++ view l ∷ [] = ap (map view) (take_more lines i l inside ∙ ap (λ y. take i lines ++ y ∷ []) (sym is)) ∙ map-append view (take i lines) (l ∷ []) in (
+      k.0 ++ x ∷ [],
+      subst (λ ls. AllZip IsMeaning ls (k.0 ++ x ∷ [])) (sym taken) (all_zipped_more IsMeaning (map view (take i lines)) k.0 (view l) x k.1 reads),
+      made_more invalid_in k.0 x (map finding_of old.invalid.items) (map finding_of new.invalid.items) invalid k.2,
+      made_more demands_in k.0 x (map demand_of old.demands.items) (map demand_of new.demands.items) demands k.3,
+      made_more left_out_in k.0 x old.left_out.items new.left_out.items left_out k.4,
+    )
+
+-- all lines were read
+pub kept_all : {L : Type 0} (view : L → FileLine) (lines : List L) (i : ℕ) (kept : Readings) → length lines ≤ i → KeepsReadings (map view (take i lines)) kept → KeepsReadings (map view lines) kept
+kept_all view lines i kept end k = subst (λ ls. KeepsReadings (map view ls) kept) (take_all i lines end) k

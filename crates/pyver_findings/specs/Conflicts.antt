@@ -7,7 +7,7 @@ use Rattle.pep440_rs.specs.Specifiers.{Spec}
 use Rattle.pep440_sets.specs.Common.{common_version}
 use Rattle.pep440_sets.specs.Sets.{HoldsListMatches}
 use Rattle.pyver_findings.specs.Demands.{Demand, IsSound}
-use Rattle.pyver_findings.specs.Findings.{Conflicting, Finding}
+use Rattle.pyver_findings.specs.FileLines.{Conflicting, Finding}
 use Rattle.pyver_findings.specs.declared.finding.Conflict.{Conflict}
 use Rattle.pyver_findings.specs.declared.finding.Conflict.TheVariants.{NoVersion, PinOutside, TwoPins}
 

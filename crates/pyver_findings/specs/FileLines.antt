@@ -1,7 +1,8 @@
--- The logical lines of requirements files.
-use Rattle.std.specs.Prelude.{ℕ, List, map}
+-- The logical lines of requirements files, and what is reported of them.
+use Rattle.std.specs.Prelude.{List, map, ℕ}
 use Rattle.std.specs.List.{flat_map}
 use Rattle.pyver_requirements.specs.LogicalLines.{Line, logical_lines}
+use Rattle.pyver_findings.specs.declared.finding.Conflict.{Conflict}
 
 -- a file: its name, and its bytes
 pub record File : Type 0 where
@@ -26,3 +27,8 @@ file_lines f = map (file_line f.name) (logical_lines f.text)
 -- the lines of all files
 abbrev pub all_lines : List File → List FileLine
 all_lines files = flat_map file_lines files
+
+-- a line that is no requirement, with the reason and the column at which it is none; lines that cannot be satisfied together
+pub data Finding : Type 0 where
+  NoRequirement : FileLine → (reason : List ℕ) → (column : ℕ) → Finding
+  Conflicting : Conflict → (lines : List FileLine) → Finding

@@ -1,8 +1,7 @@
 -- The kinds of findings, each with a code and a word, and the comments that ignore them.
 use Rattle.std.specs.Prelude.{ℕ, List, ◌++◌, Bool, codes}
 use Rattle.std.specs.List.{list_any}
-use Rattle.pyver_findings.specs.FileLines.{FileLine}
-use Rattle.pyver_findings.specs.Findings.{Conflicting, Finding, NoRequirement}
+use Rattle.pyver_findings.specs.FileLines.{Conflicting, FileLine, Finding, NoRequirement}
 use Rattle.pyver_findings.specs.LineMeanings.{has_part}
 use Rattle.pyver_findings.specs.declared.finding.Conflict.{Conflict}
 use Rattle.pyver_findings.specs.declared.finding.Conflict.TheVariants.{NoVersion, PinOutside, TwoPins}

@@ -10,11 +10,10 @@ use Rattle.pep440_rs.specs.LiteralMatching.{list_matches_literally}
 use Rattle.pep440_version.specs.Record.{Record}
 use Rattle.pyver_findings.specs.Conflicts.{has_same_name, under}
 use Rattle.pyver_findings.specs.Demands.{Demand, is_pinned}
-use Rattle.pyver_findings.specs.FileLines.{File, FileLine, all_lines}
-use Rattle.pyver_findings.specs.Findings.{Conflicting, Finding, NoRequirement}
+use Rattle.pyver_findings.specs.FileLines.{Conflicting, File, FileLine, Finding, NoRequirement, all_lines}
+use Rattle.pyver_findings.specs.NamedFiles.{constraints_files}
 use Rattle.pyver_findings.specs.LineMeanings.{IsMeaning, IsNone, IsPlain, LineMeaning, has_extras, has_right_url}
 use Rattle.pyver_findings.specs.MarkerPairs.{under_either}
-use Rattle.pyver_findings.specs.NamedFiles.{constraints_files}
 use Rattle.pyver_findings.specs.Reports.{IsReport, Report, demands_in}
 use Rattle.pyver_findings.specs.declared.cause.Cause.TheVariants as cause
 use Rattle.pyver_findings.specs.declared.finding.Conflict.{Conflict}

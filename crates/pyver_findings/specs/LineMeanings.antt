@@ -19,8 +19,7 @@ use Rattle.pyver_requirements.specs.declared.line_fault.LineFault.TheVariants as
 use Rattle.pyver_findings.specs.Demands.{Demand, line_demand}
 use Rattle.pyver_findings.specs.Columns.{column, marker_column, list_column}
 use Rattle.cli_io.specs.Escapes.{is_printable}
-use Rattle.pyver_findings.specs.FileLines.{FileLine}
-use Rattle.pyver_findings.specs.Findings.{Finding, NoRequirement}
+use Rattle.pyver_findings.specs.FileLines.{FileLine, Finding, NoRequirement}
 use Rattle.pyver_findings.specs.declared.cause.Cause.{Cause}
 use Rattle.pyver_findings.specs.declared.cause.Cause.TheVariants as cause
 

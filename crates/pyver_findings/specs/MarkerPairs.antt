@@ -3,7 +3,7 @@ use Rattle.std.specs.Prelude.{◌≡◌, ⊤, ℕ, ◌&&◌, ◌||◌, List, [],
 use Rattle.std.specs.List.{filter, list_all, list_any}
 use Rattle.pyver_findings.specs.Conflicts.{counts_under, first_mentions, has_same_marker, has_same_name, have_none, of_all, under}
 use Rattle.pyver_findings.specs.Demands.{Demand}
-use Rattle.pyver_findings.specs.Findings.{Finding}
+use Rattle.pyver_findings.specs.FileLines.{Finding}
 use Rattle.pyver_findings.specs.declared.cause.Cause.{Cause}
 use Rattle.pyver_findings.specs.declared.cause.Cause.TheVariants as cause
 use Rattle.pyver_findings.specs.declared.marker_pairs.Decision.{Decision}
@@ -26,13 +26,13 @@ abbrev pub are_of_system : (os sys platform : List ℕ) → List Assignment → 
 are_of_system os sys platform variables = list_all (is_of_system os sys platform) variables
 
 -- the variable is among these
-abbrev pub has_variable : List ℕ → List Assignment → Bool
-has_variable name variables = list_any (λ (v : Assignment). bytes_eq v.name name) variables
+abbrev pub is_named : List ℕ → List Assignment → Bool
+is_named name variables = list_any (λ (v : Assignment). bytes_eq v.name name) variables
 
 -- of the variables that name the system, these have at most one
 abbrev pub names_system_once : List Assignment → Bool
-names_system_once variables = not ((has_variable (codes "os_name") variables && has_variable (codes "sys_platform") variables)
-    || (has_variable (codes "platform_system") variables && (has_variable (codes "os_name") variables || has_variable (codes "sys_platform") variables)))
+names_system_once variables = not ((is_named (codes "os_name") variables && is_named (codes "sys_platform") variables)
+    || (is_named (codes "platform_system") variables && (is_named (codes "os_name") variables || is_named (codes "sys_platform") variables)))
 
 -- the variables are those of one system
 abbrev pub is_one_system : List Assignment → Bool
@@ -43,25 +43,25 @@ is_one_system variables = names_system_once variables || (are_of_system (codes "
 -- ---- two markers
 
 -- the marker holds where both do that these strings denote
-abbrev pub DenoteBoth : List ℕ → List ℕ → Marker → Type 0
-DenoteBoth one other both = (m : Marker) × (n : Marker) × DenotesMarker one m × DenotesMarker other n × (both ≡ Both m n)
+abbrev pub AreJoined : List ℕ → List ℕ → Marker → Type 0
+AreJoined one other both = (m : Marker) × (n : Marker) × DenotesMarker one m × DenotesMarker other n × (both ≡ Both m n)
 
 -- of a marker: where the variables are so, of one system, it holds; it holds nowhere; nothing is known
-abbrev pub IsKnown : (Marker → Type 0) → Decision → Type 0
-IsKnown Is Together = (m : Marker) × (variables : List Assignment) × Is m × IsExample m variables × (is_one_system variables ≡ true)
-IsKnown Is Apart = (m : Marker) → Is m → IsNever true m
-IsKnown Is Unknown = ⊤
+abbrev pub IsRightDecision : (Marker → Type 0) → Decision → Type 0
+IsRightDecision Is Together = (m : Marker) × (variables : List Assignment) × Is m × IsExample m variables × (is_one_system variables ≡ true)
+IsRightDecision Is Apart = (m : Marker) → Is m → IsNever true m
+IsRightDecision Is Unknown = ⊤
 
 -- what is known of two markers; of no marker, nothing
 abbrev pub IsDecision : Option (List ℕ) → Option (List ℕ) → Decision → Type 0
-IsDecision (Some one) (Some other) d = IsKnown (DenoteBoth one other) d
+IsDecision (Some one) (Some other) d = IsRightDecision (AreJoined one other) d
 IsDecision _ _ d = d ≡ Unknown
 
 -- ---- by steps
 
 -- there is such a marker, and these are its steps
-abbrev pub HasSteps : (Marker → Type 0) → List Step → Type 0
-HasSteps Is all = ((m : Marker) × Is m) × ((m : Marker) → Is m → all ≡ steps m)
+abbrev pub IsDenotedBySteps : (Marker → Type 0) → List Step → Type 0
+IsDenotedBySteps Is all = ((m : Marker) × Is m) × ((m : Marker) → Is m → all ≡ steps m)
 
 -- what is known of the marker that has these steps
 abbrev pub KnowsSteps : List Step → Decision → Type 0

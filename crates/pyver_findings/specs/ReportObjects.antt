@@ -1,13 +1,30 @@
--- The findings of a report as a JSON array of objects (RFC 8259).
-use Rattle.std.specs.Prelude.{ℕ, List, [], ◌∷◌, ◌++◌, codes}
+-- The findings of a report as a JSON array of objects, and text of others as a JSON string, from which the bytes can be had again (RFC 8259).
+use Rattle.std.specs.Prelude.{Bool, List, [], codes, if◌then◌else◌, nat_le, nat_lt, ℕ, ◌&&◌, ◌++◌, ◌<◌, ◌==◌, ◌||◌, ◌∷◌, ◌≡◌}
 use Rattle.std.specs.Fmt.{decimal}
-use Rattle.std.specs.List.{flat_map}
-use Rattle.pyver_findings.specs.FileLines.{FileLine}
-use Rattle.pyver_findings.specs.Findings.{Conflicting, Finding, NoRequirement}
-use Rattle.pyver_findings.specs.Reports.{Report}
+use Rattle.std.specs.List.{All, flat_map}
+use Rattle.pyver_findings.specs.FileLines.{Conflicting, FileLine, Finding, NoRequirement}
 use Rattle.pyver_findings.specs.FindingKinds.{finding_kind, kind_code, kind_word}
+use Rattle.pyver_findings.specs.Reports.{Report}
 use Rattle.pyver_findings.specs.declared.finding.FindingKind.{FindingKind}
-use Rattle.pyver_findings.specs.JsonStrings.{json_string}
+use Rattle.std.specs.Str.{is_utf8}
+use Rattle.cli_io.specs.Escapes.{hex_digits, is_printable}
+
+-- a byte of a string that is UTF-8 or not: itself, after a backslash if it is a quote or a backslash; `\u00` and its digits if it is a
+-- control character; and of a string that is not UTF-8 the surrogate `\udc` and its digits for a byte beyond ASCII
+abbrev pub json_byte : Bool → ℕ → List ℕ
+json_byte in_utf8 b =
+    if (b == 34) || (b == 92) then 92 ∷ (b ∷ [])
+    else if is_printable b || (in_utf8 && nat_le 128 b) then b ∷ []
+    else if nat_lt b 128 then codes "\\u00" ++ hex_digits b
+    else codes "\\udc" ++ hex_digits b
+
+-- the bytes as a JSON string
+abbrev pub json_string : List ℕ → List ℕ
+json_string text = codes "\"" ++ (flat_map (json_byte (is_utf8 text)) text ++ codes "\"")
+
+-- different bytes are different strings
+abbrev pub JsonStringsDiffer : Type 0
+JsonStringsDiffer = (a b : List ℕ) → All (λ x. x < 256) a → All (λ x. x < 256) b → json_string a ≡ json_string b → a ≡ b
 
 -- the members `file`, `line` and `text`
 abbrev pub line_members : FileLine → List ℕ

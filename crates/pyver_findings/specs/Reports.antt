@@ -3,12 +3,11 @@ use Rattle.std.specs.Prelude.{◌≡◌, ℕ, ◌+◌, ◌-◌, ◌^◌, List, [
 use Rattle.std.specs.List.{AllZip, filter, flat_map, list_any}
 use Rattle.pyver_findings.specs.Demands.{Demand}
 use Rattle.pyver_findings.specs.Conflicts.{conflicts}
-use Rattle.pyver_findings.specs.FileLines.{File, FileLine, all_lines}
+use Rattle.pyver_findings.specs.FileLines.{Conflicting, File, FileLine, Finding, NoRequirement, all_lines}
+use Rattle.pyver_findings.specs.NamedFiles.{constraints_files}
 use Rattle.pyver_findings.specs.FindingKinds.{is_ignored}
-use Rattle.pyver_findings.specs.Findings.{Conflicting, Finding, NoRequirement}
 use Rattle.pyver_findings.specs.LineMeanings.{Asks, IsNone, LeftOut, LineMeaning, AsksNothing, IsMeaning, constraint_faults}
 use Rattle.pyver_findings.specs.MarkerPairs.{FindsOfNames}
-use Rattle.pyver_findings.specs.NamedFiles.{constraints_files}
 use Rattle.pyver_findings.specs.declared.cause.Cause.{Cause}
 
 -- the findings, those that a comment ignores, the number of lines and of files, and for each line and pair of markers that was left out why

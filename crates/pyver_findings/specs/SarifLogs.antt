@@ -5,10 +5,9 @@ use Rattle.std.specs.Fmt.{decimal}
 use Rattle.std.specs.List.{flat_map}
 use Rattle.cli_io.specs.Escapes.{hex_digits}
 use Rattle.pep440_rs.specs.Blanks.{opens}
-use Rattle.pyver_findings.specs.FileLines.{FileLine}
+use Rattle.pyver_findings.specs.FileLines.{Conflicting, FileLine, Finding, NoRequirement}
 use Rattle.pyver_findings.specs.FindingKinds.{finding_kind, is_ignored, kind_code, kind_summary, kind_word}
-use Rattle.pyver_findings.specs.Findings.{Conflicting, Finding, NoRequirement}
-use Rattle.pyver_findings.specs.JsonStrings.{json_string}
+use Rattle.pyver_findings.specs.ReportObjects.{json_string}
 use Rattle.pyver_findings.specs.ReportTexts.{finding_message}
 use Rattle.pyver_findings.specs.Reports.{Report}
 use Rattle.pyver_findings.specs.declared.finding.FindingKind.{FindingKind}

@@ -1,26 +1,36 @@
--- What the crate's own types hold, apart from where they lie in memory.
-use Rattle.std.specs.Prelude.{◌≡◌, ℕ, List, [], ◌++◌, Option, bytes_eq, map, option_map, string_bytes}
+-- What the crate's own types hold, and what is read of lines and errors on the way, apart from where it lies in memory.
+use Rattle.std.specs.Prelude.{Bool, List, None, Option, [], bytes_eq, false, map, option_map, string_bytes, true, ℕ, ◌++◌, ◌≡◌}
 use Rattle.std.specs.Borrow.{Bor}
 use Rattle.std.specs.Global.{Vec}
 use Rattle.std.specs.HashMap.{HashMap, get_by}
 use Rattle.std.specs.Option.{option_map_or}
 use Rattle.pyver_findings.specs.Demands.{Demand}
-use Rattle.pyver_findings.specs.FileLines.{File, FileLine}
-use Rattle.pyver_findings.specs.Findings.{Conflicting, Finding, NoRequirement}
-use Rattle.pyver_findings.specs.LineMeanings.{Asks, IsNone, LeftOut, LineMeaning, AsksNothing}
+use Rattle.pyver_findings.specs.FileLines.{Conflicting, File, FileLine, Finding, NoRequirement}
 use Rattle.pyver_findings.specs.NamedFiles.{NamedFile, Position}
-use Rattle.pyver_findings.specs.Reports.{Report}
+use Rattle.pyver_findings.specs.LineMeanings.{Asks, AsksNothing, IsMeaning, IsNone, LeftOut, LineMeaning}
+use Rattle.pyver_findings.specs.Reports.{Report, demands_in, invalid_in, left_out_in}
 use Rattle.pyver_findings.specs.declared.cause.Cause.{Cause}
 use Rattle.pyver_findings.specs.declared.demand.Demand.{Demand as DemandValue}
 use Rattle.pyver_findings.specs.declared.file_line.FileLine.{FileLine as FileLineValue}
 use Rattle.pyver_findings.specs.declared.file_line.SourceFile.{SourceFile}
 use Rattle.pyver_findings.specs.declared.finding.Finding.{Finding as FindingValue}
-use Rattle.pyver_findings.specs.declared.finding.Finding.TheVariants as finding
 use Rattle.pyver_findings.specs.declared.line_meaning.LineMeaning.{LineMeaning as LineMeaningValue}
-use Rattle.pyver_findings.specs.declared.line_meaning.LineMeaning.TheVariants as reading
 use Rattle.pyver_findings.specs.declared.named_files.NamedFile.{NamedFile as NamedFileValue}
 use Rattle.pyver_findings.specs.declared.named_files.Position.{Position as PositionValue}
 use Rattle.pyver_findings.specs.declared.report.Report.{Report as ReportValue}
+use Rattle.std.specs.List.{AllZip, flat_map}
+use Rattle.pep440_pick.specs.RequirementTexts.{requirement_rejection_text}
+use Rattle.pep440_pick.specs.Requirements.{requirement_rejection_of}
+use Rattle.pep440_pick.specs.declared.error.RequirementError.{RequirementError}
+use Rattle.pep440_rs.specs.ErrorTexts.{specifier_error_text}
+use Rattle.pep440_rs.specs.Errors.{parse_kind_of, specifier_rejection_of}
+use Rattle.pep440_rs.specs.Lists.ListResults.{list_kind_of}
+use Rattle.pep440_rs.specs.declared.list.error.SpecifiersErrorKind.{SpecifiersErrorKind}
+use Rattle.pyver_findings.specs.declared.report.Readings.{Readings}
+use Rattle.pyver_findings.specs.declared.finding.Finding.TheVariants as finding
+use Rattle.pyver_findings.specs.declared.line_meaning.LineMeaning.TheVariants as reading
+use Rattle.pep440_pick.specs.declared.error.RequirementError.TheVariants as error
+use Rattle.pep440_rs.specs.declared.list.error.SpecifiersErrorKind.TheVariants as list
 
 abbrev pub file_of : SourceFile → File
 file_of f = record { name = f.name.items; text = f.text.items }
@@ -69,3 +79,24 @@ line_meaning_of reading.AsksNothing = AsksNothing
 
 abbrev pub report_of : ReportValue → Report
 report_of r = record { findings = map finding_of r.findings.items; ignored = map finding_of r.ignored.items; lines = r.lines; files = r.files; left_out = r.left_out.items }
+
+-- the message of the invalid piece of a list, or None if an allocation failed
+abbrev pub piece_text_of : SpecifiersErrorKind → Option (List ℕ)
+piece_text_of (list.Piece error start stop) = specifier_error_text (specifier_rejection_of (parse_kind_of error))
+piece_text_of list.OutOfMemory = None
+
+-- the message of an error, of a list that of its piece, or None if an allocation failed
+abbrev pub reason_text_of : RequirementError → Option (List ℕ)
+reason_text_of (error.Specifiers e) = piece_text_of (list_kind_of e)
+reason_text_of error.OutOfMemory = None
+reason_text_of e = option_map requirement_rejection_text (requirement_rejection_of e)
+
+-- a requirement was not read because an allocation failed
+abbrev pub is_memory_error : RequirementError → Bool
+is_memory_error error.OutOfMemory = true
+is_memory_error _ = false
+
+-- the lines were read, and this is kept of what they are
+abbrev pub KeepsReadings : List FileLine → Readings → Type 0
+KeepsReadings lines kept = (xs : List LineMeaning) × AllZip IsMeaning lines xs × (map finding_of kept.invalid.items ≡ flat_map invalid_in xs)
+    × (map demand_of kept.demands.items ≡ flat_map demands_in xs) × (kept.left_out.items ≡ flat_map left_out_in xs)

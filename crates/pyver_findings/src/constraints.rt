@@ -2,10 +2,9 @@
 ghost use Rattle.std.specs.Prelude.{◌≡◌, ◌≤◌, ◌==◌, ◌∷◌, ◌++◌, [], IfOk, bytes_eq, length, map, not, option_map};
 ghost use Rattle.std.specs.Char.{is_ascii_whitespace};
 ghost use Rattle.std.specs.List.{filter, flat_map, list_any, prefix_len};
-ghost use Rattle.pyver_findings.specs.Findings.{NoRequirement};
-ghost use Rattle.pyver_findings.specs.FileLines.{all_lines};
-ghost use Rattle.pyver_findings.specs.LineMeanings.{constraint_faults, extras_faults, has_extras, kind_faults, opens_extras};
+ghost use Rattle.pyver_findings.specs.FileLines.{NoRequirement, all_lines};
 ghost use Rattle.pyver_findings.specs.NamedFiles.{constraints_files, constraints_names, constraints_path, denoted_names};
+ghost use Rattle.pyver_findings.specs.LineMeanings.{constraint_faults, extras_faults, has_extras, kind_faults, opens_extras};
 ghost use Rattle.pyver_findings.specs.Reports.{constraint_findings};
 ghost use Rattle.pyver_findings.specs.Views.{AddsFindings, file_line_of, file_of, finding_of};
 ghost use Rattle.pep440_rs.specs.Blanks.{opens};

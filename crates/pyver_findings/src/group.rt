@@ -5,7 +5,7 @@ ghost use Rattle.std.specs.List.{All, flat_map};
 ghost use Rattle.std.specs.Option.{option_map_or};
 ghost use Rattle.pyver_findings.specs.Conflicts.{conflict_kind, first_mentions, has_marker, has_same_marker, have_none, of_all, of_name, pin_conflict, under};
 ghost use Rattle.pyver_findings.specs.Demands.{IsSound};
-ghost use Rattle.pyver_findings.specs.Findings.{Conflicting};
+ghost use Rattle.pyver_findings.specs.FileLines.{Conflicting};
 ghost use Rattle.pyver_findings.specs.Views.{AddsFindings, demand_of, demands_at, file_line_of, group_at};
 
 use crate::demand::Demand;

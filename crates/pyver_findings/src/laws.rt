@@ -1,5 +1,5 @@
 //! What holds of findings, as the contract of a function that does nothing.
-ghost use Rattle.pyver_findings.specs.JsonStrings.{JsonStringsDiffer};
+ghost use Rattle.pyver_findings.specs.ReportObjects.{JsonStringsDiffer};
 ghost use Rattle.pyver_findings.specs.FindingLaws.{ConflictsHaveFindings, FindingsHold, InvalidLinesHaveFindings, MeaningsOnce, PairsHaveFindings, ReportsOnce, WrongConstraintsHaveFindings};
 ghost use Rattle.pyver_findings.specs.StringGrammar.{StringsHaveGrammar};
 

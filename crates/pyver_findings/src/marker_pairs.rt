@@ -1,13 +1,14 @@
-//! Lines of one name with two different markers, where both markers hold in one environment.
+//! Lines of one name under two different markers that hold in one environment.
 ghost use Rattle.std.specs.Prelude.{◌≡◌, ◌&&◌, ◌||◌, ◌∷◌, ◌++◌, [], IfOk, IfSome, List, bytes_eq, codes, map, option_map, true, ℕ};
 ghost use Rattle.std.specs.HashMap.{get_by};
 ghost use Rattle.std.specs.List.{All, list_all, list_any};
 ghost use Rattle.std.specs.Option.{option_map_or};
 ghost use Rattle.pyver_findings.specs.Conflicts.{has_same_marker, have_none};
 ghost use Rattle.pyver_findings.specs.Demands.{IsSound};
-ghost use Rattle.pyver_findings.specs.MarkerPairs.{DenoteBoth, FindsDecided, FindsOfEach, FindsOfName, FindsOfNames, FindsOfPair, FindsOfPairs, HasSteps, IsDecision, IsKnown, KnowsSteps, are_of_system, few_first_lines, has_variable, is_of_system, is_one_system, lines_to_pair, names_system_once, open_lines, under_either, with_first};
+ghost use Rattle.pyver_findings.specs.MarkerPairs.{AreJoined, FindsDecided, FindsOfEach, FindsOfName, FindsOfNames, FindsOfPair, FindsOfPairs, IsDenotedBySteps, IsDecision, IsRightDecision, KnowsSteps, are_of_system, few_first_lines, is_named, is_of_system, is_one_system, lines_to_pair, names_system_once, open_lines, under_either, with_first};
 ghost use Rattle.pyver_findings.specs.Views.{AddsFound, demand_of, demands_at, demands_of_group};
 ghost use Rattle.pyver_findings.specs.declared.cause.Cause.TheVariants as cause;
+ghost use Rattle.pyver_findings.specs.declared.marker_pairs.Decision.TheVariants.{Together};
 ghost use Rattle.pyver_markers.specs.EnvironmentViews.{assignment_of};
 ghost use Rattle.pyver_requirements.specs.MarkerGrammar.{DenotesMarker};
 
@@ -24,6 +25,15 @@ use std::alloc::{AllocError, Global};
 
 // The most markers of one name of which each is looked at beside each other one.
 const MOST: usize = 32;
+
+// Markers of systems.
+const SYSTEMS: [&str; 5] = [
+    "os_name == 'posix' and sys_platform == 'linux' and platform_system == 'Linux'",
+    "os_name == 'nt' and sys_platform == 'win32' and platform_system == 'Windows'",
+    "os_name == 'posix' and sys_platform == 'darwin' and platform_system == 'Darwin'",
+    "os_name == 'posix' and sys_platform == 'android' and platform_system == 'Android'",
+    "os_name == 'posix' and sys_platform == 'ios' and platform_system == 'iOS'",
+];
 
 // What is known of two markers.
 #[derive(Clone, Copy)]
@@ -65,8 +75,8 @@ fn are_of_system(variables: &[FoundVariable<'_>], os: &str, sys: &str, platform:
     true
 }
 
-fn has_variable(variables: &[FoundVariable<'_>], name: &[u8]) -> bool
-    ensures { result ≡ has_variable name.now (map assignment_of variables.now) }
+fn is_named(variables: &[FoundVariable<'_>], name: &[u8]) -> bool
+    ensures { result ≡ is_named name.now (map assignment_of variables.now) }
 {
     let mut rest = variables;
     while let [variable, later @ ..] = rest {
@@ -92,9 +102,9 @@ fn are_several(one: bool, other: bool, third: bool) -> bool
 fn names_system_once(variables: &[FoundVariable<'_>]) -> bool
     ensures { result ≡ names_system_once (map assignment_of variables.now) }
 {
-    let os = has_variable(variables, "os_name".as_bytes());
-    let sys = has_variable(variables, "sys_platform".as_bytes());
-    let platform = has_variable(variables, "platform_system".as_bytes());
+    let os = is_named(variables, "os_name".as_bytes());
+    let sys = is_named(variables, "sys_platform".as_bytes());
+    let platform = is_named(variables, "platform_system".as_bytes());
     !are_several(os, sys, platform)
 }
 
@@ -116,7 +126,7 @@ fn parse_marker<'a>(
     alloc: Global,
     text: &'a [u8],
 ) -> Result<Option<EnvironmentMarker<'a>>, AllocError>
-    ensures { IfOk result (λ read. IfSome read (HasSteps (DenotesMarker text.now))) }
+    ensures { IfOk result (λ read. IfSome read (IsDenotedBySteps (DenotesMarker text.now))) }
 {
     match EnvironmentMarker::parse(alloc, text) {
         Ok(marker) => Ok(Some(marker)),
@@ -131,7 +141,7 @@ fn join_markers<'a>(
     one: &'a [u8],
     other: &'a [u8],
 ) -> Result<Option<EnvironmentMarker<'a>>, AllocError>
-    ensures { IfOk result (λ joined. IfSome joined (HasSteps (DenoteBoth one.now other.now))) }
+    ensures { IfOk result (λ joined. IfSome joined (IsDenotedBySteps (AreJoined one.now other.now))) }
 {
     let Some(one) = parse_marker(alloc, one)? else {
         return Ok(None);
@@ -142,6 +152,44 @@ fn join_markers<'a>(
     Ok(Some(one.and(&other)?))
 }
 
+// Whether an environment of one system is found in which the marker holds.
+fn is_found(alloc: Global, marker: &EnvironmentMarker<'_>) -> Result<bool, AllocError>
+    ensures { IfOk result (λ found. found ≡ true → KnowsSteps marker.now Together) }
+{
+    match marker.find_environment(alloc)? {
+        Some(variables) => Ok(is_one_system(variables.as_slice())),
+        None => Ok(false),
+    }
+}
+
+// The same, where the other marker holds, too.
+fn is_found_on(
+    alloc: Global,
+    marker: &EnvironmentMarker<'_>,
+    system: &str,
+) -> Result<bool, AllocError>
+    ensures { IfOk result (λ found. found ≡ true → KnowsSteps marker.now Together) }
+{
+    let Some(system) = parse_marker(alloc, system.as_bytes())? else {
+        return Ok(false);
+    };
+    let both = system.and(marker)?;
+    let found = is_found(alloc, &both)?;
+    Ok(found)
+}
+
+// Whether an environment of one of the systems is found in which the marker holds.
+fn is_found_on_any(alloc: Global, marker: &EnvironmentMarker<'_>) -> Result<bool, AllocError>
+    ensures { IfOk result (λ found. found ≡ true → KnowsSteps marker.now Together) }
+{
+    for system in SYSTEMS {
+        if is_found_on(alloc, marker, system)? {
+            return Ok(true);
+        }
+    }
+    Ok(false)
+}
+
 // What is known of the marker that holds where both do.
 fn decide_joined(alloc: Global, both: &EnvironmentMarker<'_>) -> Result<Decision, AllocError>
     ensures { IfOk result (KnowsSteps both.now) }
@@ -149,16 +197,16 @@ fn decide_joined(alloc: Global, both: &EnvironmentMarker<'_>) -> Result<Decision
     if both.is_never(alloc, true)? {
         return Ok(Decision::Apart);
     }
-    match both.find_environment(alloc)? {
-        Some(variables) if is_one_system(variables.as_slice()) => Ok(Decision::Together),
-        _ => Ok(Decision::Unknown),
+    if is_found(alloc, both)? || is_found_on_any(alloc, both)? {
+        return Ok(Decision::Together);
     }
+    Ok(Decision::Unknown)
 }
 
 #[tactic(auto, using(crate::proofs::MarkerPairs::known))]
 // What is known of two markers.
 fn decide(alloc: Global, one: &[u8], other: &[u8]) -> Result<Decision, AllocError>
-    ensures { IfOk result (IsKnown (DenoteBoth one.now other.now)) }
+    ensures { IfOk result (IsRightDecision (AreJoined one.now other.now)) }
 {
     match join_markers(alloc, one, other)? {
         Some(both) => decide_joined(alloc, &both),
@@ -395,10 +443,9 @@ fn push_of_group(
     }
 }
 
-/// Adds what is wrong with lines of one name that have two different markers, where both markers hold in one environment, for each name, in
-/// the order in which names are first mentioned. A cause is added for each two markers of which this is not known while their lines have no
-/// version in common, and for a name with more than 32 markers, whose lines are not looked at. Fails if memory runs out; then findings of
-/// some names may have been added.
+/// Adds what is wrong with lines of one name under two different markers that hold in one environment, for each name, in the order in which
+/// names are first mentioned. A cause is added for each two markers whose lines have no version in common, if it is not known whether they
+/// hold together, and for a name with more than 32 markers. Fails if memory runs out; then findings of some names may have been added.
 ///
 /// Allocates.
 pub(crate) fn push_pair_conflicts(

@@ -2,9 +2,8 @@
 ghost use Rattle.std.specs.Prelude.{◌≡◌, ◌++◌, IfOk, map, not};
 ghost use Rattle.std.specs.List.{filter};
 ghost use Rattle.pyver_findings.specs.FindingKinds.{is_ignored};
-ghost use Rattle.pyver_findings.specs.ReadingViews.{KeepsReadings};
+ghost use Rattle.pyver_findings.specs.Views.{AddsFindings, KeepsReadings, demand_of, file_line_of, file_of, finding_of, line_meaning_of, report_of};
 ghost use Rattle.pyver_findings.specs.Reports.{IsReport, demands_in, empty_report, invalid_in, joined_report, left_out_in, without_ignored};
-ghost use Rattle.pyver_findings.specs.Views.{AddsFindings, demand_of, file_line_of, file_of, finding_of, line_meaning_of, report_of};
 
 use crate::cause::Cause;
 use crate::conflicts::push_conflicts;
@@ -77,7 +76,7 @@ fn parse_lines(alloc: Global, lines: &[FileLine]) -> Result<Readings, AllocError
 /// order; then editables, and requirements with extras, in files that a line names after `-c`; then for each name, in the order in which names are first mentioned, lines that no version satisfies together: of these a
 /// smallest list, from which no line can be left out. Lines without a marker count with the lines of each marker; if they have no version in
 /// common, some of them are reported, and no line with a marker. Behind these follow, for each name, lines under two different markers that
-/// no version satisfies, where both hold in one environment of one system; of three and more markers nothing is asked.
+/// no version satisfies, if both hold in one environment of one system; of three and more markers nothing is asked.
 ///
 /// A line names a version if a member of its list is `==` without a star, or `===`; a finding of two lines says whether one or both do.
 /// Takes n log n steps for n lines, and for a finding as many each time that its lines can be halved. But each marker of a name takes time

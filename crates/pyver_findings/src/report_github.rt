@@ -1,8 +1,7 @@
 //! A report as commands to GitHub Actions.
 ghost use Rattle.std.specs.Prelude.{◌≡◌, ◌++◌, IfOk, map};
 ghost use Rattle.std.specs.List.{flat_map};
-ghost use Rattle.pyver_findings.specs.GithubCommands.{finding_command, finding_properties, first_properties, line_properties, message_byte, property_byte, report_commands};
-ghost use Rattle.pyver_findings.specs.ReportTexts.{finding_message};
+ghost use Rattle.pyver_findings.specs.ReportTexts.{finding_command, finding_message, finding_properties, first_properties, line_properties, message_byte, property_byte, report_commands};
 ghost use Rattle.pyver_findings.specs.Views.{file_line_of, finding_of, report_of};
 
 use crate::file_line::FileLine;

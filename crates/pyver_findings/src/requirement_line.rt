@@ -10,10 +10,9 @@ ghost use Rattle.pep440_rs.specs.Lists.ListErrors.{IsListLifted, list_rejection_
 ghost use Rattle.pep440_rs.specs.Lists.ListErrorTexts.{list_rejection_text, list_text_of};
 ghost use Rattle.pep440_rs.specs.Lists.ListGrammar.{PieceRejection};
 ghost use Rattle.pyver_findings.specs.Columns.{list_column};
-ghost use Rattle.pyver_findings.specs.Findings.{NoRequirement};
+ghost use Rattle.pyver_findings.specs.FileLines.{NoRequirement};
 ghost use Rattle.pyver_findings.specs.LineMeanings.{IsNone, IsPartsMeaning, IsPlain, before_url, requirement_meaning, rejection_meaning, under_marker, with_url, IsListMeaning, list_meaning};
-ghost use Rattle.pyver_findings.specs.ReadingViews.{is_memory_error, piece_text_of, reason_text_of};
-ghost use Rattle.pyver_findings.specs.Views.{file_line_of, line_meaning_of};
+ghost use Rattle.pyver_findings.specs.Views.{file_line_of, is_memory_error, line_meaning_of, piece_text_of, reason_text_of};
 ghost use Rattle.pyver_requirements.specs.LineParts.{is_blank_byte, line_parts, pip_parts};
 ghost use Rattle.pyver_requirements.specs.LineViews.{line_parts_of};
 ghost use Rattle.pyver_requirements.specs.MarkerReading.{marker};

@@ -12,8 +12,7 @@ use Rattle.pep440_version.proofs.Rejections.ExactlyOne.{not_both}
 use Rattle.pep440_version.specs.Grammar.{Derives}
 use Rattle.pep440_version.specs.Record.{Record}
 use Rattle.pyver_findings.specs.Demands.{Demand, line_demand}
-use Rattle.pyver_findings.specs.FileLines.{File, FileLine}
-use Rattle.pyver_findings.specs.Findings.{Conflicting, Finding}
+use Rattle.pyver_findings.specs.FileLines.{Conflicting, File, FileLine, Finding}
 use Rattle.pyver_findings.specs.LineMeanings.{Asks, LineMeaning}
 use Rattle.pyver_findings.specs.Reports.{Report, demands_in, empty_report}
 use Rattle.pyver_findings.specs.declared.finding.Conflict.TheVariants.{PinOutside}

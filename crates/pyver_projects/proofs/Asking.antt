@@ -1,11 +1,10 @@
 -- Requirements that count always.
 use Rattle.std.proofs.Common.{◌≡◌, ◌∙◌, ℕ, List, [], ◌∷◌, Bool, true, false, Option, Some, None, Result, Ok, Err, option_map, refl, sym, ap, inl, inr, if◌then◌else◌}
 use Rattle.pep440_pick.specs.RequirementGrammar.{DerivesRequirement, Needed}
-use Rattle.pyver_findings.proofs.Once.{one_parts}
+use Rattle.pyver_findings.proofs.Complete.{one_parts}
 use Rattle.pyver_findings.specs.Demands.{Demand, line_demand}
-use Rattle.pyver_findings.specs.FileLines.{FileLine}
+use Rattle.pyver_findings.specs.FileLines.{FileLine, NoRequirement}
 use Rattle.pyver_findings.specs.FindingLaws.{HasMarker}
-use Rattle.pyver_findings.specs.Findings.{NoRequirement}
 use Rattle.pyver_findings.specs.LineMeanings.{Asks, AsksNothing, IsNone, IsPartsMeaning, IsPlain, LeftOut, LineMeaning, has_right_url, requirement_meaning, under_marker, with_marker, with_url}
 use Rattle.pyver_findings.specs.declared.cause.Cause.TheVariants as cause
 use Rattle.pyver_requirements.specs.LineParts.{LineParts, line_parts}

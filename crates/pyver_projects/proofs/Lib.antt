@@ -2,13 +2,8 @@ pub mod Steps
 pub mod Walks
 pub mod Asking
 pub mod Holding
-pub mod HoldingTogether
-pub mod AllTogether
 pub mod RepeatedNames
-pub mod GroupOrders
 pub mod GroupWalks
-pub mod Sound
 pub mod Agreeing
 pub mod Once
 pub mod Satisfiable
-pub mod Indexes

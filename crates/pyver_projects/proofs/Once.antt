@@ -12,11 +12,10 @@ use Rattle.pep440_version.proofs.Rejections.ExactlyOne.{not_both, one_refusal}
 use Rattle.pep440_version.specs.ErrorTexts.{rejection_text}
 use Rattle.pep440_version.specs.Record.{Record}
 use Rattle.pep440_version.specs.Rejections.{Rejection}
-use Rattle.pyver_findings.proofs.Once.{one_parts}
+use Rattle.pyver_findings.proofs.Complete.{one_parts}
 use Rattle.pyver_findings.specs.Columns.{list_column}
 use Rattle.pyver_findings.specs.Demands.{line_demand}
-use Rattle.pyver_findings.specs.FileLines.{File, FileLine}
-use Rattle.pyver_findings.specs.Findings.{NoRequirement}
+use Rattle.pyver_findings.specs.FileLines.{File, FileLine, NoRequirement}
 use Rattle.pyver_findings.specs.LineMeanings.{Asks, IsNone, LineMeaning, list_meaning}
 use Rattle.pyver_requirements.specs.LineParts.{line_parts}
 use Rattle.toml.specs.Data.{Members}

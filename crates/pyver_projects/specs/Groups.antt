@@ -2,8 +2,7 @@
 use Rattle.std.specs.Prelude.{ℕ, ◌||◌, ◌&&◌, suc, zero, List, [], ◌∷◌, Bool, bytes_eq, codes, length, map, if◌then◌else◌}
 use Rattle.std.specs.List.{flat_map, list_any}
 use Rattle.toml.specs.Data.{Members}
-use Rattle.pyver_findings.specs.FileLines.{FileLine}
-use Rattle.pyver_findings.specs.Findings.{NoRequirement}
+use Rattle.pyver_findings.specs.FileLines.{FileLine, NoRequirement}
 use Rattle.pyver_findings.specs.LineMeanings.{AsksNothing, IsNone, LineMeaning}
 use Rattle.pyver_projects.specs.Documents.{group_names, sources}
 use Rattle.pyver_projects.specs.ProjectStrings.{Build, Dependencies, Extra, Group, Include, Invalid, ProjectString, Python, Section, Version}

@@ -5,12 +5,10 @@ pub mod PackageRequirements
 pub mod Documents
 pub mod Places
 pub mod Groups
-pub mod PipfileLocks
 pub mod Locks
 pub mod Meanings
 pub mod ProjectViews
 pub mod NameMaps
-pub mod PackageIndexes
 pub mod Together
 pub mod Comparing
 pub mod ProjectLaws

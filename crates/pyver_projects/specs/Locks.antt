@@ -4,7 +4,7 @@ use Rattle.serde_json.specs.Data.{Data}
 use Rattle.serde_json.specs.Read.{read}
 use Rattle.toml.specs.Parse.{parse_document}
 use Rattle.pyver_projects.specs.Documents.{contents}
-use Rattle.pyver_projects.specs.PipfileLocks.{member_packages}
+use Rattle.pyver_projects.specs.TomlValues.{member_packages}
 use Rattle.pyver_projects.specs.Places.{header_lines}
 use Rattle.pyver_projects.specs.ProjectStrings.{LockContents}
 use Rattle.pyver_projects.specs.declared.document_kind.LockKind.{LockKind}

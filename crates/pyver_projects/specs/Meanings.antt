@@ -10,8 +10,7 @@ use Rattle.pep440_version.specs.Grammar.{Derives}
 use Rattle.pep440_version.specs.Record.{Record}
 use Rattle.pep440_version.specs.Rejections.{Rejection, Rejects}
 use Rattle.pyver_findings.specs.Demands.{line_demand, IsSound}
-use Rattle.pyver_findings.specs.FileLines.{File, FileLine}
-use Rattle.pyver_findings.specs.Findings.{Finding, NoRequirement}
+use Rattle.pyver_findings.specs.FileLines.{File, FileLine, Finding, NoRequirement}
 use Rattle.pyver_findings.specs.LineMeanings.{Asks, AsksNothing, IsListMeaning, IsNone, IsPartsMeaning, LeftOut, LineMeaning}
 use Rattle.pyver_findings.specs.declared.cause.Cause.TheVariants as cause
 use Rattle.pyver_requirements.specs.LineParts.{line_parts}

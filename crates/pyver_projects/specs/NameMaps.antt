@@ -1,15 +1,17 @@
--- What maps with names hold: sets of names, repeated names, inclusions by the groups that have them, and places of groups.
-use Rattle.std.specs.Prelude.{◌≡◌, ℕ, ◌||◌, List, [], Bool, Option, Some, None, bytes_eq, count_by, is_some, map, nat_eq, nat_lt, if◌then◌else◌}
+-- What maps with names hold: sets of names, repeated names, inclusions by the groups that have them, places of groups, and packages by names.
+use Rattle.std.specs.Prelude.{Bool, List, None, Option, Some, [], bytes_eq, count_by, if◌then◌else◌, is_some, map, nat_eq, nat_lt, ℕ, ◌||◌, ◌≡◌}
 use Rattle.std.specs.Borrow.{Bor}
 use Rattle.std.specs.HashMap.{HashMap, get_by}
 use Rattle.std.specs.List.{filter, list_all, list_any}
 use Rattle.std.specs.Option.{option_map_or, unwrap_or}
 use Rattle.pyver_projects.specs.Groups.{Groups, Inclusion}
-use Rattle.pyver_projects.specs.ProjectViews.{inclusion_of}
+use Rattle.pyver_projects.specs.ProjectViews.{inclusion_of, locked_reading_of}
 use Rattle.pyver_projects.specs.declared.group_order.GroupOrder.{GroupOrder}
 use Rattle.pyver_projects.specs.declared.groups.Groups.{Groups as GroupsValue}
 use Rattle.pyver_projects.specs.declared.inclusion_index.InclusionIndex.{InclusionIndex}
 use Rattle.pyver_projects.specs.declared.name_index.NameIndex.{NameIndex}
+use Rattle.pyver_projects.specs.Meanings.{LockedReading}
+use Rattle.pyver_projects.specs.declared.package_index.PackageIndex.{PackageIndex}
 
 -- ---- sets of names
 
@@ -72,3 +74,14 @@ groups_of all = record { names = indexed_names all.names; inclusions = inclusion
 -- its maps are right
 abbrev pub HasGroups : GroupsValue → Type 0
 HasGroups all = IsNameIndex all.names × IsInclusionIndex all.inclusions × IsGroupOrder (inclusions_of all.inclusions) all.order
+
+abbrev pub packages_of : PackageIndex → List LockedReading
+packages_of index = map locked_reading_of index.packages.now
+
+-- the packages under a name
+abbrev pub under_name : PackageIndex → List ℕ → List LockedReading
+under_name index q = map (λ y. locked_reading_of y.now) (option_map_or (λ group. group.items) (get_by (λ k. bytes_eq q k.now) index.by_name) [])
+
+-- under each name stand the packages with this name, in their order
+abbrev pub IsIndex : PackageIndex → Type 0
+IsIndex index = (q : List ℕ) → under_name index q ≡ filter (λ y. bytes_eq q y.name) (packages_of index)

@@ -4,8 +4,7 @@ use Rattle.std.specs.Prelude.{ℕ, ◌&&◌, List, [], ◌∷◌, ◌++◌, Bool
 use Rattle.std.specs.List.{flat_map, list_any}
 use Rattle.pyver_findings.specs.Conflicts.{conflicts}
 use Rattle.pyver_findings.specs.Demands.{Demand}
-use Rattle.pyver_findings.specs.FileLines.{FileLine}
-use Rattle.pyver_findings.specs.Findings.{Conflicting, Finding, NoRequirement}
+use Rattle.pyver_findings.specs.FileLines.{Conflicting, FileLine, Finding, NoRequirement}
 use Rattle.pyver_findings.specs.Reports.{demands_in}
 use Rattle.pyver_projects.specs.Groups.{Inclusion, includes, inclusions}
 use Rattle.pyver_projects.specs.Meanings.{StringReading}

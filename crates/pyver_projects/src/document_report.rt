@@ -183,7 +183,7 @@ fn read_documents<'a>(
     Ok(read)
 }
 
-#[tactic(auto, using(crate::proofs::Sound::sound_documents))]
+#[tactic(auto, using(crate::proofs::Holding::sound_documents))]
 /// What is wrong in the documents. First what is wrong in each by itself, in order: tables, arrays or strings of a project that are none,
 /// strings that are no requirement, no list of specifiers or no version, a list that no version satisfies, groups (PEP 735) with the normal name of another, with an item that is neither a string nor a table of
 /// `include-group` only, or that include a group that does not exist or that includes them in turn, versions of a lock that are none, and a

@@ -1,12 +1,12 @@
 //! A project beside a lock, and the requirements of a lock beside its packages.
 ghost use Rattle.std.specs.Prelude.{◌≡◌, ◌∷◌, ◌++◌, [], IfOk, map};
 ghost use Rattle.std.specs.List.{flat_map, list_any};
-ghost use Rattle.pyver_findings.specs.Findings.{Conflicting};
+ghost use Rattle.pyver_findings.specs.FileLines.{Conflicting};
 ghost use Rattle.pyver_findings.specs.Reports.{demands_in};
 ghost use Rattle.pyver_findings.specs.Views.{demand_of, file_line_of, finding_of, line_meaning_of};
 ghost use Rattle.pyver_findings.specs.declared.finding.Conflict.TheVariants.{PinOutside};
 ghost use Rattle.pyver_projects.specs.Comparing.{found_beside, found_in_pair, beside_all, compared, compared_demand, excluded, excluded_by, has_name, is_locked, is_needed, missing, unmet};
-ghost use Rattle.pyver_projects.specs.PackageIndexes.{IsIndex, packages_of};
+ghost use Rattle.pyver_projects.specs.NameMaps.{IsIndex, packages_of};
 ghost use Rattle.pyver_projects.specs.ProjectViews.{document_of, document_reading_of, locked_reading_of, read_pair, section_of, string_reading_of};
 
 use crate::document_kind::{Document, is_beside};

@@ -5,7 +5,7 @@ ghost use Rattle.pep440_pick.specs.Names.{normal};
 ghost use Rattle.pep440_version.specs.Errors.{error_rejection};
 ghost use Rattle.pep440_version.specs.ErrorTexts.{error_text, rejection_text};
 ghost use Rattle.pep440_version.specs.Rejections.{Rejection};
-ghost use Rattle.pyver_findings.specs.Findings.{NoRequirement};
+ghost use Rattle.pyver_findings.specs.FileLines.{NoRequirement};
 ghost use Rattle.pyver_findings.specs.Views.{file_line_of};
 ghost use Rattle.pyver_projects.specs.Meanings.{IsLockedReading, IsVersionReading, package_line};
 ghost use Rattle.pyver_projects.specs.ProjectViews.{locked_of, locked_reading_of};

@@ -3,7 +3,7 @@ ghost use Rattle.std.specs.Prelude.{◌≡◌, ◌∷◌, ◌++◌, [], IfOk, Li
 ghost use Rattle.std.specs.HashMap.{get_by};
 ghost use Rattle.std.specs.List.{filter};
 ghost use Rattle.std.specs.Option.{option_map_or};
-ghost use Rattle.pyver_projects.specs.PackageIndexes.{IsIndex, packages_of};
+ghost use Rattle.pyver_projects.specs.NameMaps.{IsIndex, packages_of};
 ghost use Rattle.pyver_projects.specs.ProjectViews.{locked_reading_of};
 
 use crate::locked_reading::LockedReading;

@@ -4,7 +4,7 @@ ghost use Rattle.std.specs.List.{AllZip};
 ghost use Rattle.pep440_version.specs.Errors.{error_rejection};
 ghost use Rattle.pep440_version.specs.ErrorTexts.{error_text, rejection_text};
 ghost use Rattle.pep440_version.specs.Rejections.{Rejection};
-ghost use Rattle.pyver_findings.specs.Findings.{NoRequirement};
+ghost use Rattle.pyver_findings.specs.FileLines.{NoRequirement};
 ghost use Rattle.pyver_findings.specs.LineMeanings.{IsNone};
 ghost use Rattle.pyver_findings.specs.Views.{file_line_of, line_meaning_of};
 ghost use Rattle.pyver_projects.specs.Groups.{include_meaning, no_group};

@@ -1,4 +1,3 @@
 pub mod OneOutcome
 pub mod RunEnds
-pub mod FileReads
 pub mod SplitWords

@@ -1,5 +1,6 @@
 -- There is at most one outcome of what is asked for.
-use Rattle.std.proofs.Common.{◌≡◌, ◌∙◌, ℕ, List, [], ◌∷◌, Bool, true, false, Option, Some, None, inl, inr, refl, sym, ap, subst, arith}
+use Rattle.std.proofs.Common.{◌≡◌, ◌∙◌, ℕ, List, [], ◌∷◌, ◌++◌, Bool, true, false, Option, Some, None, inl, inr, refl, sym, ap, subst, arith}
+use Rattle.std.proofs.lemmas.List.Elements.{Contains-append_left, Contains-append_right}
 use Rattle.std.specs.List.{AllZip}
 use Rattle.pep440_rs.proofs.Reading.OneMeaning.{not_both_list, one_list, one_list_refusal}
 use Rattle.pep440_rs.specs.Lists.ListErrorTexts.{list_rejection_text}
@@ -21,10 +22,12 @@ use Rattle.pyver_commands.specs.Sources.InputLines.{SourceLine, Source, filled_l
 use Rattle.pyver_commands.specs.Sources.LineOptions.{bare_line_options, is_header}
 use Rattle.pyver_commands.specs.Matches.{Matches, MatchesBy, MatchesWord, MatchesWords, ReadsSpecifiers, SpecifiersReading, DenotesList, ListFails, word_outcome, takes_prereleases}
 use Rattle.pyver_commands.specs.NewestOutcomes.{FindsNewest, FindsNewestBy, FindsNewestLine, newest_outcome, newest_rule, taken}
-use Rattle.pyver_tool.specs.OneOutcome.{ChecksOnce, OutcomesOnce}
-use Rattle.pyver_tool.specs.Checks.{with_report}
-use Rattle.pyver_findings.proofs.Once.{reports_once}
-use Rattle.pyver_findings.specs.Reports.{joined_report, without_ignored}
+use Rattle.pyver_tool.specs.Tasks.{Bump, Check, ChecksOnce, Compare, Filter, Help, Marker, Match, Misused, NameVersion, Newest, OutcomesOnce, Range, Show, Sort, usage}
+use Rattle.pyver_tool.specs.Checks.{CheckResult, with_report}
+use Rattle.pyver_tool.specs.RequirementFiles.{UnopenedFile}
+use Rattle.pyver_findings.specs.FindingLaws.{IsUndecided}
+use Rattle.pyver_findings.proofs.Complete.{reports_once}
+use Rattle.pyver_findings.specs.Reports.{Report, joined_report, without_ignored}
 use Rattle.pyver_projects.proofs.Once.{document_reports_once}
 use Rattle.cli_io.specs.Runs.{Outcome}
 use Rattle.pyver_commands.specs.Outcomes.{in_turn}
@@ -32,7 +35,6 @@ use Rattle.pyver_commands.specs.Readings.{Reading, Reads, Denotes, Fails}
 use Rattle.pyver_commands.specs.Shows.{Shows, ShowsWord, show_outcome}
 use Rattle.pyver_commands.specs.Sorts.{SortsParts, sort_outcome}
 use Rattle.pyver_commands.specs.Sources.{Input, UnopenedSource}
-use Rattle.pyver_tool.specs.Tasks.{Help, NameVersion, Compare, Match, Filter, Sort, Newest, Show, Bump, Range, Marker, Check, Misused, usage}
 use Rattle.pyver_tool.specs.declared.help.Topic.TheVariants as topic
 use Rattle.pyver_commands.specs.Sources.VersionLines.{InputParts, OfFound, OfSources, OfVersions, input_parts}
 use Rattle.pyver_commands.specs.declared.allowed.MatchOptions.{MatchOptions}
@@ -185,8 +187,14 @@ outcomes_once (Marker marker other) input a b few h k = absurd (few tt)
 outcomes_once (Check options names) input a b few h k = absurd h
 outcomes_once (Misused message) input a b few h k = h ∙ sym k
 
+-- what is undecided in the report of the lines is so in that of all files
+still_undecided : (unopened : List UnopenedFile) (a b : CheckResult) (q d : Report) → b ≡ with_report unopened a (without_ignored (joined_report q d)) → IsUndecided q → IsUndecided b.report
+still_undecided unopened a b q d is found =
+    subst (λ (c : CheckResult). IsUndecided c.report) (sym is)
+    (Contains-append_right a.report.left_out (q.left_out ++ d.left_out) _ (Contains-append_left q.left_out d.left_out _ found))
+
 pub checks_once : ChecksOnce
-checks_once read a b c readable (q, d, hq, hd, is) (p, e, hp, he, so) =
-    let of_lines = reports_once read.requirements q p hq hp in
+checks_once read a b c readable (q, d, hq, hd, is) (p, e, hp, he, so) decided also =
+    let of_lines = reports_once read.requirements q p hq hp (λ found. decided (still_undecided read.unopened a b q d is found)) (λ found. also (still_undecided read.unopened a c p e so found)) in
     let of_documents = document_reports_once read.documents d e readable hd he in
     is ∙ ap (with_report read.unopened a) (λ j. without_ignored (joined_report (of_lines j) (of_documents j))) ∙ sym so

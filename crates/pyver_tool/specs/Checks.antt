@@ -11,7 +11,7 @@ use Rattle.pyver_tool.specs.declared.file_kind.FileKind.{FileKind}
 use Rattle.pyver_commands.specs.declared.sources.stream.RunFailure.{RunFailure}
 use Rattle.pyver_commands.specs.declared.sources.stream.RunFailure.TheVariants as run_failure
 use Rattle.cli_io.specs.Escapes.{escaped}
-use Rattle.pyver_findings.specs.Findings.{Finding}
+use Rattle.pyver_findings.specs.FileLines.{Finding}
 use Rattle.pyver_findings.specs.NamedFiles.{Position}
 use Rattle.pyver_findings.specs.ReportTexts.{summary_text}
 use Rattle.pyver_findings.specs.Reports.{IsReport, Report, empty_report, joined_report, spans_files, without_ignored}

@@ -1,13 +1,9 @@
 pub mod MisuseMessages
 pub mod Options
 pub mod SplitWords
-pub mod FileKinds
 pub mod Settings
 pub mod Tasks
 pub mod TaskViews
 pub mod RequirementFiles
-pub mod FileSteps
 pub mod Checks
 pub mod Runs
-pub mod WorkViews
-pub mod OneOutcome

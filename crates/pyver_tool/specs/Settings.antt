@@ -1,7 +1,7 @@
 -- What options set: of two that contradict each other the last counts. And the forms in which findings are printed.
 use Rattle.std.specs.Prelude.{ℕ, ◌==◌, List, [], ◌∷◌, true, false, Option, Some, None, bytes_eq, codes, if◌then◌else◌}
 use Rattle.std.specs.Option.{option_map}
-use Rattle.pyver_tool.specs.FileKinds.{file_kind_of, unknown_kind}
+use Rattle.pyver_tool.specs.Options.{file_kind_of, unknown_kind}
 use Rattle.pyver_commands.specs.Sources.InvalidLines.{invalid_lines_of}
 use Rattle.pyver_commands.specs.Sources.LineOptions.{no_line_options}
 use Rattle.pyver_commands.specs.Readings.{word_number}
@@ -13,9 +13,8 @@ use Rattle.pyver_commands.specs.declared.prerelease_rule.Prereleases.TheVariants
 use Rattle.pyver_tool.specs.declared.settings.Settings.{Settings}
 use Rattle.pyver_commands.specs.declared.show.ShowFormat.TheVariants as format
 use Rattle.pyver_tool.specs.declared.output_form.OutputForm.{OutputForm}
-use Rattle.pyver_findings.specs.GithubCommands.{report_commands}
+use Rattle.pyver_findings.specs.ReportTexts.{report_commands, report_text}
 use Rattle.pyver_findings.specs.ReportObjects.{report_object}
-use Rattle.pyver_findings.specs.ReportTexts.{report_text}
 use Rattle.pyver_findings.specs.Reports.{Report}
 use Rattle.pyver_findings.specs.SarifLogs.{report_log}
 

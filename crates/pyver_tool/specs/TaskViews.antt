@@ -1,24 +1,34 @@
--- What the program's commands say, apart from where they lie in memory.
-use Rattle.std.specs.Prelude.{ℕ, List, [], map, option_map, string_bytes, Bool}
+-- What the program's commands say, and what they have to do once the words are read, apart from where they lie in memory.
+use Rattle.std.specs.Prelude.{Bool, Err, List, Ok, Option, Result, [], map, option_map, string_bytes, ℕ, ◌≡◌}
 use Rattle.pyver_tool.specs.MisuseMessages.{version_last_message}
-use Rattle.pyver_tool.specs.Tasks.{Task, Help, NameVersion, Compare, Match, Filter, Sort, Newest, Show, Range, Marker, Check, Misused, bump_from_words, by_split, help_text, wrong_command, wrong_count, wrong_end, wrong_operator, wrong_option, wrong_part, wrong_value}
+use Rattle.pyver_tool.specs.Tasks.{Check, Compare, Filter, Help, IsOutcome, IsStream, Marker, Match, Misused, NameVersion, NeedsInput, Newest, Range, Show, Sort, Task, bump_from_words, by_split, help_text, names_of, wrong_command, wrong_count, wrong_end, wrong_operator, wrong_option, wrong_part, wrong_value}
 use Rattle.pyver_tool.specs.declared.command.Command.{Command}
-use Rattle.pyver_tool.specs.declared.command.Command.TheVariants as command
 use Rattle.pyver_tool.specs.declared.words.Words.{Words}
-use Rattle.pyver_tool.specs.declared.words.Words.TheVariants as words
-use Rattle.pyver_tool.specs.declared.help.Topic.TheVariants as topic
 use Rattle.pyver_tool.specs.declared.misuse.Misuse.{Misuse}
-use Rattle.pyver_tool.specs.declared.misuse.Misuse.TheVariants as misuse
 use Rattle.pyver_tool.specs.Checks.{CheckResult}
-use Rattle.pyver_tool.specs.FileSteps.{unopened_file_of}
+use Rattle.pyver_tool.specs.RequirementFiles.{unopened_file_of}
 use Rattle.pyver_tool.specs.declared.check.CheckResult.{CheckResult as CheckResultValue}
 use Rattle.pyver_findings.specs.Views.{report_of}
 use Rattle.pyver_tool.specs.Options.{row_of}
 use Rattle.pyver_tool.specs.SplitWords.{Awaits, End, Given, Missing, Named, Split, Unknown, UnknownWord, Whole}
 use Rattle.pyver_tool.specs.declared.split_words.Split.{Split as WordSplit}
-use Rattle.pyver_tool.specs.declared.split_words.Split.TheVariants as split
 use Rattle.pyver_tool.specs.declared.split_words.WordEnd.{WordEnd}
+use Rattle.pyver_commands.specs.AnswerViews.{outcome_of}
+use Rattle.pyver_commands.specs.Filters.{Filters}
+use Rattle.cli_io.specs.Runs.{Outcome}
+use Rattle.pyver_commands.specs.Sources.{Input, source_names}
+use Rattle.pyver_commands.specs.WholeInputs.{IsOutcomeOfInput}
+use Rattle.pyver_commands.specs.declared.answer.Answer.{Answer}
+use Rattle.pyver_commands.specs.declared.sources.stream.RunFailure.{RunFailure}
+use Rattle.pyver_tool.specs.Runs.{EndsBy}
+use Rattle.pyver_tool.specs.declared.command.Work.{Work}
+use Rattle.pyver_tool.specs.declared.command.Command.TheVariants as command
+use Rattle.pyver_tool.specs.declared.words.Words.TheVariants as words
+use Rattle.pyver_tool.specs.declared.help.Topic.TheVariants as topic
+use Rattle.pyver_tool.specs.declared.misuse.Misuse.TheVariants as misuse
+use Rattle.pyver_tool.specs.declared.split_words.Split.TheVariants as split
 use Rattle.pyver_tool.specs.declared.split_words.WordEnd.TheVariants as end
+use Rattle.pyver_tool.specs.declared.command.Work.TheVariants as work
 
 abbrev pub named_of : {S T : Type 0} (text : S → List ℕ) (texts : T → List S) → ((S × S × S × T) × Bool) → Named
 named_of text texts option = (row_of text texts option.0, option.1)
@@ -73,3 +83,27 @@ words_task words.Miscounted = Misused (wrong_count topic.Program)
 
 abbrev pub check_result_of : CheckResultValue → CheckResult
 check_result_of c = record { report = report_of c.report; unopened = map unopened_file_of c.unopened.items }
+
+-- an answer where nothing has to be read, and otherwise the rule by which the lines of sources are filtered, the question to
+-- all lines of sources, or the files that are to be checked
+abbrev pub IsWork : Task → Work → Type 0
+IsWork task (work.Answer a) = (¬ NeedsInput task) × ((input : Input) → IsOutcome task input (outcome_of a))
+IsWork task (work.Filter rule names) =
+    NeedsInput task × IsStream task × (names_of task ≡ source_names (map string_bytes names.now)) × ((input : Input) (o : Outcome) → Filters rule input o → IsOutcome task input o)
+IsWork task (work.Whole question names) =
+    NeedsInput task × (¬ IsStream task) × (names_of task ≡ source_names (map string_bytes names.now)) × ((input : Input) (o : Outcome) → IsOutcomeOfInput question input o → IsOutcome task input o)
+IsWork task (work.Check options names) = task ≡ Check options (map string_bytes names.now)
+
+-- this is the outcome of the answer, if there is one
+abbrev pub IsOutcomeOf : Result Answer RunFailure → Outcome → Type 0
+IsOutcomeOf (Ok a) o = o ≡ outcome_of a
+IsOutcomeOf (Err why) o = ⊥
+
+-- this is why there is no answer
+abbrev pub IsFailureOf : Result Answer RunFailure → RunFailure → Type 0
+IsFailureOf (Ok a) why = ⊥
+IsFailureOf (Err failure) why = why ≡ failure
+
+-- how a run may end that writes the answer, or why there is none
+abbrev pub AnswerEnds : {W E : Type 0} → Result Answer RunFailure → (W → Option (List ℕ)) → (E → Option (List ℕ)) → W → W → E → E → ℕ → Type 0
+AnswerEnds answer contents error_contents out out' err err' status = EndsBy (IsOutcomeOf answer) (IsFailureOf answer) (λ o why. ⊥) contents error_contents out out' err err' status

@@ -1,7 +1,7 @@
--- The tasks that the words of a call name, and their outcomes.
-use Rattle.std.specs.Prelude.{◌≡◌, ⊤, ℕ, List, [], ◌∷◌, ◌++◌, Bool, true, false, ◌==◌, ◌||◌, Option, Some, None, bytes_eq, codes, get_or, is_some, length, map, take, if◌then◌else◌}
+-- The tasks that the words of a call name, and their outcomes: at most one of each, but of `marker`.
+use Rattle.std.specs.Prelude.{Bool, List, None, Option, Some, [], bytes_eq, codes, false, get_or, if◌then◌else◌, is_some, length, map, take, true, ℕ, ⊤, ◌++◌, ◌==◌, ◌||◌, ◌∷◌, ◌≡◌}
 use Rattle.std.specs.Char.{is_ascii_digit}
-use Rattle.std.specs.List.{list_any}
+use Rattle.std.specs.List.{All, list_any}
 use Rattle.std.specs.Option.{option_map_or}
 use Rattle.pep440_rs.specs.Lists.ListGrammar.{DerivesList}
 use Rattle.pep440_rs.specs.Specifiers.{Spec}
@@ -12,7 +12,7 @@ use Rattle.pyver_commands.specs.Comparisons.{Compares, comparison_of}
 use Rattle.pyver_commands.specs.Filters.{FiltersLines}
 use Rattle.pyver_commands.specs.MarkerExtents.{FindsExtent}
 use Rattle.pyver_commands.specs.Matches.{Matches}
-use Rattle.pyver_tool.specs.MisuseMessages.{version_last_message, missing_message, unknown_message, usage_message, value_message}
+use Rattle.pyver_tool.specs.MisuseMessages.{missing_message, unknown_message, usage_message, value_message, version_last_message}
 use Rattle.pyver_commands.specs.NewestOutcomes.{FindsNewestLine}
 use Rattle.pyver_tool.specs.Options.{options}
 use Rattle.cli_io.specs.Runs.{Outcome}
@@ -28,14 +28,18 @@ use Rattle.pyver_tool.specs.declared.check.CheckOptions.{CheckOptions}
 use Rattle.pyver_commands.specs.declared.comparison.Comparison.{Comparison}
 use Rattle.pyver_commands.specs.declared.filter.FilterOptions.{FilterOptions}
 use Rattle.pyver_tool.specs.declared.help.Topic.{Topic}
-use Rattle.pyver_tool.specs.declared.help.Topic.TheVariants as topic
-use Rattle.pyver_tool.specs.declared.help.TheConstants.{PROGRAM_HELP, COMPARE_HELP, MATCH_HELP, FILTER_HELP, SORT_HELP, NEWEST_HELP, SHOW_HELP, BUMP_HELP, RANGE_HELP, MARKER_HELP, CHECK_HELP, COMPARE_USAGE, MATCH_USAGE, FILTER_USAGE, SORT_USAGE, NEWEST_USAGE, SHOW_USAGE, BUMP_USAGE, RANGE_USAGE, MARKER_USAGE, CHECK_USAGE, PROGRAM_USAGE, VERSION_LINE}
+use Rattle.pyver_tool.specs.declared.help.TheConstants.{BUMP_HELP, BUMP_USAGE, CHECK_HELP, CHECK_USAGE, COMPARE_HELP, COMPARE_USAGE, FILTER_HELP, FILTER_USAGE, MARKER_HELP, MARKER_USAGE, MATCH_HELP, MATCH_USAGE, NEWEST_HELP, NEWEST_USAGE, PROGRAM_HELP, PROGRAM_USAGE, RANGE_HELP, RANGE_USAGE, SHOW_HELP, SHOW_USAGE, SORT_HELP, SORT_USAGE, VERSION_LINE}
 use Rattle.pyver_commands.specs.declared.newest.NewestOptions.{NewestOptions}
 use Rattle.pyver_tool.specs.declared.misuse.TheConstants.{BUMP_PART_NAMES, COMMAND_NAMES, OPERATOR_NAMES}
 use Rattle.pyver_tool.specs.declared.settings.Settings.{Settings}
 use Rattle.pyver_commands.specs.declared.show.ShowFormat.{ShowFormat}
-use Rattle.pyver_commands.specs.declared.show.ShowFormat.TheVariants as format
 use Rattle.pyver_commands.specs.declared.sort.SortOptions.{SortOptions}
+use Rattle.pyver_findings.specs.FindingLaws.{IsUndecided}
+use Rattle.pyver_projects.specs.ProjectLaws.{IsReadable}
+use Rattle.pyver_tool.specs.Checks.{CheckResult, GainsReport}
+use Rattle.pyver_tool.specs.RequirementFiles.{FilesRead}
+use Rattle.pyver_tool.specs.declared.help.Topic.TheVariants as topic
+use Rattle.pyver_commands.specs.declared.show.ShowFormat.TheVariants as format
 
 -- what the words ask for, or the message of why they ask for nothing; `bump` without a version reads one
 pub data Task : Type 0 where
@@ -278,3 +282,17 @@ names_of _ = []
 abbrev pub IsStream : Task → Type 0
 IsStream (Filter options specifiers names) = ⊤
 IsStream _ = ⊥
+
+abbrev pub IsOneOfMany : Task → Type 0
+IsOneOfMany (Marker marker other) = ⊤
+IsOneOfMany _ = ⊥
+
+-- another task and what is read have at most one outcome
+abbrev pub OutcomesOnce : Type 0
+OutcomesOnce = (task : Task) (input : Input) (a b : Outcome) → ¬ IsOneOfMany task → IsOutcome task input a → IsOutcome task input b → a ≡ b
+
+-- what is found in files is one thing, if no pair of markers is undecided, and each document is TOML in UTF-8: of another the reason and its
+-- position are not stated
+abbrev pub ChecksOnce : Type 0
+ChecksOnce = (read : FilesRead) (a b c : CheckResult) → All IsReadable read.documents → GainsReport read a b → GainsReport read a c
+    → ¬ IsUndecided b.report → ¬ IsUndecided c.report → b ≡ c

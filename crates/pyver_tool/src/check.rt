@@ -4,7 +4,7 @@ ghost use Rattle.std.specs.List.{flat_map, list_any};
 ghost use Rattle.pyver_commands.specs.AnswerViews.{outcome_of};
 ghost use Rattle.pyver_tool.specs.TaskViews.{check_result_of};
 ghost use Rattle.pyver_tool.specs.Checks.{Checks, ChecksGroup, ChecksGroups, FailsInCheck, FailsInGroup, FailsInGroups, are_several, check_outcome, check_status, none_checked, position_text, summary, together_note, unopened_text, with_report, word_groups};
-ghost use Rattle.pyver_tool.specs.FileSteps.{unopened_file_of};
+ghost use Rattle.pyver_tool.specs.RequirementFiles.{unopened_file_of};
 ghost use Rattle.pyver_tool.specs.Settings.{findings_text};
 ghost use Rattle.pyver_commands.specs.Sources.{source_names};
 ghost use Rattle.pyver_findings.specs.Reports.{spans_files};

@@ -1,11 +1,10 @@
 //! The command that words ask for, and what it writes.
 ghost use Rattle.std.specs.Prelude.{◌≡◌, [], IfOk, Some, map, option_map, string_bytes};
 ghost use Rattle.pyver_commands.specs.AnswerViews.{outcome_of};
-ghost use Rattle.pyver_tool.specs.TaskViews.{task, words_task, option_with_value, split_of, misuse_message};
+ghost use Rattle.pyver_tool.specs.TaskViews.{IsWork, misuse_message, option_with_value, split_of, task, words_task};
 ghost use Rattle.pyver_commands.specs.Outcomes.{message_outcome};
 ghost use Rattle.pyver_tool.specs.Settings.{effect, no_settings};
 ghost use Rattle.pyver_tool.specs.Tasks.{Check, Filter, Newest, asks_help, begins_with_digit, bump_from_words, bump_operands, bump_parts, bump_word, by_effect, by_last, by_split, has_number, is_json, printed, task_with};
-ghost use Rattle.pyver_tool.specs.WorkViews.{IsWork};
 
 use crate::check::CheckOptions;
 use crate::help::{Topic, VERSION_LINE, help, usage};

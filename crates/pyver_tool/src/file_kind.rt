@@ -1,6 +1,6 @@
 //! What files are read as.
 ghost use Rattle.std.specs.Prelude.{◌≡◌};
-ghost use Rattle.pyver_tool.specs.FileKinds.{file_kind_of, is_unknown, kind_by_ending, kind_by_name, unknown_kind};
+ghost use Rattle.pyver_tool.specs.Options.{file_kind_of, is_unknown, kind_by_ending, kind_by_name, unknown_kind};
 
 use pyver_projects::{DocumentKind, LockKind, is_document_path, kind_of_path, kind_of_word};
 

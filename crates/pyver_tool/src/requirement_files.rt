@@ -1,7 +1,6 @@
 //! The files that `check` reads, those that the words name and those that the lines of requirements files name.
 ghost use Rattle.std.specs.Prelude.{◌≡◌, ◌∷◌, ◌++◌, [], IfErr, IfOk, map, string_bytes};
-ghost use Rattle.pyver_tool.specs.FileSteps.{read_of};
-ghost use Rattle.pyver_tool.specs.RequirementFiles.{IsSourcePath, ReadsFiles, FailsInFiles, word_file};
+ghost use Rattle.pyver_tool.specs.RequirementFiles.{FailsInFiles, FailsInNames, GainsFile, GainsUnopened, HasReads, IsSourcePath, ReadsFiles, ReadsNames, ReadsStep, StepsOrFailsOpening, file_with, has_path, names_of_files, none_read, read_of, word_file};
 ghost use Rattle.pyver_commands.specs.Sources.{is_input, source_names};
 ghost use Rattle.pyver_findings.specs.Views.{named_file_of};
 
@@ -80,9 +79,7 @@ fn source_path<F: Files>(alloc: Global, name: &str, files: &mut F) -> Result<Str
 }
 
 impl RequirementFiles {
-    ghost use Rattle.pyver_tool.specs.FileKinds.{kind_by_name};
-    ghost use Rattle.pyver_tool.specs.FileSteps.{GainsFile, GainsUnopened, HasReads, ReadsStep, StepsOrFailsOpening, names_of_files};
-    ghost use Rattle.pyver_tool.specs.RequirementFiles.{ReadsNames, FailsInNames, file_with, has_path, none_read};
+    ghost use Rattle.pyver_tool.specs.Options.{kind_by_name};
     ghost use Rattle.pyver_commands.specs.Sources.SourceTexts.{FailsInText};
 
     // Nothing was read yet.

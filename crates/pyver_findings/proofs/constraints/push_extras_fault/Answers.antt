@@ -1,6 +1,6 @@
 use Rattle.std.proofs.Common.{◌∙◌, ◌==◌, ◌∷◌, [], ℕ, Bool, IfOk, ◌≡◌, codes, not, true, sym, subst, if◌then◌else◌}
 use Rattle.std.specs.List.{prefix_len}
-use Rattle.pyver_findings.specs.Findings.{NoRequirement}
+use Rattle.pyver_findings.specs.FileLines.{NoRequirement}
 use Rattle.pyver_findings.specs.LineMeanings.{has_extras}
 use Rattle.pyver_findings.specs.Views.{AddsFindings, file_line_of}
 use Rattle.pyver_findings.proofs.constraints.push_extras_fault.Goals as goal

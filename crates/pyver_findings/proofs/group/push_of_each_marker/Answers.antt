@@ -6,8 +6,7 @@ use Rattle.pyver_findings.specs.Conflicts.{has_marker, has_same_marker, of_all, 
 use Rattle.pyver_findings.specs.Demands.{Demand}
 use Rattle.pyver_findings.specs.Views.{demand_of, finding_of}
 use Rattle.pyver_findings.specs.declared.demand.Demand.{Demand as DemandValue}
-use Rattle.pyver_findings.proofs.Grouping.{taken_more}
-use Rattle.pyver_findings.proofs.Markers.{at_line}
+use Rattle.pyver_findings.proofs.Grouping.{at_line, taken_more}
 use Rattle.pyver_findings.proofs.Steps.{first_more}
 use Rattle.pyver_findings.proofs.group.push_of_each_marker.Goals as goal
 use Rattle.pyver_findings.proofs.group.push_of_each_marker.Goals.{then-branch+in_ok-push_of_marker, else-branch}

@@ -2,7 +2,7 @@ use Rattle.std.proofs.Common.{Bor, map}
 use Rattle.pyver_findings.specs.Views.{demand_of}
 use Rattle.pyver_findings.specs.declared.demand.Demand.{Demand as DemandValue}
 use Rattle.std.proofs.lemmas.Result.{IfOk-weaker}
-use Rattle.pyver_findings.proofs.Halving.{needs_smallest}
+use Rattle.pyver_findings.proofs.SmallestLists.{needs_smallest}
 use Rattle.pyver_findings.proofs.halves.find_by_sets.Goals as goal
 
 pub returns : goal.returns

@@ -1,4 +1,4 @@
-use Rattle.pyver_findings.proofs.Once.{meanings_once, reports_once}
+use Rattle.pyver_findings.proofs.Complete.{meanings_once, reports_once}
 use Rattle.pyver_findings.proofs.laws.reports_once.Goals as goal
 
 pub returns-clause-meaning : goal.returns-clause-meaning

@@ -6,8 +6,7 @@ use Rattle.pyver_findings.specs.Conflicts.{conflicts}
 use Rattle.pyver_findings.specs.Demands.{IsSound}
 use Rattle.pyver_findings.specs.FileLines.{all_lines}
 use Rattle.pyver_findings.specs.MarkerPairs.{FindsOfNames}
-use Rattle.pyver_findings.specs.ReadingViews.{KeepsReadings}
-use Rattle.pyver_findings.specs.Views.{AddsFindings, AddsFound, demand_of, file_line_of, file_of, finding_of}
+use Rattle.pyver_findings.specs.Views.{AddsFindings, AddsFound, KeepsReadings, demand_of, file_line_of, file_of, finding_of}
 use Rattle.pyver_findings.proofs.report.find_problems.Goals as goal
 
 pub push_constraint_findings-requires : goal.push_constraint_findings-requires

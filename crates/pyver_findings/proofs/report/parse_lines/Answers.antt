@@ -1,5 +1,5 @@
 use Rattle.pyver_findings.specs.Views.{file_line_of, line_meaning_of}
-use Rattle.pyver_findings.proofs.Readings.{kept_all, kept_more}
+use Rattle.pyver_findings.proofs.StringReadings.{kept_all, kept_more}
 use Rattle.pyver_findings.proofs.report.parse_lines.Goals as goal
 
 pub loop-line-preserved : goal.loop-line-preserved

@@ -1,6 +1,5 @@
 use Rattle.std.proofs.Common.{map, take}
-use Rattle.pyver_findings.specs.ReadingViews.{KeepsReadings}
-use Rattle.pyver_findings.specs.Views.{file_line_of}
+use Rattle.pyver_findings.specs.Views.{KeepsReadings, file_line_of}
 use Rattle.pyver_findings.proofs.report.parse_lines.Given as goal
 
 abbrev pub invariant-loop-line : goal.invariant-loop-line

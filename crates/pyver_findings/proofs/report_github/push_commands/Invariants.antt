@@ -1,6 +1,6 @@
 use Rattle.std.proofs.Common.{◌≡◌, ◌++◌, drop, map}
 use Rattle.std.specs.List.{flat_map}
-use Rattle.pyver_findings.specs.GithubCommands.{finding_command}
+use Rattle.pyver_findings.specs.ReportTexts.{finding_command}
 use Rattle.pyver_findings.specs.Views.{finding_of}
 use Rattle.pyver_findings.proofs.report_github.push_commands.Given as goal
 

@@ -1,6 +1,6 @@
 use Rattle.std.proofs.Common.{◌≡◌, ◌++◌, take}
 use Rattle.std.specs.List.{flat_map}
-use Rattle.pyver_findings.specs.GithubCommands.{property_byte}
+use Rattle.pyver_findings.specs.ReportTexts.{property_byte}
 use Rattle.pyver_findings.proofs.report_github.push_property_bytes.Given as goal
 
 abbrev pub invariant-loop-byte : goal.invariant-loop-byte

@@ -1,7 +1,7 @@
 use Rattle.pep440_rs.specs.Lists.ListResults.{list_kind_of}
 use Rattle.pep440_rs.specs.Lists.ListErrors.{list_rejection_of}
 use Rattle.pyver_findings.specs.Views.{file_line_of}
-use Rattle.pyver_findings.proofs.Reasons.{list_read}
+use Rattle.pyver_findings.proofs.Rejecting.{list_read}
 use Rattle.pyver_findings.proofs.requirement_line.parse_specifiers.Goals as goal
 
 pub returns-in-Err : goal.returns-in-Err

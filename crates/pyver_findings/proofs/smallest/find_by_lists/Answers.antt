@@ -1,6 +1,6 @@
 use Rattle.std.proofs.Common.{◌≡◌, ◌++◌, ◌-◌, ◌∙◌, Bor, ap, arith, map, subst, sym, take, true}
 use Rattle.std.proofs.lemmas.List.{length-take-le}
-use Rattle.pyver_findings.proofs.Scanning.{IsRound, last_round, round}
+use Rattle.pyver_findings.proofs.SmallestLists.{IsRound, last_round, round}
 use Rattle.pyver_findings.specs.Conflicts.{have_none, smallest}
 use Rattle.pyver_findings.specs.Views.{demand_of}
 use Rattle.pyver_findings.specs.declared.demand.Demand.{Demand as DemandValue}

@@ -1,7 +1,7 @@
 use Rattle.std.proofs.Common.{◌≤◌, length, map}
 use Rattle.pyver_findings.specs.Conflicts.{smallest}
 use Rattle.pyver_findings.specs.Views.{demand_of}
-use Rattle.pyver_findings.proofs.Scanning.{IsRound}
+use Rattle.pyver_findings.proofs.SmallestLists.{IsRound}
 use Rattle.pyver_findings.proofs.smallest.find_by_lists.Given as goal
 
 abbrev pub invariant-rounds : goal.invariant-rounds

@@ -1,5 +1,5 @@
 use Rattle.std.proofs.Common.{rules}
-use Rattle.pyver_projects.proofs.Sound.{sound_head, sound_rest}
+use Rattle.pyver_projects.proofs.Holding.{sound_head, sound_rest}
 use Rattle.pyver_projects.proofs.document_report.report_all.Goals as goal
 
 pub report_document-requires : goal.report_document-requires

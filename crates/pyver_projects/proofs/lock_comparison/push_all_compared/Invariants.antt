@@ -2,7 +2,7 @@ use Rattle.std.proofs.Common.{◌≡◌, ◌++◌, drop, map}
 use Rattle.std.specs.List.{flat_map}
 use Rattle.pyver_findings.specs.Views.{finding_of}
 use Rattle.pyver_projects.specs.Comparing.{compared}
-use Rattle.pyver_projects.specs.PackageIndexes.{packages_of}
+use Rattle.pyver_projects.specs.NameMaps.{packages_of}
 use Rattle.pyver_projects.specs.ProjectViews.{string_reading_of}
 use Rattle.pyver_projects.proofs.lock_comparison.push_all_compared.Given as goal
 

@@ -1,11 +1,11 @@
 use Rattle.std.proofs.Common.{◌≡◌, ◌++◌, ◌∙◌, [], Bor, IfOk, List, None, Some, ap, map, subst, sym}
 use Rattle.std.proofs.lemmas.List.{append-nil}
-use Rattle.pyver_findings.specs.Findings.{Finding}
+use Rattle.pyver_findings.specs.FileLines.{Finding}
 use Rattle.pyver_findings.specs.Views.{demand_of, finding_of}
 use Rattle.pyver_projects.specs.Comparing.{excluded_by}
 use Rattle.std.specs.List.{flat_map}
-use Rattle.pyver_projects.proofs.Indexes.{excluded_of, named}
-use Rattle.pyver_projects.specs.PackageIndexes.{packages_of}
+use Rattle.pyver_projects.proofs.RepeatedNames.{excluded_of, named}
+use Rattle.pyver_projects.specs.NameMaps.{packages_of}
 use Rattle.pyver_projects.specs.ProjectViews.{locked_reading_of}
 use Rattle.pyver_projects.specs.declared.locked_reading.LockedReading.{LockedReading as LockedReadingValue}
 use Rattle.pyver_projects.proofs.lock_comparison.push_all_excluded.Goals as goal

@@ -2,7 +2,7 @@ use Rattle.std.proofs.Common.{◌≡◌, ◌++◌, drop, map}
 use Rattle.std.specs.List.{flat_map}
 use Rattle.pyver_findings.specs.Views.{finding_of, line_meaning_of}
 use Rattle.pyver_projects.specs.Comparing.{unmet}
-use Rattle.pyver_projects.specs.PackageIndexes.{packages_of}
+use Rattle.pyver_projects.specs.NameMaps.{packages_of}
 use Rattle.pyver_projects.proofs.lock_comparison.push_unmet_in_index.Given as goal
 
 abbrev pub invariant-loop-requirement : goal.invariant-loop-requirement

@@ -3,7 +3,7 @@ use Rattle.pep440_version.specs.ErrorTexts.{rejection_text}
 use Rattle.pep440_version.specs.Errors.{error_rejection}
 use Rattle.pep440_version.specs.Grammar.{Derives}
 use Rattle.pep440_version.specs.Record.{Record}
-use Rattle.pyver_findings.specs.Findings.{NoRequirement}
+use Rattle.pyver_findings.specs.FileLines.{NoRequirement}
 use Rattle.pyver_findings.specs.LineMeanings.{AsksNothing, IsNone}
 use Rattle.pyver_findings.specs.Views.{file_line_of, line_meaning_of}
 use Rattle.pyver_projects.proofs.Steps.{version_read}

@@ -3,7 +3,7 @@ use Rattle.std.proofs.lemmas.Result.{IfOk-weaker}
 use Rattle.pep440_version.specs.ErrorTexts.{error_text, rejection_text}
 use Rattle.pep440_version.specs.Errors.{error_rejection}
 use Rattle.pep440_version.specs.Rejections.{Rejection}
-use Rattle.pyver_findings.specs.Findings.{NoRequirement}
+use Rattle.pyver_findings.specs.FileLines.{NoRequirement}
 use Rattle.pyver_findings.specs.LineMeanings.{IsNone}
 use Rattle.pyver_findings.specs.Views.{file_line_of, line_meaning_of}
 use Rattle.pyver_projects.proofs.Steps.{refusal, version_reason_is}

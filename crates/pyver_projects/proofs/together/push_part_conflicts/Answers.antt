@@ -4,7 +4,7 @@ use Rattle.pyver_findings.specs.Demands.{IsSound}
 use Rattle.pyver_findings.specs.Views.{demand_of}
 use Rattle.pyver_projects.specs.NameMaps.{inclusions_of}
 use Rattle.pyver_projects.specs.ProjectViews.{section_of, string_reading_of}
-use Rattle.pyver_projects.proofs.HoldingTogether.{sound_part}
+use Rattle.pyver_projects.proofs.Holding.{sound_part}
 use Rattle.pyver_projects.proofs.together.push_part_conflicts.Goals as goal
 
 pub push_conflicts-requires : goal.push_conflicts-requires

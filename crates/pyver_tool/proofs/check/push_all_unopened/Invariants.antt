@@ -1,7 +1,7 @@
 use Rattle.std.proofs.Common.{◌≡◌, ◌++◌, drop, map}
 use Rattle.std.specs.List.{flat_map}
 use Rattle.pyver_tool.specs.Checks.{unopened_text}
-use Rattle.pyver_tool.specs.FileSteps.{unopened_file_of}
+use Rattle.pyver_tool.specs.RequirementFiles.{unopened_file_of}
 use Rattle.pyver_tool.proofs.check.push_all_unopened.Given as goal
 
 abbrev pub invariant-loop-file : goal.invariant-loop-file

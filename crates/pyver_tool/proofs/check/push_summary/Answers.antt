@@ -1,5 +1,5 @@
 use Rattle.std.proofs.Common.{◌∙◌, map, string_bytes}
-use Rattle.pyver_tool.proofs.FileReads.{summary_is, written_last}
+use Rattle.pyver_tool.proofs.RunEnds.{summary_is, written_last}
 use Rattle.pyver_findings.specs.Views.{report_of}
 use Rattle.pyver_tool.proofs.check.push_summary.Goals as goal
 

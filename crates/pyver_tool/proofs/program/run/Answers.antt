@@ -1,8 +1,7 @@
 use Rattle.std.proofs.Common.{◌∙◌, map, refl, string_bytes, subst, sym}
 use Rattle.pyver_tool.proofs.RunEnds.{ends_at_once, ends_by_answer, ends_by_check, ends_by_filter, ends_by_filter_stop, ends_by_output, ends_by_whole}
-use Rattle.pyver_tool.specs.TaskViews.{task}
+use Rattle.pyver_tool.specs.TaskViews.{IsWork, task}
 use Rattle.pyver_tool.specs.Tasks.{NeedsInput, task_of}
-use Rattle.pyver_tool.specs.WorkViews.{IsWork}
 use Rattle.pyver_tool.specs.declared.command.Work.TheVariants as work
 use Rattle.pyver_tool.proofs.program.run.Goals as goal
 

@@ -1,6 +1,6 @@
 use Rattle.std.proofs.Common.{refl, subst, sym}
 use Rattle.pyver_tool.proofs.RunEnds.{ends_unanswered}
-use Rattle.pyver_tool.specs.WorkViews.{AnswerEnds}
+use Rattle.pyver_tool.specs.TaskViews.{AnswerEnds}
 use Rattle.pyver_tool.proofs.program.write_result.Goals as goal
 
 pub returns-in-Ok : goal.returns-in-Ok

@@ -1,6 +1,6 @@
 use Rattle.std.proofs.Common.{map, string_bytes}
 use Rattle.std.proofs.lemmas.Result.{err_from_is_err_and}
-use Rattle.pyver_tool.proofs.FileReads.{group_stops_at_once}
+use Rattle.pyver_tool.proofs.RunEnds.{group_stops_at_once}
 use Rattle.pyver_tool.proofs.requirement_files.read_files.Goals as goal
 
 pub returns-in_err-push_sources-clause-stopped : goal.returns-in_err-push_sources-clause-stopped

@@ -1,5 +1,5 @@
 use Rattle.std.proofs.Common.{◌∙◌, sym}
-use Rattle.pyver_projects.proofs.GroupOrders.{not_included}
+use Rattle.pyver_projects.proofs.GroupWalks.{not_included}
 use Rattle.pyver_projects.specs.NameMaps.{inclusions_of, rank_of}
 use Rattle.pyver_projects.proofs.groups.Groups.includes.Goals as goal
 

@@ -1,6 +1,6 @@
 use Rattle.std.proofs.Common.{◌∷◌, ◌∙◌, ◌-◌, [], drop, length, map, string_bytes, subst, take}
 use Rattle.std.proofs.lemmas.Result.{err_from_is_err_and}
-use Rattle.pyver_tool.proofs.FileReads.{continues_more, continues_stop, first_group}
+use Rattle.pyver_tool.proofs.RunEnds.{continues_more, continues_stop, first_group}
 use Rattle.pyver_tool.specs.TaskViews.{check_result_of}
 use Rattle.pyver_tool.specs.Checks.{ChecksGroup, FailsInGroup}
 use Rattle.pyver_commands.specs.Sources.{source_names}

@@ -1,5 +1,5 @@
 use Rattle.std.proofs.Common.{◌≡◌, ◌∷◌, [], length, map, string_bytes}
-use Rattle.pyver_tool.proofs.FileReads.{Continues}
+use Rattle.pyver_tool.proofs.RunEnds.{Continues}
 use Rattle.pyver_tool.specs.TaskViews.{check_result_of}
 use Rattle.pyver_tool.proofs.check.CheckResult.check_each.Given as goal
 

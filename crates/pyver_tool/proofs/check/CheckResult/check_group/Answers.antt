@@ -7,7 +7,7 @@ use Rattle.pyver_projects.specs.Meanings.{Document}
 use Rattle.pyver_projects.specs.ProjectViews.{document_of}
 use Rattle.pyver_tool.specs.TaskViews.{check_result_of}
 use Rattle.pyver_tool.specs.Checks.{with_report}
-use Rattle.pyver_tool.specs.FileSteps.{read_of, unopened_file_of}
+use Rattle.pyver_tool.specs.RequirementFiles.{read_of, unopened_file_of}
 use Rattle.pyver_tool.proofs.check.CheckResult.check_group.Goals as goal
 
 pub returns-clause-checked : goal.returns-clause-checked

@@ -1,7 +1,6 @@
 use Rattle.std.proofs.Common.{◌≡◌, bytes_eq, drop, map, string_bytes}
 use Rattle.std.specs.List.{list_any}
-use Rattle.pyver_tool.specs.FileSteps.{read_of}
-use Rattle.pyver_tool.specs.RequirementFiles.{has_path}
+use Rattle.pyver_tool.specs.RequirementFiles.{has_path, read_of}
 use Rattle.pyver_tool.proofs.requirement_files.RequirementFiles.has_path.Given as goal
 
 abbrev pub invariant-loop-other : goal.invariant-loop-other

@@ -1,11 +1,10 @@
 use Rattle.std.proofs.Common.{◌≡◌, ◌∙◌, ◌+◌, ◌∷◌, ◌++◌, ap, arith, drop, length, length-append, map, refl, subst, sym, take, take_all}
 use Rattle.std.proofs.lemmas.List.{length-map, length-take-le, take-map}
 use Rattle.std.proofs.lemmas.Result.{err_from_is_err_and}
-use Rattle.pyver_tool.proofs.FileReads.{each_more, ends_stopped, ends_whole, taken}
+use Rattle.pyver_tool.proofs.RunEnds.{each_more, ends_stopped, ends_whole, taken}
 use Rattle.pyver_commands.proofs.SourceFilters.{names_split}
 use Rattle.pyver_commands.proofs.SourceReads.{stops_before}
-use Rattle.pyver_tool.specs.FileSteps.{ReadsStep, names_of_files, read_of}
-use Rattle.pyver_tool.specs.RequirementFiles.{ReadsFilesInTurn, none_read}
+use Rattle.pyver_tool.specs.RequirementFiles.{ReadsFilesInTurn, ReadsStep, names_of_files, none_read, read_of}
 use Rattle.pyver_commands.specs.Sources.SourceTexts.{FailsInText}
 use Rattle.pyver_findings.specs.Views.{named_file_of}
 use Rattle.pyver_tool.proofs.requirement_files.RequirementFiles.read_all.Goals as goal

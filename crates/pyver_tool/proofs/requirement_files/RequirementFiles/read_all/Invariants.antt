@@ -1,6 +1,5 @@
 use Rattle.std.proofs.Common.{◌≡◌, ◌≤◌, ◌+◌, ◌-◌, ◌*◌, length, take}
-use Rattle.pyver_tool.specs.FileSteps.{HasNames, HasReads, names_of_files, read_of}
-use Rattle.pyver_tool.specs.RequirementFiles.{ReadsFilesInTurn, none_read}
+use Rattle.pyver_tool.specs.RequirementFiles.{HasNames, HasReads, ReadsFilesInTurn, names_of_files, none_read, read_of}
 use Rattle.pyver_tool.proofs.requirement_files.RequirementFiles.read_all.Given as goal
 
 abbrev pub invariant-loop-index : goal.invariant-loop-index

@@ -1,6 +1,6 @@
 use Rattle.std.proofs.Common.{Some, subst}
-use Rattle.pyver_tool.proofs.FileReads.{step_refused}
-use Rattle.pyver_tool.specs.FileSteps.{StepsOrFailsOpening}
+use Rattle.pyver_tool.proofs.RunEnds.{step_refused}
+use Rattle.pyver_tool.specs.RequirementFiles.{StepsOrFailsOpening}
 use Rattle.pyver_findings.specs.Views.{named_file_of}
 use Rattle.pyver_tool.proofs.requirement_files.RequirementFiles.read_file.Goals as goal
 

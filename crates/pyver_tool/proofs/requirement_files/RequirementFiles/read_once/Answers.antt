@@ -1,7 +1,6 @@
 use Rattle.std.proofs.Common.{◌∙◌, ap, arith, string_bytes, subst, sym}
-use Rattle.pyver_tool.proofs.FileReads.{step_opened}
-use Rattle.pyver_tool.specs.FileSteps.{read_of}
-use Rattle.pyver_tool.specs.RequirementFiles.{has_path}
+use Rattle.pyver_tool.proofs.RunEnds.{step_opened}
+use Rattle.pyver_tool.specs.RequirementFiles.{has_path, read_of}
 use Rattle.pyver_commands.specs.Sources.{ReadsWhole}
 use Rattle.pyver_tool.proofs.requirement_files.RequirementFiles.read_once.Goals as goal
 
