@@ -448,7 +448,7 @@ fn push_of_group(
 /// hold together, and for a name with more than 32 markers. Fails if memory runs out; then findings of some names may have been added.
 ///
 /// Allocates.
-pub(crate) fn push_pair_conflicts(
+pub fn push_pair_conflicts(
     alloc: Global,
     findings: &mut Vec<Finding>,
     left_out: &mut Vec<Cause>,
