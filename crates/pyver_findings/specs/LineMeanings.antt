@@ -7,7 +7,6 @@ use Rattle.pep440_pick.specs.RequirementTexts.{requirement_rejection_text}
 use Rattle.pep440_rs.specs.ErrorTexts.{specifier_rejection_text}
 use Rattle.pep440_rs.specs.Lists.ListGrammar.{DerivesList, PieceRejection, RejectsList}
 use Rattle.pep440_rs.specs.Specifiers.{Spec}
-use Rattle.pep440_rs.specs.Blanks.{opens}
 use Rattle.pep440_sets.specs.Common.{common_version}
 use Rattle.pep440_version.specs.Reading.{lead, past}
 use Rattle.pyver_requirements.specs.LineKinds.{ConstraintsFile, Editable, Invalid, LineKind, Location, PipOption, Requirement, RequirementsFile, Variable, has_variable, line_kind}

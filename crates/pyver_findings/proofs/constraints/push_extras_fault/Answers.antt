@@ -1,4 +1,4 @@
-use Rattle.std.proofs.Common.{◌∙◌, ◌==◌, ◌∷◌, [], ℕ, Bool, IfOk, ◌≡◌, codes, not, true, sym, subst, if◌then◌else◌}
+use Rattle.std.proofs.Common.{◌∙◌, ◌==◌, ◌∷◌, [], Bool, IfOk, ◌≡◌, codes, not, true, sym, subst, if◌then◌else◌}
 use Rattle.std.specs.List.{prefix_len}
 use Rattle.pyver_findings.specs.FileLines.{NoRequirement}
 use Rattle.pyver_findings.specs.LineMeanings.{has_extras}

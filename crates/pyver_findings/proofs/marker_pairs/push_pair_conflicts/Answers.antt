@@ -1,7 +1,7 @@
 use Rattle.std.proofs.Common.{◌∙◌, [], Bor, None, ap, bytes_eq, cond, map, refl, take}
 use Rattle.std.proofs.lemmas.Map.Text.{hash_map_updates_str}
 use Rattle.std.specs.HashMap.{get_by}
-use Rattle.std.specs.List.{filter, list_any}
+use Rattle.std.specs.List.{list_any}
 use Rattle.std.specs.Option.{option_map_or}
 use Rattle.pyver_findings.proofs.Grouping.{sound_taken, swap, taken_more}
 use Rattle.pyver_findings.proofs.MarkerPairs.{names_done, names_more, of_name_of, start}

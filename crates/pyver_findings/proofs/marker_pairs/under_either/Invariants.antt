@@ -1,4 +1,4 @@
-use Rattle.std.proofs.Common.{◌≡◌, ◌++◌, drop, map, option_map}
+use Rattle.std.proofs.Common.{◌≡◌, ◌++◌, drop, map}
 use Rattle.pyver_findings.specs.MarkerPairs.{under_either}
 use Rattle.pyver_findings.specs.Views.{demand_of}
 use Rattle.pyver_findings.proofs.marker_pairs.under_either.Given as goal
