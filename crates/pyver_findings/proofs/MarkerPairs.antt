@@ -289,12 +289,12 @@ pub no_causes : (front cs : List Cause) → IsTold cs → ¬ Contains (front ++ 
 no_causes front cs (inl none) decided = none
 no_causes front cs (inr told) decided = absurd (decided (contains_told (front ++ cs) (tells_right front cs told)))
 
-joined_told : (all cs ds : List Cause) → all ≡ cs ++ ds → IsTold cs → IsTold ds → IsTold all
+pub joined_told : (all cs ds : List Cause) → all ≡ cs ++ ds → IsTold cs → IsTold ds → IsTold all
 joined_told all cs ds is (inl none) (inl also) = inl (is ∙ ap (λ l. l ++ ds) none ∙ also)
 joined_told all cs ds is (inl none) (inr told) = inr (subst Tells (sym is) (tells_right cs ds told))
 joined_told all cs ds is (inr told) rest = inr (subst Tells (sym is) (tells_left cs ds told))
 
-each_told : {X : Type 0} (P : X → List Finding → List Cause → Type 0) → ((x : X) (fs : List Finding) (cs : List Cause) → P x fs cs → IsTold cs) → (xs : List X) (fs : List Finding) (cs : List Cause) → FindsOfEach P xs fs cs → IsTold cs
+pub each_told : {X : Type 0} (P : X → List Finding → List Cause → Type 0) → ((x : X) (fs : List Finding) (cs : List Cause) → P x fs cs → IsTold cs) → (xs : List X) (fs : List Finding) (cs : List Cause) → FindsOfEach P xs fs cs → IsTold cs
 each_told P told [] fs cs (is, also) = inl also
 each_told P told (x ∷ rest) fs cs (f, g, c, d, here, later, is, also) = joined_told cs c d also (told x f c here) (each_told P told rest g d later)
 
@@ -307,7 +307,7 @@ pair_told Together lines fs cs (is, also) = inl also
 pair_told Apart lines fs cs (is, also) = inl also
 pair_told Unknown lines fs cs (is, also) = undecided_told (have_none lines) cs also
 
-pairs_told : (lines firsts : List Demand) (fs : List Finding) (cs : List Cause) → FindsOfPairs lines firsts fs cs → IsTold cs
+pub pairs_told : (lines firsts : List Demand) (fs : List Finding) (cs : List Cause) → FindsOfPairs lines firsts fs cs → IsTold cs
 pairs_told lines [] fs cs (is, also) = inl also
 pairs_told lines (a ∷ rest) fs cs (f, g, c, d, here, later, is, also) =
     joined_told cs c d also (each_told (FindsOfPair lines a) (λ b fs cs finds. pair_told finds.0 (under_either a.marker b.marker lines) fs cs finds.2) rest f c here) (pairs_told lines rest g d later)
@@ -330,7 +330,7 @@ both_nil (c ∷ cs) ds is = cc is
 abbrev pub IsOnce : (List Finding → List Cause → Type 0) → Type 0
 IsOnce P = (fs gs : List Finding) → P fs [] → P gs [] → fs ≡ gs
 
-each_once : {X : Type 0} (P : X → List Finding → List Cause → Type 0) → ((x : X) → IsOnce (P x)) → (xs : List X) → IsOnce (FindsOfEach P xs)
+pub each_once : {X : Type 0} (P : X → List Finding → List Cause → Type 0) → ((x : X) → IsOnce (P x)) → (xs : List X) → IsOnce (FindsOfEach P xs)
 each_once P once [] fs gs (is, _) (so, _) = is ∙ sym so
 each_once P once (x ∷ rest) fs gs (f, g, c, d, here, later, is, nil) (f', g', c', d', here', later', is', nil') =
     let one = both_nil c d nil in

@@ -123,8 +123,8 @@ all_met documents zs h own lock q p list text v (kind, l, ((m, below, there), ot
     not_excluded (requirement_line lock.name q) n lock.name p w p.version text v written derives same rw one
 
 pub no_finding_means_contained : NoFindingImpliesContained
-no_finding_means_contained documents r (zs, h, is) none =
+no_finding_means_contained documents r (zs, h, fs, cs, finds, is) none =
     let compared = flat_map (beside_all documents (zip documents zs)) (zip documents zs) in
-    let found : (with_own_reports empty_report zs).findings ++ compared ≡ [] = sym (ap (λ (e : Report). e.findings) is) ∙ none in
+    let found : (with_own_reports empty_report zs).findings ++ compared ≡ [] = left_nil ((with_own_reports empty_report zs).findings ++ compared) fs (sym (ap (λ (e : Report). e.findings) is) ∙ none) in
     let own : flat_map (λ x. (own_report x).findings) zs ≡ [] = sym (findings_of documents empty_report zs) ∙ left_nil (with_own_reports empty_report zs).findings compared found in
     (all_contained documents zs h (right_nil (with_own_reports empty_report zs).findings compared found), all_met documents zs h own)

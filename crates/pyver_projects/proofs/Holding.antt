@@ -21,9 +21,9 @@ use Rattle.pyver_requirements.specs.LineParts.{line_parts}
 use Rattle.toml.specs.Data.{Members}
 use Rattle.toml.specs.Parse.{parse_document}
 use Rattle.pyver_projects.proofs.Asking.{AsksFor, of_section}
-use Rattle.pyver_projects.specs.Together.{demand_in_part, has_group, holds_in, part_conflicts, part_demands, parts, project_conflicts, same_finding, sections, with_new}
+use Rattle.pyver_projects.specs.Together.{FindsOfPart, FindsOfParts, demand_in_part, has_group, holds_in, part_conflicts, part_demands, parts, project_conflicts, same_finding, sections, with_new}
 use Rattle.pyver_projects.proofs.Walks.{all_flat, left_false, pairs_each, right_false, zip_each}
-use Rattle.pyver_projects.specs.Comparing.{beside_all, compared, compared_demand, documents_report, excluded, found_beside, found_in_pair, has_name, invalid_package, invalid_string, is_beside, is_locked, is_needed, own_report, unmet, with_own_reports}
+use Rattle.pyver_projects.specs.Comparing.{FindsOfReading, beside_all, compared, compared_demand, documents_report, excluded, found_beside, found_in_pair, has_name, invalid_package, invalid_string, is_beside, is_locked, is_needed, own_report, unmet, with_own_reports}
 use Rattle.pyver_projects.specs.Documents.{sources}
 use Rattle.pyver_projects.specs.Groups.{Groups, Inclusion, groups, inclusions}
 use Rattle.pyver_projects.specs.Locks.{locked}
@@ -33,10 +33,136 @@ use Rattle.pyver_projects.specs.ProjectStrings.{LockContents, LockedPackage, Loc
 use Rattle.pyver_projects.specs.declared.document_kind.DocumentKind.{DocumentKind}
 use Rattle.pyver_projects.specs.declared.document_kind.DocumentKind.TheVariants.{Lock, Project}
 use Rattle.pyver_projects.specs.declared.document_kind.LockKind.{LockKind}
-use Rattle.pyver_findings.proofs.Holding.{IsAsked, conflicts_right, derived_sound}
-use Rattle.pyver_findings.specs.FindingLaws.{IsRightConflict}
+use Rattle.pyver_findings.proofs.Holding.{found_each, pairs_of_names_right, IsAsked, conflicts_right, derived_sound}
+use Rattle.pyver_findings.specs.FindingLaws.{IsRightConflict, IsRightPair}
 use Rattle.pyver_projects.specs.ProjectViews.{reading_in}
 use Rattle.pyver_projects.specs.declared.document_reading.ReadDocument.{ReadDocument}
+use Rattle.pyver_findings.specs.declared.cause.Cause.{Cause}
+use Rattle.pyver_findings.specs.MarkerPairs.{FindsOfEach}
+
+-- ---- requirements that hold together
+
+-- what a string asks for, its line asks for
+asked : (read : List FileLine) (line : FileLine) (a : Demand) → Contains read line → AsksFor line (line_parts line.text) a → IsAsked line_parts read a
+asked read line a known k = subst (λ (b : Demand). IsAsked line_parts read b) (sym k.is) (known, (k.needed, k.derives, refl, refl, refl), k.has)
+
+asked_of : (all : Groups) (read : List FileLine) (line : FileLine) (text : List ℕ) (section : Section) (m : LineMeaning) → Contains read line → IsSectionMeaning all section line text m → All (IsAsked line_parts read) (demands_in m)
+asked_of all read line text section (Asks a) known is = All-cons (IsAsked line_parts read) a [] (asked read line a known (of_section all line text a section is)) (All-nil (IsAsked line_parts read))
+asked_of all read line text section (IsNone f) known is = All-nil (IsAsked line_parts read)
+asked_of all read line text section (LeftOut c) known is = All-nil (IsAsked line_parts read)
+asked_of all read line text section AsksNothing known is = All-nil (IsAsked line_parts read)
+
+-- the lists of a string are sound
+pub sound_string : (all : Groups) (file : File) (s : ProjectString) (x : StringReading) → IsStringReading all file s x → IsSoundString x
+sound_string all file s x (same, is) =
+    let line = string_line file s in
+    All-weaker (IsAsked line_parts (line ∷ [])) IsSound (λ a asks. derived_sound line_parts a asks.1) (demands_in x.meaning)
+    (asked_of all (line ∷ []) line s.text s.section x.meaning (All-head (Contains (line ∷ [])) line [] (All-contains_itself (line ∷ []))) is)
+
+sound_by : (b : Bool) (x : StringReading) → IsSoundString x → All IsSound (if b then demands_in x.meaning else [])
+sound_by true x k = k
+sound_by false x k = All-nil IsSound
+
+-- the lists of a part are sound
+pub sound_part : (is : List Inclusion) (part : Section) (xs : List StringReading) → All IsSoundString xs → All IsSound (part_demands is part xs)
+sound_part is part xs k =
+    all_flat IsSound (demand_in_part (has_group is part) part) xs
+    (All-weaker IsSoundString (λ x. All IsSound (demand_in_part (has_group is part) part x)) (λ x sound. sound_by (holds_in (has_group is part) part x.section) x sound) xs k)
+
+module _ {X : Type 0} (P : X → Type 0) where
+  -- what holds of everything holds of all
+  everywhere : ((x : X) → P x) → (xs : List X) → All P xs
+  everywhere f [] = All-nil P
+  everywhere f (x ∷ xs) = All-cons P x xs (f x) (everywhere f xs)
+
+  left_all : (xs ys : List X) → All P (xs ++ ys) → All P xs
+  left_all [] ys k = All-nil P
+  left_all (x ∷ xs) ys k = All-cons P x xs (All-head P x (xs ++ ys) k) (left_all xs ys (All-tail P x (xs ++ ys) k))
+
+  right_all : (xs ys : List X) → All P (xs ++ ys) → All P ys
+  right_all [] ys k = k
+  right_all (x ∷ xs) ys k = right_all xs ys (All-tail P x (xs ++ ys) k)
+
+  -- what holds of all that is made of elements holds of what is made of each
+  pub each_flat : {Y : Type 0} (f : Y → List X) (ys : List Y) → All P (flat_map f ys) → All (λ y. All P (f y)) ys
+  each_flat f [] k = All-nil (λ y. All P (f y))
+  each_flat f (y ∷ ys) k = All-cons (λ z. All P (f z)) y ys (left_all (f y) (flat_map f ys) k) (each_flat f ys (right_all (f y) (flat_map f ys) k))
+
+  of_one : (b : Bool) (x : X) → b ≡ true → All P (if b then x ∷ [] else []) → P x
+  of_one true x e k = All-head P x [] k
+  of_one false x e k = absurd (true≢false (sym e))
+
+-- sections stay as they are
+pub sections_same : (all : Groups) (file : File) (ss : List ProjectString) (xs : List StringReading) → AllZip (IsStringReading all file) ss xs → sections xs ≡ map (λ (s : ProjectString). s.section) ss
+sections_same all file [] [] h = refl
+sections_same all file [] (x ∷ xs) h = absurd h
+sections_same all file (s ∷ ss) [] h = absurd h
+sections_same all file (s ∷ ss) (x ∷ xs) (r, h) = let rest = sections_same all file ss xs h in λ j. r.0 j ∷ rest j
+
+-- ---- a part
+
+module _ (all : Groups) (file : File) (has : List ℕ → Bool) (part : Section) (read : List FileLine) where
+  -- the line of the string is known, if that holds in the part
+  abbrev pub IsKnown : ProjectString → Type 0
+  IsKnown s = All (Contains read) (line_in_part has part file s)
+
+  of_string : (s : ProjectString) (x : StringReading) (b : Bool) → holds_in has part s.section ≡ b → IsKnown s → IsStringReading all file s x → All (IsAsked line_parts read) (if b then demands_in x.meaning else [])
+  of_string s x true e known (same, is) = asked_of all read (string_line file s) s.text s.section x.meaning (of_one (Contains read) (holds_in has part s.section) (string_line file s) e known) is
+  of_string s x false e known r = All-nil (IsAsked line_parts read)
+
+  one_string : (s : ProjectString) (x : StringReading) → IsKnown s → IsStringReading all file s x → All (IsAsked line_parts read) (demand_in_part has part x)
+  one_string s x known r =
+      subst (λ (section : Section). All (IsAsked line_parts read) (if holds_in has part section then demands_in x.meaning else [])) (sym r.0)
+      (of_string s x (holds_in has part s.section) refl known r)
+
+  in_part : (ss : List ProjectString) (xs : List StringReading) → All IsKnown ss → AllZip (IsStringReading all file) ss xs → All (IsAsked line_parts read) (flat_map (demand_in_part has part) xs)
+  in_part ss xs known h = all_flat (IsAsked line_parts read) (demand_in_part has part) xs (zip_each (IsStringReading all file) IsKnown (λ x. All (IsAsked line_parts read) (demand_in_part has part x)) one_string ss xs known h)
+
+module _ (P : Finding → Type 0) where
+  by_new : (b : Bool) (found : List Finding) (f : Finding) → All P found → P f → All P (if b then found else found ++ f ∷ [])
+  by_new true found f k right = k
+  by_new false found f k right = All-append P found (f ∷ []) k (All-cons P f [] right (All-nil P))
+
+  with_new_all : (found fs : List Finding) → All P found → All P fs → All P (with_new same_finding found fs)
+  with_new_all found [] k each = k
+  with_new_all found (f ∷ fs) k each =
+      with_new_all (if list_any (same_finding f) found then found else found ++ f ∷ []) fs (by_new (list_any (same_finding f) found) found f k (All-head P f fs each)) (All-tail P f fs each)
+
+module _ (P : Finding → Type 0) (file : File) (t : Members) (so : (part : Section) (f : Finding) → IsRightConflict line_parts (part_lines file t part) f → P f) where
+  part_holds : (xs : List StringReading) → AllZip (IsStringReading (groups t) file) (sources t) xs → (part : Section) → All P (part_conflicts xs part)
+  part_holds xs h part =
+      let read = part_lines file t part in
+      let known = each_flat (Contains read) (line_in_part (has_group (groups t).inclusions part) part file) (sources t) (All-contains_itself read) in
+      let asks = in_part (groups t) file (has_group (groups t).inclusions part) part read (sources t) xs known h in
+      let same : inclusions (sections xs) ≡ (groups t).inclusions = ap inclusions (sections_same (groups t) file (sources t) xs h) in
+      All-weaker (IsRightConflict line_parts read) P (so part) (part_conflicts xs part)
+      (conflicts_right line_parts read (part_demands (inclusions (sections xs)) part xs) (subst (λ (is : List Inclusion). All (IsAsked line_parts read) (part_demands is part xs)) (sym same) asks))
+
+  pub conflicts_hold : (xs : List StringReading) → AllZip (IsStringReading (groups t) file) (sources t) xs → All P (project_conflicts xs)
+  conflicts_hold xs h =
+      with_new_all P [] (flat_map (part_conflicts xs) (parts xs)) (All-nil P) (all_flat P (part_conflicts xs) (parts xs) (everywhere (λ part. All P (part_conflicts xs part)) (part_holds xs h) (parts xs)))
+
+-- what is found under two markers
+module _ (P : Finding → Type 0) (file : File) (t : Members) (so : (part : Section) (f : Finding) → IsRightPair line_parts (part_lines file t part) f → P f) where
+  part_pairs_hold : (xs : List StringReading) → AllZip (IsStringReading (groups t) file) (sources t) xs → (part : Section) (fs : List Finding) (cs : List Cause) → FindsOfPart xs part fs cs → All P fs
+  part_pairs_hold xs h part fs cs finds =
+      let read = part_lines file t part in
+      let known = each_flat (Contains read) (line_in_part (has_group (groups t).inclusions part) part file) (sources t) (All-contains_itself read) in
+      let asks = in_part (groups t) file (has_group (groups t).inclusions part) part read (sources t) xs known h in
+      let same : inclusions (sections xs) ≡ (groups t).inclusions = ap inclusions (sections_same (groups t) file (sources t) xs h) in
+      All-weaker (IsRightPair line_parts read) P (so part) fs
+      (pairs_of_names_right line_parts read (part_demands (inclusions (sections xs)) part xs) (subst (λ (is : List Inclusion). All (IsAsked line_parts read) (part_demands is part xs)) (sym same) asks) fs cs finds)
+
+  pub pairs_hold : (xs : List StringReading) → AllZip (IsStringReading (groups t) file) (sources t) xs → (fs : List Finding) (cs : List Cause) → FindsOfParts xs fs cs → All P fs
+  pairs_hold xs h fs cs (found, finds, is) =
+      subst (All P) (sym is) (with_new_all P [] found (All-nil P) (found_each P (FindsOfPart xs) (λ part gs ds one. part_pairs_hold xs h part gs ds one) (parts xs) found cs finds))
+
+-- it holds of what is found of each element of a list
+known_each : {X : Type 0} (Q : Finding → Type 0) (P : X → List Finding → List Cause → Type 0) (xs : List X) → All (λ x. (fs : List Finding) (cs : List Cause) → P x fs cs → All Q fs) xs → (fs : List Finding) (cs : List Cause) → FindsOfEach P xs fs cs → All Q fs
+known_each Q P [] k fs cs (is, also) = subst (All Q) (sym is) (All-nil Q)
+known_each Q P (x ∷ xs) k fs cs (f, g, c, d, here, later, is, also) =
+    let Each = λ y. (gs : List Finding) (ds : List Cause) → P y gs ds → All Q gs in
+    subst (All Q) (sym is) (All-append Q f g (All-head Each x xs k f c here) (known_each Q P xs (All-tail Each x xs k) g d later))
 
 module _ (documents : List Document) where
   abbrev pub Right : Finding → Type 0
@@ -131,7 +257,7 @@ module _ (documents : List Document) where
       (All-append Right (flat_map invalid_string xs) (project_conflicts xs)
       (all_flat Right invalid_string xs
       (zip_each (IsStringReading (groups t) file) (Contains (sources t)) (λ z. All Right (invalid_string z)) (λ s z at r. of_string file t s z.meaning (known, (text, e)) at r.1) (sources t) xs (All-contains_itself (sources t)) h))
-      (conflicts_hold Right file t (λ part f right. inr (inr (inr (inr (inr (inl (record { file = file; table = t; part = part; has = (known, (text, e)); right = right }))))))) xs h))
+      (conflicts_hold Right file t (λ part f right. inr (inr (inr (inr (inr (inl (record { file = file; table = t; part = part; has = (known, (text, e)); right = inl right }))))))) xs h))
   of_document (Lock kind) file x known (inr (text, inl (l, e, (ys, ms, g, h, is)))) =
       subst (λ (y : DocumentReading). All Right (own_report y).findings) (sym is)
       (All-append Right (flat_map invalid_package ys) (flat_map (unmet ys) ms)
@@ -287,108 +413,30 @@ module _ (documents : List Document) where
       (λ e y at s. counted_right (is_beside documents d e) x y (beside_right d.kind d.file e x y known at r s)) documents xs (All-contains_itself documents) h)) documents xs
       (All-contains_itself documents) h))
 
+-- what is found of a document under two markers
+module _ (documents : List Document) where
+  none_found : (fs : List Finding) → fs ≡ [] → All (IsDocumentFinding documents) fs
+  none_found fs none = subst (All (IsDocumentFinding documents)) (sym none) (All-nil (IsDocumentFinding documents))
+
+  broken_pairs : (file : File) (x : DocumentReading) → IsBrokenReading file x → (fs : List Finding) (cs : List Cause) → FindsOfReading x fs cs → All (IsDocumentFinding documents) fs
+  broken_pairs file x (line, reason, column, place, is) fs cs finds = none_found fs (subst (λ (z : DocumentReading). FindsOfReading z fs cs) is finds).0
+
+  reading_pairs : (kind : DocumentKind) (file : File) (x : DocumentReading) → Contains documents (record { kind = kind; file = file }) → IsDocumentReading (record { kind = kind; file = file }) x → (fs : List Finding) (cs : List Cause)
+      → FindsOfReading x fs cs → All (IsDocumentFinding documents) fs
+  reading_pairs kind file x known (inl (none, broken)) = broken_pairs file x broken
+  reading_pairs Project file x known (inr (text, inr (none, broken))) = broken_pairs file x broken
+  reading_pairs (Lock kind) file x known (inr (text, inr (none, broken))) = broken_pairs file x broken
+  reading_pairs (Lock kind) file x known (inr (text, inl (t, e, (ys, ms, g, h, is)))) fs cs finds = none_found fs (subst (λ (z : DocumentReading). FindsOfReading z fs cs) is finds).0
+  reading_pairs Project file x known (inr (text, inl (t, e, (xs, h, is)))) fs cs finds =
+      pairs_hold (IsDocumentFinding documents) file t
+      (λ part f right. inr (inr (inr (inr (inr (inl (record { file = file; table = t; part = part; has = (known, (text, e)); right = inr right }))))))) xs h fs cs (subst (λ (z : DocumentReading). FindsOfReading z fs cs) is finds)
+
 pub findings_hold : DocumentFindingsHold
-findings_hold documents r (xs, h, is) = subst (λ (q : Report). All (IsDocumentFinding documents) q.findings) (sym is) (all_right documents xs h)
-
--- what a string asks for, its line asks for
-asked : (read : List FileLine) (line : FileLine) (a : Demand) → Contains read line → AsksFor line (line_parts line.text) a → IsAsked line_parts read a
-asked read line a known k = subst (λ (b : Demand). IsAsked line_parts read b) (sym k.is) (known, (k.needed, k.derives, refl, refl, refl), k.has)
-
-asked_of : (all : Groups) (read : List FileLine) (line : FileLine) (text : List ℕ) (section : Section) (m : LineMeaning) → Contains read line → IsSectionMeaning all section line text m → All (IsAsked line_parts read) (demands_in m)
-asked_of all read line text section (Asks a) known is = All-cons (IsAsked line_parts read) a [] (asked read line a known (of_section all line text a section is)) (All-nil (IsAsked line_parts read))
-asked_of all read line text section (IsNone f) known is = All-nil (IsAsked line_parts read)
-asked_of all read line text section (LeftOut c) known is = All-nil (IsAsked line_parts read)
-asked_of all read line text section AsksNothing known is = All-nil (IsAsked line_parts read)
-
--- the lists of a string are sound
-pub sound_string : (all : Groups) (file : File) (s : ProjectString) (x : StringReading) → IsStringReading all file s x → IsSoundString x
-sound_string all file s x (same, is) =
-    let line = string_line file s in
-    All-weaker (IsAsked line_parts (line ∷ [])) IsSound (λ a asks. derived_sound line_parts a asks.1) (demands_in x.meaning)
-    (asked_of all (line ∷ []) line s.text s.section x.meaning (All-head (Contains (line ∷ [])) line [] (All-contains_itself (line ∷ []))) is)
-
-sound_by : (b : Bool) (x : StringReading) → IsSoundString x → All IsSound (if b then demands_in x.meaning else [])
-sound_by true x k = k
-sound_by false x k = All-nil IsSound
-
--- the lists of a part are sound
-pub sound_part : (is : List Inclusion) (part : Section) (xs : List StringReading) → All IsSoundString xs → All IsSound (part_demands is part xs)
-sound_part is part xs k =
-    all_flat IsSound (demand_in_part (has_group is part) part) xs
-    (All-weaker IsSoundString (λ x. All IsSound (demand_in_part (has_group is part) part x)) (λ x sound. sound_by (holds_in (has_group is part) part x.section) x sound) xs k)
-
-module _ {X : Type 0} (P : X → Type 0) where
-  -- what holds of everything holds of all
-  everywhere : ((x : X) → P x) → (xs : List X) → All P xs
-  everywhere f [] = All-nil P
-  everywhere f (x ∷ xs) = All-cons P x xs (f x) (everywhere f xs)
-
-  left_all : (xs ys : List X) → All P (xs ++ ys) → All P xs
-  left_all [] ys k = All-nil P
-  left_all (x ∷ xs) ys k = All-cons P x xs (All-head P x (xs ++ ys) k) (left_all xs ys (All-tail P x (xs ++ ys) k))
-
-  right_all : (xs ys : List X) → All P (xs ++ ys) → All P ys
-  right_all [] ys k = k
-  right_all (x ∷ xs) ys k = right_all xs ys (All-tail P x (xs ++ ys) k)
-
-  -- what holds of all that is made of elements holds of what is made of each
-  pub each_flat : {Y : Type 0} (f : Y → List X) (ys : List Y) → All P (flat_map f ys) → All (λ y. All P (f y)) ys
-  each_flat f [] k = All-nil (λ y. All P (f y))
-  each_flat f (y ∷ ys) k = All-cons (λ z. All P (f z)) y ys (left_all (f y) (flat_map f ys) k) (each_flat f ys (right_all (f y) (flat_map f ys) k))
-
-  of_one : (b : Bool) (x : X) → b ≡ true → All P (if b then x ∷ [] else []) → P x
-  of_one true x e k = All-head P x [] k
-  of_one false x e k = absurd (true≢false (sym e))
-
--- sections stay as they are
-pub sections_same : (all : Groups) (file : File) (ss : List ProjectString) (xs : List StringReading) → AllZip (IsStringReading all file) ss xs → sections xs ≡ map (λ (s : ProjectString). s.section) ss
-sections_same all file [] [] h = refl
-sections_same all file [] (x ∷ xs) h = absurd h
-sections_same all file (s ∷ ss) [] h = absurd h
-sections_same all file (s ∷ ss) (x ∷ xs) (r, h) = let rest = sections_same all file ss xs h in λ j. r.0 j ∷ rest j
-
--- ---- a part
-
-module _ (all : Groups) (file : File) (has : List ℕ → Bool) (part : Section) (read : List FileLine) where
-  -- the line of the string is known, if that holds in the part
-  abbrev pub IsKnown : ProjectString → Type 0
-  IsKnown s = All (Contains read) (line_in_part has part file s)
-
-  of_string : (s : ProjectString) (x : StringReading) (b : Bool) → holds_in has part s.section ≡ b → IsKnown s → IsStringReading all file s x → All (IsAsked line_parts read) (if b then demands_in x.meaning else [])
-  of_string s x true e known (same, is) = asked_of all read (string_line file s) s.text s.section x.meaning (of_one (Contains read) (holds_in has part s.section) (string_line file s) e known) is
-  of_string s x false e known r = All-nil (IsAsked line_parts read)
-
-  one_string : (s : ProjectString) (x : StringReading) → IsKnown s → IsStringReading all file s x → All (IsAsked line_parts read) (demand_in_part has part x)
-  one_string s x known r =
-      subst (λ (section : Section). All (IsAsked line_parts read) (if holds_in has part section then demands_in x.meaning else [])) (sym r.0)
-      (of_string s x (holds_in has part s.section) refl known r)
-
-  in_part : (ss : List ProjectString) (xs : List StringReading) → All IsKnown ss → AllZip (IsStringReading all file) ss xs → All (IsAsked line_parts read) (flat_map (demand_in_part has part) xs)
-  in_part ss xs known h = all_flat (IsAsked line_parts read) (demand_in_part has part) xs (zip_each (IsStringReading all file) IsKnown (λ x. All (IsAsked line_parts read) (demand_in_part has part x)) one_string ss xs known h)
-
-module _ (P : Finding → Type 0) where
-  by_new : (b : Bool) (found : List Finding) (f : Finding) → All P found → P f → All P (if b then found else found ++ f ∷ [])
-  by_new true found f k right = k
-  by_new false found f k right = All-append P found (f ∷ []) k (All-cons P f [] right (All-nil P))
-
-  with_new_all : (found fs : List Finding) → All P found → All P fs → All P (with_new same_finding found fs)
-  with_new_all found [] k each = k
-  with_new_all found (f ∷ fs) k each =
-      with_new_all (if list_any (same_finding f) found then found else found ++ f ∷ []) fs (by_new (list_any (same_finding f) found) found f k (All-head P f fs each)) (All-tail P f fs each)
-
-module _ (P : Finding → Type 0) (file : File) (t : Members) (so : (part : Section) (f : Finding) → IsRightConflict line_parts (part_lines file t part) f → P f) where
-  part_holds : (xs : List StringReading) → AllZip (IsStringReading (groups t) file) (sources t) xs → (part : Section) → All P (part_conflicts xs part)
-  part_holds xs h part =
-      let read = part_lines file t part in
-      let known = each_flat (Contains read) (line_in_part (has_group (groups t).inclusions part) part file) (sources t) (All-contains_itself read) in
-      let asks = in_part (groups t) file (has_group (groups t).inclusions part) part read (sources t) xs known h in
-      let same : inclusions (sections xs) ≡ (groups t).inclusions = ap inclusions (sections_same (groups t) file (sources t) xs h) in
-      All-weaker (IsRightConflict line_parts read) P (so part) (part_conflicts xs part)
-      (conflicts_right line_parts read (part_demands (inclusions (sections xs)) part xs) (subst (λ (is : List Inclusion). All (IsAsked line_parts read) (part_demands is part xs)) (sym same) asks))
-
-  pub conflicts_hold : (xs : List StringReading) → AllZip (IsStringReading (groups t) file) (sources t) xs → All P (project_conflicts xs)
-  conflicts_hold xs h =
-      with_new_all P [] (flat_map (part_conflicts xs) (parts xs)) (All-nil P) (all_flat P (part_conflicts xs) (parts xs) (everywhere (λ part. All P (part_conflicts xs part)) (part_holds xs h) (parts xs)))
+findings_hold documents r (xs, h, fs, cs, finds, is) =
+    let P = IsDocumentFinding documents in
+    subst (λ (q : Report). All P q.findings) (sym is)
+    (All-append P (documents_report documents xs).findings fs (all_right documents xs h)
+    (known_each P FindsOfReading xs (zip_each IsDocumentReading (Contains documents) (λ x. (gs : List Finding) (ds : List Cause) → FindsOfReading x gs ds → All P gs) (λ d x known one. reading_pairs documents d.kind d.file x known one) documents xs (All-contains_itself documents) h) fs cs finds))
 
 sound_broken : (file : File) (x : DocumentReading) → IsBrokenReading file x → IsSoundDocument x
 sound_broken file x (line, reason, column, place, is) = subst (λ (y : DocumentReading). IsSoundDocument y) (sym is) tt

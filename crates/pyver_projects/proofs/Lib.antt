@@ -7,3 +7,4 @@ pub mod GroupWalks
 pub mod Agreeing
 pub mod Once
 pub mod Satisfiable
+pub mod ProjectPairs

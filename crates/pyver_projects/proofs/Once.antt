@@ -1,5 +1,5 @@
 -- Documents that are TOML or JSON in UTF-8 have at most one report.
-use Rattle.std.proofs.Common.{◌≡◌, ◌∙◌, ℕ, ◌+◌, List, [], Option, Some, None, length, sym, ap, subst, inl, inr}
+use Rattle.std.proofs.Common.{◌≡◌, ◌∙◌, ℕ, ◌+◌, List, [], ◌++◌, Option, Some, None, length, sym, ap, subst, inl, inr}
 use Rattle.std.proofs.lemmas.List.Elements.{All-contains_itself}
 use Rattle.std.specs.List.{Contains}
 use Rattle.pep440_pick.specs.Names.{normal}
@@ -15,19 +15,26 @@ use Rattle.pep440_version.specs.Rejections.{Rejection}
 use Rattle.pyver_findings.proofs.Complete.{one_parts}
 use Rattle.pyver_findings.specs.Columns.{list_column}
 use Rattle.pyver_findings.specs.Demands.{line_demand}
-use Rattle.pyver_findings.specs.FileLines.{File, FileLine, NoRequirement}
+use Rattle.pyver_findings.specs.FileLines.{File, FileLine, Finding, NoRequirement}
 use Rattle.pyver_findings.specs.LineMeanings.{Asks, IsNone, LineMeaning, list_meaning}
 use Rattle.pyver_requirements.specs.LineParts.{line_parts}
 use Rattle.toml.specs.Data.{Members}
 use Rattle.pyver_projects.proofs.Walks.{zip_once}
-use Rattle.pyver_projects.specs.Comparing.{documents_report}
+use Rattle.pyver_projects.specs.Comparing.{FindsOfReading, documents_report, with_found}
 use Rattle.pyver_projects.specs.Documents.{sources}
-use Rattle.pyver_projects.specs.Groups.{Groups, groups}
-use Rattle.pyver_projects.specs.Meanings.{DocumentReading, IsDocumentReading, IsLock, IsLockReading, IsLockedReading, IsProject, IsProjectReading, IsRequirementReading, IsSectionMeaning, IsStringReading, IsVersionReading, LockedReading, StringReading, requirement_line, string_line}
+use Rattle.pyver_projects.specs.Groups.{Groups, groups, inclusions}
+use Rattle.pyver_projects.specs.Meanings.{DocumentReading, IsBroken, IsDocumentReading, IsLock, IsLockReading, IsLockedReading, IsProject, IsProjectReading, IsRequirementReading, IsSectionMeaning, IsStringReading, IsVersionReading, LockedReading, StringReading, requirement_line, string_line}
 use Rattle.pyver_projects.specs.ProjectLaws.{DocumentReportsOnce, IsReadable, IsReadableAs}
 use Rattle.pyver_projects.specs.ProjectStrings.{Build, Dependencies, Extra, Group, Include, Invalid, LockContents, LockedRequirement, Section, Python, ProjectString, Version}
 use Rattle.pyver_projects.specs.declared.document_kind.DocumentKind.{DocumentKind}
 use Rattle.pyver_projects.specs.declared.document_kind.DocumentKind.TheVariants.{Lock, Project}
+use Rattle.pyver_findings.proofs.MarkerPairs.{IsOnce, IsTold, each_once, each_told, names_once, names_tell, no_causes}
+use Rattle.pyver_findings.specs.FindingLaws.{IsUndecided}
+use Rattle.pyver_findings.specs.MarkerPairs.{FindsOfEach}
+use Rattle.pyver_findings.specs.Reports.{Report}
+use Rattle.pyver_findings.specs.declared.cause.Cause.{Cause}
+use Rattle.pyver_findings.specs.declared.cause.Cause.TheVariants as cause
+use Rattle.pyver_projects.specs.Together.{FindsOfPart, part_demands, parts, same_finding, sections, with_new}
 
 one_meaning : (all : Groups) (line : FileLine) (text : List ℕ) (section : Section) (x y : LineMeaning) → IsSectionMeaning all section line text x → IsSectionMeaning all section line text y → x ≡ y
 one_meaning all line text Dependencies x y a b = one_parts line (line_parts line.text) x y a b
@@ -95,5 +102,31 @@ one_document (Lock kind) file x y (ps, (text, e)) (inr (u, inl (ms, f, a))) (inr
     let equal : ns ≡ ms = cc same in
     one_lock file.name ms x y a (subst (λ (l : LockContents). IsLockReading file.name l y) equal b)
 
+-- ---- under two markers
+
+part_told : (xs : List StringReading) (part : Section) (fs : List Finding) (cs : List Cause) → FindsOfPart xs part fs cs → IsTold cs
+part_told xs part fs cs finds = names_tell (part_demands (inclusions (sections xs)) part xs) fs cs finds
+
+reading_told : (x : DocumentReading) (fs : List Finding) (cs : List Cause) → FindsOfReading x fs cs → IsTold cs
+reading_told (IsProject xs) fs cs (found, finds, is) = each_told (FindsOfPart xs) (part_told xs) (parts xs) found cs finds
+reading_told (IsLock ys ms) fs cs (is, also) = inl also
+reading_told (IsBroken f) fs cs (is, also) = inl also
+
+reading_once : (x : DocumentReading) → IsOnce (FindsOfReading x)
+reading_once (IsProject xs) fs gs (found, finds, is) (others, also, so) =
+    is ∙ ap (with_new same_finding []) (each_once (FindsOfPart xs) (λ part. names_once (part_demands (inclusions (sections xs)) part xs)) (parts xs) found others finds also) ∙ sym so
+reading_once (IsLock ys ms) fs gs (is, _) (so, _) = is ∙ sym so
+reading_once (IsBroken f) fs gs (is, _) (so, _) = is ∙ sym so
+
+in_report : (a r : Report) (fs : List Finding) (cs : List Cause) → r ≡ with_found a fs cs → Contains (a.left_out ++ cs) cause.Undecided → IsUndecided r
+in_report a r fs cs is known = subst (λ (q : Report). Contains q.left_out cause.Undecided) (sym is) known
+
 pub document_reports_once : DocumentReportsOnce
-document_reports_once documents r s readable (xs, g, a) (ys, h, b) = a ∙ ap (documents_report documents) (zip_once IsDocumentReading IsReadable (λ d v w known p q. one_document d.kind d.file v w known p q) documents xs ys readable g h) ∙ sym b
+document_reports_once documents r s readable (xs, g, fs, cs, finds, a) (ys, h, gs, ds, also, b) decided again =
+    let same : xs ≡ ys = zip_once IsDocumentReading IsReadable (λ d v w known p q. one_document d.kind d.file v w known p q) documents xs ys readable g h in
+    let none : cs ≡ [] = no_causes (documents_report documents xs).left_out cs (each_told FindsOfReading reading_told xs fs cs finds) (λ known. decided (in_report (documents_report documents xs) r fs cs a known)) in
+    let nothing : ds ≡ [] = no_causes (documents_report documents ys).left_out ds (each_told FindsOfReading reading_told ys gs ds also) (λ known. again (in_report (documents_report documents ys) s gs ds b known)) in
+    let found : fs ≡ gs =
+    each_once FindsOfReading reading_once xs fs gs (subst (FindsOfEach FindsOfReading xs fs) none finds) (subst (FindsOfEach FindsOfReading xs gs) nothing (subst (λ l. FindsOfEach FindsOfReading l gs ds) (sym same) also)) in
+    let left : cs ≡ ds = none ∙ sym nothing in
+    a ∙ (λ j. with_found (documents_report documents (same j)) (found j) (left j)) ∙ sym b

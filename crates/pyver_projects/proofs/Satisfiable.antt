@@ -6,7 +6,8 @@ use Rattle.std.proofs.lemmas.List.Elements.{All-cons, All-contains, All-contains
 use Rattle.std.proofs.lemmas.Slice.Eq.{bytes_eq-Decides}
 use Rattle.std.specs.List.{All, Contains, filter, flat_map, list_any, zip}
 use Rattle.pyver_findings.proofs.Complete.{none_found}
-use Rattle.pyver_findings.proofs.Found.{Fits, Some_is, some_found}
+use Rattle.pyver_findings.proofs.Found.{Some_is, ones_of, some_found}
+use Rattle.pyver_findings.specs.FindingLaws.{IsAmong}
 use Rattle.pyver_findings.specs.Conflicts.{conflict_kind, conflicts, counts_under, first_mentions, has_same_marker, has_same_name, have_none, of_all, of_name, smallest, under}
 use Rattle.pyver_findings.specs.Demands.{Demand, IsSound}
 use Rattle.pyver_findings.specs.FileLines.{Conflicting, Finding}
@@ -24,6 +25,15 @@ use Rattle.pyver_projects.specs.ProjectStrings.{Build, Dependencies, Extra, Grou
 use Rattle.pyver_projects.specs.Together.{all_demands, demand_in_part, has_group, holds_in, part_conflicts, part_demands, parts, project_conflicts, same_finding, same_part, section_part, sections, with_new}
 use Rattle.pyver_projects.specs.declared.document_kind.DocumentKind.TheVariants.{Project}
 use Rattle.pyver_findings.proofs.SmallestLists.{Allows, more_none}
+
+-- a finding of some of the lines under the marker
+abbrev Fits : List Demand → Option (List ℕ) → Finding → Type 0
+Fits lines m = IsAmong (map (λ (a : Demand). a.line) (under m lines))
+
+some_fits : (lines : List Demand) (a : Demand) (m : Option (List ℕ)) → Contains lines a → have_none (under m (filter (has_same_name a) lines)) ≡ true → Some_is (Fits (filter (has_same_name a) lines) m) (conflicts lines)
+some_fits lines a m inside none =
+    let these = under m (filter (has_same_name a) lines) in
+    some_found (map (λ (b : Demand). b.line) these) lines a m (ones_of these) inside none
 
 -- parts that are the same are equal
 same_is : (a b : Section) → same_part a b ≡ true → a ≡ b
@@ -90,13 +100,13 @@ none_new [] e = refl
 none_new (f ∷ fs) e = absurd (stays f [] fs e)
 
 pub no_finding_means_satisfiable : NoFindingImpliesSatisfiable
-no_finding_means_satisfiable documents r (zs, h, is) none file t s xs a m ((k, inside, at), table) (i, within, is_s) g known empty =
+no_finding_means_satisfiable documents r (zs, h, fs, cs, finds, is) none file t s xs a m ((k, inside, at), table) (i, within, is_s) g known empty =
     let all = groups t in
     let (x, (c, in_x, is_x), rx) = beside_it IsDocumentReading documents zs (record { kind = Project; file = file }) k inside at h in
     let (ys, q, is_project) = project_read file t x table rx in
     let one : ys ≡ xs = zip_once (IsStringReading all file) (Contains (sources t)) (λ p v w known n o. one_string all file p v w n o) (sources t) ys xs (All-contains_itself (sources t)) q g in
     let compared = flat_map (beside_all documents (zip documents zs)) (zip documents zs) in
-    let found : (with_own_reports empty_report zs).findings ++ compared ≡ [] = sym (ap (λ (e : Report). e.findings) is) ∙ none in
+    let found : (with_own_reports empty_report zs).findings ++ compared ≡ [] = left_nil ((with_own_reports empty_report zs).findings ++ compared) fs (sym (ap (λ (e : Report). e.findings) is) ∙ none) in
     let own : flat_map (λ x. (own_report x).findings) zs ≡ [] = sym (findings_of documents empty_report zs) ∙ left_nil (with_own_reports empty_report zs).findings compared found in
     let nothing : flat_map invalid_string xs ++ project_conflicts xs ≡ [] =
     ap (λ (e : List StringReading). (own_report (IsProject e)).findings) (sym one) ∙ ap (λ (e : DocumentReading). (own_report e).findings) (sym is_project) ∙ nil_at (λ x. (own_report x).findings) zs x c in_x is_x own in
@@ -109,7 +119,7 @@ no_finding_means_satisfiable documents r (zs, h, is) none file t s xs a m ((k, i
     let last : conflicts lines ≡ [] = (λ v. conflicts (part_demands (sym same v) (section_part (sym rz.0 v)) xs)) ∙ here_nil in
     let sound : All IsSound lines = sound_part all.inclusions part xs (zip_each (IsStringReading all file) (Contains (sources t)) IsSoundString (λ p v known n. sound_string all file p v n) (sources t) xs (All-contains_itself (sources t)) g) in
     let these = All-filter (counts_under m) IsSound (filter (has_same_name a) lines) (All-filter (has_same_name a) IsSound lines sound) in
-    subst (Some_is (Fits (filter (has_same_name a) lines) m)) last (some_found lines a m known (none_found (under m (filter (has_same_name a) lines)) these empty))
+    subst (Some_is (Fits (filter (has_same_name a) lines) m)) last (some_fits lines a m known (none_found (under m (filter (has_same_name a) lines)) these empty))
 
 -- nothing is made of each, so of all
 flat_nil : {X Y : Type 0} (f : X → List Y) (xs : List X) → All (λ x. f x ≡ []) xs → flat_map f xs ≡ []
@@ -186,7 +196,7 @@ module _ (all part : List Demand) (sound : All IsSound all) (known : All (Contai
       let p = counts_under m in
       let q = has_same_name a in
       false_by (have_none (under m (filter q part))) (λ empty.
-      subst (Some_is (Fits (filter q all) m)) none (some_found all a m is (
+      subst (Some_is (Fits (filter q all) m)) none (some_fits all a m is (
       more_none (filter p (filter q part)) (filter p (filter q all)) (All-filter p IsSound (filter q part) (All-filter q IsSound part part_sound)) (All-filter p IsSound (filter q all) (All-filter q IsSound all sound))
       (λ v. of_part (Allows v) p q all part known) empty)))
 
@@ -204,7 +214,7 @@ in_part_by all demands true k = k
 in_part_by all demands false k = All-nil (Contains all)
 
 -- the requirements of a part are some of all
-part_known : (is : List Inclusion) (part : Section) (xs : List StringReading) → All (Contains (all_demands xs)) (part_demands is part xs)
+pub part_known : (is : List Inclusion) (part : Section) (xs : List StringReading) → All (Contains (all_demands xs)) (part_demands is part xs)
 part_known is part xs =
     let all = all_demands xs in
     all_flat (Contains all) (demand_in_part (has_group is part) part) xs

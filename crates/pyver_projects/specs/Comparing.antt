@@ -6,12 +6,13 @@ use Rattle.pep440_version.specs.Record.{Record}
 use Rattle.pyver_findings.specs.Demands.{Demand}
 use Rattle.pyver_findings.specs.FileLines.{Conflicting, FileLine, Finding, NoRequirement}
 use Rattle.pyver_findings.specs.LineMeanings.{LineMeaning}
+use Rattle.pyver_findings.specs.MarkerPairs.{FindsNothing, FindsOfEach}
 use Rattle.pyver_findings.specs.Reports.{Report, demands_in, empty_report, invalid_in, joined_report, left_out_in}
 use Rattle.pyver_findings.specs.declared.cause.Cause.{Cause}
 use Rattle.pyver_findings.specs.declared.finding.Conflict.TheVariants.{PinOutside}
 use Rattle.pyver_projects.specs.Meanings.{Document, DocumentReading, IsBroken, IsDocumentReading, IsLock, IsProject, LockedReading, StringReading}
 use Rattle.pyver_projects.specs.ProjectStrings.{Dependencies, Extra, Group, Section}
-use Rattle.pyver_projects.specs.Together.{project_conflicts}
+use Rattle.pyver_projects.specs.Together.{FindsOfParts, project_conflicts}
 use Rattle.pyver_findings.specs.NamedFiles.{folder}
 use Rattle.pyver_projects.specs.DocumentKinds.{lies_above}
 use Rattle.pyver_projects.specs.declared.document_kind.DocumentKind.{DocumentKind}
@@ -136,6 +137,17 @@ with_findings a found = record { findings = a.findings ++ found; ignored = a.ign
 abbrev pub documents_report : List Document → List DocumentReading → Report
 documents_report documents xs = with_findings (with_own_reports empty_report xs) (flat_map (beside_all documents (zip documents xs)) (zip documents xs))
 
--- the report of the documents
+-- of a project the requirements that hold together under two markers
+abbrev pub FindsOfReading : DocumentReading → List Finding → List Cause → Type 0
+FindsOfReading (IsProject xs) fs cs = FindsOfParts xs fs cs
+FindsOfReading (IsLock ys ms) fs cs = FindsNothing fs cs
+FindsOfReading (IsBroken f) fs cs = FindsNothing fs cs
+
+-- a report with more findings and causes
+abbrev pub with_found : Report → List Finding → List Cause → Report
+with_found a fs cs = record { findings = a.findings ++ fs; ignored = a.ignored; lines = a.lines; files = a.files; left_out = a.left_out ++ cs }
+
+-- the report of the documents: behind these findings those of requirements under two markers
 abbrev pub IsDocumentsReport : List Document → Report → Type 0
-IsDocumentsReport documents r = (xs : List DocumentReading) × AllZip IsDocumentReading documents xs × (r ≡ documents_report documents xs)
+IsDocumentsReport documents r = (xs : List DocumentReading) × AllZip IsDocumentReading documents xs
+    × (fs : List Finding) × (cs : List Cause) × FindsOfEach FindsOfReading xs fs cs × (r ≡ with_found (documents_report documents xs) fs cs)

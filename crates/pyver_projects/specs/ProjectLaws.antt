@@ -15,7 +15,7 @@ use Rattle.pep440_version.specs.Rejections.{Rejection, Rejects}
 use Rattle.pyver_findings.specs.Conflicts.{has_same_name, under}
 use Rattle.pyver_findings.specs.Demands.{Demand}
 use Rattle.pyver_findings.specs.FileLines.{Conflicting, File, FileLine, Finding, NoRequirement}
-use Rattle.pyver_findings.specs.FindingLaws.{HaveNone, IsRightConflict}
+use Rattle.pyver_findings.specs.FindingLaws.{HaveNone, IsRightConflict, IsRightPair, IsUndecided}
 use Rattle.pyver_findings.specs.LineMeanings.{IsNone, IsPlain}
 use Rattle.pyver_findings.specs.Reports.{Report}
 use Rattle.pyver_findings.specs.declared.finding.Conflict.TheVariants.{PinOutside}
@@ -92,13 +92,13 @@ line_in_part has part file s = if holds_in has part s.section then string_line f
 abbrev pub part_lines : File → Members → Section → List FileLine
 part_lines file t part = flat_map (line_in_part (has_group (groups t).inclusions part) part file) (sources t)
 
--- lines that hold together in a part of a project have no version in common, as a finding of requirements files has none
+-- lines that hold together in a part of a project have no version in common, as a finding of requirements files has none, under one marker or two
 pub record IsConflict (documents : List Document) (f : Finding) : Type 0 where
   pub file : File
   pub table : Members
   pub part : Section
   pub has : HasProject documents file table
-  pub right : IsRightConflict line_parts (part_lines file table part) f
+  pub right : IsRightConflict line_parts (part_lines file table part) f ⊎ IsRightPair line_parts (part_lines file table part) f
 
 -- the version of the package is none
 pub record IsInvalidPackage (documents : List Document) (f : Finding) : Type 0 where
@@ -209,6 +209,7 @@ NoFindingImpliesSatisfiable = (documents : List Document) (r : Report) → IsDoc
 
 -- ---- one report
 
--- documents that are TOML or JSON in UTF-8 have at most one report
+-- documents that are TOML or JSON in UTF-8 have at most one report in which nothing is undecided
 abbrev pub DocumentReportsOnce : Type 0
-DocumentReportsOnce = (documents : List Document) (r s : Report) → All IsReadable documents → IsDocumentsReport documents r → IsDocumentsReport documents s → r ≡ s
+DocumentReportsOnce = (documents : List Document) (r s : Report) → All IsReadable documents → IsDocumentsReport documents r → IsDocumentsReport documents s
+    → ¬ IsUndecided r → ¬ IsUndecided s → r ≡ s

@@ -1,11 +1,13 @@
 -- Requirements of a project that hold together: its dependencies; those of an extra, or of a group with the groups that it includes, with
 -- the dependencies; and those of its build.
-use Rattle.std.specs.Prelude.{ℕ, ◌&&◌, List, [], ◌∷◌, ◌++◌, Bool, true, false, bytes_eq, map, nat_eq, if◌then◌else◌}
+use Rattle.std.specs.Prelude.{◌≡◌, ℕ, ◌&&◌, List, [], ◌∷◌, ◌++◌, Bool, true, false, bytes_eq, map, nat_eq, if◌then◌else◌, is_some}
 use Rattle.std.specs.List.{flat_map, list_any}
 use Rattle.pyver_findings.specs.Conflicts.{conflicts}
 use Rattle.pyver_findings.specs.Demands.{Demand}
 use Rattle.pyver_findings.specs.FileLines.{Conflicting, FileLine, Finding, NoRequirement}
+use Rattle.pyver_findings.specs.MarkerPairs.{FindsOfEach, FindsOfNames}
 use Rattle.pyver_findings.specs.Reports.{demands_in}
+use Rattle.pyver_findings.specs.declared.cause.Cause.{Cause}
 use Rattle.pyver_projects.specs.Groups.{Inclusion, includes, inclusions}
 use Rattle.pyver_projects.specs.Meanings.{StringReading}
 use Rattle.pyver_projects.specs.ProjectStrings.{Build, Dependencies, Extra, Group, Include, Invalid, Python, Section, Version}
@@ -120,3 +122,17 @@ part_conflicts xs part = conflicts (part_demands (inclusions (sections xs)) part
 -- of each part the requirements that have no version in common, each finding once
 abbrev pub project_conflicts : List StringReading → List Finding
 project_conflicts xs = with_new same_finding [] (flat_map (part_conflicts xs) (parts xs))
+
+-- ---- under two markers
+
+-- the requirement has a marker
+abbrev pub is_marked : Demand → Bool
+is_marked a = is_some a.marker
+
+-- of the requirements of a part those that have no version in common under two markers that hold together
+abbrev pub FindsOfPart : List StringReading → Section → List Finding → List Cause → Type 0
+FindsOfPart xs part = FindsOfNames (part_demands (inclusions (sections xs)) part xs)
+
+-- of each part, each finding once
+abbrev pub FindsOfParts : List StringReading → List Finding → List Cause → Type 0
+FindsOfParts xs fs cs = (found : List Finding) × FindsOfEach (FindsOfPart xs) (parts xs) found cs × (fs ≡ with_new same_finding [] found)

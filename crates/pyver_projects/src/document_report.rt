@@ -2,8 +2,9 @@
 ghost use Rattle.std.specs.Prelude.{◌≡◌, ◌++◌, IfOk, map};
 ghost use Rattle.std.specs.List.{All, AllZip, flat_map, zip};
 ghost use Rattle.pyver_findings.specs.Reports.{empty_report, left_out_in};
-ghost use Rattle.pyver_findings.specs.Views.{finding_of, line_meaning_of, report_of};
-ghost use Rattle.pyver_projects.specs.Comparing.{IsDocumentsReport, beside_all, invalid_package, invalid_string, left_out_string, own_report, with_own_reports};
+ghost use Rattle.pyver_findings.specs.MarkerPairs.{FindsOfEach};
+ghost use Rattle.pyver_findings.specs.Views.{AddsFound, finding_of, line_meaning_of, report_of};
+ghost use Rattle.pyver_projects.specs.Comparing.{FindsOfReading, IsDocumentsReport, beside_all, invalid_package, invalid_string, left_out_string, own_report, with_own_reports};
 ghost use Rattle.pyver_projects.specs.Meanings.{IsDocumentReading, IsLock, IsProject, IsSoundDocument, IsSoundString};
 ghost use Rattle.pyver_projects.specs.Together.{project_conflicts};
 ghost use Rattle.pyver_projects.specs.ProjectViews.{document_of, document_reading_of, locked_reading_of, read_pair, reading_in, string_reading_of};
@@ -13,7 +14,7 @@ use crate::document_reading::{DocumentReading, ReadDocument, read_document};
 use crate::lock_comparison::{push_beside_all, push_unmet_requirements};
 use crate::locked_reading::LockedReading;
 use crate::string_reading::StringReading;
-use crate::together::project_conflicts;
+use crate::together::{project_conflicts, project_pairs};
 use pyver_findings::{Cause, Finding, LineMeaning, Report};
 use std::alloc::{AllocError, Global};
 
@@ -168,6 +169,39 @@ fn compare_all(
     Ok(findings)
 }
 
+// Adds what is wrong with the requirements of the document under two markers.
+fn push_reading_pairs(
+    alloc: Global,
+    findings: &mut Vec<Finding>,
+    left_out: &mut Vec<Cause>,
+    reading: &DocumentReading,
+) -> Result<(), AllocError>
+    requires { IsSoundDocument (document_reading_of reading.now) }
+    ensures { IfOk result (λ _. AddsFound (FindsOfReading (document_reading_of reading.now)) findings.old.items findings.new.items left_out.old.items left_out.new.items) }
+{
+    if let DocumentReading::Project(strings) = reading {
+        let mut pairs = project_pairs(alloc, left_out, strings.as_slice())?;
+        findings.append(&mut pairs)?;
+    }
+    Ok(())
+}
+
+// The same of each document.
+fn push_all_pairs(
+    alloc: Global,
+    findings: &mut Vec<Finding>,
+    left_out: &mut Vec<Cause>,
+    read: &[ReadDocument<'_>],
+) -> Result<(), AllocError>
+    requires { All IsSoundDocument (map reading_in read.now) }
+    ensures { IfOk result (λ _. AddsFound (FindsOfEach FindsOfReading (map reading_in read.now)) findings.old.items findings.new.items left_out.old.items left_out.new.items) }
+{
+    for document in read {
+        push_reading_pairs(alloc, findings, left_out, &document.reading)?;
+    }
+    Ok(())
+}
+
 fn read_documents<'a>(
     alloc: Global,
     documents: &'a [Document],
@@ -193,6 +227,7 @@ fn read_documents<'a>(
 /// it does not contain. Then what is wrong in each project beside each lock in its folder, or in the nearest above that has one, and
 /// beside each lock for which that is no project: for each requirement, in order, whether the lock lacks a
 /// package of its name, and the lines of the locked versions of its name that it does not contain, each with the line of the requirement.
+/// Then the requirements of each project that hold together and have no version in common under two markers, as `pyver_findings` reports them.
 ///
 /// Of `pyproject.toml` these are read: `project.dependencies`, `project.optional-dependencies`, `project.requires-python`,
 /// `project.version`, `dependency-groups` with the names of included groups, and `build-system.requires`; of a lock
@@ -213,7 +248,11 @@ pub fn find_document_problems(alloc: Global, documents: &[Document]) -> Result<R
 {
     let read = read_documents(alloc, documents)?;
     let mut compared = compare_all(alloc, documents, read.as_slice())?;
+    let (mut pairs, mut undecided) = (Vec::new(alloc), Vec::new(alloc));
+    push_all_pairs(alloc, &mut pairs, &mut undecided, read.as_slice())?;
     let mut report = report_all(alloc, read)?;
     report.findings.append(&mut compared)?;
+    report.findings.append(&mut pairs)?;
+    report.left_out.append(&mut undecided)?;
     Ok(report)
 }

@@ -22,7 +22,7 @@ pub fn no_finding_means_satisfiable()
     ensures { NoFindingImpliesSatisfiable }
 {}
 
-/// Documents that are TOML, or JSON, in UTF-8 have at most one report.
+/// Documents that are TOML, or JSON, in UTF-8 have at most one report in which nothing is undecided.
 pub fn reports_once()
     ensures { DocumentReportsOnce }
 {}

@@ -3,12 +3,13 @@ ghost use Rattle.std.specs.Prelude.{◌≡◌, ◌++◌, [], IfOk, List, bytes_e
 ghost use Rattle.std.specs.List.{All, flat_map, list_any};
 ghost use Rattle.pyver_findings.specs.Demands.{IsSound};
 ghost use Rattle.pyver_findings.specs.Reports.{demands_in};
-ghost use Rattle.pyver_findings.specs.Views.{demand_of, file_line_of, finding_of, line_meaning_of};
+ghost use Rattle.pyver_findings.specs.MarkerPairs.{FindsOfEach};
+ghost use Rattle.pyver_findings.specs.Views.{AddsFound, demand_of, file_line_of, finding_of, line_meaning_of};
 ghost use Rattle.pyver_projects.specs.Groups.{inclusions as inclusions_in};
 ghost use Rattle.pyver_projects.specs.NameMaps.{IsInclusionIndex, has_key, inclusions_of};
 ghost use Rattle.pyver_projects.specs.ProjectViews.{section_of, string_reading_of};
 ghost use Rattle.pyver_projects.specs.Meanings.{IsSoundString};
-ghost use Rattle.pyver_projects.specs.Together.{all_demands, demand_in_part, has_dependencies, has_group, holds_in, is_build, is_extra, part_conflicts, part_demands, parts, project_conflicts, same_finding, same_line, same_lines, same_part, section_part, sections, with_new};
+ghost use Rattle.pyver_projects.specs.Together.{FindsOfPart, FindsOfParts, all_demands, demand_in_part, has_dependencies, has_group, holds_in, is_build, is_extra, is_marked, part_conflicts, part_demands, parts, project_conflicts, same_finding, same_line, same_lines, same_part, section_part, sections, with_new};
 ghost use Rattle.pyver_findings.specs.Conflicts.{conflicts};
 
 use crate::group_walk::included_groups;
@@ -16,7 +17,9 @@ use crate::groups::inclusions;
 use crate::inclusion_index::InclusionIndex;
 use crate::section::Section;
 use crate::string_reading::StringReading;
-use pyver_findings::{Demand, FileLine, Finding, LineMeaning, push_conflicts};
+use pyver_findings::{
+    Cause, Demand, FileLine, Finding, LineMeaning, push_conflicts, push_pair_conflicts,
+};
 use std::alloc::{AllocError, Global};
 use std::collections::HashMap;
 
@@ -341,4 +344,85 @@ pub(crate) fn project_conflicts(
     let parts = parts(alloc, strings)?;
     let findings = conflicts_of_parts(alloc, parts.as_slice(), strings)?;
     each_once(alloc, findings)
+}
+
+// ---- under two markers
+
+// Adds what is wrong with the requirements of the part under two markers.
+fn push_part_pairs(
+    alloc: Global,
+    findings: &mut Vec<Finding>,
+    left_out: &mut Vec<Cause>,
+    inclusions: &InclusionIndex<'_>,
+    part: &Section,
+    strings: &[StringReading],
+) -> Result<(), AllocError>
+    requires sound { All IsSoundString (map string_reading_of strings.now) }
+    requires known { inclusions_of inclusions.now ≡ inclusions_in (sections (map string_reading_of strings.now)) }
+    requires index { IsInclusionIndex inclusions.now }
+    ensures { IfOk result (λ _. AddsFound (FindsOfPart (map string_reading_of strings.now) (section_of part.now)) findings.old.items findings.new.items left_out.old.items left_out.new.items) }
+{
+    let demands = part_demands(alloc, inclusions, part, strings)?;
+    push_pair_conflicts(alloc, findings, left_out, demands.as_slice())?;
+    Ok(())
+}
+
+// What is wrong with the requirements of each of the parts under two markers.
+fn pairs_of_parts(
+    alloc: Global,
+    left_out: &mut Vec<Cause>,
+    parts: &[Section],
+    strings: &[StringReading],
+) -> Result<Vec<Finding>, AllocError>
+    requires { All IsSoundString (map string_reading_of strings.now) }
+    ensures { IfOk result (λ found. AddsFound (FindsOfEach (FindsOfPart (map string_reading_of strings.now)) (map section_of parts.now)) [] found.items left_out.old.items left_out.new.items) }
+{
+    let inclusions = inclusions(alloc, strings)?;
+    let inclusions = InclusionIndex::new(alloc, inclusions.as_slice())?;
+    let mut findings = Vec::new(alloc);
+    for part in parts {
+        push_part_pairs(alloc, &mut findings, left_out, &inclusions, part, strings)?;
+    }
+    Ok(findings)
+}
+
+fn asks_under_marker(meaning: &LineMeaning) -> bool
+    ensures { result ≡ list_any is_marked (demands_in (line_meaning_of meaning.now)) }
+{
+    match meaning {
+        LineMeaning::Asks(demand) => demand.marker.is_some(),
+        _ => false,
+    }
+}
+
+// Whether some requirement has a marker.
+fn has_marker(strings: &[StringReading]) -> bool
+    ensures { result ≡ list_any is_marked (all_demands (map string_reading_of strings.now)) }
+{
+    let mut rest = strings;
+    while let [string, later @ ..] = rest {
+        if asks_under_marker(&string.meaning) {
+            return true;
+        }
+        rest = later;
+    }
+    false
+}
+
+// What is wrong with requirements of a project under two markers.
+pub(crate) fn project_pairs(
+    alloc: Global,
+    left_out: &mut Vec<Cause>,
+    strings: &[StringReading],
+) -> Result<Vec<Finding>, AllocError>
+    requires { All IsSoundString (map string_reading_of strings.now) }
+    ensures { IfOk result (λ found. AddsFound (FindsOfParts (map string_reading_of strings.now)) [] found.items left_out.old.items left_out.new.items) }
+{
+    if !has_marker(strings) {
+        return Ok(Vec::new(alloc));
+    }
+    let parts = parts(alloc, strings)?;
+    let found = pairs_of_parts(alloc, left_out, parts.as_slice(), strings)?;
+    let once = each_once(alloc, found)?;
+    Ok(once)
 }

@@ -193,8 +193,14 @@ still_undecided unopened a b q d is found =
     subst (λ (c : CheckResult). IsUndecided c.report) (sym is)
     (Contains-append_right a.report.left_out (q.left_out ++ d.left_out) _ (Contains-append_left q.left_out d.left_out _ found))
 
+-- and so is what is undecided in that of the documents
+undecided_there : (unopened : List UnopenedFile) (a b : CheckResult) (q d : Report) → b ≡ with_report unopened a (without_ignored (joined_report q d)) → IsUndecided d → IsUndecided b.report
+undecided_there unopened a b q d is found =
+    subst (λ (c : CheckResult). IsUndecided c.report) (sym is)
+    (Contains-append_right a.report.left_out (q.left_out ++ d.left_out) _ (Contains-append_right q.left_out d.left_out _ found))
+
 pub checks_once : ChecksOnce
 checks_once read a b c readable (q, d, hq, hd, is) (p, e, hp, he, so) decided also =
     let of_lines = reports_once read.requirements q p hq hp (λ found. decided (still_undecided read.unopened a b q d is found)) (λ found. also (still_undecided read.unopened a c p e so found)) in
-    let of_documents = document_reports_once read.documents d e readable hd he in
+    let of_documents = document_reports_once read.documents d e readable hd he (λ found. decided (undecided_there read.unopened a b q d is found)) (λ found. also (undecided_there read.unopened a c p e so found)) in
     is ∙ ap (with_report read.unopened a) (λ j. without_ignored (joined_report (of_lines j) (of_documents j))) ∙ sym so

@@ -1,0 +1,14 @@
+use Rattle.std.proofs.Common.{map, refl}
+use Rattle.pyver_findings.proofs.MarkerPairs.{each_done, each_more, start}
+use Rattle.pyver_projects.specs.Comparing.{FindsOfReading}
+use Rattle.pyver_projects.specs.ProjectViews.{reading_in}
+use Rattle.pyver_projects.proofs.document_report.push_all_pairs.Goals as goal
+
+pub loop-document-init : goal.loop-document-init
+loop-document-init c = start _ _ _ _ _ refl refl
+
+pub loop-document-preserved : goal.loop-document-preserved
+loop-document-preserved c = each_more reading_in FindsOfReading c.args.read.now c.loop-document.document-index c.document-item.result _ _ _ _ _ _ c.loop-document-test.true c.document-item.is c.in_ok-push_reading_pairs.ensures c.loop-document.invariant
+
+pub returns : goal.returns
+returns c = each_done reading_in FindsOfReading c.args.read.now c.loop-document.document-index _ _ _ _ c.loop-document-test.false c.loop-document.invariant

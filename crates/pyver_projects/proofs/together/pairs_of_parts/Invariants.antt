@@ -1,0 +1,12 @@
+use Rattle.std.proofs.Common.{[], drop, map}
+use Rattle.pyver_findings.proofs.MarkerPairs.{Continues}
+use Rattle.pyver_findings.specs.MarkerPairs.{FindsOfEach}
+use Rattle.pyver_findings.specs.Views.{AddsFound}
+use Rattle.pyver_projects.specs.ProjectViews.{section_of, string_reading_of}
+use Rattle.pyver_projects.specs.Together.{FindsOfPart}
+use Rattle.pyver_projects.proofs.together.pairs_of_parts.Given as goal
+
+abbrev pub invariant-loop-part : goal.invariant-loop-part
+invariant-loop-part l =
+    let found = FindsOfEach (FindsOfPart (map string_reading_of l.strings)) in
+    AddsFound (Continues (found (map section_of (drop l.part-index l.parts))) (found (map section_of l.parts))) [] l.findings.items l.initial.left_out.items l.left_out.items
