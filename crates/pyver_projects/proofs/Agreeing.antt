@@ -17,8 +17,7 @@ use Rattle.pyver_findings.specs.LineMeanings.{Asks, LineMeaning}
 use Rattle.pyver_findings.specs.Reports.{Report, demands_in, empty_report}
 use Rattle.pyver_findings.specs.declared.finding.Conflict.TheVariants.{PinOutside}
 use Rattle.toml.specs.Data.{Members}
-use Rattle.pyver_projects.proofs.Asking.{asks_always}
-use Rattle.pyver_projects.proofs.Holding.{findings_of}
+use Rattle.pyver_projects.proofs.Holding.{asks_always, findings_of}
 use Rattle.pyver_projects.proofs.Walks.{beside_it, beside_pair, left_nil, nil_at, right_nil}
 use Rattle.pyver_projects.specs.Comparing.{found_beside, found_in_pair, beside_all, is_beside, compared, compared_demand, excluded, invalid_package, is_locked, missing, own_report, unmet, with_own_reports}
 use Rattle.pyver_projects.specs.Documents.{sources}

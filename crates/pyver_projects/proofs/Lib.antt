@@ -1,10 +1,7 @@
-pub mod Steps
 pub mod Walks
-pub mod Asking
 pub mod Holding
 pub mod RepeatedNames
 pub mod GroupWalks
 pub mod Agreeing
 pub mod Once
 pub mod Satisfiable
-pub mod ProjectPairs

@@ -1,5 +1,6 @@
--- Where nothing is found, requirements that hold together have a version in common: all of them, and so those of each part.
-use Rattle.std.proofs.Common.{Bool, List, None, Option, [], ap, arith, cond, false, get_or, if◌then◌else◌, length, map, refl, subst, suc, sym, true, zero, ℕ, ◌++◌, ◌<◌, ◌||◌, ◌∙◌, ◌∷◌, ◌≡◌}
+-- Where nothing is found, requirements that hold together have a version in common: all of them, and so those of each part; and what is found
+-- under two markers.
+use Rattle.std.proofs.Common.{Bool, List, None, Option, Some, [], ap, arith, cond, false, get_or, if◌then◌else◌, is_none, is_some, length, map, nat_lt, refl, subst, suc, sym, true, zero, ℕ, ◌++◌, ◌<◌, ◌||◌, ◌∙◌, ◌∷◌, ◌≡◌}
 use Rattle.std.proofs.lemmas.Bool.{true≢false}
 use Rattle.std.proofs.lemmas.Grind.{flat_map-append}
 use Rattle.std.proofs.lemmas.List.Elements.{All-cons, All-contains, All-contains_itself, All-filter, All-head, All-nil, All-tail, All-weaker}
@@ -22,9 +23,14 @@ use Rattle.pyver_projects.specs.Groups.{Inclusion, groups, inclusions}
 use Rattle.pyver_projects.specs.Meanings.{DocumentReading, IsDocumentReading, IsProject, IsSoundString, IsStringReading, StringReading}
 use Rattle.pyver_projects.specs.ProjectLaws.{NoFindingImpliesSatisfiable}
 use Rattle.pyver_projects.specs.ProjectStrings.{Build, Dependencies, Extra, Group, Section}
-use Rattle.pyver_projects.specs.Together.{all_demands, demand_in_part, has_group, holds_in, part_conflicts, part_demands, parts, project_conflicts, same_finding, same_part, section_part, sections, with_new}
+use Rattle.pyver_projects.specs.Together.{FindsOfPart, FindsOfParts, all_demands, demand_in_part, has_group, holds_in, is_marked, part_conflicts, part_demands, parts, project_conflicts, same_finding, same_part, section_part, sections, with_new}
 use Rattle.pyver_projects.specs.declared.document_kind.DocumentKind.TheVariants.{Project}
 use Rattle.pyver_findings.proofs.SmallestLists.{Allows, more_none}
+use Rattle.pyver_findings.proofs.MarkerPairs.{of_name_of}
+use Rattle.pyver_findings.specs.MarkerPairs.{FindsOfEach, FindsOfFirsts, FindsOfName, FindsOfNames, few_first_lines, first_lines}
+use Rattle.pyver_findings.specs.Views.{AddsFindings, AddsFound, finding_of}
+use Rattle.pyver_findings.specs.declared.cause.Cause.{Cause}
+use Rattle.pyver_findings.specs.declared.finding.Finding.{Finding as FindingValue}
 
 -- a finding of some of the lines under the marker
 abbrev Fits : List Demand → Option (List ℕ) → Finding → Type 0
@@ -231,3 +237,56 @@ none_in_parts xs sound none =
 -- the lists of all strings are sound
 pub sound_all : (xs : List StringReading) → All IsSoundString xs → All IsSound (all_demands xs)
 sound_all xs k = all_flat IsSound (λ (x : StringReading). demands_in x.meaning) xs k
+
+-- ---- no markers
+
+abbrev Unmarked : Demand → Type 0
+Unmarked a = is_some a.marker ≡ false
+
+left_false : (a b : Bool) → (a || b) ≡ false → a ≡ false
+left_false true b e = e
+left_false false b e = refl
+
+right_false : (a b : Bool) → (a || b) ≡ false → b ≡ false
+right_false true b e = absurd (true≢false e)
+right_false false b e = e
+
+all_unmarked : (lines : List Demand) → list_any is_marked lines ≡ false → All Unmarked lines
+all_unmarked [] none = All-nil Unmarked
+all_unmarked (a ∷ rest) none =
+    All-cons Unmarked a rest (left_false (is_marked a) (list_any is_marked rest) none) (all_unmarked rest (right_false (is_marked a) (list_any is_marked rest) none))
+
+skipped : (m : Option (List ℕ)) (a : Demand) → is_some m ≡ false → (if is_none m || false then [] else a ∷ []) ≡ []
+skipped None a e = refl
+skipped (Some m) a e = absurd (true≢false e)
+
+no_firsts : (lines : List Demand) → All Unmarked lines → first_lines [] lines ≡ []
+no_firsts [] k = refl
+no_firsts (a ∷ rest) k = ap (λ l. first_lines l rest) (skipped a.marker a (All-head Unmarked a rest k)) ∙ no_firsts rest (All-tail Unmarked a rest k)
+
+nothing_each : {X : Type 0} (P : X → List Finding → List Cause → Type 0) → ((x : X) → P x [] []) → (xs : List X) → FindsOfEach P xs [] []
+nothing_each P none [] = (refl, refl)
+nothing_each P none (x ∷ xs) = ([], [], [], [], none x, nothing_each P none xs, refl, refl)
+
+no_name : (lines : List Demand) → All Unmarked lines → FindsOfName lines [] []
+no_name lines k =
+    let few : Some [] ≡ few_first_lines lines = ap (λ l. if nat_lt 32 (length l) then None else Some l) (sym (no_firsts lines k)) in
+    subst (λ (f : Option (List Demand)). FindsOfFirsts lines f [] []) few (refl, refl)
+
+no_names : (lines : List Demand) → All Unmarked lines → FindsOfNames lines [] []
+no_names lines k = nothing_each (of_name_of lines) (λ a. no_name (filter (has_same_name a) lines) (All-filter (has_same_name a) Unmarked lines k)) (first_mentions has_same_name [] lines)
+
+-- nothing is found where no requirement has a marker
+pub no_parts : (xs : List StringReading) → list_any is_marked (all_demands xs) ≡ false → FindsOfParts xs [] []
+no_parts xs none =
+    let all = all_demands xs in
+    let unmarked = all_unmarked all none in
+    let each = λ part. no_names (part_demands (inclusions (sections xs)) part xs)
+    (All-weaker (Contains all) Unmarked (λ a is. All-contains Unmarked all a unmarked is) (part_demands (inclusions (sections xs)) part xs) (part_known (inclusions (sections xs)) part xs)) in
+    ([], nothing_each (FindsOfPart xs) each (parts xs), refl)
+
+-- ---- findings, each once
+
+pub parts_found : (xs : List StringReading) (pairs once : List FindingValue) (before after : List Cause) → map finding_of once ≡ with_new same_finding [] (map finding_of pairs) → AddsFound (FindsOfEach (FindsOfPart xs) (parts xs)) [] pairs before after
+    → AddsFound (FindsOfParts xs) [] once before after
+parts_found xs pairs once before after is (fs, cs, finds, adds, also) = (with_new same_finding [] fs, cs, (fs, finds, refl), is ∙ ap (with_new same_finding []) adds, also)

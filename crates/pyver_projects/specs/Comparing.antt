@@ -14,7 +14,7 @@ use Rattle.pyver_projects.specs.Meanings.{Document, DocumentReading, IsBroken, I
 use Rattle.pyver_projects.specs.ProjectStrings.{Dependencies, Extra, Group, Section}
 use Rattle.pyver_projects.specs.Together.{FindsOfParts, project_conflicts}
 use Rattle.pyver_findings.specs.NamedFiles.{folder}
-use Rattle.pyver_projects.specs.DocumentKinds.{lies_above}
+use Rattle.pyver_projects.specs.Documents.{lies_above}
 use Rattle.pyver_projects.specs.declared.document_kind.DocumentKind.{DocumentKind}
 use Rattle.pyver_projects.specs.declared.document_kind.DocumentKind.TheVariants.{Lock, Project}
 

@@ -1,11 +1,19 @@
--- What a parsed TOML document has to check: the strings of `pyproject.toml`, and the versions of a lock.
-use Rattle.std.specs.Prelude.{ℕ, ◌+◌, List, [], ◌∷◌, ◌++◌, Bool, Option, Some, None, bytes_eq, codes, count_by, get_or, if◌then◌else◌, is_none, length, map, nat_eq, nat_lt}
-use Rattle.std.specs.List.{flat_map}
+-- The kinds of documents, by their paths and by words, and what a parsed one has to check: the strings of `pyproject.toml`, and the versions of a lock.
+use Rattle.std.specs.Prelude.{Bool, List, None, Option, Some, [], bytes_eq, codes, count_by, get_or, if◌then◌else◌, is_none, length, map, nat_eq, nat_lt, option_map, ℕ, ◌&&◌, ◌++◌, ◌+◌, ◌==◌, ◌||◌, ◌∷◌}
+use Rattle.std.specs.List.{ends_with, flat_map, list_any, starts_with}
 use Rattle.pep440_pick.specs.Names.{is_name, normal}
 use Rattle.toml.specs.Data.{Data, Members, as_str, get, get_member}
 use Rattle.pyver_projects.specs.PackageRequirements.{requirements_from}
-use Rattle.pyver_projects.specs.ProjectStrings.{Build, Dependencies, Extra, Group, Include, Invalid, LockContents, LockedPackage, Section, Python, ProjectString, Version}
-use Rattle.pyver_projects.specs.TomlValues.{entries, inside, is_array_or_none, is_table_or_none, listed, text_in}
+use Rattle.pyver_projects.specs.ProjectStrings.{Build, Dependencies, Extra, Group, Include, Invalid, LockContents, LockedPackage, ProjectString, Python, Section, Version, header_lines}
+use Rattle.pyver_projects.specs.TomlValues.{entries, inside, is_array_or_none, is_table_or_none, listed, member_packages, text_in}
+use Rattle.pyver_findings.specs.NamedFiles.{folder}
+use Rattle.pyver_projects.specs.declared.document_kind.DocumentKind.{DocumentKind}
+use Rattle.pyver_projects.specs.declared.document_kind.DocumentKind.TheVariants.{Lock, Project}
+use Rattle.pyver_projects.specs.declared.document_kind.LockKind.TheVariants.{Pipfile, Poetry, Pylock, Unknown, Uv}
+use Rattle.serde_json.specs.Data.{Data}
+use Rattle.serde_json.specs.Read.{read}
+use Rattle.toml.specs.Parse.{parse_document}
+use Rattle.pyver_projects.specs.declared.document_kind.LockKind.{LockKind}
 
 -- ---- `pyproject.toml`
 
@@ -151,3 +159,64 @@ table_contents tables = record { packages = flat_map package_from tables; requir
 -- what a lock has in the array of tables at this key, with these lines of headers
 abbrev pub contents : List ℕ → List ℕ → Members → LockContents
 contents lines key document = table_contents (numbered_tables lines 0 (listed (get_member key document)))
+
+-- the path is this name, or ends with it after a `/`
+abbrev pub ends_path : List ℕ → List ℕ → List ℕ → Bool
+ends_path path name after_slash = bytes_eq path name || ends_with nat_eq path after_slash
+
+abbrev pub has_slash : List ℕ → Bool
+has_slash path = list_any (λ b. b == 47) path
+
+-- what stands after the last `/`, or all
+abbrev pub last_section : List ℕ → List ℕ
+last_section [] = []
+last_section (b ∷ rest) = if has_slash (b ∷ rest) then last_section rest else b ∷ rest
+
+-- the first path names a file in the folder of the second, or in one above
+abbrev pub lies_above : List ℕ → List ℕ → Bool
+lies_above path other = starts_with nat_eq other (folder path)
+
+-- `pylock.NAME.toml`, where NAME has no dot (PEP 751)
+abbrev pub is_named_pylock : List ℕ → Bool
+is_named_pylock name = nat_lt 12 (length name) && (starts_with nat_eq name (codes "pylock.") && (ends_with nat_eq name (codes ".toml") && count_by (λ b. b == 46) name == 2))
+
+-- the path ends as those of documents do
+abbrev pub is_document_path : List ℕ → Bool
+is_document_path path = ends_with nat_eq path (codes ".lock") || (ends_with nat_eq path (codes ".toml") || (ends_with nat_eq path (codes ".cfg") || ends_with nat_eq path (codes ".json")))
+
+-- the kind of the document with this path
+abbrev pub kind_of_path : List ℕ → Option DocumentKind
+kind_of_path path =
+    if ends_path path (codes "pyproject.toml") (codes "/pyproject.toml") then Some Project
+    else if ends_path path (codes "pylock.toml") (codes "/pylock.toml") then Some (Lock Pylock)
+    else if is_named_pylock (last_section path) then Some (Lock Pylock)
+    else if ends_path path (codes "uv.lock") (codes "/uv.lock") then Some (Lock Uv)
+    else if ends_path path (codes "poetry.lock") (codes "/poetry.lock") then Some (Lock Poetry)
+    else if ends_path path (codes "Pipfile.lock") (codes "/Pipfile.lock") then Some (Lock Pipfile)
+    else None
+
+-- the kind of document that this word names
+abbrev pub kind_of_word : List ℕ → Option DocumentKind
+kind_of_word word =
+    if bytes_eq word (codes "pyproject") then Some Project
+    else if bytes_eq word (codes "pylock") then Some (Lock Pylock)
+    else if bytes_eq word (codes "uv") then Some (Lock Uv)
+    else if bytes_eq word (codes "poetry") then Some (Lock Poetry)
+    else if bytes_eq word (codes "pipfile") then Some (Lock Pipfile)
+    else None
+
+-- what a TOML lock with this text has, if it is TOML: packages at the key, each under the header
+abbrev pub toml_contents : List ℕ → List ℕ → List ℕ → Option LockContents
+toml_contents key header text = option_map (contents (header_lines header text) key) (parse_document text)
+
+-- what `Pipfile.lock` has: only packages
+abbrev pub pipfile_contents : List ℕ → Data → LockContents
+pipfile_contents text document = record { packages = member_packages text document; requirements = [] }
+
+-- what a lock with this text has, if it is TOML, or JSON, of a known format
+abbrev pub locked : LockKind → List ℕ → Option LockContents
+locked Pylock text = toml_contents (codes "packages") (codes "[[packages]]") text
+locked Uv text = toml_contents (codes "package") (codes "[[package]]") text
+locked Poetry text = toml_contents (codes "package") (codes "[[package]]") text
+locked Pipfile text = option_map (pipfile_contents text) (read text)
+locked Unknown text = None

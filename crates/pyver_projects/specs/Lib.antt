@@ -1,11 +1,8 @@
-pub mod DocumentKinds
 pub mod ProjectStrings
 pub mod TomlValues
 pub mod PackageRequirements
 pub mod Documents
-pub mod Places
 pub mod Groups
-pub mod Locks
 pub mod Meanings
 pub mod ProjectViews
 pub mod NameMaps

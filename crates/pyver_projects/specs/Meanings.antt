@@ -16,12 +16,10 @@ use Rattle.pyver_findings.specs.declared.cause.Cause.TheVariants as cause
 use Rattle.pyver_requirements.specs.LineParts.{line_parts}
 use Rattle.toml.specs.Data.{Members}
 use Rattle.toml.specs.Parse.{parse_document}
-use Rattle.pyver_projects.specs.Documents.{sources}
+use Rattle.pyver_projects.specs.Documents.{locked, sources}
 use Rattle.pyver_projects.specs.Groups.{Groups, groups, include_meaning, no_group}
-use Rattle.pyver_projects.specs.Locks.{locked}
 use Rattle.pyver_projects.specs.PackageRequirements.{package_text}
-use Rattle.pyver_projects.specs.Places.{first_line, number_or_one}
-use Rattle.pyver_projects.specs.ProjectStrings.{Build, Dependencies, Extra, Group, Include, Invalid, LockContents, LockedPackage, LockedRequirement, Section, Python, ProjectString, Version}
+use Rattle.pyver_projects.specs.ProjectStrings.{Build, Dependencies, Extra, Group, Include, Invalid, LockContents, LockedPackage, LockedRequirement, ProjectString, Python, Section, Version, first_line, number_or_one}
 use Rattle.pyver_projects.specs.declared.document_kind.DocumentKind.{DocumentKind}
 use Rattle.pyver_projects.specs.declared.document_kind.DocumentKind.TheVariants.{Lock, Project}
 use Rattle.pyver_findings.specs.Reports.{demands_in}

@@ -23,9 +23,8 @@ use Rattle.pyver_requirements.specs.LineParts.{line_parts}
 use Rattle.toml.specs.Data.{Members}
 use Rattle.toml.specs.Parse.{parse_document}
 use Rattle.pyver_projects.specs.Comparing.{IsDocumentsReport, is_beside, is_locked, is_needed}
-use Rattle.pyver_projects.specs.Documents.{sources}
+use Rattle.pyver_projects.specs.Documents.{locked, sources}
 use Rattle.pyver_projects.specs.Groups.{groups}
-use Rattle.pyver_projects.specs.Locks.{locked}
 use Rattle.pyver_projects.specs.Meanings.{Document, IsSectionMeaning, IsStringReading, StringReading, package_line, requirement_line, string_line}
 use Rattle.pyver_projects.specs.ProjectStrings.{LockContents, LockedPackage, LockedRequirement, ProjectString, Section}
 use Rattle.pyver_projects.specs.Together.{has_group, holds_in, part_demands, section_part}

@@ -1,5 +1,10 @@
--- What documents have: strings that are to be requirements, lists of specifiers or versions, and locked packages.
-use Rattle.std.specs.Prelude.{ℕ, List, Option}
+-- What documents have: strings that are to be requirements, lists of specifiers or versions, and locked packages; and where they stand.
+use Rattle.std.specs.Prelude.{Bool, List, None, Option, Some, [], bytes_eq, count_by, if◌then◌else◌, length, nat_eq, nat_lt, not, take, true, ℕ, ◌&&◌, ◌++◌, ◌+◌, ◌==◌, ◌||◌, ◌∷◌, ◌≡◌}
+use Rattle.std.specs.List.{prefix_len, starts_with}
+use Rattle.std.specs.BTreeMap.{get_by}
+use Rattle.std.specs.Cmp.Lexicographic.{slice_cmp}
+use Rattle.std.specs.Ordering.{nat_cmp}
+use Rattle.pyver_projects.specs.declared.quoted_lines.QuotedLines.{QuotedLines}
 
 -- where a string stands in `pyproject.toml`: extras and groups by the normal forms of their names, and for the name of a group that another
 -- includes both; or, for the name of a group that is invalid, why it is
@@ -35,3 +40,65 @@ pub record LockedRequirement : Type 0 where
 pub record LockContents : Type 0 where
   pub packages : List LockedPackage
   pub requirements : List LockedRequirement
+
+-- a quote of TOML or JSON: `"` or `'`
+abbrev pub is_string_quote : ℕ → Bool
+is_string_quote b = b == 34 || b == 39
+
+-- how many bytes stand before the first like this
+abbrev pub others : ℕ → List ℕ → ℕ
+others quote text = prefix_len (λ b. not (b == quote)) text
+
+-- what stands before the next byte like this, if there is one
+abbrev pub before_next : ℕ → List ℕ → Option (List ℕ)
+before_next quote text = if nat_lt (others quote text) (length text) then Some (take (others quote text) text) else None
+
+-- the string between the quote that the text begins with and the next like it
+abbrev pub opened_string : List ℕ → Option (List ℕ)
+opened_string [] = None
+opened_string (b ∷ rest) = if is_string_quote b then before_next b rest else None
+
+-- the number, if this is the string, or what is found later
+abbrev pub number_or : List ℕ → ℕ → Option (List ℕ) → Option ℕ → Option ℕ
+number_or string number None later = later
+number_or string number (Some found) later = if bytes_eq found string then Some number else later
+
+-- the number of the line after this
+abbrev pub line_after : List ℕ → ℕ
+line_after before = count_by (λ b. b == 10) before + 1
+
+-- the number of the line of what follows this byte
+abbrev pub number_after : ℕ → ℕ → ℕ
+number_after number b = if b == 10 then number + 1 else number
+
+-- the number of the first line on which the string opens: of these bytes, the first of which is on the line with this number
+abbrev pub line_from : List ℕ → ℕ → List ℕ → Option ℕ
+line_from string number [] = None
+line_from string number (b ∷ rest) = number_or string number (opened_string (b ∷ rest)) (line_from string (number_after number b) rest)
+
+-- the number of the first line on which the string opens, between two quotes that have none like them between
+abbrev pub first_line : List ℕ → List ℕ → Option ℕ
+first_line text string = line_from string 1 text
+
+-- its number, or 1 if there is none
+abbrev pub number_or_one : Option ℕ → ℕ
+number_or_one None = 1
+number_or_one (Some number) = number
+
+-- the numbers of the lines that begin with the header: of these bytes, the first of which is on this line, at its start or not
+abbrev pub headers_from : List ℕ → Bool → ℕ → List ℕ → List ℕ
+headers_from header starts number [] = []
+headers_from header starts number (b ∷ rest) = (if starts && starts_with nat_eq (b ∷ rest) header then number ∷ [] else [])
+    ++ headers_from header (b == 10) (if b == 10 then number + 1 else number) rest
+
+-- the numbers of the lines of a document that begin with the header
+abbrev pub header_lines : List ℕ → List ℕ → List ℕ
+header_lines header text = headers_from header true 1 text
+
+-- the number that is kept for the string
+abbrev pub known_line : QuotedLines → List ℕ → Option ℕ
+known_line lines string = get_by (λ k. slice_cmp nat_cmp string k.now) lines.numbers
+
+-- each string has the number of its first line in the document
+abbrev pub HasQuotedLines : QuotedLines → Type 0
+HasQuotedLines lines = (string : List ℕ) → known_line lines string ≡ first_line lines.text.now string

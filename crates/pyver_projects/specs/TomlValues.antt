@@ -5,8 +5,7 @@ use Rattle.std.specs.List.{flat_map}
 use Rattle.pep440_version.specs.Changes.ChangeWords.{after}
 use Rattle.serde_json.specs.Data.{Data, Members, member, no_members}
 use Rattle.serde_json.specs.Find.{as_object, as_str, get}
-use Rattle.pyver_projects.specs.Places.{first_line, number_or_one}
-use Rattle.pyver_projects.specs.ProjectStrings.{LockedPackage}
+use Rattle.pyver_projects.specs.ProjectStrings.{LockedPackage, first_line, number_or_one}
 
 abbrev pub items_list : Items → List Data
 items_list no_items = []

@@ -1,6 +1,6 @@
 //! What documents are to the check.
 ghost use Rattle.std.specs.Prelude.{◌≡◌, IfOk};
-ghost use Rattle.pyver_projects.specs.Locks.{locked, toml_contents};
+ghost use Rattle.pyver_projects.specs.Documents.{locked, toml_contents};
 ghost use Rattle.pyver_projects.specs.Meanings.{IsBrokenReading, IsContentsReading, IsDocumentReading, IsLockReading, IsProjectReading, IsTextReading};
 ghost use Rattle.pyver_projects.specs.ProjectViews.{contents_of, document_of, document_reading_of};
 ghost use Rattle.pyver_projects.specs.declared.document_kind.DocumentKind.TheVariants as of_kind;

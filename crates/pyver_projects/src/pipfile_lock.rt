@@ -3,9 +3,9 @@ ghost use Rattle.std.specs.Prelude.{◌≡◌, ◌++◌, IfOk, codes, map, optio
 ghost use Rattle.std.specs.List.{flat_map};
 ghost use Rattle.pep440_version.specs.Changes.ChangeWords.{after};
 ghost use Rattle.pyver_projects.specs.TomlValues.{has_version, member_package, new_package, object_entries, object_entries_or_none, package_version, pinned_version, same_version, section_members};
-ghost use Rattle.pyver_projects.specs.Locks.{pipfile_contents};
+ghost use Rattle.pyver_projects.specs.Documents.{pipfile_contents};
 ghost use Rattle.pyver_projects.specs.ProjectViews.{contents_of, locked_of};
-ghost use Rattle.pyver_projects.specs.Places.{HasQuotedLines};
+ghost use Rattle.pyver_projects.specs.ProjectStrings.{HasQuotedLines};
 ghost use Rattle.serde_json.specs.Find.{as_object, as_str, get};
 ghost use Rattle.serde_json.specs.View.{members_view, view};
 

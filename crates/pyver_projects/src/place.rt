@@ -2,7 +2,7 @@
 ghost use Rattle.std.specs.Prelude.{◌≡◌, IfOk};
 ghost use Rattle.pyver_findings.specs.Views.{file_line_of};
 ghost use Rattle.pyver_projects.specs.Meanings.{IsBrokenReading, string_line};
-ghost use Rattle.pyver_projects.specs.Places.{header_lines, HasQuotedLines};
+ghost use Rattle.pyver_projects.specs.ProjectStrings.{header_lines, HasQuotedLines};
 ghost use Rattle.pyver_projects.specs.ProjectViews.{document_reading_of, project_string_of};
 
 use crate::document_reading::DocumentReading;

@@ -3,7 +3,7 @@ ghost use Rattle.std.specs.Prelude.{◌≡◌, ◌≤◌, ◌==◌, ◌||◌, If
 ghost use Rattle.std.specs.BTreeMap.{get_by};
 ghost use Rattle.std.specs.Cmp.Lexicographic.{slice_cmp};
 ghost use Rattle.std.specs.Ordering.{nat_cmp};
-ghost use Rattle.pyver_projects.specs.Places.{before_next, first_line, is_string_quote, line_after, number_or, number_or_one, opened_string, others, HasQuotedLines, known_line};
+ghost use Rattle.pyver_projects.specs.ProjectStrings.{before_next, first_line, is_string_quote, line_after, number_or, number_or_one, opened_string, others, HasQuotedLines, known_line};
 
 use std::alloc::{AllocError, Global};
 use std::collections::BTreeMap;

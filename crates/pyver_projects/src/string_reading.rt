@@ -11,7 +11,7 @@ ghost use Rattle.pyver_projects.specs.Groups.{include_meaning, no_group};
 ghost use Rattle.pyver_projects.specs.Meanings.{IsSectionMeaning, IsStringReading, IsVersionMeaning};
 ghost use Rattle.pyver_projects.specs.NameMaps.{HasGroups, groups_of};
 ghost use Rattle.pyver_projects.specs.ProjectViews.{project_string_of, section_of, string_reading_of};
-ghost use Rattle.pyver_projects.specs.Places.{HasQuotedLines};
+ghost use Rattle.pyver_projects.specs.ProjectStrings.{HasQuotedLines};
 
 use crate::groups::Groups;
 use crate::place::string_line;

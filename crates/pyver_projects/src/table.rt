@@ -34,7 +34,7 @@ fn array(value: Option<&Value>) -> Option<&Array>
 }
 
 // The items, if there is an array.
-#[tactic(auto, using(crate::proofs::Steps::items_list_of))]
+#[tactic(auto, using(crate::proofs::Walks::items_list_of))]
 pub(crate) fn items(value: Option<&Value>) -> &[Value]
     ensures { map view result.now ≡ listed (option_map (λ v. view v.now) value.entry) }
 {

@@ -1,7 +1,7 @@
 //! What a TOML lock has.
 ghost use Rattle.std.specs.Prelude.{◌≡◌, ◌++◌, IfOk, get_or, map, option_map};
 ghost use Rattle.pyver_projects.specs.Documents.{contents, numbered_tables, package_from, package_in, table_contents};
-ghost use Rattle.pyver_projects.specs.Places.{header_lines};
+ghost use Rattle.pyver_projects.specs.ProjectStrings.{header_lines};
 ghost use Rattle.pyver_projects.specs.ProjectViews.{contents_of, locked_of};
 ghost use Rattle.toml.specs.View.{table_view, view};
 

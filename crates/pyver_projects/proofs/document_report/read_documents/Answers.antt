@@ -1,8 +1,7 @@
 use Rattle.std.proofs.Common.{refl}
 use Rattle.pyver_projects.specs.Meanings.{IsDocumentReading}
 use Rattle.pyver_projects.specs.ProjectViews.{document_of, reading_in}
-use Rattle.pyver_projects.proofs.Steps.{alike_more, read_more}
-use Rattle.pyver_projects.proofs.Walks.{paired}
+use Rattle.pyver_projects.proofs.Walks.{alike_more, paired, read_more}
 use Rattle.pyver_projects.proofs.document_report.read_documents.Goals as goal
 
 pub loop-document-preserved : goal.loop-document-preserved

@@ -1,6 +1,6 @@
 use Rattle.pyver_projects.specs.Meanings.{IsLockedReading}
 use Rattle.pyver_projects.specs.ProjectViews.{locked_of, locked_reading_of}
-use Rattle.pyver_projects.proofs.Steps.{read_all, read_more}
+use Rattle.pyver_projects.proofs.Walks.{read_all, read_more}
 use Rattle.pyver_projects.proofs.locked_reading.read_packages.Goals as goal
 
 pub loop-locked-preserved : goal.loop-locked-preserved

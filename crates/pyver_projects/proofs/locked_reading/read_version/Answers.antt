@@ -6,7 +6,7 @@ use Rattle.pep440_version.specs.Grammar.{Derives}
 use Rattle.pep440_version.specs.Record.{Record}
 use Rattle.pyver_findings.specs.FileLines.{NoRequirement}
 use Rattle.pyver_findings.specs.Views.{file_line_of}
-use Rattle.pyver_projects.proofs.Steps.{version_read}
+use Rattle.pyver_projects.proofs.Walks.{version_read}
 use Rattle.pyver_projects.specs.ProjectViews.{locked_reading_of}
 use Rattle.pyver_projects.proofs.locked_reading.read_version.Goals as goal
 

@@ -7,7 +7,7 @@ use Rattle.pep440_pick.specs.Names.{normal}
 use Rattle.pyver_findings.specs.FileLines.{NoRequirement}
 use Rattle.pyver_findings.specs.Views.{file_line_of}
 use Rattle.pyver_projects.specs.ProjectViews.{locked_reading_of}
-use Rattle.pyver_projects.proofs.Steps.{refusal, version_reason_is}
+use Rattle.pyver_projects.proofs.Walks.{refusal, version_reason_is}
 use Rattle.pyver_projects.proofs.locked_reading.reject_version.Goals as goal
 
 pub returns : goal.returns

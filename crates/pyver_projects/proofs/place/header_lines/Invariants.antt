@@ -1,5 +1,5 @@
 use Rattle.std.proofs.Common.{◌≡◌, ◌++◌, ◌≤◌, ◌+◌, drop}
-use Rattle.pyver_projects.specs.Places.{header_lines, headers_from}
+use Rattle.pyver_projects.specs.ProjectStrings.{header_lines, headers_from}
 use Rattle.pyver_projects.proofs.place.header_lines.Given as goal
 
 abbrev pub invariant-loop-at : goal.invariant-loop-at

@@ -1,5 +1,5 @@
 use Rattle.std.proofs.Common.{◌==◌, ◌∙◌, sym, ap}
-use Rattle.pyver_projects.proofs.Steps.{members_length}
+use Rattle.pyver_projects.proofs.Walks.{members_length}
 use Rattle.pyver_projects.proofs.project.has_one_key.Goals as goal
 
 pub returns : goal.returns

@@ -1,7 +1,7 @@
 use Rattle.std.proofs.Common.{◌≡◌, ◌∙◌, false, refl, sym}
 use Rattle.pep440_rs.specs.Lists.ListResults.{list_kind_of}
 use Rattle.pep440_rs.specs.Lists.ListErrors.{lacks_list_memory}
-use Rattle.pyver_projects.proofs.Steps.{list_reason}
+use Rattle.pyver_projects.proofs.Walks.{list_reason}
 use Rattle.pyver_projects.proofs.requirement_reading.leave_out.Goals as goal
 
 pub returns : goal.returns

@@ -9,7 +9,7 @@ use Rattle.pyver_findings.specs.Views.{line_meaning_of}
 use Rattle.pyver_findings.specs.declared.cause.Cause.TheVariants as cause
 use Rattle.pyver_projects.specs.Meanings.{requirement_line}
 use Rattle.pyver_projects.specs.ProjectViews.{requirement_of}
-use Rattle.pyver_projects.proofs.Steps.{list_read}
+use Rattle.pyver_projects.proofs.Walks.{list_read}
 use Rattle.pyver_projects.proofs.requirement_reading.read_requirement.Goals as goal
 
 pub returns-in-Err : goal.returns-in-Err

@@ -1,7 +1,7 @@
 use Rattle.pyver_findings.specs.Views.{line_meaning_of}
 use Rattle.pyver_projects.specs.Meanings.{IsRequirementReading}
 use Rattle.pyver_projects.specs.ProjectViews.{requirement_of}
-use Rattle.pyver_projects.proofs.Steps.{read_all, read_more}
+use Rattle.pyver_projects.proofs.Walks.{read_all, read_more}
 use Rattle.pyver_projects.proofs.requirement_reading.read_requirements.Goals as goal
 
 pub loop-requirement-preserved : goal.loop-requirement-preserved

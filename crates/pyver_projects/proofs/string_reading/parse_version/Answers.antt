@@ -6,7 +6,7 @@ use Rattle.pep440_version.specs.Record.{Record}
 use Rattle.pyver_findings.specs.FileLines.{NoRequirement}
 use Rattle.pyver_findings.specs.LineMeanings.{AsksNothing, IsNone}
 use Rattle.pyver_findings.specs.Views.{file_line_of, line_meaning_of}
-use Rattle.pyver_projects.proofs.Steps.{version_read}
+use Rattle.pyver_projects.proofs.Walks.{version_read}
 use Rattle.pyver_projects.proofs.string_reading.parse_version.Goals as goal
 
 pub returns : goal.returns

@@ -1,7 +1,7 @@
 use Rattle.pyver_projects.specs.Meanings.{IsStringReading}
 use Rattle.pyver_projects.specs.NameMaps.{groups_of}
 use Rattle.pyver_projects.specs.ProjectViews.{project_string_of, string_reading_of}
-use Rattle.pyver_projects.proofs.Steps.{read_all, read_more}
+use Rattle.pyver_projects.proofs.Walks.{read_all, read_more}
 use Rattle.pyver_projects.proofs.string_reading.read_strings.Goals as goal
 
 pub loop-string-preserved : goal.loop-string-preserved

@@ -6,7 +6,7 @@ use Rattle.pep440_version.specs.Rejections.{Rejection}
 use Rattle.pyver_findings.specs.FileLines.{NoRequirement}
 use Rattle.pyver_findings.specs.LineMeanings.{IsNone}
 use Rattle.pyver_findings.specs.Views.{file_line_of, line_meaning_of}
-use Rattle.pyver_projects.proofs.Steps.{refusal, version_reason_is}
+use Rattle.pyver_projects.proofs.Walks.{refusal, version_reason_is}
 use Rattle.pyver_projects.proofs.string_reading.reject_version.Goals as goal
 
 pub returns : goal.returns
