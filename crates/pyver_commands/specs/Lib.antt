@@ -1,4 +1,3 @@
-pub mod Messages
 pub mod Outcomes
 pub mod Readings
 pub mod Comparisons
@@ -6,7 +5,6 @@ pub mod Matches
 pub mod Parts
 pub mod JsonObjects
 pub mod Shows
-pub mod RangeObjects
 pub mod CommonRanges
 pub mod MarkerExtents
 pub mod Bumps

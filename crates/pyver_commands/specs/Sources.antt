@@ -13,8 +13,7 @@ use Rattle.std.specs.Io.KnownBytes.{Consumes, IsAtEnd}
 use Rattle.cli_io.specs.Newlines.{input_lines}
 use Rattle.cli_io.specs.Runs.{Outcome}
 use Rattle.pyver_commands.specs.Sources.InputLines.{Origin, Source}
-use Rattle.pyver_commands.specs.Messages.{file_message}
-use Rattle.pyver_commands.specs.Outcomes.{message_outcome}
+use Rattle.pyver_commands.specs.Outcomes.{file_message, message_outcome}
 use Rattle.pyver_commands.specs.declared.sources.open_failure.OpenFailure.{OpenFailure}
 use Rattle.pyver_commands.specs.declared.sources.open_failure.OpenFailure.TheVariants as failure
 

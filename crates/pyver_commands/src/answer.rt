@@ -1,7 +1,6 @@
 //! What the program writes on standard output and on standard error, and its status.
 ghost use Rattle.std.specs.Prelude.{◌≡◌, ◌≤◌, ◌++◌, IfOk};
-ghost use Rattle.pyver_commands.specs.Messages.{fault_message};
-ghost use Rattle.pyver_commands.specs.Outcomes.{fault, followed_by, silent};
+ghost use Rattle.pyver_commands.specs.Outcomes.{fault, fault_message, followed_by, silent};
 ghost use Rattle.pyver_commands.specs.Readings.{reading_fault};
 
 use crate::reading::Reading;

@@ -2,8 +2,7 @@
 ghost use Rattle.std.specs.Prelude.{◌≡◌, ◌++◌, [], IfOk, map, string_bytes};
 ghost use Rattle.pep440_rs.specs.Bounds.{alone};
 ghost use Rattle.pyver_commands.specs.AnswerViews.{outcome_of};
-ghost use Rattle.pyver_commands.specs.CommonRanges.{ArrangesAll, FindsCommon, PrintsLists, length_cmp, lines_outcome, named_outcome, none_outcome, set_outcome, set_text, named_version_text};
-ghost use Rattle.pyver_commands.specs.RangeObjects.{json_segments};
+ghost use Rattle.pyver_commands.specs.CommonRanges.{ArrangesAll, FindsCommon, ListReading, PrintsLists, ReadsMembers, json_segments, length_cmp, lines_outcome, named_outcome, named_version_text, none_outcome, set_outcome, set_text};
 
 use crate::answer::Answer;
 use crate::range_json::push_segments;
@@ -25,8 +24,6 @@ struct CommonLists {
 }
 
 impl CommonLists {
-    ghost use Rattle.pyver_commands.specs.CommonRanges.{ListReading, ReadsMembers};
-
     // What is known after one word more.
     fn push_word(&mut self, alloc: Global, word: &str) -> Result<(), AllocError>
         ensures { IfOk result (λ _. (x : ListReading) × ReadsMembers word.now x

@@ -1,7 +1,7 @@
 //! The segments of a range as JSON.
 ghost use Rattle.std.specs.Prelude.{◌≡◌, ◌++◌, IfOk};
 ghost use Rattle.std.specs.List.{flat_map};
-ghost use Rattle.pyver_commands.specs.RangeObjects.{json_bound, json_high, json_low, json_segment, json_segments, json_truth, next_segment};
+ghost use Rattle.pyver_commands.specs.CommonRanges.{json_bound, json_high, json_low, json_segment, json_segments, json_truth, next_segment};
 
 use crate::version_json::{push_quoted, push_text};
 use pep440_rs::{Ranges, Segments, Version};

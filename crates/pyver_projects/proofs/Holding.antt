@@ -68,13 +68,13 @@ module _ (line : FileLine) (p : LineParts) (a : Demand) where
     by_read (Ok m) read e = by_url (Some m) (λ none. cc none) read p.url refl e
     by_read (Err f) read e = cc e
 
-    by_marker : (m : Option (List ℕ)) → p.marker ≡ m → Asks a ≡ with_marker line p n m → AsksFor line p a
-    by_marker None is e = by_url None (λ _. is) (ap (option_map read_marker) is) p.url refl e
-    by_marker (Some written) is e = by_read (read_marker written) (ap (option_map read_marker) is) e
+    by_its_marker : (m : Option (List ℕ)) → p.marker ≡ m → Asks a ≡ with_marker line p n m → AsksFor line p a
+    by_its_marker None is e = by_url None (λ _. is) (ap (option_map read_marker) is) p.url refl e
+    by_its_marker (Some written) is e = by_read (read_marker written) (ap (option_map read_marker) is) e
 
   of_parts : IsPartsMeaning line p (Asks a) → AsksFor line p a
   of_parts (inl (none, e)) = cc e
-  of_parts (inr (text, inl (n, d, e))) = by_marker n text d p.marker refl e
+  of_parts (inr (text, inl (n, d, e))) = by_its_marker n text d p.marker refl e
   of_parts (inr (text, inr (f, r, e))) = cc e
 
 -- the name of an included group asks for nothing
@@ -108,14 +108,14 @@ module _ (line : FileLine) (n : Needed) (plain : IsPlain (line_parts line.text).
       ap (λ (m : Option (List ℕ)). with_marker line (line_parts line.text) n m) marker ∙ ap (λ (u : Option (List ℕ)). with_url line (line_parts line.text) n None u) url in
       inr (plain, inl (n, d, sym same))
 
-  of_requirement : (x : LineMeaning) → IsPartsMeaning line (line_parts line.text) x → x ≡ Asks (line_demand line None n)
-  of_requirement x is = one_parts line (line_parts line.text) x (Asks (line_demand line None n)) is means
+  of_its_requirement : (x : LineMeaning) → IsPartsMeaning line (line_parts line.text) x → x ≡ Asks (line_demand line None n)
+  of_its_requirement x is = one_parts line (line_parts line.text) x (Asks (line_demand line None n)) is means
 
   -- a requirement without a marker and a URL asks for it
   pub asks_always : (all : Groups) (text : List ℕ) (section : Section) (x : LineMeaning) → is_locked section ≡ true → IsSectionMeaning all section line text x → x ≡ Asks (line_demand line None n)
-  asks_always all text Dependencies x counts is = of_requirement x is
-  asks_always all text (Extra name) x counts is = of_requirement x is
-  asks_always all text (Group name) x counts is = of_requirement x is
+  asks_always all text Dependencies x counts is = of_its_requirement x is
+  asks_always all text (Extra name) x counts is = of_its_requirement x is
+  asks_always all text (Group name) x counts is = of_its_requirement x is
   asks_always all text (Include group included) x counts is = cc counts
   asks_always all text (Invalid reason) x counts is = cc counts
   asks_always all text Build x counts is = cc counts
@@ -125,11 +125,11 @@ module _ (line : FileLine) (n : Needed) (plain : IsPlain (line_parts line.text).
 -- ---- requirements that hold together
 
 -- what a string asks for, its line asks for
-asked : (read : List FileLine) (line : FileLine) (a : Demand) → Contains read line → AsksFor line (line_parts line.text) a → IsAsked line_parts read a
-asked read line a known k = subst (λ (b : Demand). IsAsked line_parts read b) (sym k.is) (known, (k.needed, k.derives, refl, refl, refl), k.has)
+asked_in_line : (read : List FileLine) (line : FileLine) (a : Demand) → Contains read line → AsksFor line (line_parts line.text) a → IsAsked line_parts read a
+asked_in_line read line a known k = subst (λ (b : Demand). IsAsked line_parts read b) (sym k.is) (known, (k.needed, k.derives, refl, refl, refl), k.has)
 
 asked_of : (all : Groups) (read : List FileLine) (line : FileLine) (text : List ℕ) (section : Section) (m : LineMeaning) → Contains read line → IsSectionMeaning all section line text m → All (IsAsked line_parts read) (demands_in m)
-asked_of all read line text section (Asks a) known is = All-cons (IsAsked line_parts read) a [] (asked read line a known (of_section all line text a section is)) (All-nil (IsAsked line_parts read))
+asked_of all read line text section (Asks a) known is = All-cons (IsAsked line_parts read) a [] (asked_in_line read line a known (of_section all line text a section is)) (All-nil (IsAsked line_parts read))
 asked_of all read line text section (IsNone f) known is = All-nil (IsAsked line_parts read)
 asked_of all read line text section (LeftOut c) known is = All-nil (IsAsked line_parts read)
 asked_of all read line text section AsksNothing known is = All-nil (IsAsked line_parts read)
@@ -188,14 +188,14 @@ module _ (all : Groups) (file : File) (has : List ℕ → Bool) (part : Section)
   abbrev pub IsKnown : ProjectString → Type 0
   IsKnown s = All (Contains read) (line_in_part has part file s)
 
-  of_string : (s : ProjectString) (x : StringReading) (b : Bool) → holds_in has part s.section ≡ b → IsKnown s → IsStringReading all file s x → All (IsAsked line_parts read) (if b then demands_in x.meaning else [])
-  of_string s x true e known (same, is) = asked_of all read (string_line file s) s.text s.section x.meaning (of_one (Contains read) (holds_in has part s.section) (string_line file s) e known) is
-  of_string s x false e known r = All-nil (IsAsked line_parts read)
+  of_part_string : (s : ProjectString) (x : StringReading) (b : Bool) → holds_in has part s.section ≡ b → IsKnown s → IsStringReading all file s x → All (IsAsked line_parts read) (if b then demands_in x.meaning else [])
+  of_part_string s x true e known (same, is) = asked_of all read (string_line file s) s.text s.section x.meaning (of_one (Contains read) (holds_in has part s.section) (string_line file s) e known) is
+  of_part_string s x false e known r = All-nil (IsAsked line_parts read)
 
   one_string : (s : ProjectString) (x : StringReading) → IsKnown s → IsStringReading all file s x → All (IsAsked line_parts read) (demand_in_part has part x)
   one_string s x known r =
       subst (λ (section : Section). All (IsAsked line_parts read) (if holds_in has part section then demands_in x.meaning else [])) (sym r.0)
-      (of_string s x (holds_in has part s.section) refl known r)
+      (of_part_string s x (holds_in has part s.section) refl known r)
 
   in_part : (ss : List ProjectString) (xs : List StringReading) → All IsKnown ss → AllZip (IsStringReading all file) ss xs → All (IsAsked line_parts read) (flat_map (demand_in_part has part) xs)
   in_part ss xs known h = all_flat (IsAsked line_parts read) (demand_in_part has part) xs (zip_each (IsStringReading all file) IsKnown (λ x. All (IsAsked line_parts read) (demand_in_part has part x)) one_string ss xs known h)
@@ -243,8 +243,9 @@ module _ (P : Finding → Type 0) (file : File) (t : Members) (so : (part : Sect
 known_each : {X : Type 0} (Q : Finding → Type 0) (P : X → List Finding → List Cause → Type 0) (xs : List X) → All (λ x. (fs : List Finding) (cs : List Cause) → P x fs cs → All Q fs) xs → (fs : List Finding) (cs : List Cause) → FindsOfEach P xs fs cs → All Q fs
 known_each Q P [] k fs cs (is, also) = subst (All Q) (sym is) (All-nil Q)
 known_each Q P (x ∷ xs) k fs cs (f, g, c, d, here, later, is, also) =
-    let Each = λ y. (gs : List Finding) (ds : List Cause) → P y gs ds → All Q gs in
-    subst (All Q) (sym is) (All-append Q f g (All-head Each x xs k f c here) (known_each Q P xs (All-tail Each x xs k) g d later))
+    subst (All Q) (sym is)
+    (All-append Q f g (All-head (λ y. (gs : List Finding) (ds : List Cause) → P y gs ds → All Q gs) x xs k f c here)
+    (known_each Q P xs (All-tail (λ y. (gs : List Finding) (ds : List Cause) → P y gs ds → All Q gs) x xs k) g d later))
 
 module _ (documents : List Document) where
   abbrev pub Right : Finding → Type 0
@@ -505,9 +506,9 @@ module _ (documents : List Document) where
 
   reading_pairs : (kind : DocumentKind) (file : File) (x : DocumentReading) → Contains documents (record { kind = kind; file = file }) → IsDocumentReading (record { kind = kind; file = file }) x → (fs : List Finding) (cs : List Cause)
       → FindsOfReading x fs cs → All (IsDocumentFinding documents) fs
-  reading_pairs kind file x known (inl (none, broken)) = broken_pairs file x broken
-  reading_pairs Project file x known (inr (text, inr (none, broken))) = broken_pairs file x broken
-  reading_pairs (Lock kind) file x known (inr (text, inr (none, broken))) = broken_pairs file x broken
+  reading_pairs kind file x known (inl (none, broken)) fs cs finds = broken_pairs file x broken fs cs finds
+  reading_pairs Project file x known (inr (text, inr (none, broken))) fs cs finds = broken_pairs file x broken fs cs finds
+  reading_pairs (Lock kind) file x known (inr (text, inr (none, broken))) fs cs finds = broken_pairs file x broken fs cs finds
   reading_pairs (Lock kind) file x known (inr (text, inl (t, e, (ys, ms, g, h, is)))) fs cs finds = none_found fs (subst (λ (z : DocumentReading). FindsOfReading z fs cs) is finds).0
   reading_pairs Project file x known (inr (text, inl (t, e, (xs, h, is)))) fs cs finds =
       pairs_hold (IsDocumentFinding documents) file t

@@ -280,10 +280,14 @@ no_names lines k = nothing_each (of_name_of lines) (λ a. no_name (filter (has_s
 pub no_parts : (xs : List StringReading) → list_any is_marked (all_demands xs) ≡ false → FindsOfParts xs [] []
 no_parts xs none =
     let all = all_demands xs in
-    let unmarked = all_unmarked all none in
-    let each = λ part. no_names (part_demands (inclusions (sections xs)) part xs)
-    (All-weaker (Contains all) Unmarked (λ a is. All-contains Unmarked all a unmarked is) (part_demands (inclusions (sections xs)) part xs) (part_known (inclusions (sections xs)) part xs)) in
-    ([], nothing_each (FindsOfPart xs) each (parts xs), refl)
+    let unmarked = all_unmarked all none in (
+      [],
+      nothing_each (FindsOfPart xs)
+          (λ part. no_names (part_demands (inclusions (sections xs)) part xs)
+          (All-weaker (Contains all) Unmarked (λ a is. All-contains Unmarked all a unmarked is) (part_demands (inclusions (sections xs)) part xs) (part_known (inclusions (sections xs)) part xs)))
+          (parts xs),
+      refl,
+    )
 
 -- ---- findings, each once
 

@@ -181,3 +181,9 @@ pub version_read : {Y E : Type 0} (r : Result Y E) (o : Option Rejection) (text 
     → IfOk r (λ y. A y ⊎ ((f : Rejection) × Rejects text f × Q f y))
 version_read (Ok y) o text A Q refuses (f, some, q) = inr (f, subst (λ (p : Option Rejection). IfSome p (Rejects text)) some refuses, q)
 version_read (Err e) o text A Q refuses h = tt
+
+-- what holds of what is made of each element holds at one
+pub sound_at : {X Y : Type 0} (f : Y → X) (P : X → Type 0) (xs : List Y) (i : ℕ) (x : Y) → i < length xs → x ≡ get_or xs i x → All P (map f xs) → P (f x)
+sound_at f P [] i x inside is k = absurd (omega arith)
+sound_at f P (y ∷ xs) zero x inside is k = subst P (ap f (sym is)) (All-head P (f y) (map f xs) k)
+sound_at f P (y ∷ xs) (suc i) x inside is k = sound_at f P xs i x (omega arith) is (All-tail P (f y) (map f xs) k)

@@ -5,12 +5,13 @@ use Rattle.pep440_pick.specs.Names.{is_name, normal}
 use Rattle.toml.specs.Data.{Data, Members, as_str, get, get_member}
 use Rattle.pyver_projects.specs.PackageRequirements.{requirements_from}
 use Rattle.pyver_projects.specs.ProjectStrings.{Build, Dependencies, Extra, Group, Include, Invalid, LockContents, LockedPackage, ProjectString, Python, Section, Version, header_lines}
-use Rattle.pyver_projects.specs.TomlValues.{entries, inside, is_array_or_none, is_table_or_none, listed, member_packages, text_in}
+use Rattle.pyver_projects.specs.TomlValues.{entries, inside, is_array_or_none, is_table_or_none, listed, text_in}
+use Rattle.pyver_projects.specs.PipfileLocks.{member_packages}
 use Rattle.pyver_findings.specs.NamedFiles.{folder}
 use Rattle.pyver_projects.specs.declared.document_kind.DocumentKind.{DocumentKind}
 use Rattle.pyver_projects.specs.declared.document_kind.DocumentKind.TheVariants.{Lock, Project}
 use Rattle.pyver_projects.specs.declared.document_kind.LockKind.TheVariants.{Pipfile, Poetry, Pylock, Unknown, Uv}
-use Rattle.serde_json.specs.Data.{Data}
+use Rattle.serde_json.specs.Data.{Data as JsonData}
 use Rattle.serde_json.specs.Read.{read}
 use Rattle.toml.specs.Parse.{parse_document}
 use Rattle.pyver_projects.specs.declared.document_kind.LockKind.{LockKind}
@@ -210,7 +211,7 @@ abbrev pub toml_contents : List ℕ → List ℕ → List ℕ → Option LockCon
 toml_contents key header text = option_map (contents (header_lines header text) key) (parse_document text)
 
 -- what `Pipfile.lock` has: only packages
-abbrev pub pipfile_contents : List ℕ → Data → LockContents
+abbrev pub pipfile_contents : List ℕ → JsonData → LockContents
 pipfile_contents text document = record { packages = member_packages text document; requirements = [] }
 
 -- what a lock with this text has, if it is TOML, or JSON, of a known format

@@ -1,5 +1,6 @@
 pub mod ProjectStrings
 pub mod TomlValues
+pub mod PipfileLocks
 pub mod PackageRequirements
 pub mod Documents
 pub mod Groups

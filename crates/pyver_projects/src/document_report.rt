@@ -179,11 +179,15 @@ fn push_reading_pairs(
     requires { IsSoundDocument (document_reading_of reading.now) }
     ensures { IfOk result (λ _. AddsFound (FindsOfReading (document_reading_of reading.now)) findings.old.items findings.new.items left_out.old.items left_out.new.items) }
 {
-    if let DocumentReading::Project(strings) = reading {
-        let mut pairs = project_pairs(alloc, left_out, strings.as_slice())?;
-        findings.append(&mut pairs)?;
+    match reading {
+        DocumentReading::Project(strings) => {
+            let mut pairs = project_pairs(alloc, left_out, strings.as_slice())?;
+            findings.append(&mut pairs)?;
+            Ok(())
+        }
+        DocumentReading::Lock(_, _) => Ok(()),
+        DocumentReading::Broken(_) => Ok(()),
     }
-    Ok(())
 }
 
 // The same of each document.

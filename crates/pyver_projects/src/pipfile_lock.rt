@@ -2,7 +2,7 @@
 ghost use Rattle.std.specs.Prelude.{◌≡◌, ◌++◌, IfOk, codes, map, option_and_then, option_copied, option_map, string_bytes};
 ghost use Rattle.std.specs.List.{flat_map};
 ghost use Rattle.pep440_version.specs.Changes.ChangeWords.{after};
-ghost use Rattle.pyver_projects.specs.TomlValues.{has_version, member_package, new_package, object_entries, object_entries_or_none, package_version, pinned_version, same_version, section_members};
+ghost use Rattle.pyver_projects.specs.PipfileLocks.{has_version, member_package, new_package, object_entries, object_entries_or_none, package_version, pinned_version, same_version, section_members};
 ghost use Rattle.pyver_projects.specs.Documents.{pipfile_contents};
 ghost use Rattle.pyver_projects.specs.ProjectViews.{contents_of, locked_of};
 ghost use Rattle.pyver_projects.specs.ProjectStrings.{HasQuotedLines};

@@ -12,9 +12,8 @@ use Rattle.pyver_commands.specs.Sources.RunFailures.{FailsWithoutOutcome, IsWrit
 use Rattle.pyver_commands.specs.Sources.{FailsReading, FindsOutput, Input, IsOutcomeOfSources, KnownFile, ReadsInput, ReadsWhole, input_name, no_input, output_outcome, source_names}
 use Rattle.pyver_commands.specs.WholeInputs.{IsOutcomeOfInput}
 use Rattle.pyver_tool.specs.Checks.{CheckResult, Checks, ChecksGroup, ChecksGroups, FailsInCheck, FailsInGroup, FailsInGroups, summary, together_note}
-use Rattle.pyver_tool.specs.Runs.{EndsBy, FailsEarly, FailsInStream, FinishesTask, MayFailBy, TaskEnds}
+use Rattle.pyver_tool.specs.TaskViews.{AnswerEnds, EndsBy, FailsEarly, FailsInStream, FinishesTask, IsFailureOf, IsOutcomeOf, MayFailBy, TaskEnds}
 use Rattle.pyver_tool.specs.Tasks.{Check, IsOutcome, IsStream, NeedsInput, Task, names_of}
-use Rattle.pyver_tool.specs.TaskViews.{AnswerEnds, IsFailureOf, IsOutcomeOf}
 use Rattle.pyver_tool.specs.declared.check.CheckOptions.{CheckOptions}
 use Rattle.pyver_commands.specs.declared.answer.Answer.{Answer}
 use Rattle.pyver_commands.specs.declared.filter.FilterRule.{FilterRule}

@@ -1,4 +1,3 @@
-pub mod MisuseMessages
 pub mod Options
 pub mod SplitWords
 pub mod Settings
@@ -6,4 +5,3 @@ pub mod Tasks
 pub mod TaskViews
 pub mod RequirementFiles
 pub mod Checks
-pub mod Runs

@@ -1,27 +1,27 @@
 -- What the program's commands say, and what they have to do once the words are read, apart from where they lie in memory.
-use Rattle.std.specs.Prelude.{Bool, Err, List, Ok, Option, Result, [], map, option_map, string_bytes, ℕ, ◌≡◌}
-use Rattle.pyver_tool.specs.MisuseMessages.{version_last_message}
+use Rattle.std.specs.Prelude.{Bool, Err, List, None, Ok, Option, Result, Some, [], map, option_map, string_bytes, ℕ, ◌≡◌, ◌⊎◌}
+use Rattle.pyver_tool.specs.SplitWords.{Awaits, End, Given, Missing, Named, Split, Unknown, UnknownWord, Whole, version_last_message}
 use Rattle.pyver_tool.specs.Tasks.{Check, Compare, Filter, Help, IsOutcome, IsStream, Marker, Match, Misused, NameVersion, NeedsInput, Newest, Range, Show, Sort, Task, bump_from_words, by_split, help_text, names_of, wrong_command, wrong_count, wrong_end, wrong_operator, wrong_option, wrong_part, wrong_value}
 use Rattle.pyver_tool.specs.declared.command.Command.{Command}
 use Rattle.pyver_tool.specs.declared.words.Words.{Words}
 use Rattle.pyver_tool.specs.declared.misuse.Misuse.{Misuse}
-use Rattle.pyver_tool.specs.Checks.{CheckResult}
+use Rattle.pyver_tool.specs.Checks.{CheckResult, Checks, FailsInCheck}
 use Rattle.pyver_tool.specs.RequirementFiles.{unopened_file_of}
 use Rattle.pyver_tool.specs.declared.check.CheckResult.{CheckResult as CheckResultValue}
 use Rattle.pyver_findings.specs.Views.{report_of}
 use Rattle.pyver_tool.specs.Options.{row_of}
-use Rattle.pyver_tool.specs.SplitWords.{Awaits, End, Given, Missing, Named, Split, Unknown, UnknownWord, Whole}
 use Rattle.pyver_tool.specs.declared.split_words.Split.{Split as WordSplit}
 use Rattle.pyver_tool.specs.declared.split_words.WordEnd.{WordEnd}
 use Rattle.pyver_commands.specs.AnswerViews.{outcome_of}
 use Rattle.pyver_commands.specs.Filters.{Filters}
-use Rattle.cli_io.specs.Runs.{Outcome}
-use Rattle.pyver_commands.specs.Sources.{Input, source_names}
+use Rattle.cli_io.specs.Runs.{AtOnce, Ends, InParts, Nothing, Outcome, OutputProgress}
+use Rattle.pyver_commands.specs.Sources.{FindsOutput, Input, KnownFile, ReadsInput, output_outcome, source_names}
 use Rattle.pyver_commands.specs.WholeInputs.{IsOutcomeOfInput}
 use Rattle.pyver_commands.specs.declared.answer.Answer.{Answer}
 use Rattle.pyver_commands.specs.declared.sources.stream.RunFailure.{RunFailure}
-use Rattle.pyver_tool.specs.Runs.{EndsBy}
 use Rattle.pyver_tool.specs.declared.command.Work.{Work}
+use Rattle.pyver_commands.specs.Sources.RunFailures.{FailsWithin, FailsWithoutOutcome, IsWriteFailure, Reports}
+use Rattle.pyver_tool.specs.declared.check.CheckOptions.{CheckOptions}
 use Rattle.pyver_tool.specs.declared.command.Command.TheVariants as command
 use Rattle.pyver_tool.specs.declared.words.Words.TheVariants as words
 use Rattle.pyver_tool.specs.declared.help.Topic.TheVariants as topic
@@ -29,6 +29,44 @@ use Rattle.pyver_tool.specs.declared.misuse.Misuse.TheVariants as misuse
 use Rattle.pyver_tool.specs.declared.split_words.Split.TheVariants as split
 use Rattle.pyver_tool.specs.declared.split_words.WordEnd.TheVariants as end
 use Rattle.pyver_tool.specs.declared.command.Work.TheVariants as work
+use Rattle.pyver_commands.specs.declared.sources.stream.RunFailure.TheVariants as run_failure
+
+module _ (Finishes : Outcome → Type 0) (Early : RunFailure → Type 0) (Within : Outcome → RunFailure → Type 0) where
+  -- a run may stop before there is an outcome, where a write of an outcome failed, or within the input of an outcome
+  abbrev pub MayFailBy : OutputProgress → ℕ → List ℕ → Type 0
+  MayFailBy Nothing status message = (why : RunFailure) × Early why × Reports why status message
+  MayFailBy (AtOnce o) status message = Finishes o × IsWriteFailure status message
+  MayFailBy (InParts o) status message = (why : RunFailure) × Within o why × Reports why status message
+
+  -- a run finishes with such an outcome, or stops so
+  abbrev pub EndsBy : {W E : Type 0} → (W → Option (List ℕ)) → (E → Option (List ℕ)) → W → W → E → E → ℕ → Type 0
+  EndsBy contents error_contents out out' err err' status = Ends contents error_contents Finishes MayFailBy out out' err err' status
+
+module _ {R : Type 0} (files : List ℕ → KnownFile) (paths : List ℕ → Option (List ℕ)) (outputs : List ℕ → Option Bool) (remaining : R → Option (List ℕ)) (task : Task) (reader reader' : R) where
+  -- this source of a command that prints lines before all are read is also the output, or none is
+  abbrev pub Meets : Option (List ℕ) → Type 0
+  Meets found = IsStream task → FindsOutput outputs (names_of task) found
+
+  -- the outcome once all was read that the task needs, or all sources before a file that was not opened; or nothing was read, since a
+  -- source is also the output
+  abbrev pub FinishesTask : Outcome → Type 0
+  FinishesTask o = ((input : Input) × (NeedsInput task → Meets None × ReadsInput files remaining (names_of task) reader reader' input) × IsOutcome task input o)
+      ⊎ (((name : List ℕ) × IsStream task × NeedsInput task × Meets (Some name) × (o ≡ output_outcome name) × (reader' ≡ reader))
+      ⊎ ((options : CheckOptions) × (names : List (List ℕ)) × (task ≡ Check options names) × Checks files paths remaining options names reader reader' o))
+
+  -- there is no outcome: an allocation failed before anything was read, or reading stopped, or an allocation failed after it
+  abbrev pub FailsEarly : RunFailure → Type 0
+  FailsEarly why = ((why ≡ run_failure.OutOfMemory) × (reader' ≡ reader))
+      ⊎ ((NeedsInput task × FailsWithoutOutcome files remaining (names_of task) reader reader' why)
+      ⊎ ((options : CheckOptions) × (names : List (List ℕ)) × (task ≡ Check options names) × FailsInCheck files paths remaining options names reader reader' why))
+
+  -- a command that prints lines before all are read stopped, and this is the outcome of those that were read
+  abbrev pub FailsInStream : Outcome → RunFailure → Type 0
+  FailsInStream o why = IsStream task × NeedsInput task × Meets None × FailsWithin files remaining (IsOutcome task) (names_of task) reader reader' o why
+
+  -- the run finishes or stops so
+  abbrev pub TaskEnds : {W E : Type 0} → (W → Option (List ℕ)) → (E → Option (List ℕ)) → W → W → E → E → ℕ → Type 0
+  TaskEnds contents error_contents out out' err err' status = EndsBy FinishesTask FailsEarly FailsInStream contents error_contents out out' err err' status
 
 abbrev pub named_of : {S T : Type 0} (text : S → List ℕ) (texts : T → List S) → ((S × S × S × T) × Bool) → Named
 named_of text texts option = (row_of text texts option.0, option.1)

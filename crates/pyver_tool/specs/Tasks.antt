@@ -12,7 +12,7 @@ use Rattle.pyver_commands.specs.Comparisons.{Compares, comparison_of}
 use Rattle.pyver_commands.specs.Filters.{FiltersLines}
 use Rattle.pyver_commands.specs.MarkerExtents.{FindsExtent}
 use Rattle.pyver_commands.specs.Matches.{Matches}
-use Rattle.pyver_tool.specs.MisuseMessages.{missing_message, unknown_message, usage_message, value_message, version_last_message}
+use Rattle.pyver_tool.specs.SplitWords.{Given, Missing, Named, Split, UnknownWord, missing_message, split_words, unknown_message, usage_message, value_message, version_last_message}
 use Rattle.pyver_commands.specs.NewestOutcomes.{FindsNewestLine}
 use Rattle.pyver_tool.specs.Options.{options}
 use Rattle.cli_io.specs.Runs.{Outcome}
@@ -20,7 +20,6 @@ use Rattle.pyver_commands.specs.Outcomes.{message_outcome}
 use Rattle.pyver_tool.specs.Settings.{Effect, Sets, WrongValue, effect, no_settings}
 use Rattle.pyver_commands.specs.Shows.{Shows}
 use Rattle.pyver_commands.specs.Sorts.{SortsLines}
-use Rattle.pyver_tool.specs.SplitWords.{Given, Missing, Named, Split, UnknownWord, split_words}
 use Rattle.pyver_commands.specs.Sources.{Input, input_name, source_names}
 use Rattle.pyver_commands.specs.declared.allowed.MatchOptions.{MatchOptions}
 use Rattle.pyver_commands.specs.declared.bump.BumpPart.{BumpPart}

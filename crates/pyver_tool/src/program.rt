@@ -2,9 +2,8 @@
 ghost use Rattle.std.specs.Prelude.{◌≡◌, ◌⊎◌, List, Ok, ℕ, map, string_bytes};
 ghost use Rattle.cli_io.specs.Streams.{WroteBeginning};
 ghost use Rattle.pyver_commands.specs.Sources.RunFailures.{IsWriteFailure, Reports, memory_message};
-ghost use Rattle.pyver_tool.specs.Runs.{TaskEnds};
+ghost use Rattle.pyver_tool.specs.TaskViews.{AnswerEnds, TaskEnds};
 ghost use Rattle.pyver_tool.specs.Tasks.{NeedsInput, task_of};
-ghost use Rattle.pyver_tool.specs.TaskViews.{AnswerEnds};
 
 use crate::check::check_files;
 use crate::command::{Command, Work};

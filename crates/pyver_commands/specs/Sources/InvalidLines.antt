@@ -1,6 +1,6 @@
 -- What is done with invalid lines, by the option `--invalid`.
 use Rattle.std.specs.Prelude.{ℕ, ◌-◌, ◌==◌, List, [], ◌++◌, Option, Some, None, bytes_eq, codes, if◌then◌else◌}
-use Rattle.pyver_commands.specs.Messages.{left_out_message, more_faults_message, skip_message}
+use Rattle.pyver_commands.specs.Outcomes.{left_out_message, more_faults_message, skip_message}
 use Rattle.pyver_commands.specs.declared.sources.invalid_lines.InvalidLines.{InvalidLines}
 use Rattle.pyver_commands.specs.declared.sources.invalid_lines.InvalidLines.TheVariants as invalid
 

@@ -5,7 +5,7 @@ use Rattle.std.specs.List.{flat_map, slice_split}
 use Rattle.std.specs.Str.{IsUtf8}
 use Rattle.pyver_commands.specs.Sources.InputLines.{SourceLine}
 use Rattle.pyver_commands.specs.Sources.LineOptions.{is_header}
-use Rattle.pyver_commands.specs.Messages.{line_fault_message}
+use Rattle.pyver_commands.specs.Outcomes.{line_fault_message}
 use Rattle.pyver_commands.specs.Readings.{Denotes, Fails, Reading, Reads}
 use Rattle.pyver_commands.specs.declared.sources.line_options.LineOptions.{LineOptions}
 

@@ -2,7 +2,7 @@
 ghost use Rattle.std.specs.Prelude.{◌≡◌, ◌≤◌, ◌-◌, ◌++◌, ◌∷◌, [], IfOk, take};
 ghost use Rattle.std.specs.List.{concat};
 ghost use Rattle.pyver_commands.specs.Sources.InvalidLines.{invalid_lines_of, last_message, lines_status, message_limit};
-ghost use Rattle.pyver_commands.specs.Messages.{count_message, line_fault_message, more_faults_message, skip_message};
+ghost use Rattle.pyver_commands.specs.Outcomes.{count_message, line_fault_message, more_faults_message, skip_message};
 
 use cli_io::push_escaped;
 use std::alloc::{AllocError, Global};

@@ -1,7 +1,7 @@
 //! Why a file is not opened, and messages of files.
 ghost use Rattle.std.specs.Prelude.{◌≡◌, ◌++◌, IfOk};
 ghost use Rattle.pyver_commands.specs.AnswerViews.{outcome_of};
-ghost use Rattle.pyver_commands.specs.Messages.{file_message};
+ghost use Rattle.pyver_commands.specs.Outcomes.{file_message};
 ghost use Rattle.pyver_commands.specs.Sources.{failure_reason};
 ghost use Rattle.pyver_commands.specs.Sources.VersionLines.{unopened_outcome};
 

@@ -1,7 +1,7 @@
 use Rattle.std.proofs.Common.{codes}
 use Rattle.pep440_sets.specs.SetLines.{is_closed_start}
 use Rattle.pyver_commands.proofs.Outputs.{appended_more}
-use Rattle.pyver_commands.specs.RangeObjects.{json_bound, json_truth}
+use Rattle.pyver_commands.specs.CommonRanges.{json_bound, json_truth}
 use Rattle.pyver_commands.proofs.range_json.push_low.Goals as goal
 
 pub returns : goal.returns

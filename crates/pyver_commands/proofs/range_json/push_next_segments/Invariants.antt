@@ -1,6 +1,6 @@
 use Rattle.std.proofs.Common.{◌≡◌, ◌++◌}
 use Rattle.std.specs.List.{flat_map}
-use Rattle.pyver_commands.specs.RangeObjects.{next_segment}
+use Rattle.pyver_commands.specs.CommonRanges.{next_segment}
 use Rattle.pyver_commands.proofs.range_json.push_next_segments.Given as goal
 
 abbrev pub invariant-loop-start : goal.invariant-loop-start

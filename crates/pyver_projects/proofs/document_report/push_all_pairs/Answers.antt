@@ -1,8 +1,13 @@
 use Rattle.std.proofs.Common.{map, refl}
 use Rattle.pyver_findings.proofs.MarkerPairs.{each_done, each_more, start}
+use Rattle.pyver_projects.proofs.Walks.{sound_at}
 use Rattle.pyver_projects.specs.Comparing.{FindsOfReading}
+use Rattle.pyver_projects.specs.Meanings.{IsSoundDocument}
 use Rattle.pyver_projects.specs.ProjectViews.{reading_in}
 use Rattle.pyver_projects.proofs.document_report.push_all_pairs.Goals as goal
+
+pub push_reading_pairs-requires : goal.push_reading_pairs-requires
+push_reading_pairs-requires c = sound_at reading_in IsSoundDocument c.args.read.now c.loop-document.document-index c.document-item.result c.loop-document-test.true c.document-item.is c.requires
 
 pub loop-document-init : goal.loop-document-init
 loop-document-init c = start _ _ _ _ _ refl refl
