@@ -209,27 +209,13 @@ fn push_part_conflicts(
     strings: &[StringReading],
 ) -> Result<(), AllocError>
     requires sound { All IsSoundString (map string_reading_of strings.now) }
-    requires index { IsInclusionIndex inclusions.now }
-    ensures { IfOk result (λ _. map finding_of findings.new.items ≡ map finding_of findings.old.items ++ conflicts (part_demands (inclusions_of inclusions.now) (section_of part.now) (map string_reading_of strings.now))) }
-{
-    let demands = part_demands(alloc, inclusions, part, strings)?;
-    push_conflicts(alloc, findings, demands.as_slice())
-}
-
-// Adds what is wrong with the requirements of the part, which includes by these inclusions of the strings.
-fn push_part(
-    alloc: Global,
-    findings: &mut Vec<Finding>,
-    inclusions: &InclusionIndex<'_>,
-    part: &Section,
-    strings: &[StringReading],
-) -> Result<(), AllocError>
     requires known { inclusions_of inclusions.now ≡ inclusions_in (sections (map string_reading_of strings.now)) }
     requires index { IsInclusionIndex inclusions.now }
-    requires sound { All IsSoundString (map string_reading_of strings.now) }
     ensures { IfOk result (λ _. map finding_of findings.new.items ≡ map finding_of findings.old.items ++ part_conflicts (map string_reading_of strings.now) (section_of part.now)) }
 {
-    push_part_conflicts(alloc, findings, inclusions, part, strings)
+    let demands = part_demands(alloc, inclusions, part, strings)?;
+    push_conflicts(alloc, findings, demands.as_slice())?;
+    Ok(())
 }
 
 // What is wrong with the requirements of each of the parts together.
@@ -245,7 +231,7 @@ fn conflicts_of_parts(
     let inclusions = InclusionIndex::new(alloc, inclusions.as_slice())?;
     let mut findings = Vec::new(alloc);
     for part in parts {
-        push_part(alloc, &mut findings, &inclusions, part, strings)?;
+        push_part_conflicts(alloc, &mut findings, &inclusions, part, strings)?;
     }
     Ok(findings)
 }
