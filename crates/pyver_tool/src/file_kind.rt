@@ -12,7 +12,7 @@ pub(crate) enum FileKind {
 }
 
 // The kind that the word names.
-#[tactic(auto, unfolding(crate::specs::FileKinds::file_kind_of))]
+#[tactic(auto, unfolding(crate::specs::Options::file_kind_of))]
 pub(crate) fn parse_file_kind(word: &str) -> Option<FileKind>
     ensures { result ≡ file_kind_of word.now }
 {
