@@ -88,18 +88,17 @@ first_lines firsts (a ∷ rest) = first_lines (with_first firsts a) rest
 abbrev pub open_lines : List Demand → List Demand → List Demand
 open_lines lines firsts = filter (λ (a : Demand). not (have_none (under a.marker lines))) firsts
 
--- none if there are more than 32
+-- of each marker the first line; none if there are more than 32 markers
 abbrev pub few_first_lines : List Demand → Option (List Demand)
 few_first_lines lines = if nat_lt 32 (length (first_lines [] lines)) then None else Some (first_lines [] lines)
 
--- of each marker a line, if two of them can matter
+-- those that are paired: none if there are fewer than two, or if the lines without a marker have no version in common by themselves
 abbrev pub lines_to_pair : List Demand → List Demand → List Demand
 lines_to_pair lines firsts = if nat_lt (length firsts) 2 || have_none (under None lines) then [] else open_lines lines firsts
 
 -- ---- what is found
 
--- of what is found, and why it may not be all
-
+-- no finding, and no cause for which there may be more
 abbrev pub FindsNothing : List Finding → List Cause → Type 0
 FindsNothing fs cs = (fs ≡ []) × (cs ≡ [])
 

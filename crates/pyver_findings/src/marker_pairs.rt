@@ -23,7 +23,7 @@ use pyver_markers::{EnvironmentMarker, FoundVariable};
 use pyver_requirements::MarkerError;
 use std::alloc::{AllocError, Global};
 
-// The most markers of one name of which each is looked at beside each other one.
+// The most markers of one name of which each two are compared.
 const MOST: usize = 32;
 
 // Markers of systems.
@@ -162,7 +162,7 @@ fn is_found(alloc: Global, marker: &EnvironmentMarker<'_>) -> Result<bool, Alloc
     }
 }
 
-// The same, where the other marker holds, too.
+// Whether one is found in which the marker of the system holds, too.
 fn is_found_on(
     alloc: Global,
     marker: &EnvironmentMarker<'_>,
@@ -191,7 +191,7 @@ fn is_found_on_any(alloc: Global, marker: &EnvironmentMarker<'_>) -> Result<bool
 }
 
 // What is known of the marker that holds where both do.
-fn decide_joined(alloc: Global, both: &EnvironmentMarker<'_>) -> Result<Decision, AllocError>
+fn decide_marker(alloc: Global, both: &EnvironmentMarker<'_>) -> Result<Decision, AllocError>
     ensures { IfOk result (KnowsSteps both.now) }
 {
     if both.is_never(alloc, true)? {
@@ -209,7 +209,7 @@ fn decide(alloc: Global, one: &[u8], other: &[u8]) -> Result<Decision, AllocErro
     ensures { IfOk result (IsRightDecision (AreJoined one.now other.now)) }
 {
     match join_markers(alloc, one, other)? {
-        Some(both) => decide_joined(alloc, &both),
+        Some(both) => decide_marker(alloc, &both),
         None => Ok(Decision::Unknown),
     }
 }
@@ -242,7 +242,7 @@ fn under_either<'a>(
     Ok(kept)
 }
 
-fn push_undecided(left_out: &mut Vec<Cause>) -> Result<(), AllocError>
+fn push_unknown_pair(left_out: &mut Vec<Cause>) -> Result<(), AllocError>
     ensures { IfOk result (λ _. left_out.new.items ≡ left_out.old.items ++ cause.Undecided ∷ []) }
 {
     left_out.push(Cause::Undecided)?;
@@ -250,7 +250,7 @@ fn push_undecided(left_out: &mut Vec<Cause>) -> Result<(), AllocError>
 }
 
 // What is wrong with lines that have no version in common, by what is known of the two markers.
-fn push_decided(
+fn push_by_decision(
     alloc: Global,
     findings: &mut Vec<Finding>,
     left_out: &mut Vec<Cause>,
@@ -265,7 +265,7 @@ fn push_decided(
     match decision {
         Decision::Together => push_of_all(alloc, findings, together),
         Decision::Apart => Ok(()),
-        Decision::Unknown => push_undecided(left_out),
+        Decision::Unknown => push_unknown_pair(left_out),
     }
 }
 
@@ -287,11 +287,11 @@ fn push_of_pair(
         return Ok(());
     }
     let decision = decide_lines(alloc, one, other)?;
-    push_decided(alloc, findings, left_out, decision, together.as_slice())?;
+    push_by_decision(alloc, findings, left_out, decision, together.as_slice())?;
     Ok(())
 }
 
-// The same of each of the others.
+// What is wrong with the lines of this marker beside those of each of the others.
 fn push_of_first(
     alloc: Global,
     findings: &mut Vec<Finding>,
@@ -310,7 +310,7 @@ fn push_of_first(
     Ok(())
 }
 
-// The same of each two of these.
+// What is wrong with the lines of each two of these markers.
 fn push_of_pairs(
     alloc: Global,
     findings: &mut Vec<Finding>,
@@ -420,13 +420,13 @@ fn push_of_name(
         left_out.new.items) }
 {
     let Some(firsts) = few_first_lines(alloc, lines)? else {
-        return push_undecided(left_out);
+        return push_unknown_pair(left_out);
     };
     let paired = lines_to_pair(alloc, lines, firsts.as_slice())?;
     push_of_pairs(alloc, findings, left_out, lines, paired.as_slice())
 }
 
-// The same, if there are any.
+// What is wrong with the lines of the group, if there is one.
 fn push_of_group(
     alloc: Global,
     findings: &mut Vec<Finding>,

@@ -190,7 +190,7 @@ fn push_reading_pairs(
     }
 }
 
-// The same of each document.
+// Adds what is wrong with the requirements of each document under two markers.
 fn push_all_pairs(
     alloc: Global,
     findings: &mut Vec<Finding>,

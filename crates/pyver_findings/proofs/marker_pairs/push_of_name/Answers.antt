@@ -13,9 +13,9 @@ returns-in_default c =
     let lines = map view c.args.lines.now in
     let old = c.args.findings.now.items in
     let before = c.args.left_out.now.items in
-    let after = c.push_undecided.new.left_out.items in
+    let after = c.push_unknown_pair.new.left_out.items in
     let many = sym (ap (option_map (λ f. map view f.items)) c.in_default.is) ∙ c.in_ok-firsts.ensures in
-    IfOk-weaker c.push_undecided.result (λ _. after ≡ before ++ cause.Undecided ∷ []) (λ _. AddsFound (FindsOfName lines) old old before after) (λ _ also. name_undecided lines old old before after many refl also) c.push_undecided.ensures
+    IfOk-weaker c.push_unknown_pair.result (λ _. after ≡ before ++ cause.Undecided ∷ []) (λ _. AddsFound (FindsOfName lines) old old before after) (λ _ also. name_undecided lines old old before after many refl also) c.push_unknown_pair.ensures
 
 pub returns : goal.returns
 returns c =

@@ -15,16 +15,16 @@ returns-then-not-branch c =
     let same = nothing_after (map view c.as_slice.result.now) ∙ ap (map view) c.as_slice.ensures.value ∙ c.in_ok-together.ensures in
     pair_shared (map view c.args.lines.now) (demand_of c.args.one.now) (demand_of c.args.other.now) _ _ _ _ (sym (ap have_none same) ∙ sym c.in_ok-have_none.ensures ∙ c.if-not-branch.true) refl refl
 
-pub push_decided-requires-clause-sound : goal.push_decided-requires-clause-sound
-push_decided-requires-clause-sound c =
+pub push_by_decision-requires-clause-sound : goal.push_by_decision-requires-clause-sound
+push_by_decision-requires-clause-sound c =
     let view = λ (x : Bor DemandValue). demand_of x.now in
     let one = demand_of c.args.one.now in
     let other = demand_of c.args.other.now in
     All-same IsSound (map view c.as_slice-2.result.now) (under_either one.marker other.marker (map view c.args.lines.now)) (ap (map view) c.as_slice-2.ensures.value ∙ c.in_ok-together.ensures)
     (pair_sound one.marker other.marker (map view c.args.lines.now) c.requires)
 
-pub push_decided-requires-clause-none : goal.push_decided-requires-clause-none
-push_decided-requires-clause-none c =
+pub push_by_decision-requires-clause-none : goal.push_by_decision-requires-clause-none
+push_by_decision-requires-clause-none c =
     let view = λ (x : Bor DemandValue). demand_of x.now in
     let same = nothing_after (map view c.as_slice.result.now) ∙ ap (map view) c.as_slice.ensures.value in
     ap have_none (ap (map view) c.as_slice-2.ensures.value) ∙ sym (ap have_none same) ∙ sym c.in_ok-have_none.ensures ∙ c.if-not-branch.false
@@ -33,5 +33,5 @@ pub returns : goal.returns
 returns c =
     let view = λ (x : Bor DemandValue). demand_of x.now in
     pair_decided (map view c.args.lines.now) (demand_of c.args.one.now) (demand_of c.args.other.now) _ _ _ _ c.in_ok-decision.decision c.in_ok-decision.ensures
-    (subst (λ l. AddsFound (FindsDecided c.in_ok-decision.decision l) c.args.findings.now.items c.push_decided.new.findings.items c.args.left_out.now.items c.push_decided.new.left_out.items)
-    (ap (map view) c.as_slice-2.ensures.value ∙ c.in_ok-together.ensures) c.in_ok-push_decided.ensures)
+    (subst (λ l. AddsFound (FindsDecided c.in_ok-decision.decision l) c.args.findings.now.items c.push_by_decision.new.findings.items c.args.left_out.now.items c.push_by_decision.new.left_out.items)
+    (ap (map view) c.as_slice-2.ensures.value ∙ c.in_ok-together.ensures) c.in_ok-push_by_decision.ensures)

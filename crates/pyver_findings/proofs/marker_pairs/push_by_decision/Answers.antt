@@ -6,7 +6,7 @@ use Rattle.pyver_findings.specs.MarkerPairs.{FindsDecided}
 use Rattle.pyver_findings.specs.Views.{AddsFindings, AddsFound, demand_of}
 use Rattle.pyver_findings.specs.declared.cause.Cause.TheVariants as cause
 use Rattle.pyver_findings.specs.declared.demand.Demand.{Demand as DemandValue}
-use Rattle.pyver_findings.proofs.marker_pairs.push_decided.Goals as goal
+use Rattle.pyver_findings.proofs.marker_pairs.push_by_decision.Goals as goal
 
 pub returns-in-Together : goal.returns-in-Together
 returns-in-Together c =
@@ -25,6 +25,6 @@ returns-in-Unknown c =
     let lines = map (λ (x : Bor DemandValue). demand_of x.now) c.args.together.now in
     let old = c.args.findings.now.items in
     let before = c.args.left_out.now.items in
-    let after = c.push_undecided.new.left_out.items in
-    IfOk-weaker c.push_undecided.result (λ _. after ≡ before ++ cause.Undecided ∷ []) (λ _. AddsFound (FindsDecided c.args.decision lines) old old before after)
-    (λ _ also. decided_unknown lines old old before after c.args.decision c.in-Unknown.is c.requires.none refl also) c.push_undecided.ensures
+    let after = c.push_unknown_pair.new.left_out.items in
+    IfOk-weaker c.push_unknown_pair.result (λ _. after ≡ before ++ cause.Undecided ∷ []) (λ _. AddsFound (FindsDecided c.args.decision lines) old old before after)
+    (λ _ also. decided_unknown lines old old before after c.args.decision c.in-Unknown.is c.requires.none refl also) c.push_unknown_pair.ensures
