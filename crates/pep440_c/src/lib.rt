@@ -12,17 +12,11 @@
 
 ghost use Rattle.std.specs.Prelude.{map, not, ◌==◌, ◌≡◌, ◌≢◌};
 ghost use Rattle.pep440_rs.specs.Bounds.{range_of, release_range_of};
-ghost use Rattle.pep440_calls.specs.Batches.{FilterMarks, KeysResult, SortResult};
-ghost use Rattle.pep440_calls.specs.CallResults.{AllowsResult, AsksInPlace, ContainsResult, IsCompiled, IsCompiledList, IsKey, IsNormal, IsNormalList, IsShortNormalForm, IsVersionIn, MatchesInPlace, NamesPrerelease, NeedsNoMemory, OrderResult, PartsResult, JoinsMembers, WordResult};
-ghost use Rattle.pep440_calls.specs.Edits.{IsEditError, WritesEdited};
+ghost use Rattle.pep440_calls.specs.Batches.{FilterMarks, KeysResult, NewestResult, SortResult};
+ghost use Rattle.pep440_calls.specs.CallResults.{AllowsResult, AsksInPlace, ContainsResult, IsCompiled, IsCompiledList, IsCompiledSpecifier, IsComplement, IsEditError, IsIntersection, IsKey, IsNormal, IsNormalList, IsRangeLines, IsShortNormalForm, IsSpecifier, IsUnion, IsVersionIn, JoinsBoundaries, JoinsMembers, JoinsRangeBounds, LacksRange, MatchesInPlace, NamesPrerelease, NeedsNoMemory, OrderResult, PartsResult, PatternResult, RejectsOperand, RejectsOperator, RejectsSpecifierBytes, SetFault, SubsetResult, TwoSetFaults, WordResult, WritesEdited};
 ghost use Rattle.pep440_calls.specs.Explanations.{ErrorResult, IsBuildError, IsNoOperator, RejectsNumbered};
-ghost use Rattle.pep440_calls.specs.JoinedStrings.{WritesJoinedOr};
+ghost use Rattle.pep440_calls.specs.Statuses.{IsFlagOf, WritesBytes, WritesBytesOr, WritesJoinedOr, WritesOr};
 ghost use Rattle.pep440_calls.specs.CallerBytes.{ListFaults, RejectsBytes};
-ghost use Rattle.pep440_calls.specs.NewestString.{NewestResult};
-ghost use Rattle.pep440_calls.specs.PatternCalls.{IsCompiledSpecifier, IsSpecifier, PatternResult, RejectsOperand, RejectsOperator, RejectsSpecifierBytes};
-ghost use Rattle.pep440_calls.specs.Ranges.{IsRangeLines, LacksRange, JoinsRangeBounds};
-ghost use Rattle.pep440_calls.specs.SetCalls.{IsComplement, IsIntersection, IsUnion, JoinsBoundaries, SetFault, SubsetResult, TwoSetFaults};
-ghost use Rattle.pep440_calls.specs.Statuses.{IsFlagOf, WritesBytes, WritesBytesOr, WritesOr};
 
 use pep440_calls::{
     Parts, write_allow_flag, write_boundaries, write_build_error, write_compiled,

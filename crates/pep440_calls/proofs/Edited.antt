@@ -11,7 +11,7 @@ use Rattle.pep440_version.specs.declared.change.Change.{Change}
 use Rattle.pep440_version.specs.declared.change.ChangeError.{ChangeError}
 use Rattle.pep440_calls.proofs.Once.{never_both}
 use Rattle.pep440_calls.proofs.Placed.{each_more, refused_first}
-use Rattle.pep440_calls.specs.Edits.{ChangesTo, IsEditError, BytesDenoteChange, RejectsChangeWord, RejectsChangeWordAt, EditFaults}
+use Rattle.pep440_calls.specs.CallResults.{ChangesTo, IsEditError, BytesDenoteChange, RejectsChangeWord, RejectsChangeWordAt, EditFaults}
 use Rattle.pep440_calls.specs.Explanations.{IsErrorOf}
 use Rattle.pep440_calls.specs.CallerBytes.{BytesDenote}
 use Rattle.pep440_calls.specs.Statuses.{HoldsOrFaults}

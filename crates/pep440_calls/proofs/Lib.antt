@@ -1,11 +1,5 @@
-pub mod Refused
 pub mod Placed
-pub mod KeyOrder
 pub mod Once
 pub mod Forms
 pub mod Allowed
-pub mod Compiling
-pub mod Combined
 pub mod Edited
-pub mod Sizes
-pub mod SetForming

@@ -1,28 +1,99 @@
 -- Bytes mean one version, list or range, or are refused for one reason, and never both.
-use Rattle.std.proofs.Common.{◌≡◌, ◌⊎◌, ◌∙◌, ◌∷◌, ℕ, List, [], Bool, true, false, Option, Some, None, refl, sym, ap, inl, inr, subst, unwrap_or}
-use Rattle.std.proofs.lemmas.Str.{IsUtf8-from_is_utf8, is_utf8-from_IsUtf8}
-use Rattle.std.specs.Prelude.{Ok, slice_get}
+use Rattle.std.proofs.Common.{◌≡◌, ◌≢◌, ℕ, List, Option, Some, None, IfSome, codes, is_none, false, refl, sym, subst, inl, inr, ◌⊎◌, ◌∙◌, ◌∷◌, [], Bool, true, ap, unwrap_or, Result, Ok, Err}
+use Rattle.std.proofs.lemmas.Str.{IsUtf8-from_ascii, IsUtf8-from_is_utf8, is_utf8-from_IsUtf8}
 use Rattle.std.specs.Str.{IsUtf8, is_utf8}
+use Rattle.pep440_rs.proofs.Reread.Again.{operator_chars}
+use Rattle.pep440_rs.proofs.Reread.Plain.{all_ascii}
+use Rattle.pep440_rs.proofs.Reread.Shown.{operator_shown, shown_low}
+use Rattle.pep440_rs.specs.Lists.ListErrorTexts.{list_rejection_text}
+use Rattle.pep440_rs.specs.Lists.ListGrammar.{PieceRejection, RejectsList, DerivesList}
+use Rattle.pep440_rs.specs.Operators.{operator_text, Spells}
+use Rattle.pep440_rs.specs.Specifiers.SpecifierGrammar.{is_operator_char, RejectsSpecifier, SpecifierRejection}
+use Rattle.pep440_rs.specs.declared.specifier.operator.Operator.{Operator}
+use Rattle.pep440_version.specs.ErrorTexts.{rejection_text, pattern_rejection_text}
+use Rattle.pep440_version.specs.Rejections.{PatternRejection, Rejection, Rejects, RejectsPattern}
+use Rattle.pep440_calls.specs.CallerBytes.{RejectsString, RejectsListString, ExplainsString, ExplainsListString, BytesDenote, BytesDenoteList, StringDenotesList, StringDenotes, RejectsBytes, RejectsListBytes, ExplainsBytes, ExplainsListBytes}
+use Rattle.pep440_calls.specs.CallResults.{Combines, ExplainsSpecifier, IsOperator, IsRangeLines, IsSpecifier, LacksRange, RejectsOperand, RejectsOperator, RejectsPatternBytes, RejectsSpecifierBytes, StringDenotesPattern}
+use Rattle.pep440_rs.specs.ErrorTexts.{specifier_rejection_text}
+use Rattle.pep440_calls.specs.Explanations.{ExplainsPattern}
+use Rattle.std.specs.Prelude.{Ok, slice_get}
 use Rattle.pep440_compiled.proofs.Exact.{one_denoted}
 use Rattle.pep440_compiled.proofs.Listed.{one_denoted_list}
 use Rattle.pep440_compiled.specs.Lists.{DenotesList, HasListFormat}
 use Rattle.pep440_compiled.specs.Version.{DenotesVersion, HasVersionFormat}
 use Rattle.pep440_rs.proofs.Reading.OneMeaning.{either_list, not_both_list, one_list, one_list_refusal}
 use Rattle.pep440_rs.specs.Bounds.{Segments, list_range, range_of}
-use Rattle.pep440_rs.specs.Lists.ListErrorTexts.{list_rejection_text}
-use Rattle.pep440_rs.specs.Lists.ListGrammar.{DerivesList, PieceRejection, RejectsList}
 use Rattle.pep440_rs.specs.RangeLines.{range_lines}
-use Rattle.pep440_rs.specs.Specifiers.{Spec}
-use Rattle.pep440_version.proofs.Reading.Agreement.{one_record, only}
-use Rattle.pep440_version.proofs.Rejections.ExactlyOne.{not_both, one_or_other, one_refusal}
-use Rattle.pep440_version.specs.ErrorTexts.{rejection_text}
+use Rattle.pep440_rs.specs.Specifiers.{Spec, print_spec}
+use Rattle.pep440_version.proofs.Reading.Agreement.{one_record, only, one_pattern}
+use Rattle.pep440_version.proofs.Rejections.ExactlyOne.{not_both, one_or_other, one_refusal, not_both_pattern, one_or_other_pattern}
 use Rattle.pep440_version.specs.Grammar.{Derives}
 use Rattle.pep440_version.specs.Record.{Record}
-use Rattle.pep440_version.specs.Rejections.{Rejection, Rejects}
 use Rattle.pep440_version.specs.Whole.{parse_epoch_and_release, read_version}
-use Rattle.pep440_calls.proofs.Refused.{no_list_text, no_text}
-use Rattle.pep440_calls.specs.CallerBytes.{BytesDenote, BytesDenoteList, StringDenotesList, StringDenotes, RejectsBytes, RejectsListBytes, ExplainsBytes, ExplainsListBytes, ExplainsListString, ExplainsString}
-use Rattle.pep440_calls.specs.Ranges.{IsRangeLines, LacksRange}
+use Rattle.pep440_rs.proofs.Reading.Spelled.{none_spelled, read_spelled, spelled_read}
+use Rattle.pep440_rs.specs.Build.{BuildRejection, built_pattern}
+use Rattle.pep440_rs.specs.Specifiers.SpecifierReading.{read_operator}
+use Rattle.pep440_version.specs.Patterns.{DerivesPattern}
+
+-- ---- bytes that are refused, by the errors of the readers
+
+pub no_text : (bytes : List ℕ) → (¬ IsUtf8 bytes) → RejectsString bytes
+no_text bytes not_utf8 = (codes "not UTF-8", inl (not_utf8, refl))
+
+pub no_list_text : (bytes : List ℕ) → (¬ IsUtf8 bytes) → RejectsListString bytes
+no_list_text bytes not_utf8 = (codes "not UTF-8", inl (not_utf8, refl))
+
+-- an error that isn't 'out of memory' tells why its text is refused
+pub refuses : (bytes text : List ℕ) (o : Option Rejection) → text ≡ bytes → IsUtf8 bytes → is_none o ≡ false → IfSome o (Rejects text) → RejectsString bytes
+refuses bytes text None same utf8 some why = cc some
+refuses bytes text (Some f) same utf8 some why = (rejection_text f, inr (utf8, f, rw same at why, refl))
+
+pub refuses_list : (bytes text : List ℕ) (o : Option PieceRejection) → text ≡ bytes → IsUtf8 bytes → o ≢ None → IfSome o (RejectsList text) → RejectsListString bytes
+refuses_list bytes text None same utf8 some why = absurd (some refl)
+refuses_list bytes text (Some f) same utf8 some why = (list_rejection_text f bytes, inr (utf8, f, rw same at why, refl))
+
+pub refuses_pattern : (bytes text : List ℕ) (o : Option PatternRejection) → text ≡ bytes → IsUtf8 bytes → is_none o ≡ false → IfSome o (RejectsPattern text) → RejectsPatternBytes bytes
+refuses_pattern bytes text None same utf8 some why = cc some
+refuses_pattern bytes text (Some f) same utf8 some why = inr (utf8, f, rw same at why)
+
+operator_is_utf8 : (o : Operator) → IsUtf8 (operator_text o)
+operator_is_utf8 o = IsUtf8-from_ascii (operator_text o) (all_ascii is_operator_char (λ c is. shown_low c (operator_shown c is)) (operator_text o) (operator_chars o))
+
+pub no_operator : (bytes : List ℕ) → (¬ IsUtf8 bytes) → ¬ IsOperator bytes
+no_operator bytes not_utf8 (o, spells) = not_utf8 (subst IsUtf8 (sym spells.0) (operator_is_utf8 o))
+
+-- and its text is the refusal's
+pub tells : (bytes text words : List ℕ) (o : Option Rejection) (m : Option (List ℕ)) → text ≡ bytes → IsUtf8 bytes → is_none o ≡ false → IfSome o (Rejects text)
+    → IfSome o (λ f. m ≡ Some (rejection_text f)) → IfSome m (λ bs. words ≡ bs) → ExplainsString bytes words
+tells bytes text words None m same utf8 some why told shown = cc some
+tells bytes text words (Some f) m same utf8 some why told shown = inr (utf8, f, rw same at why, rw told at shown)
+
+pub tells_list : (bytes text words : List ℕ) (o : Option PieceRejection) (m : Option (List ℕ)) → text ≡ bytes → IsUtf8 bytes → o ≢ None → IfSome o (RejectsList text)
+    → IfSome o (λ f. m ≡ Some (list_rejection_text f text)) → IfSome m (λ bs. words ≡ bs) → ExplainsListString bytes words
+tells_list bytes text words None m same utf8 some why told shown = absurd (some refl)
+tells_list bytes text words (Some f) m same utf8 some why told shown =
+    let is : words ≡ list_rejection_text f text = rw told at shown in inr (utf8, f, rw same at why, rw same at is)
+
+pub no_specifier_text : (bytes : List ℕ) → (¬ IsUtf8 bytes) → RejectsSpecifierBytes bytes
+no_specifier_text bytes not_utf8 = (codes "not UTF-8", inl (not_utf8, refl))
+
+-- an error that isn't 'out of memory' tells why its text is no specifier
+pub refuses_specifier : (bytes text : List ℕ) (o : Option SpecifierRejection) → text ≡ bytes → IsUtf8 bytes → o ≢ None → IfSome o (RejectsSpecifier text) → RejectsSpecifierBytes bytes
+refuses_specifier bytes text None same utf8 some why = absurd (some refl)
+refuses_specifier bytes text (Some f) same utf8 some why = (specifier_rejection_text f, inr (utf8, f, rw same at why, refl))
+
+-- and its text is the refusal's
+pub tells_specifier : (bytes text words : List ℕ) (o : Option SpecifierRejection) (m : Option (List ℕ)) → text ≡ bytes → IsUtf8 bytes → o ≢ None → IfSome o (RejectsSpecifier text)
+    → IfSome o (λ f. m ≡ Some (specifier_rejection_text f)) → IfSome m (λ bs. words ≡ bs) → ExplainsSpecifier bytes words
+tells_specifier bytes text words None m same utf8 some why told shown = absurd (some refl)
+tells_specifier bytes text words (Some f) m same utf8 some why told shown = inr (utf8, f, rw same at why, rw told at shown)
+
+pub tells_pattern : (bytes text words : List ℕ) (o : Option PatternRejection) (m : Option (List ℕ)) → text ≡ bytes → IsUtf8 bytes → is_none o ≡ false → IfSome o (RejectsPattern text)
+    → IfSome o (λ f. m ≡ Some (pattern_rejection_text f)) → IfSome m (λ bs. words ≡ bs) → ExplainsPattern bytes words
+tells_pattern bytes text words None m same utf8 some why told shown = cc some
+tells_pattern bytes text words (Some f) m same utf8 some why told shown = inr (utf8, f, rw same at why, rw told at shown)
+
+-- ---- each of them, once
 
 pub no_utf8 : (bytes : List ℕ) → is_utf8 bytes ≡ false → ¬ IsUtf8 bytes
 no_utf8 bytes is utf8 = cc (sym (is_utf8-from_IsUtf8 bytes utf8) ∙ is)
@@ -166,3 +237,73 @@ no_range_of_list bytes (l, means, is) why = never_both_lists bytes l means why
 
 pub range_or_none : (bytes words : List ℕ) → IsRangeLines bytes words → LacksRange range_of bytes → ⊥
 range_or_none bytes words (s, (l, means, is), w) (m, other, none) = cc (same_range bytes l m (Some s) None means other is none)
+
+-- ---- bytes denote one pattern or none; an operator and a pattern make one specifier, or none for one reason
+
+-- ---- patterns
+
+pub one_bytes_pattern : (bytes : List ℕ) (r q : Record) (s t : Bool) → StringDenotesPattern bytes r s → StringDenotesPattern bytes q t → (r ≡ q) × (s ≡ t)
+one_bytes_pattern bytes r q s t (u, means) (v, other) = one_pattern bytes r q s t means other
+
+of_pattern : (bytes : List ℕ) → IsUtf8 bytes → ((r : Record) × (s : Bool) × DerivesPattern bytes r s) ⊎ ((f : PatternRejection) × RejectsPattern bytes f)
+    → ((r : Record) × (s : Bool) × StringDenotesPattern bytes r s) ⊎ RejectsPatternBytes bytes
+of_pattern bytes utf8 (inl (r, s, means)) = inl (r, s, (utf8, means))
+of_pattern bytes utf8 (inr (f, why)) = inr (inr (utf8, f, why))
+
+either_pattern_by : (bytes : List ℕ) (b : Bool) → is_utf8 bytes ≡ b → ((r : Record) × (s : Bool) × StringDenotesPattern bytes r s) ⊎ RejectsPatternBytes bytes
+either_pattern_by bytes true is = of_pattern bytes (IsUtf8-from_is_utf8 bytes is) (one_or_other_pattern bytes)
+either_pattern_by bytes false is = inr (inl (no_utf8 bytes is))
+
+pub either_bytes_pattern : (bytes : List ℕ) → ((r : Record) × (s : Bool) × StringDenotesPattern bytes r s) ⊎ RejectsPatternBytes bytes
+either_bytes_pattern bytes = either_pattern_by bytes (is_utf8 bytes) refl
+
+pub never_both_patterns : (bytes : List ℕ) (r : Record) (s : Bool) → StringDenotesPattern bytes r s → RejectsPatternBytes bytes → ⊥
+never_both_patterns bytes r s (utf8, means) (inl stray) = stray utf8
+never_both_patterns bytes r s (utf8, means) (inr (again, f, why)) = not_both_pattern bytes r s f means why
+
+-- ---- specifiers
+
+one_operator : (text : List ℕ) (o p : Operator) → Spells text o → Spells text p → o ≡ p
+one_operator text o p spells also =
+    let first : read_operator text ≡ Some o = spelled_read text o spells in
+    let second : read_operator text ≡ Some p = spelled_read text p also in cc
+
+one_combination : (operator version : List ℕ) (x y : Result Spec BuildRejection) → Combines operator version x → Combines operator version y → x ≡ y
+one_combination operator version x y (o, r, s, spells, means, is) (p, q, t, also, other, at) =
+    let same : o ≡ p = one_operator operator o p spells also in
+    let both : (r ≡ q) × (s ≡ t) = one_bytes_pattern version r q s t means other in
+    is ∙ (λ i. built_pattern (same i) (both.0 i) (both.1 i)) ∙ sym at
+
+pub one_specifier_text : (operator version a b : List ℕ) → IsSpecifier operator version a → IsSpecifier operator version b → a ≡ b
+one_specifier_text operator version a b (s, makes, is) (t, other, at) =
+    let both = one_combination operator version (Ok s) (Ok t) makes other in
+    let same : s ≡ t = cc in is ∙ ap print_spec same ∙ sym at
+
+pub never_rejected : (operator version bytes : List ℕ) → IsSpecifier operator version bytes → RejectsOperator operator version → ⊥
+never_rejected operator version bytes (s, (o, r, star, spells, means, makes), is) (inl none) = none (o, spells)
+never_rejected operator version bytes (s, makes, is) (inr (why, other)) = let both = one_combination operator version (Ok s) (Err why) makes other in cc
+
+pub never_without_operand : (operator version bytes : List ℕ) → IsSpecifier operator version bytes → RejectsOperand operator version → ⊥
+never_without_operand operator version bytes (s, (o, r, star, spells, means, makes), is) (known, why) = never_both_patterns version r star means why
+
+pub one_specifier_error : (operator version : List ℕ) → RejectsOperator operator version → RejectsOperand operator version → ⊥
+one_specifier_error operator version (inl none) (known, why) = none known
+one_specifier_error operator version (inr (b, (o, r, star, spells, means, makes))) (known, why) = never_both_patterns version r star means why
+
+by_built : (operator version : List ℕ) (o : Operator) (r : Record) (star : Bool) → Spells operator o → StringDenotesPattern version r star → (x : Result Spec BuildRejection)
+    → built_pattern o r star ≡ x → ((bytes : List ℕ) × IsSpecifier operator version bytes) ⊎ (RejectsOperator operator version ⊎ RejectsOperand operator version)
+by_built operator version o r star spells means (Ok s) is = inl (print_spec s, (s, (o, r, star, spells, means, sym is), refl))
+by_built operator version o r star spells means (Err why) is = inr (inl (inr (why, (o, r, star, spells, means, sym is))))
+
+by_pattern : (operator version : List ℕ) (o : Operator) → Spells operator o → ((r : Record) × (s : Bool) × StringDenotesPattern version r s) ⊎ RejectsPatternBytes version
+    → ((bytes : List ℕ) × IsSpecifier operator version bytes) ⊎ (RejectsOperator operator version ⊎ RejectsOperand operator version)
+by_pattern operator version o spells (inl (r, star, means)) = by_built operator version o r star spells means (built_pattern o r star) refl
+by_pattern operator version o spells (inr why) = inr (inr ((o, spells), why))
+
+by_operator : (operator version : List ℕ) (x : Option Operator) → read_operator operator ≡ x
+    → ((bytes : List ℕ) × IsSpecifier operator version bytes) ⊎ (RejectsOperator operator version ⊎ RejectsOperand operator version)
+by_operator operator version None is = inr (inl (inl (λ known. none_spelled operator is known.0 known.1)))
+by_operator operator version (Some o) is = by_pattern operator version o (read_spelled operator o is) (either_bytes_pattern version)
+
+pub either_specifier_text : (operator version : List ℕ) → ((bytes : List ℕ) × IsSpecifier operator version bytes) ⊎ (RejectsOperator operator version ⊎ RejectsOperand operator version)
+either_specifier_text operator version = by_operator operator version (read_operator operator) refl

@@ -10,7 +10,7 @@ use Rattle.pep440_version.specs.ErrorTexts.{pattern_rejection_text}
 use Rattle.pep440_version.specs.Record.{Record}
 use Rattle.pep440_version.specs.Rejections.{PatternRejection, RejectsPattern}
 use Rattle.pep440_calls.specs.CallerBytes.{BytesDenote, BytesDenoteList, RejectsBytes, ExplainsBytes, ExplainsListBytes}
-use Rattle.pep440_calls.specs.PatternCalls.{StringDenotesPattern, BytesDenoteSpecifier, ExplainsSpecifier}
+use Rattle.pep440_calls.specs.CallResults.{StringDenotesPattern, BytesDenoteSpecifier, ExplainsSpecifier}
 use Rattle.pep440_calls.specs.Statuses.{WritesBytes}
 use Rattle.pep440_calls.specs.declared.messages.BytesKind.{BytesKind}
 use Rattle.pep440_calls.specs.declared.messages.BytesKind.TheVariants as kind

@@ -1,11 +1,5 @@
 pub mod CallerBytes
 pub mod Statuses
-pub mod JoinedStrings
 pub mod CallResults
-pub mod Ranges
-pub mod SetCalls
 pub mod Batches
-pub mod PatternCalls
-pub mod Edits
 pub mod Explanations
-pub mod NewestString

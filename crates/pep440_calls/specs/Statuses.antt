@@ -1,12 +1,14 @@
 -- How a call ends: its status, and what it leaves in the caller's memory. 0 ok, 1 a version is invalid, 2 a list is invalid, 3 out of
 -- memory, 4 too little room, 5 a bound lies above the greatest number, 6 the right one of two versions is invalid, 7 a version is not
 -- packed, 8 it cannot be changed so, 9 bytes are to be nothing known, 10 none is found, 12 a list has no set, 13 a set has no list.
-use Rattle.std.specs.Prelude.{◌≡◌, ◌⊎◌, ◌≤◌, ◌<◌, ℕ, Bool, List, ◌++◌, drop, length, Result, Ok, Err, if◌then◌else◌}
+use Rattle.std.specs.Prelude.{◌≡◌, ◌⊎◌, ◌≤◌, ◌<◌, ℕ, Bool, List, ◌++◌, drop, length, Result, Ok, Err, if◌then◌else◌, ◌+◌, [], ◌∷◌}
 use Rattle.pep440_compiled.specs.declared.error.CompileError.{CompileError}
 use Rattle.pep440_compiled.specs.declared.error.CompiledError.{CompiledError}
 use Rattle.pep440_rs.specs.declared.range.error.RangeError.{RangeError}
 use Rattle.pep440_sets.specs.declared.error.SetError.{SetError}
 use Rattle.pep440_calls.specs.declared.fault.Fault.{Fault}
+use Rattle.std.specs.List.{flat_map}
+use Rattle.pep440_calls.specs.declared.joined_strings.JoinedStrings.{JoinedStrings}
 use Rattle.pep440_compiled.specs.declared.error.CompileError.TheVariants as compile
 use Rattle.pep440_compiled.specs.declared.error.CompiledError.TheVariants as read
 use Rattle.pep440_rs.specs.declared.range.error.RangeError.TheVariants as range_error
@@ -114,3 +116,34 @@ WritesBytesOr Cause P old new old_written written status =
 
 abbrev pub WritesBytes : Type 0 → Type 0 → Type 0 → (List ℕ → Type 0) → List ℕ → List ℕ → ℕ → ℕ → ℕ → Type 0
 WritesBytes version list range = WritesBytesOr (Faults version list range)
+
+-- ---- strings one after the other, and where each of them ends; what is put where a call gave such, or bytes, or a fault
+
+-- where each string ends, if the first begins at this position
+abbrev pub ends_from : ℕ → List (List ℕ) → List ℕ
+ends_from start [] = []
+ends_from start (s ∷ rest) = (start + length s) ∷ ends_from (start + length s) rest
+
+-- the bytes are the strings, one after the other, and the ends are where each string ends
+pub record Joins (strings : List (List ℕ)) (bytes ends : List ℕ) : Type 0 where
+  pub joined : bytes ≡ flat_map (λ s. s) strings
+  pub ended : ends ≡ ends_from 0 strings
+
+-- strings are written, joined, at the start of the caller's buffers, or a buffer is too small; how many bytes and strings there
+-- are is written. Otherwise nothing is written
+abbrev pub WritesJoinedOr : (Fault → Type 0) → (List ℕ → List ℕ → Type 0) → List ℕ → List ℕ → List ℕ → List ℕ → ℕ → ℕ → ℕ → ℕ → ℕ → Type 0
+WritesJoinedOr Cause P old new old_ends ends old_written written old_count count status =
+    ((bytes : List ℕ) × (places : List ℕ) × P bytes places × (written ≡ length bytes) × (count ≡ length places) × WritesBoth bytes places old new old_ends ends status)
+    ⊎ ((new ≡ old) × (ends ≡ old_ends) × (written ≡ old_written) × (count ≡ old_count) × FailsBy Cause status)
+
+-- the bytes that were given, seen by view, and how many they are; or the fault's status, and all stays
+abbrev pub WritesResult : {X : Type 0} → (X → List ℕ) → Result X Fault → List ℕ → List ℕ → ℕ → ℕ → ℕ → Type 0
+WritesResult view (Ok x) old new old_written written status = (written ≡ length (view x)) × WritesAtStart (view x) old new status
+WritesResult view (Err fault) old new old_written written status = (new ≡ old) × (written ≡ old_written) × (status ≡ fault_status fault)
+
+-- the joined strings, where each of them ends, and how many bytes and strings they are; or the fault's status, and all stays
+abbrev pub WritesJoinedResult : Result JoinedStrings Fault → List ℕ → List ℕ → List ℕ → List ℕ → ℕ → ℕ → ℕ → ℕ → ℕ → Type 0
+WritesJoinedResult (Ok joined) old new old_ends ends old_written written old_count count status =
+    (written ≡ length joined.bytes.items) × (count ≡ length joined.ends.items) × WritesBoth joined.bytes.items joined.ends.items old new old_ends ends status
+WritesJoinedResult (Err fault) old new old_ends ends old_written written old_count count status =
+    (new ≡ old) × (ends ≡ old_ends) × (written ≡ old_written) × (count ≡ old_count) × (status ≡ fault_status fault)

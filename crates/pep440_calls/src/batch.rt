@@ -4,7 +4,9 @@ ghost use Rattle.std.specs.List.{All, AllZip, enumerate_from};
 ghost use Rattle.std.specs.Ordering.{nat_cmp};
 ghost use Rattle.std.specs.Prelude.{IfOk, IfSome, List, [], if◌then◌else◌, length, map, ℕ, ◌++◌, ◌∷◌, ◌≡◌};
 ghost use Rattle.pep440_compiled.specs.Lists.{HasSetFormat};
+ghost use Rattle.pep440_compiled.specs.SetForms.{HasSet, IsFrontsOf};
 ghost use Rattle.pep440_compiled.specs.Version.{HasVersionFormat};
+ghost use Rattle.pep440_rs.specs.Bounds.{Segments};
 ghost use Rattle.pep440_rs.specs.Specifiers.{Spec};
 ghost use Rattle.pep440_keys.specs.SortKeys.{key_bytes};
 ghost use Rattle.pep440_version.specs.Key.{record_cmp};
@@ -23,7 +25,8 @@ use crate::one_version::{find_key, find_string_key};
 use crate::read::{read, to_list};
 use arrayvec::ArrayVec;
 use pep440_compiled::{
-    ContainsError, compare_sort_keys, has_set_format, has_version_format, read_membership,
+    ContainsError, SetFronts, compare_sort_keys, has_set_format, has_version_format,
+    read_membership, read_membership_soon, view_fronts,
 };
 use pep440_rs::{Version, VersionSpecifiers};
 use std::alloc::{AllocError, AllocFailed, Global};
@@ -104,6 +107,7 @@ fn version_mark(matches: bool, is_prerelease: bool) -> u8
 }
 
 // What the list says of the string.
+#[inline(always)]
 fn mark_string(alloc: Global, list: &VersionSpecifiers, text: &[u8]) -> Result<u8, AllocError>
     ensures { IfOk result (IsMark list.now text.now) }
 {
@@ -117,8 +121,9 @@ fn mark_string(alloc: Global, list: &VersionSpecifiers, text: &[u8]) -> Result<u
     }
 }
 
-// What the set of a compiled list says of a compiled version, both as they lie.
-fn compiled_mark(form: &[u8], version: &[u8]) -> u8
+// What the set of a compiled list says of a compiled version, both as they lie. A call of its own, since the fronts decide most often.
+#[inline(never)]
+fn any_compiled_mark(form: &[u8], version: &[u8]) -> u8
     requires form { HasSetFormat form.now }
     requires version { HasVersionFormat version.now }
     ensures { (list : List Spec) → BytesDenoteList form.now list → IsMark list version.now result }
@@ -130,13 +135,37 @@ fn compiled_mark(form: &[u8], version: &[u8]) -> u8
     }
 }
 
+// What the set of a compiled list says of a compiled version, by the fronts of the set if they decide.
+#[inline(always)]
+fn compiled_mark(form: &[u8], fronts: &Option<SetFronts>, version: &[u8]) -> u8
+    requires form { HasSetFormat form.now }
+    requires fronts { IfSome fronts.now (λ f. (s : Segments) → HasSet form.now s → IsFrontsOf f s) }
+    requires version { HasVersionFormat version.now }
+    ensures { (list : List Spec) → BytesDenoteList form.now list → IsMark list version.now result }
+{
+    if let Some(fronts) = fronts {
+        if let Some((held, is_prerelease)) = read_membership_soon(fronts, version) {
+            return version_mark(held, is_prerelease);
+        }
+    }
+    any_compiled_mark(form, version)
+}
+
 // What the list, which the bytes before it denote, says of the string.
-fn mark(alloc: Global, form: &[u8], list: &VersionSpecifiers, text: &[u8]) -> Result<u8, AllocError>
-    requires { BytesDenoteList form.now list.now }
+#[inline(always)]
+fn mark(
+    alloc: Global,
+    form: &[u8],
+    fronts: &Option<SetFronts>,
+    list: &VersionSpecifiers,
+    text: &[u8],
+) -> Result<u8, AllocError>
+    requires list { BytesDenoteList form.now list.now }
+    requires fronts { IfSome fronts.now (λ f. (s : Segments) → HasSet form.now s → IsFrontsOf f s) }
     ensures { IfOk result (IsMark list.now text.now) }
 {
     if has_set_format(form) && has_version_format(text) {
-        return Ok(compiled_mark(form, text));
+        return Ok(compiled_mark(form, fronts, text));
     }
     mark_string(alloc, list, text)
 }
@@ -151,9 +180,10 @@ fn mark_all(
     requires { BytesDenoteList form.now list.now }
     ensures { IfOk result (λ found. AllZip (IsMark list.now) (map (λ t. t.now) texts.now) found.items) }
 {
+    let fronts = view_fronts(form);
     let mut found = Vec::with_capacity(alloc, texts.len())?;
     for text in texts {
-        let said = mark(alloc, form, list, text)?;
+        let said = mark(alloc, form, &fronts, list, text)?;
         found.push(said)?;
     }
     Ok(found)
@@ -291,7 +321,23 @@ pub fn write_sort_keys(
     }
 }
 
+// One more sort key: that of a string's version.
+#[inline(always)]
+fn push_string_key(alloc: Global, keys: &mut JoinedStrings, bytes: &[u8]) -> Result<(), Fault>
+    ensures { HoldsOrFaults (RejectsBytes bytes.now) ⊥ ⊥ (λ _. (key : List ℕ) × IsKey bytes.now key
+        × (keys.new.bytes.items ≡ keys.old.bytes.items ++ key)
+        × (keys.new.ends.items ≡ keys.old.ends.items ++ length keys.new.bytes.items ∷ [])) result }
+{
+    let mut form = ArrayVec::new();
+    if let Some(key) = find_string_key(&mut form, bytes) {
+        return Ok(keys.push(key)?);
+    }
+    let version = read(alloc, bytes)?;
+    Ok(keys.push_key(&version)?)
+}
+
 // One more sort key: that of the version which the bytes denote, of a compiled one as it lies in them.
+#[inline(always)]
 fn push_key(alloc: Global, keys: &mut JoinedStrings, bytes: &[u8]) -> Result<(), Fault>
     ensures { HoldsOrFaults (RejectsBytes bytes.now) ⊥ ⊥ (λ _. (key : List ℕ) × IsKey bytes.now key
         × (keys.new.bytes.items ≡ keys.old.bytes.items ++ key)
@@ -301,12 +347,7 @@ fn push_key(alloc: Global, keys: &mut JoinedStrings, bytes: &[u8]) -> Result<(),
         let key = find_key(bytes)?;
         return Ok(keys.push(key)?);
     }
-    let mut form = ArrayVec::new();
-    if let Some(key) = find_string_key(&mut form, bytes) {
-        return Ok(keys.push(key)?);
-    }
-    let version = read(alloc, bytes)?;
-    Ok(keys.push_key(&version)?)
+    push_string_key(alloc, keys, bytes)
 }
 
 // The sort keys of the strings.

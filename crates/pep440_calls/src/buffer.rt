@@ -1,7 +1,6 @@
 //! What is written to the caller's memory.
 ghost use Rattle.std.specs.Prelude.{IfErr, length, string_bytes, ◌≡◌, ◌≢◌};
-ghost use Rattle.pep440_calls.specs.JoinedStrings.{WritesResult, WritesJoinedResult};
-ghost use Rattle.pep440_calls.specs.Statuses.{WritesBoth, WritesAtStart, flag};
+ghost use Rattle.pep440_calls.specs.Statuses.{WritesAtStart, WritesBoth, WritesJoinedResult, WritesResult, flag};
 ghost use Rattle.pep440_calls.specs.declared.fault.Fault.TheVariants.{OutOfMemory};
 
 use crate::fault::Fault;

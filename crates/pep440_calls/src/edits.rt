@@ -5,7 +5,7 @@ ghost use Rattle.pep440_version.specs.Changes.ChangeWords.{not_a_change_text};
 ghost use Rattle.pep440_version.specs.Record.{Record};
 ghost use Rattle.pep440_version.specs.declared.change_word.ChangeWordError.TheVariants.{NotAChange};
 ghost use Rattle.pep440_version.specs.Changes.{edit};
-ghost use Rattle.pep440_calls.specs.Edits.{ChangesTo, HoldsOrEditFaults, IsEditError, IsEdited, BytesDenoteChange, WritesEdited, RejectsChangeWord, edit_status};
+ghost use Rattle.pep440_calls.specs.CallResults.{ChangesTo, HoldsOrEditFaults, IsEditError, IsEdited, BytesDenoteChange, WritesEdited, RejectsChangeWord, edit_status};
 ghost use Rattle.pep440_calls.specs.CallerBytes.{BytesDenote};
 ghost use Rattle.pep440_calls.specs.Statuses.{HoldsOrFaults, WritesBytes};
 ghost use Rattle.pep440_calls.specs.declared.edits.EditError.TheVariants.{OutOfMemory};

@@ -1,7 +1,7 @@
 //! Strings one after the other, and the end of each.
 ghost use Rattle.std.specs.Prelude.{IfOk, [], length, ◌++◌, ◌∷◌, ◌≡◌};
 ghost use Rattle.pep440_keys.specs.SortKeys.{key_bytes};
-ghost use Rattle.pep440_calls.specs.JoinedStrings.{Joins};
+ghost use Rattle.pep440_calls.specs.Statuses.{Joins};
 
 use pep440_keys::push_sort_key;
 use pep440_rs::Version;
@@ -26,6 +26,7 @@ impl JoinedStrings {
     }
 
     // One more string.
+    #[inline(always)]
     pub(crate) fn push(&mut self, string: &[u8]) -> Result<(), AllocError>
         ensures bytes { IfOk result (λ _. self.new.bytes.items ≡ self.old.bytes.items ++ string.now) }
         ensures ends { IfOk result (λ _. self.new.ends.items ≡ self.old.ends.items ++ length self.new.bytes.items ∷ []) }

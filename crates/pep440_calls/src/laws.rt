@@ -16,11 +16,8 @@ ghost use Rattle.pep440_version.specs.Print.{print};
 ghost use Rattle.pep440_version.specs.Record.{Record};
 ghost use Rattle.pep440_sets.specs.Common.{common_version};
 ghost use Rattle.pep440_sets.specs.Emptiness.{IsUnsatisfiable};
-ghost use Rattle.pep440_calls.specs.SetCalls.{HasListSet};
-ghost use Rattle.pep440_calls.specs.CallResults.{IsCompiled, IsCompiledList, IsVersionIn, IsPackedWord};
+ghost use Rattle.pep440_calls.specs.CallResults.{BytesDenoteSpecifier, ExplainsSpecifier, HasListSet, IsCompiled, IsCompiledList, IsPackedWord, IsRangeLines, IsSpecifier, IsVersionIn, LacksRange, RejectsOperand, RejectsOperator, RejectsPatternBytes, RejectsSpecifierBytes, StringDenotesPattern};
 ghost use Rattle.pep440_calls.specs.CallerBytes.{BytesDenote, BytesDenoteList, StringDenotes, RejectsBytes, RejectsListBytes, ExplainsBytes, ExplainsListBytes};
-ghost use Rattle.pep440_calls.specs.PatternCalls.{IsSpecifier, StringDenotesPattern, BytesDenoteSpecifier, RejectsOperand, RejectsOperator, RejectsPatternBytes, RejectsSpecifierBytes, ExplainsSpecifier};
-ghost use Rattle.pep440_calls.specs.Ranges.{IsRangeLines, LacksRange};
 
 /// Bytes denote one version, or are invalid with one error, and never both; a string does one of
 /// these. No string of a version begins as a compiled one.

@@ -2,10 +2,9 @@
 ghost use Rattle.std.specs.Prelude.{IfOk, OnOk, [], string_bytes, ◌++◌, ◌∷◌, ◌≡◌};
 ghost use Rattle.pep440_compiled.specs.Version.{compiled_bytes};
 ghost use Rattle.pep440_rs.specs.Bounds.{Segments, range_of, release_range_of};
-ghost use Rattle.pep440_calls.specs.JoinedStrings.{WritesJoinedOr};
+ghost use Rattle.pep440_calls.specs.Statuses.{HoldsOr, WritesBytesOr, WritesJoinedOr};
 ghost use Rattle.pep440_calls.specs.CallerBytes.{ListFaults};
-ghost use Rattle.pep440_calls.specs.Ranges.{HasRange, IsRangeLines, JoinsBounds, LacksRange, JoinsRangeBounds, bound_bytes};
-ghost use Rattle.pep440_calls.specs.Statuses.{HoldsOr, WritesBytesOr};
+ghost use Rattle.pep440_calls.specs.CallResults.{HasRange, IsRangeLines, JoinsBounds, LacksRange, JoinsRangeBounds, bound_bytes};
 
 use crate::buffer::{put_joined, put_text};
 use crate::fault::Fault;

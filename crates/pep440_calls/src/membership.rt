@@ -75,7 +75,7 @@ fn name_fault(alloc: Global, list: &[u8], of_string: Fault) -> Fault
     }
 }
 
-// The same of the version of a string, which is compiled first: in a normal spelling without allocating.
+// Whether a compiled list contains the version of a string, which is compiled first: in a normal spelling without allocating.
 fn contains_string(alloc: Global, list: &[u8], text: &[u8]) -> Result<(bool, bool), Fault>
     requires { HasListFormat list.now }
     ensures found { HoldsOr (ListFaults (RejectsSecond list.now text.now) list.now ⊥)
@@ -92,7 +92,7 @@ fn contains_string(alloc: Global, list: &[u8], text: &[u8]) -> Result<(bool, boo
     }
 }
 
-// The same of a list that is read.
+// Whether a list that is read contains the version that the bytes denote.
 fn contains(alloc: Global, list: &[u8], bytes: &[u8]) -> Result<(bool, bool), Fault>
     ensures { HoldsOr (ListFaults (RejectsSecond list.now bytes.now) list.now ⊥)
         (λ found. Contains list.now bytes.now found.0 × IsPrerelease bytes.now found.1) result }
@@ -246,7 +246,7 @@ fn allows_version(set: &[u8], version: &[u8], prereleases: u8) -> Result<bool, F
     takes(set, prereleases)
 }
 
-// The same, in fewer instructions if it is soon found.
+// Whether a compiled form with a set allows a compiled version, in fewer instructions if that is soon found.
 #[inline(always)]
 fn allows_form(set: &[u8], version: &[u8], prereleases: u8) -> Result<bool, Fault>
     requires set { HasFormatOfSets set.now }
@@ -261,7 +261,7 @@ fn allows_form(set: &[u8], version: &[u8], prereleases: u8) -> Result<bool, Faul
     }
 }
 
-// The same of the version of a string in any spelling, which is compiled first.
+// Whether a compiled form with a set allows the version of a string in any spelling, which is compiled first.
 fn allows_spelling(alloc: Global, set: &[u8], text: &[u8], prereleases: u8) -> Result<bool, Fault>
     requires set { HasFormatOfSets set.now }
     requires asked { ¬ AsksSet set.now prereleases }
@@ -278,7 +278,7 @@ fn allows_spelling(alloc: Global, set: &[u8], text: &[u8], prereleases: u8) -> R
     }
 }
 
-// The same, in a normal spelling without allocating.
+// Whether a compiled form with a set allows the version of a string: in a normal spelling without allocating.
 #[inline(never)]
 fn allows_string(alloc: Global, set: &[u8], text: &[u8], prereleases: u8) -> Result<bool, Fault>
     requires set { HasFormatOfSets set.now }

@@ -7,7 +7,7 @@ ghost use Rattle.pep440_rs.specs.LiteralMatching.{list_matches_literally};
 ghost use Rattle.pep440_rs.specs.Matching.{any_prerelease};
 ghost use Rattle.pep440_version.specs.Record.{Record};
 ghost use Rattle.pep440_calls.specs.CallerBytes.{BytesDenote, ListFaults, RejectsBytes};
-ghost use Rattle.pep440_calls.specs.NewestString.{FindsNewestString, IsContainedString, NewestResult};
+ghost use Rattle.pep440_calls.specs.Batches.{FindsNewestString, IsContainedString, NewestResult};
 ghost use Rattle.pep440_calls.specs.Statuses.{HoldsOr};
 
 use crate::buffer::OK;

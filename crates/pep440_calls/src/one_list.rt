@@ -7,9 +7,8 @@ ghost use Rattle.pep440_rs.specs.Operators.{operator_text};
 ghost use Rattle.pep440_rs.specs.Specifiers.{Spec};
 ghost use Rattle.pep440_version.specs.Print.{print};
 ghost use Rattle.pep440_calls.specs.CallResults.{IsCompiledList, IsNormalList, IsVersionIn, NamesPrerelease, JoinsMembers, member_strings, version_string};
-ghost use Rattle.pep440_calls.specs.JoinedStrings.{Joins, WritesJoinedOr};
+ghost use Rattle.pep440_calls.specs.Statuses.{HoldsOr, IsFlagOf, Joins, WritesBytesOr, WritesJoinedOr, WritesOr};
 ghost use Rattle.pep440_calls.specs.CallerBytes.{ListFaults};
-ghost use Rattle.pep440_calls.specs.Statuses.{HoldsOr, IsFlagOf, WritesBytesOr, WritesOr};
 
 use crate::buffer::{OK, flag, put_bytes, put_joined, put_text};
 use crate::fault::Fault;

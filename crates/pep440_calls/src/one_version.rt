@@ -32,7 +32,7 @@ fn normalize(alloc: Global, bytes: &[u8]) -> Result<String, Fault>
 }
 
 /// Writes the compiled form of the version.
-#[tactic(auto, using(crate::proofs::Compiling::string_compiled))]
+#[tactic(auto, using(crate::proofs::Forms::string_compiled))]
 pub fn write_compiled(alloc: Global, text: &[u8], out: &mut [u8], written: &mut usize) -> u8
     ensures found { WritesBytes (RejectsBytes text.now) ⊥ ⊥ (IsCompiled text.now) out.old out.new written.old written.new result }
     ensures memory { IsShortNormalForm text.now → result ≢ 3 }
@@ -79,6 +79,7 @@ fn write_string_key(alloc: Global, text: &[u8], out: &mut [u8], written: &mut us
 }
 
 // The sort key of a compiled version, as it lies in the bytes.
+#[inline(always)]
 pub(crate) fn find_key(bytes: &[u8]) -> Result<&[u8], Fault>
     requires { HasVersionFormat bytes.now }
     ensures found { HoldsOrFaults (RejectsBytes bytes.now) ⊥ ⊥ (λ key. IsKey bytes.now key.now) result }

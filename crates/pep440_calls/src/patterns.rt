@@ -1,7 +1,7 @@
 //! Version patterns, specifiers of an operator and a pattern, and one specifier.
 ghost use Rattle.std.specs.Prelude.{string_bytes};
 ghost use Rattle.pep440_rs.specs.Operators.{Spells};
-ghost use Rattle.pep440_calls.specs.PatternCalls.{IsCompiledSpecifier, IsOperator, IsPattern, IsSpecifier, StringDenotesPattern, BytesDenoteSpecifier, PatternResult, RejectsOperand, RejectsOperator, RejectsPatternBytes, RejectsSpecifierBytes};
+ghost use Rattle.pep440_calls.specs.CallResults.{IsCompiledSpecifier, IsOperator, IsPattern, IsSpecifier, StringDenotesPattern, BytesDenoteSpecifier, PatternResult, RejectsOperand, RejectsOperator, RejectsPatternBytes, RejectsSpecifierBytes};
 ghost use Rattle.pep440_calls.specs.Statuses.{HoldsOrFaults, WritesBytes};
 
 use crate::buffer::{flag, put_and_count, put_bytes, put_text};

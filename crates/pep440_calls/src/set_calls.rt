@@ -3,9 +3,8 @@ ghost use Rattle.std.specs.Prelude.{◌≡◌, ◌↔◌, IfOk, map, true};
 ghost use Rattle.pep440_compiled.specs.SetForms.{HasFormatOfSets, HasLoneSetFormat, HasSet};
 ghost use Rattle.pep440_rs.specs.Bounds.{Segments};
 ghost use Rattle.pep440_calls.specs.CallerBytes.{RejectsListBytes};
-ghost use Rattle.pep440_calls.specs.JoinedStrings.{Joins, WritesJoinedOr};
-ghost use Rattle.pep440_calls.specs.SetCalls.{HasListSet, LacksListSet, IsComplement, IsFormOf, IsInside, IsIntersection, IsUnion, JoinsBoundaries, SetFault, SubsetResult, TwoSetFaults, form_bytes};
-ghost use Rattle.pep440_calls.specs.Statuses.{HoldsOr, SetFaults, WritesBytesOr};
+ghost use Rattle.pep440_calls.specs.Statuses.{HoldsOr, Joins, SetFaults, WritesBytesOr, WritesJoinedOr};
+ghost use Rattle.pep440_calls.specs.CallResults.{HasListSet, LacksListSet, IsComplement, IsFormOf, IsInside, IsIntersection, IsUnion, JoinsBoundaries, SetFault, SubsetResult, TwoSetFaults, form_bytes};
 
 use crate::buffer::{OK, flag, put_bytes, put_joined};
 use crate::fault::Fault;

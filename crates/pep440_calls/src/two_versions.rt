@@ -1,6 +1,7 @@
 //! How two versions compare.
-ghost use Rattle.std.specs.Prelude.{IfSome, true, ◌≡◌};
+ghost use Rattle.std.specs.Prelude.{IfSome, [], true, ◌≡◌};
 ghost use Rattle.pep440_compiled.specs.Version.{DenotesVersion};
+ghost use Rattle.pep440_version.specs.Grammar.{Derives};
 ghost use Rattle.pep440_version.specs.Record.{Record};
 ghost use Rattle.pep440_calls.specs.CallResults.{IsOrder, ReturnsOrder, OrderResult, order_number};
 ghost use Rattle.pep440_calls.specs.declared.fault.Fault.TheVariants.{OutOfMemory};
@@ -46,19 +47,28 @@ fn is_compiled(bytes: &[u8]) -> bool
     read_sort_key(bytes).is_ok()
 }
 
+// Compiles a string in a normal spelling. A call of its own, since two copies would make each program that compares larger.
+#[inline(never)]
+fn compile_in_place(form: &mut ArrayVec<u8, 64>, text: &[u8]) -> bool
+    requires { form.old.items ≡ [] }
+    ensures { result ≡ true → (r : Record) × Derives text.now r × DenotesVersion form.new.items r }
+{
+    compile_normal(form, text)
+}
+
 // How a compiled version and a string compare, which is compiled on the stack; `None` if it is to be parsed, and of two strings.
 #[inline(never)]
-fn compare_mixed(left: &[u8], right: &[u8]) -> Option<Ordering>
+fn compare_in_place(left: &[u8], right: &[u8]) -> Option<Ordering>
     ensures { IfSome result (λ order. IsOrder left.now right.now (order_number order)) }
 {
     let mut form = ArrayVec::new();
     if is_compiled(left) {
-        if !compile_normal(&mut form, right) {
+        if !compile_in_place(&mut form, right) {
             return None;
         }
         return pep440_compiled::compare(left, form.as_slice()).ok();
     }
-    if !is_compiled(right) || !compile_normal(&mut form, left) {
+    if !is_compiled(right) || !compile_in_place(&mut form, left) {
         return None;
     }
     pep440_compiled::compare(form.as_slice(), right).ok()
@@ -70,7 +80,7 @@ fn compare_string(alloc: Global, left: &[u8], right: &[u8]) -> Result<Ordering, 
     ensures { ReturnsOrder left.now right.now result }
 {
     if has_version_format(left) || has_version_format(right) {
-        if let Some(found) = compare_mixed(left, right) {
+        if let Some(found) = compare_in_place(left, right) {
             return Ok(found);
         }
     }

@@ -5,10 +5,10 @@ use Rattle.std.proofs.lemmas.List.{length-append, length-replicate, append-nil, 
 use Rattle.std.proofs.lemmas.List.Elements.{All-from_recursion}
 use Rattle.std.specs.List.{All, AllByRecursion, flat_map, list_all}
 use Rattle.pep440_compiled.proofs.Loops.{Leads, Reads}
-use Rattle.pep440_compiled.proofs.Prefixes.{IsTrimmed, padded}
+use Rattle.pep440_compiled.proofs.Prefixes.{IsTrimmed, none_needed, padded, some_needed}
 use Rattle.pep440_compiled.proofs.Zeros.{number_more, trim_again, trim_pad, trim_padded, zero_more, zeros_padded}
 use Rattle.pep440_compiled.specs.KeyParts.{ending_zeros, suffix_bytes}
-use Rattle.pep440_keys.specs.SortKeys.{number_bytes, segment_bytes, key_bytes, local_bytes, rank_bytes}
+use Rattle.pep440_keys.specs.SortKeys.{needed_bytes, number_bytes, segment_bytes, key_bytes, local_bytes, rank_bytes}
 use Rattle.pep440_version.specs.Record.{Fits, LocalSegmentValue, SegmentFits, Record, from_parts}
 use Rattle.pep440_version.specs.RoundTrip.{SegmentRoundTrips, IsParsed, is_lower}
 use Rattle.pep440_version.specs.Key.Trim.{trim}
@@ -52,6 +52,17 @@ ends_next zeros seen n = record {
   some = λ e. omega (arith, length-append seen (n ∷ []));
   back = λ t some. lt-ltb 0 n (not_trimmed seen n t);
 }
+
+by_count : (n first count : ℕ) → first ≡ 1 + count → (n ≡ 0 → count ≡ 0) → ((n ≡ 0 → ⊥) → 0 < count) → nat_lt 0 n ≡ nat_lt 1 first
+by_count zero first count e none some = let one : first ≡ 1 = omega (arith, e, none refl) in sym (ap (λ f. nat_lt 1 f) one)
+by_count (suc n) first count e none some =
+    let more = some (λ z. omega (arith, z)) in
+    lt-ltb 0 (suc n) (omega arith) ∙ sym (lt-ltb 1 first (omega (arith, e, more)))
+
+-- by the byte that counts the bytes of the last number
+pub ends_by_count : (zeros : ℕ) (seen : List ℕ) (n first : ℕ) → Fits n → first ≡ 1 + length (needed_bytes n) → Ends zeros (seen ++ n ∷ []) (nat_lt 1 first)
+ends_by_count zeros seen n first fits e =
+    subst (Ends zeros (seen ++ n ∷ [])) (by_count n first (length (needed_bytes n)) e (λ z. ap length (ap needed_bytes z ∙ none_needed)) (some_needed n fits)) (ends_next zeros seen n)
 
 -- the numbers that were read
 pub record Tested (bytes left : List ℕ) (zeros : ℕ) (may_end : Bool) : Type 0 where

@@ -1,5 +1,5 @@
 -- What is decoded has the bytes that it was decoded from.
-use Rattle.std.proofs.Common.{◌≡◌, ◌∙◌, ℕ, zero, suc, ◌+◌, ◌-◌, ◌<◌, ◌≤◌, List, [], ◌∷◌, ◌++◌, Option, append_assoc, ap, arith, drop, get_or, length, lit<, refl, replicate, subst, sym, take, w64, if◌then◌else◌}
+use Rattle.std.proofs.Common.{◌≡◌, ◌∙◌, ℕ, zero, suc, ◌+◌, ◌-◌, ◌^◌, ◌<◌, ◌≤◌, List, [], ◌∷◌, ◌++◌, Option, append_assoc, ap, arith, drop, get_or, length, lit<, refl, replicate, subst, sym, take, w64, if◌then◌else◌}
 use Rattle.std.proofs.Math.Dec.{eqb-suc-zero}
 use Rattle.std.proofs.Math.Seq.{take-append_seam}
 use Rattle.std.proofs.lemmas.Grind.{flat_map-append}
@@ -42,6 +42,19 @@ number_again n start bytes h o few s e =
     let back = be_bytes_8 (replicate k 0 ++ bytes) n long (bytes_fit k bytes h) (e ∙ ap (from_be_bytes w64) (padded_is start bytes few s)) in
     sym (unpadded k bytes o) ∙ needed_is n (replicate k 0 ++ bytes) (sym back)
 
+eight_fit : (bytes : List ℕ) → ((i : ℕ) → get_or bytes i 0 < 256) → from_be_bytes w64 bytes < 2 ^ 64
+eight_fit bytes h = omega (arith, h 0, h 1, h 2, h 3, h 4, h 5, h 6, h 7)
+
+-- at most eight bytes that do not begin with a 0 are those of a number
+pub some_number : (bytes : List ℕ) → ((i : ℕ) → get_or bytes i 0 < 256) → BeginsOtherwise 0 bytes → length bytes ≤ 8 → (n : ℕ) × Fits n × (bytes ≡ needed_bytes n)
+some_number bytes h o few =
+    let k = 8 - length bytes in
+    let whole = replicate k 0 ++ bytes in
+    let n = from_be_bytes w64 whole in
+    let long : length {A = ℕ} whole ≡ 8 = omega (arith, few, length-append (replicate k 0) bytes, length-replicate {A = ℕ} k 0) in
+    let back = be_bytes_8 whole n long (bytes_fit k bytes h) refl in
+    (n, eight_fit whole (bytes_fit k bytes h), sym (unpadded k bytes o) ∙ needed_is n whole (sym back))
+
 unpadded_first : (bytes rest : List ℕ) → trim_leading_zeros bytes ≡ 0 ∷ rest → ⊥
 unpadded_first [] rest e = cc
 unpadded_first (zero ∷ bytes) rest e = unpadded_first bytes rest e
@@ -68,6 +81,10 @@ zero_number bytes none = nil_from_length bytes none ∙ sym none_needed
 
 pub no_number : (n : ℕ) (bytes : List ℕ) → Fits n → length bytes ≡ 0 → bytes ≡ needed_bytes n → 0 ≡ n
 no_number n bytes f none e = same_needed 0 n (lit< tt) f (sym (zero_number bytes none) ∙ e)
+
+-- the same bytes before the rest, as many
+pub one_counted : (m n count : ℕ) (bytes u v : List ℕ) → Fits m → Fits n → count ≡ length (needed_bytes m) → count ≡ length (needed_bytes n) → bytes ≡ needed_bytes m ++ u → bytes ≡ needed_bytes n ++ v → m ≡ n
+one_counted m n count bytes u v f g c d e h = same_number 0 m n u v f g (λ i. (0 + (sym c ∙ d) i) ∷ (sym e ∙ h) i)
 
 -- a number of one byte, and what stands behind it
 pub short_number : (n byte : ℕ) (needed bytes later rest : List ℕ) → Fits n → byte < 256 → needed ≡ needed_bytes n → length needed ≡ 1 → bytes ≡ byte ∷ later → bytes ≡ needed ++ rest

@@ -1,15 +1,22 @@
 -- The set of a list as bytes: what its intervals are, and that they hold the keys of the versions that match literally.
-use Rattle.std.proofs.Common.{◌≡◌, ◌∙◌, ◌==◌, ◌&&◌, ◌||◌, ℕ, ◌<◌, Bool, true, false, true≢false, not, is_none, Option, Some, None, List, [], ◌∷◌, ◌++◌, inl, inr, append_assoc, arith, length, map, refl, sym, ap, subst}
+use Rattle.std.proofs.Common.{◌≡◌, ◌∙◌, ◌==◌, ◌&&◌, ◌||◌, ℕ, zero, suc, ◌<◌, ◌≤◌, Bool, true, false, true≢false, not, if◌then◌else◌, nat_lt, take, is_none, Option, Some, None, List, [], ◌∷◌, ◌++◌, inl, inr, append_assoc, arith, length, map, refl, sym, ap, subst}
 use Rattle.std.proofs.Math.Dec.{eqb-suc-zero}
+use Rattle.std.proofs.lemmas.Bool.{lt-ltb}
+use Rattle.std.proofs.lemmas.Bool.Decides.{nat_tests}
+use Rattle.std.proofs.lemmas.List.{append-nil}
 use Rattle.std.proofs.lemmas.List.Elements.{All-from_recursion, All-weaker, recursion_from_All}
 use Rattle.std.specs.List.{All, AllByRecursion, list_all, list_any}
 use Rattle.std.specs.Option.{option_map_or}
 use Rattle.std.specs.Prelude.{unwrap_or}
+use Rattle.std.specs.Ordering.{is_lt, nat_cmp}
+use Rattle.std.specs.Slice.Scan.{big_endian}
+use Rattle.std.specs.declared.cmp.Ordering.TheVariants as order
 use Rattle.std.specs.declared.ops.Bound.{Bound}
 use Rattle.std.specs.declared.ops.Bound.TheVariants.{Included, Excluded, Unbounded}
+use Rattle.pep440_compiled.proofs.ByteOrder.{AreBytes, other_words}
 use Rattle.pep440_compiled.proofs.Fronts.{keyed}
 use Rattle.pep440_compiled.specs.Lists.{IsParsedMember, has_set, is_bare, may_stand}
-use Rattle.pep440_compiled.specs.SetBytes.{IsSized, high_bytes, low_bytes, set_bytes, sized_bytes}
+use Rattle.pep440_compiled.specs.SetBytes.{HasBothFronts, HasFronts, IsFront, IsSized, high_bytes, low_bytes, set_bytes, sized_bytes}
 use Rattle.pep440_keys.proofs.Membership.{in_range}
 use Rattle.pep440_keys.specs.RangeKeys.{HasKeys, IsKeyedBound, IsKeyedSegment, high_key, is_below_key, is_within, low_key, segment_interval}
 use Rattle.pep440_keys.specs.SortKeys.{HasNoZero, IsKeyed, key_bytes}
@@ -80,6 +87,95 @@ tells s key = λ i. low_tells s.0 key i && high_tells s.1 key i
 pub decided : (s : Segment Record) (key low high : List ℕ) (b : Bool) → low ≡ low_bytes (segment_interval s) → high ≡ high_bytes (segment_interval s) →
     b ≡ not (is_below_key key low) && ((length high == 0) || is_below_key key high) → is_within (segment_interval s) key ≡ b
 decided s key low high b l h is = sym (tells s key) ∙ sym (λ i. not (is_below_key key (l i)) && ((length (h i) == 0) || is_below_key key (h i))) ∙ sym is
+
+-- ---- by the first eight bytes of keys
+
+lt_is : (m n : ℕ) → is_lt (nat_cmp m n) ≡ nat_lt m n
+lt_is m n = go (nat_lt m n) (m == n)
+  where
+    go : (a b : Bool) → is_lt (if a then order.Less else if b then order.Equal else order.Greater) ≡ a
+    go true b = refl
+    go false true = refl
+    go false false = refl
+
+turned_lt : (m n : ℕ) → (m ≡ n → ⊥) → not (nat_lt m n) ≡ nat_lt n m
+turned_lt m n other = grind (arith, nat_tests)
+
+above_low : (key low : List ℕ) (front l : ℕ) → 8 ≤ length key → AreBytes key → front ≡ big_endian 0 (take 8 key) → IsFront 0 l low → (front ≡ l → ⊥)
+    → nat_lt l front ≡ not (is_below_key key low)
+above_low key low front l some bytes f (inl e) other =
+    let more : 0 < front = omega (arith, other, e.1) in
+    ap (λ n. nat_lt n front) e.1 ∙ lt-ltb 0 front more ∙ sym (ap (λ k. not (is_below_key key k)) e.0 ∙ at_least_none key)
+above_low key low front l some bytes f (inr e) other =
+    sym (ap not (ap is_lt (sym (other_words front l key low some e.0 bytes e.1 f e.2 other)) ∙ lt_is front l) ∙ turned_lt front l other)
+
+no_length : (n : ℕ) → 8 ≤ n → n == 0 ≡ false
+no_length zero h = absurd (omega (arith, h))
+no_length (suc n) h = eqb-suc-zero n
+
+below_high : (key high : List ℕ) (front h : ℕ) → 8 ≤ length key → AreBytes key → front ≡ big_endian 0 (take 8 key) → front ≤ 18446744073709551615 → IsFront 18446744073709551615 h high → (front ≡ h → ⊥)
+    → nat_lt front h ≡ (length high == 0) || is_below_key key high
+below_high key high front h some bytes f fits (inl e) other =
+    lt-ltb front h (omega (arith, other, e.1, fits)) ∙ sym (ap (λ k. (length k == 0) || is_below_key key k) e.0)
+below_high key high front h some bytes f fits (inr e) other =
+    sym (ap (λ b. b || is_below_key key high) (no_length (length high) e.0) ∙ ap is_lt (sym (other_words front h key high some e.0 bytes e.1 f e.2 other)) ∙ lt_is front h)
+
+-- where the front of a key is neither that of the low key nor that of the high one, the fronts decide
+pub fronts_decide : (s : Segment Record) (key : List ℕ) (fronts : ℕ × ℕ) (front : ℕ) → HasBothFronts fronts s → 8 ≤ length key → AreBytes key → front ≡ big_endian 0 (take 8 key) → front ≤ 18446744073709551615
+    → (front ≡ fronts.0 → ⊥) → (front ≡ fronts.1 → ⊥) → is_within (segment_interval s) key ≡ nat_lt fronts.0 front && nat_lt front fronts.1
+fronts_decide s key fronts front both some bytes f fits low high =
+    sym (tells s key)
+    ∙ sym (λ i. above_low key (low_bytes (segment_interval s)) front fronts.0 some bytes f both.0 low i && below_high key (high_bytes (segment_interval s)) front fronts.1 some bytes f fits both.1 high i)
+
+-- the first of the fronts are those of the first interval
+pub record FirstFronts (fronts : ℕ × ℕ) (rest : List (ℕ × ℕ)) (set : Segments) : Type 0 where
+  pub segment : Segment Record
+  pub more : Segments
+  pub split : set ≡ segment ∷ more
+  pub both : HasBothFronts fronts segment
+  pub others : HasFronts rest more
+
+pub first_fronts : (left rest : List (ℕ × ℕ)) (f : ℕ × ℕ) (set : Segments) → left ≡ f ∷ rest → HasFronts left set → FirstFronts f rest set
+first_fronts left rest f set e h = go set (subst (λ l. HasFronts l set) e h)
+  where
+    go : (set : Segments) → HasFronts (f ∷ rest) set → FirstFronts f rest set
+    go [] h = absurd h
+    go (s ∷ set) h = record { segment = s; more = set; split = refl; both = h.0; others = h.1 }
+
+pub no_fronts : (left : List (ℕ × ℕ)) (set : Segments) → length left ≡ 0 → HasFronts left set → set ≡ []
+no_fronts [] [] none h = refl
+no_fronts [] (s ∷ set) none h = absurd h
+no_fronts (f ∷ left) set none h = absurd (omega (arith, none))
+
+-- the fronts of the intervals that were read, and the others
+pub record ReadFronts (set : Segments) (fronts : List (ℕ × ℕ)) (left : List ℕ) : Type 0 where
+  pub seen : Segments
+  pub more : Segments
+  pub split : set ≡ seen ++ more
+  pub sized : AllByRecursion IsSized more
+  pub bytes : left ≡ set_bytes more
+  pub read : HasFronts fronts seen
+
+one_more : (fronts : List (ℕ × ℕ)) (seen : Segments) (f : ℕ × ℕ) (s : Segment Record) → HasFronts fronts seen → HasBothFronts f s → HasFronts (fronts ++ f ∷ []) (seen ++ s ∷ [])
+one_more [] [] f s all both = (both, tt)
+one_more [] (x ∷ seen) f s all both = absurd all
+one_more (g ∷ fronts) [] f s all both = absurd all
+one_more (g ∷ fronts) (x ∷ seen) f s all both = (all.0, one_more fronts seen f s all.1 both)
+
+pub read_next : (set : Segments) (fronts new : List (ℕ × ℕ)) (left rest : List ℕ) (f : ℕ × ℕ) (at : ReadFronts set fronts left) (first : First left at.more) → HasBothFronts f first.segment
+    → rest ≡ set_bytes first.more → new ≡ fronts ++ f ∷ [] → ReadFronts set new rest
+read_next set fronts new left rest f at first both bytes e = record {
+  seen = at.seen ++ first.segment ∷ [];
+  more = first.more;
+  split = at.split ∙ ap (λ l. at.seen ++ l) first.split ∙ sym (append_assoc at.seen (first.segment ∷ []) first.more);
+  sized = first.all;
+  bytes = bytes;
+  read = subst (λ l. HasFronts l (at.seen ++ first.segment ∷ [])) (sym e) (one_more fronts at.seen f first.segment at.read both);
+}
+
+pub all_fronts : (set : Segments) (fronts : List (ℕ × ℕ)) (left : List ℕ) → length left ≡ 0 → ReadFronts set fronts left → HasFronts fronts set
+all_fronts set fronts left none at =
+    subst (HasFronts fronts) (sym (at.split ∙ ap (λ l. at.seen ++ l) (none_left left at.more none at.bytes) ∙ append-nil at.seen)) at.read
 
 -- ---- the set of a list
 

@@ -1,6 +1,7 @@
 -- Sets of versions as bytes: the sort keys between which the versions of each interval lie.
-use Rattle.std.specs.Prelude.{ℕ, List, [], ◌∷◌, ◌++◌, length, unwrap_or}
+use Rattle.std.specs.Prelude.{◌≡◌, ◌⊎◌, ◌<◌, ◌≤◌, ℕ, List, [], ◌∷◌, ◌++◌, get_or, length, take, unwrap_or}
 use Rattle.std.specs.List.{flat_map}
+use Rattle.std.specs.Slice.Scan.{big_endian}
 use Rattle.pep440_keys.specs.RangeKeys.{Interval, segment_interval}
 use Rattle.pep440_keys.specs.SortKeys.{number_bytes}
 use Rattle.pep440_ranges.specs.RangeSegments.{Segment}
@@ -37,3 +38,18 @@ IsSizedInterval interval = Fits (length (low_bytes interval)) × Fits (length (h
 
 abbrev pub IsSized : Segment Record → Type 0
 IsSized s = IsSizedInterval (segment_interval s)
+
+-- the first eight bytes of a key as a number, the greatest first; of no key the number that stands for none
+abbrev pub IsFront : ℕ → ℕ → List ℕ → Type 0
+IsFront none front key = ((key ≡ []) × (front ≡ none)) ⊎ ((8 ≤ length key) × ((k : ℕ) → get_or key k 0 < 256) × (front ≡ big_endian 0 (take 8 key)))
+
+-- the fronts of both keys of an interval
+abbrev pub HasBothFronts : ℕ × ℕ → Segment Record → Type 0
+HasBothFronts fronts s = IsFront 0 fronts.0 (low_bytes (segment_interval s)) × IsFront 18446744073709551615 fronts.1 (high_bytes (segment_interval s))
+
+-- those of each interval of a set, in order
+abbrev pub HasFronts : List (ℕ × ℕ) → Segments → Type 0
+HasFronts [] [] = Unit {0}
+HasFronts (f ∷ fronts) (s ∷ set) = HasBothFronts f s × HasFronts fronts set
+HasFronts [] (s ∷ set) = ⊥
+HasFronts (f ∷ fronts) [] = ⊥

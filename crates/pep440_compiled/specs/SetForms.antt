@@ -2,7 +2,8 @@
 use Rattle.std.specs.Prelude.{◌≡◌, ◌⊎◌, ℕ, List, ◌∷◌, Some, slice_get}
 use Rattle.std.specs.List.{All}
 use Rattle.pep440_compiled.specs.Lists.{DenotesWithSet, HasSetFormat}
-use Rattle.pep440_compiled.specs.SetBytes.{IsSized, set_bytes}
+use Rattle.pep440_compiled.specs.SetBytes.{HasFronts, IsSized, set_bytes}
+use Rattle.pep440_compiled.specs.declared.set_forms.SetFronts.{SetFronts}
 use Rattle.pep440_rs.specs.Bounds.{Segments}
 use Rattle.pep440_rs.specs.Specifiers.{Spec}
 use Rattle.pep440_sets.specs.Boundaries.{IsVersionSet}
@@ -29,3 +30,8 @@ HasSet bytes set = DenotesSet bytes set ⊎ ((list : List Spec) × DenotesWithSe
 -- the bytes begin with the format byte 6 or 7
 abbrev pub HasFormatOfSets : List ℕ → Type 0
 HasFormatOfSets bytes = HasSetFormat bytes ⊎ HasLoneSetFormat bytes
+
+-- the fronts are those of this set of versions
+pub record IsFrontsOf (fronts : SetFronts) (set : Segments) : Type 0 where
+  pub valid : IsVersionSet set
+  pub keys : HasFronts fronts.ranges.items set

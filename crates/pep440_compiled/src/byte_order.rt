@@ -8,7 +8,7 @@ use std::cmp::Ordering;
 
 // The first eight bytes as a number, which is read in one piece.
 #[inline(always)]
-fn read_word(bytes: &[u8]) -> u64
+pub(crate) fn read_word(bytes: &[u8]) -> u64
     requires { 8 ≤ length bytes.now }
     ensures { result ≡ big_endian 0 (take 8 bytes.now) }
 {
@@ -71,7 +71,7 @@ fn is_below_by_all(a: &[u8], b: &[u8]) -> bool
     cmp_bytes(a, b).is_lt()
 }
 
-// The same, by the first eight bytes if these differ.
+// Whether the bytes are below the others, by the first eight if these differ.
 #[inline(always)]
 pub(crate) fn is_below(a: &[u8], b: &[u8]) -> bool
     ensures { result ≡ is_lt (slice_cmp nat_cmp a.now b.now) }

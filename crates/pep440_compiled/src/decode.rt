@@ -307,8 +307,8 @@ pub(crate) struct SuffixParts {
     pub(crate) dev: Option<u64>,
 }
 
-// The parts of any suffix. A call of its own, so that final releases pay nothing for it.
-#[inline(never)]
+// The parts of any suffix.
+#[inline(always)]
 fn read_any_suffix(bytes: &[u8]) -> Option<(SuffixParts, &[u8])>
     ensures found { (r : Record) (rest : List ℕ) → IsParsed r → bytes.now ≡ suffix_bytes r ++ rest
         → MatchOption result ⊥ (λ p. (p.0.pre ≡ r.pre) × (p.0.post ≡ r.post) × (p.0.dev ≡ r.dev) × (p.1.now ≡ rest)) }

@@ -43,8 +43,8 @@ pub use list::{
     requests_prereleases,
 };
 pub use set_forms::{
-    complement, has_lone_set_format, intersection, is_subset, read_membership, set_contains,
-    set_contains_soon, set_keys, union,
+    SetFronts, complement, has_lone_set_format, intersection, is_subset, read_membership,
+    read_membership_soon, set_contains, set_contains_soon, set_keys, union, view_fronts,
 };
 pub use stack_form::compile_normal;
 pub use version::{

@@ -31,6 +31,22 @@ fn is_numeral(text: &str) -> bool
     is_digits(text.as_bytes()) && (text.is_empty() || text.parse::<u64>().is_ok())
 }
 
+// Whether the bytes are a string of a local part as parsing gives it. Those that have a letter need no other look.
+pub(crate) fn is_normal_text(text: &[u8]) -> bool
+    ensures { (result ≡ true) ↔ SegmentRoundTrips (Text text.now) }
+{
+    if !is_lower(text) {
+        return false;
+    }
+    if !is_digits(text) {
+        return true;
+    }
+    match str::from_utf8(text) {
+        Ok(text) => !is_numeral(text),
+        Err(_) => false,
+    }
+}
+
 // A string of a local part as parsing gives it; the empty string counts as a numeral.
 pub(crate) fn is_normal_string(text: &str) -> bool
     ensures { (result ≡ true) ↔ SegmentRoundTrips (Text text.now) }

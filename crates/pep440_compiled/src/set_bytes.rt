@@ -1,13 +1,14 @@
 //! Sets as bytes: the sort keys of their intervals, written and searched.
-ghost use Rattle.std.specs.Prelude.{◌≡◌, ◌<◌, ◌++◌, ◌&&◌, ◌||◌, ◌==◌, [], List, ℕ, IfOk, IfSome, MatchOption, OnOk, Some, length, not, unwrap_or};
+ghost use Rattle.std.specs.Prelude.{◌≡◌, ◌<◌, ◌++◌, ◌&&◌, ◌||◌, ◌==◌, [], List, ℕ, IfOk, IfSome, MatchOption, OnOk, Some, length, nat_lt, not, unwrap_or};
 ghost use Rattle.std.specs.List.{All, list_any};
-ghost use Rattle.pep440_compiled.specs.SetBytes.{IsSized, interval_bytes, set_bytes, sized_bytes};
+ghost use Rattle.pep440_compiled.specs.SetBytes.{HasFronts, IsFront, IsSized, interval_bytes, set_bytes, sized_bytes};
 ghost use Rattle.pep440_keys.specs.RangeKeys.{high_key, is_below_key, is_within, low_key, segment_interval};
 ghost use Rattle.pep440_rs.specs.Bounds.{Segments};
 ghost use Rattle.pep440_version.specs.Record.{Fits};
 
-use crate::byte_order::is_below;
+use crate::byte_order::{is_below, read_word};
 use crate::decode::{read_short_number, read_whole_number};
+use arrayvec::ArrayVec;
 use pep440_keys::{push_number, push_sort_key};
 use pep440_rs::{Ranges, Version};
 use std::alloc::{AllocError, Global};
@@ -96,7 +97,7 @@ pub(crate) fn split_by_length(bytes: &[u8]) -> Option<(&[u8], &[u8])>
     rest.split_at_checked(count as usize)
 }
 
-// The same, in fewer instructions, if the count is of at most one byte.
+// The leading bytes and the rest in fewer instructions, if their count has at most one byte.
 #[inline(always)]
 pub(crate) fn split_by_short_length(bytes: &[u8]) -> Option<(&[u8], &[u8])>
     ensures found { (item rest : List ℕ) → Fits (length item) → bytes.now ≡ sized_bytes item ++ rest
@@ -133,7 +134,7 @@ pub(crate) fn holds_key(set: &[u8], key: &[u8]) -> Option<bool>
     Some(false)
 }
 
-// The same, in fewer instructions, if the keys up to the answer are short.
+// Whether the set holds the key in fewer instructions, if the keys up to the answer are short.
 #[inline(always)]
 pub(crate) fn holds_key_soon(set: &[u8], key: &[u8]) -> Option<bool>
     ensures { (segments : Segments) → All IsSized segments → set.now ≡ set_bytes segments
@@ -144,6 +145,72 @@ pub(crate) fn holds_key_soon(set: &[u8], key: &[u8]) -> Option<bool>
         let (low, rest) = split_by_short_length(left)?;
         let (high, rest) = split_by_short_length(rest)?;
         if is_between(low, high, key) {
+            return Some(true);
+        }
+        left = rest;
+    }
+    Some(false)
+}
+
+// The first eight bytes of a key as a number; of no key the number that stands for none. `None` of a shorter key.
+fn read_front(key: &[u8], none: u64) -> Option<u64>
+    ensures { IfSome result (λ front. IsFront none front key.now) }
+{
+    if key.is_empty() {
+        return Some(none);
+    }
+    if key.len() < 8 {
+        return None;
+    }
+    Some(read_word(key))
+}
+
+// The fronts of both keys of each interval, the least number for no low key and the greatest for no high key; `None` of a set with more
+// intervals than there is room for, or with a key that is too short.
+pub(crate) fn read_fronts(set: &[u8]) -> Option<ArrayVec<(u64, u64), 8>>
+    ensures { (segments : Segments) → All IsSized segments → set.now ≡ set_bytes segments
+        → IfSome result (λ fronts. HasFronts fronts.items segments) }
+{
+    let mut fronts = ArrayVec::new();
+    let mut left = set;
+    while !left.is_empty() {
+        let (low, rest) = split_by_length(left)?;
+        let (high, rest) = split_by_length(rest)?;
+        let low_front = read_front(low, 0)?;
+        let high_front = read_front(high, u64::MAX)?;
+        if fronts.is_full() {
+            return None;
+        }
+        fronts.push((low_front, high_front));
+        left = rest;
+    }
+    Some(fronts)
+}
+
+// Above a low key's front, and below a high one's.
+#[inline(always)]
+fn is_between_fronts(range: (u64, u64), front: u64) -> bool
+    ensures { result ≡ nat_lt range.0 front && nat_lt front range.1 }
+{
+    range.0 < front && front < range.1
+}
+
+// Whether the key lies in an interval of the set, if the fronts decide: where none of them is that of the key.
+#[inline(always)]
+pub(crate) fn holds_front(fronts: &[(u64, u64)], key: &[u8]) -> Option<bool>
+    ensures { (segments : Segments) → HasFronts fronts.now segments
+        → IfSome result (λ b. b ≡ list_any (λ s. is_within (segment_interval s) key.now) segments) }
+{
+    if key.len() < 8 {
+        return None;
+    }
+    let front = read_word(key);
+    let mut left = fronts;
+    while let Some((range, rest)) = left.split_first() {
+        if front == range.0 || front == range.1 {
+            return None;
+        }
+        if is_between_fronts(*range, front) {
             return Some(true);
         }
         left = rest;

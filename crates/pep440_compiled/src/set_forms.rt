@@ -2,7 +2,7 @@
 ghost use Rattle.std.specs.Prelude.{◌≡◌, ◌↔◌, ◌∷◌, [], Ok, IfErr, IfOk, IfSome, IsTrue, MatchOption, Some, false, map, true};
 ghost use Rattle.pep440_compiled.specs.Lists.{HasSetFormat};
 ghost use Rattle.pep440_compiled.specs.SetBytes.{set_keys};
-ghost use Rattle.pep440_compiled.specs.SetForms.{DenotesSet, HasFormatOfSets, HasLoneSetFormat, HasSet, IsBytesOf};
+ghost use Rattle.pep440_compiled.specs.SetForms.{DenotesSet, HasFormatOfSets, HasLoneSetFormat, HasSet, IsBytesOf, IsFrontsOf};
 ghost use Rattle.pep440_compiled.specs.Version.{DenotesVersion, HasVersionFormat};
 ghost use Rattle.pep440_compiled.specs.declared.error.CompiledError.TheVariants as unread;
 ghost use Rattle.pep440_compiled.specs.declared.error.ContainsError.TheVariants.{NoList, NoVersion};
@@ -20,9 +20,12 @@ ghost use Rattle.pep440_version.specs.RoundTrip.{IsParsed};
 use crate::checked_version::check_version;
 use crate::error::{CompiledError, ContainsError};
 use crate::list::{WITH_SET, split_set};
-use crate::set_bytes::{holds_key, holds_key_soon, split_by_short_length};
+use crate::set_bytes::{
+    holds_front, holds_key, holds_key_soon, read_fronts, split_by_short_length,
+};
 use crate::set_operations::{collect_keys, push_gaps, push_overlaps};
 use crate::views::{strip_format, view_key, view_version_parts};
+use arrayvec::ArrayVec;
 use std::alloc::{AllocError, Global};
 
 // The format of sets by themselves.
@@ -135,6 +138,7 @@ fn holds_version(set: &[u8], key: &[u8]) -> Option<bool>
 /// As `set_contains`, after a test of all bytes of the version: `NoVersion` if they denote none.
 ///
 /// Does not allocate.
+#[inline(always)]
 pub fn read_membership(set: &[u8], version: &[u8]) -> Result<(bool, bool), ContainsError>
     ensures ok { IfOk result (λ found. (r : Record) × DenotesVersion version.now r × (found.1 ≡ any_prerelease r)
         × ((s : Segments) → HasSet set.now s → found.0 ≡ contains record_cmp s r)) }
@@ -148,6 +152,38 @@ pub fn read_membership(set: &[u8], version: &[u8]) -> Result<(bool, bool), Conta
         Some(held) => Ok((held, version.is_prerelease)),
         None => Err(ContainsError::NoList),
     }
+}
+
+/// The fronts of a set, the first eight bytes of each key of its intervals: read once, they decide for most versions of a batch.
+#[derive(Drop)]
+pub struct SetFronts {
+    ranges: ArrayVec<(u64, u64), 8>,
+}
+
+/// The fronts of the set of a list, or of a set by itself; `None` of a set with many intervals, or with a short key. Of bytes that have
+/// no set, `None` or any fronts.
+///
+/// Does not allocate.
+pub fn view_fronts(set: &[u8]) -> Option<SetFronts>
+    ensures { IfSome result (λ fronts. (s : Segments) → HasSet set.now s → IsFrontsOf fronts s) }
+{
+    let keys = view_set(set)?;
+    let ranges = read_fronts(keys)?;
+    Some(SetFronts { ranges })
+}
+
+/// As `read_membership` of the set that has these fronts, in fewer instructions, if they decide. `None` if more has to be looked at, as
+/// of bytes that denote no version.
+///
+/// Does not allocate.
+#[inline(always)]
+pub fn read_membership_soon(fronts: &SetFronts, version: &[u8]) -> Option<(bool, bool)>
+    ensures { IfSome result (λ found. (r : Record) × DenotesVersion version.now r × (found.1 ≡ any_prerelease r)
+        × ((s : Segments) → IsFrontsOf fronts.now s → found.0 ≡ contains record_cmp s r)) }
+{
+    let version = check_version(version)?;
+    let held = holds_front(fronts.ranges.as_slice(), version.key)?;
+    Some((held, version.is_prerelease))
 }
 
 /// The sort keys between which the versions of a set lie, of a list or by itself: the low key and the high key of each interval, in order, no

@@ -120,6 +120,7 @@ pub fn sort_key(bytes: &[u8]) -> Result<&[u8], NotCompiled>
 /// no version.
 ///
 /// Does not allocate.
+#[inline(always)]
 pub fn read_sort_key(bytes: &[u8]) -> Result<&[u8], NotCompiled>
     ensures ok { IfOk result (λ key. (r : Record) × DenotesVersion bytes.now r × (key.now ≡ key_bytes r)) }
     ensures err { IfErr result (λ _. (r : Record) → DenotesVersion bytes.now r → ⊥) }

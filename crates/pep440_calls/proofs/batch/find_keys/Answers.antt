@@ -1,4 +1,4 @@
-use Rattle.pep440_calls.proofs.Compiling.{means_parsed}
+use Rattle.pep440_calls.proofs.Forms.{means_parsed}
 use Rattle.pep440_calls.proofs.Placed.{keyed_more, stops_at}
 use Rattle.pep440_calls.proofs.batch.find_keys.Goals as goal
 

@@ -2,7 +2,7 @@ use Rattle.std.proofs.Common.{rules}
 use Rattle.std.proofs.lemmas.List.Sorted.{answers_always, ranks_by}
 use Rattle.std.specs.Cmp.Lexicographic.{nat_list_cmp_total}
 use Rattle.std.specs.Ordering.{is_lt}
-use Rattle.pep440_calls.proofs.KeyOrder.{Keyed, key_cmp, keys_arranged_if}
+use Rattle.pep440_calls.proofs.Placed.{Keyed, key_cmp, keys_arranged_if}
 use Rattle.pep440_calls.proofs.batch.sort_by_keys.Goals as goal
 
 pub returns : goal.returns

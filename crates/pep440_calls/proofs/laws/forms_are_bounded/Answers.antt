@@ -1,4 +1,4 @@
-use Rattle.pep440_calls.proofs.Sizes.{compiled_bound, key_bound, print_bound}
+use Rattle.pep440_calls.proofs.Forms.{compiled_bound, key_bound, print_bound}
 use Rattle.pep440_calls.proofs.laws.forms_are_bounded.Goals as goal
 
 pub returns-clause-normal : goal.returns-clause-normal

@@ -11,11 +11,11 @@ use Rattle.pep440_rs.specs.Specifiers.{Spec}
 use Rattle.pep440_sets.proofs.Lists.{list_holds, list_is_set, parsed_denoted}
 use Rattle.pep440_sets.specs.Sets.{list_set}
 use Rattle.pep440_version.specs.Record.{Record}
-use Rattle.pep440_calls.proofs.Compiling.{means_parsed}
+use Rattle.pep440_calls.proofs.Forms.{means_parsed}
 use Rattle.pep440_calls.proofs.Once.{one_bytes_list}
 use Rattle.pep440_calls.proofs.laws.keys_tell_membership.Goals as goal
 use Rattle.pep440_calls.specs.CallerBytes.{BytesDenote, BytesDenoteList}
-use Rattle.pep440_calls.specs.SetCalls.{HasListSet}
+use Rattle.pep440_calls.specs.CallResults.{HasListSet}
 
 key_tells : (bytes text : List ℕ) (set : Segments) (l : List Spec) (r : Record) → All IsDenotable l → HasListSet bytes set → BytesDenoteList bytes l → BytesDenote text r → list_any (λ s. is_within (segment_interval s) (key_bytes r)) set ≡ list_matches_literally l r
 key_tells bytes text set l r all (m, means, given, is) also denotes =

@@ -6,10 +6,9 @@ use Rattle.pep440_rs.proofs.Reading.OneMeaning.{either_specifier, not_both_speci
 use Rattle.pep440_rs.specs.ErrorTexts.{specifier_rejection_text}
 use Rattle.pep440_rs.specs.Specifiers.{Spec}
 use Rattle.pep440_rs.specs.Specifiers.SpecifierGrammar.{DerivesSpecifier, RejectsSpecifier, SpecifierRejection}
-use Rattle.pep440_calls.proofs.Once.{no_utf8}
-use Rattle.pep440_calls.proofs.Refused.{no_specifier_text}
+use Rattle.pep440_calls.proofs.Once.{no_specifier_text, no_utf8}
 use Rattle.pep440_calls.proofs.laws.one_specifier_once.Goals as goal
-use Rattle.pep440_calls.specs.PatternCalls.{BytesDenoteSpecifier, RejectsSpecifierBytes, ExplainsSpecifier}
+use Rattle.pep440_calls.specs.CallResults.{BytesDenoteSpecifier, RejectsSpecifierBytes, ExplainsSpecifier}
 
 one_bytes_specifier : (bytes : List ℕ) (s t : Spec) → BytesDenoteSpecifier bytes s → BytesDenoteSpecifier bytes t → s ≡ t
 one_bytes_specifier bytes s t (u, means) (v, other) = one_specifier bytes s t means other

@@ -1,4 +1,4 @@
-use Rattle.pep440_calls.proofs.Combined.{either_bytes_pattern, never_both_patterns, one_bytes_pattern}
+use Rattle.pep440_calls.proofs.Once.{either_bytes_pattern, never_both_patterns, one_bytes_pattern}
 use Rattle.pep440_calls.proofs.laws.patterns_once.Goals as goal
 
 pub returns-clause-one : goal.returns-clause-one

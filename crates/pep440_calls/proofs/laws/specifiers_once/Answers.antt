@@ -1,4 +1,4 @@
-use Rattle.pep440_calls.proofs.Combined.{either_specifier_text, never_rejected, never_without_operand, one_specifier_error, one_specifier_text}
+use Rattle.pep440_calls.proofs.Once.{either_specifier_text, never_rejected, never_without_operand, one_specifier_error, one_specifier_text}
 use Rattle.pep440_calls.proofs.laws.specifiers_once.Goals as goal
 
 pub returns-clause-one : goal.returns-clause-one

@@ -1,6 +1,6 @@
 use Rattle.std.proofs.Common.{◌≡◌, ◌++◌}
 use Rattle.pep440_rs.specs.Bounds.{Segments}
-use Rattle.pep440_calls.specs.Ranges.{JoinsBounds}
+use Rattle.pep440_calls.specs.CallResults.{JoinsBounds}
 use Rattle.pep440_calls.proofs.list_ranges.join_bounds.Given as goal
 
 -- the bounds of the segments that were taken are joined

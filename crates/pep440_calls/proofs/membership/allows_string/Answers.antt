@@ -1,6 +1,6 @@
 use Rattle.std.proofs.Common.{subst, sym}
 use Rattle.pep440_calls.proofs.Allowed.{allows_of_form}
-use Rattle.pep440_calls.proofs.Compiling.{string_compiled}
+use Rattle.pep440_calls.proofs.Forms.{string_compiled}
 use Rattle.pep440_calls.proofs.membership.allows_string.Goals as goal
 use Rattle.pep440_calls.specs.CallResults.{IsCompiled}
 

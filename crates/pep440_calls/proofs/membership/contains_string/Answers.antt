@@ -1,6 +1,5 @@
 use Rattle.std.proofs.Common.{List, inr, subst, sym}
-use Rattle.pep440_calls.proofs.Compiling.{string_compiled}
-use Rattle.pep440_calls.proofs.Forms.{Faults-weaker, contains_of_form, list_faults, never_lone}
+use Rattle.pep440_calls.proofs.Forms.{Faults-weaker, contains_of_form, list_faults, never_lone, string_compiled}
 use Rattle.pep440_calls.proofs.membership.contains_string.Goals as goal
 use Rattle.pep440_calls.specs.CallResults.{IsCompiled, RejectsSecond}
 use Rattle.pep440_calls.specs.CallerBytes.{BytesDenoteList, RejectsBytes, RejectsListBytes}

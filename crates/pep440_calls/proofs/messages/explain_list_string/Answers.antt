@@ -2,7 +2,7 @@ use Rattle.std.proofs.Common.{◌∙◌, inr, string_bytes}
 use Rattle.pep440_rs.specs.Lists.ListResults.{line_of, list_kind_of}
 use Rattle.pep440_rs.specs.Lists.ListErrors.{list_rejection_of}
 use Rattle.pep440_rs.specs.Lists.ListErrorTexts.{list_text_of}
-use Rattle.pep440_calls.proofs.Refused.{tells_list}
+use Rattle.pep440_calls.proofs.Once.{tells_list}
 use Rattle.pep440_calls.proofs.messages.explain_list_string.Goals as goal
 
 pub returns : goal.returns

@@ -1,7 +1,7 @@
 use Rattle.std.proofs.Common.{◌∙◌, inr, string_bytes, sym}
 use Rattle.pep440_version.specs.Errors.{pattern_kind_of, pattern_rejection_of}
 use Rattle.pep440_version.specs.ErrorTexts.{pattern_error_text}
-use Rattle.pep440_calls.proofs.Refused.{tells_pattern}
+use Rattle.pep440_calls.proofs.Once.{tells_pattern}
 use Rattle.pep440_calls.proofs.messages.explain_pattern.Goals as goal
 
 pub returns : goal.returns

@@ -2,7 +2,7 @@ use Rattle.std.proofs.Common.{◌∙◌, ℕ, List, inl, inr, string_bytes, subs
 use Rattle.pep440_rs.specs.Errors.{parse_kind_of, specifier_rejection_of}
 use Rattle.pep440_rs.specs.ErrorTexts.{specifier_error_text}
 use Rattle.pep440_rs.specs.Specifiers.SpecifierGrammar.{DerivesSpecifier}
-use Rattle.pep440_calls.proofs.Refused.{tells_specifier}
+use Rattle.pep440_calls.proofs.Once.{tells_specifier}
 use Rattle.pep440_calls.proofs.messages.explain_specifier.Goals as goal
 
 pub returns-in-Ok-from_str : goal.returns-in-Ok-from_str

@@ -1,7 +1,7 @@
 use Rattle.std.proofs.Common.{◌∙◌, inr, string_bytes, sym}
 use Rattle.pep440_version.specs.Errors.{kind_of, rejection_of}
 use Rattle.pep440_version.specs.ErrorTexts.{error_text}
-use Rattle.pep440_calls.proofs.Refused.{tells}
+use Rattle.pep440_calls.proofs.Once.{tells}
 use Rattle.pep440_calls.proofs.messages.explain_string.Goals as goal
 
 pub returns : goal.returns

@@ -1,7 +1,7 @@
 use Rattle.std.proofs.Common.{◌≡◌, ◌∙◌, ◌+◌, false, List, Bor, IfSome, Option, map, subst, sym, take, take_all, ℕ}
 use Rattle.pep440_calls.proofs.Placed.{below_more, found_more, kept_more, out_of}
 use Rattle.pep440_calls.specs.CallerBytes.{BytesDenote}
-use Rattle.pep440_calls.specs.NewestString.{IsContainedString}
+use Rattle.pep440_calls.specs.Batches.{IsContainedString}
 use Rattle.pep440_pick.specs.Newest.{preference}
 use Rattle.pep440_pick.specs.Greatest.{Greatest, is_above}
 use Rattle.pep440_version.specs.Record.{Record}

@@ -2,7 +2,7 @@ use Rattle.std.proofs.Common.{◌≡◌, refl, subst, sym}
 use Rattle.std.proofs.lemmas.Result.{err_from_is_err_and}
 use Rattle.pep440_compiled.specs.declared.error.CompileError.{CompileError}
 use Rattle.pep440_compiled.specs.declared.error.CompileError.TheVariants.{NotParsed, OutOfMemory}
-use Rattle.pep440_calls.proofs.Compiling.{members_parsed}
+use Rattle.pep440_calls.proofs.Forms.{members_parsed}
 use Rattle.pep440_calls.proofs.one_list.compile_list.Goals as goal
 use Rattle.pep440_calls.specs.CallerBytes.{ListFaults}
 use Rattle.pep440_calls.specs.Statuses.{fault_of_compile}

@@ -1,7 +1,7 @@
 use Rattle.std.proofs.Common.{take}
 use Rattle.std.specs.List.{flat_map}
 use Rattle.pep440_calls.specs.CallResults.{member_strings}
-use Rattle.pep440_calls.specs.JoinedStrings.{Joins}
+use Rattle.pep440_calls.specs.Statuses.{Joins}
 use Rattle.pep440_calls.proofs.one_list.join_members.Given as goal
 
 abbrev pub invariant-loop-member : goal.invariant-loop-member

@@ -1,5 +1,5 @@
 use Rattle.std.proofs.lemmas.Result.{err_from_is_err_and}
-use Rattle.pep440_calls.proofs.Compiling.{means_parsed, only_memory}
+use Rattle.pep440_calls.proofs.Forms.{means_parsed, only_memory}
 use Rattle.pep440_calls.proofs.one_version.compile.Goals as goal
 
 pub returns-in_err-compile_version : goal.returns-in_err-compile_version

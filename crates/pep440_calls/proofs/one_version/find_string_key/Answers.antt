@@ -1,5 +1,5 @@
 use Rattle.std.proofs.Common.{IfSome, IsSome, sym, subst}
-use Rattle.pep440_calls.proofs.Compiling.{string_has_key, string_key}
+use Rattle.pep440_calls.proofs.Forms.{string_has_key, string_key}
 use Rattle.pep440_calls.proofs.one_version.find_string_key.Goals as goal
 use Rattle.pep440_calls.specs.CallResults.{IsKey}
 use Rattle.pep440_compiled.specs.Version.{DenotesVersion}

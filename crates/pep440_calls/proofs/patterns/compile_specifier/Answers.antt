@@ -2,7 +2,7 @@ use Rattle.std.proofs.Common.{◌∷◌, [], subst, sym}
 use Rattle.std.proofs.lemmas.List.Elements.{All-from_recursion}
 use Rattle.std.proofs.lemmas.Result.{err_from_is_err_and}
 use Rattle.std.specs.List.{All, AllByRecursion}
-use Rattle.pep440_calls.proofs.Compiling.{IsParsedSpec, only_memory, specifier_parsed}
+use Rattle.pep440_calls.proofs.Forms.{IsParsedSpec, only_memory, specifier_parsed}
 use Rattle.pep440_calls.proofs.patterns.compile_specifier.Goals as goal
 
 pub returns-in_err-compile_list : goal.returns-in_err-compile_list

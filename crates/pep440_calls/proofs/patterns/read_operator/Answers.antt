@@ -1,4 +1,4 @@
-use Rattle.pep440_calls.proofs.Refused.{no_operator}
+use Rattle.pep440_calls.proofs.Once.{no_operator}
 use Rattle.pep440_calls.proofs.patterns.read_operator.Goals as goal
 
 pub returns-in_default : goal.returns-in_default

@@ -1,6 +1,6 @@
 use Rattle.std.proofs.Common.{◌∙◌, sym}
 use Rattle.pep440_version.specs.Errors.{pattern_kind_of, pattern_rejection_of}
-use Rattle.pep440_calls.proofs.Refused.{refuses_pattern}
+use Rattle.pep440_calls.proofs.Once.{refuses_pattern}
 use Rattle.pep440_calls.proofs.patterns.read_pattern.Goals as goal
 
 pub returns-else-is_out_of_memory : goal.returns-else-is_out_of_memory

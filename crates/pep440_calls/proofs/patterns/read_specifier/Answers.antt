@@ -1,7 +1,7 @@
 use Rattle.std.proofs.Common.{◌∙◌, ℕ, List, subst}
 use Rattle.pep440_rs.specs.Errors.{parse_kind_of, specifier_rejection_of}
 use Rattle.pep440_rs.specs.Specifiers.SpecifierGrammar.{DerivesSpecifier}
-use Rattle.pep440_calls.proofs.Refused.{no_specifier_text, refuses_specifier}
+use Rattle.pep440_calls.proofs.Once.{no_specifier_text, refuses_specifier}
 use Rattle.pep440_calls.proofs.patterns.read_specifier.Goals as goal
 
 pub returns-in_default : goal.returns-in_default

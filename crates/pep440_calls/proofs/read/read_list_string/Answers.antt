@@ -1,7 +1,7 @@
 use Rattle.std.proofs.Common.{◌∙◌}
 use Rattle.pep440_rs.specs.Lists.ListResults.{list_kind_of}
 use Rattle.pep440_rs.specs.Lists.ListErrors.{list_rejection_of}
-use Rattle.pep440_calls.proofs.Refused.{no_list_text, refuses_list}
+use Rattle.pep440_calls.proofs.Once.{no_list_text, refuses_list}
 use Rattle.pep440_calls.proofs.read.read_list_string.Goals as goal
 
 pub returns-in_default : goal.returns-in_default

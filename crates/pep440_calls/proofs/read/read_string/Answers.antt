@@ -1,6 +1,6 @@
 use Rattle.std.proofs.Common.{◌∙◌, sym}
 use Rattle.pep440_version.specs.Errors.{kind_of, rejection_of}
-use Rattle.pep440_calls.proofs.Refused.{no_text, refuses}
+use Rattle.pep440_calls.proofs.Once.{no_text, refuses}
 use Rattle.pep440_calls.proofs.read.read_string.Goals as goal
 
 pub returns-in_default : goal.returns-in_default

@@ -1,5 +1,5 @@
 use Rattle.std.proofs.Common.{subst}
-use Rattle.pep440_calls.proofs.SetForming.{with_set}
+use Rattle.pep440_calls.proofs.Allowed.{with_set}
 use Rattle.pep440_calls.proofs.set_calls.compile_set.Goals as goal
 use Rattle.pep440_compiled.specs.Lists.{HasSetFormat}
 

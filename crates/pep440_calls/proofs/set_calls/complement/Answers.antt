@@ -1,8 +1,8 @@
 use Rattle.std.proofs.Common.{inr}
 use Rattle.std.proofs.lemmas.Result.{err_from_is_err_and}
-use Rattle.pep440_calls.proofs.SetForming.{complement_holds, invalid_or_memory, is_taken, slice_gives}
+use Rattle.pep440_calls.proofs.Allowed.{complement_holds, invalid_or_memory, is_taken, slice_gives}
 use Rattle.pep440_calls.proofs.set_calls.complement.Goals as goal
-use Rattle.pep440_calls.specs.SetCalls.{SetFault}
+use Rattle.pep440_calls.specs.CallResults.{SetFault}
 
 pub returns-in_err-complement : goal.returns-in_err-complement
 returns-in_err-complement c =

@@ -1,8 +1,8 @@
 use Rattle.std.proofs.Common.{inr}
 use Rattle.std.proofs.lemmas.Result.{err_from_is_err_and}
-use Rattle.pep440_calls.proofs.SetForming.{invalid_or_memory, intersection_holds, is_taken, slice_gives}
+use Rattle.pep440_calls.proofs.Allowed.{invalid_or_memory, intersection_holds, is_taken, slice_gives}
 use Rattle.pep440_calls.proofs.set_calls.intersection.Goals as goal
-use Rattle.pep440_calls.specs.SetCalls.{TwoSetFaults}
+use Rattle.pep440_calls.specs.CallResults.{TwoSetFaults}
 
 pub returns-in_err-intersection : goal.returns-in_err-intersection
 returns-in_err-intersection c =

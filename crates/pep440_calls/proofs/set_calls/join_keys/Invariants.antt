@@ -1,5 +1,5 @@
 use Rattle.std.proofs.Common.{map, take}
-use Rattle.pep440_calls.specs.JoinedStrings.{Joins}
+use Rattle.pep440_calls.specs.Statuses.{Joins}
 use Rattle.pep440_calls.proofs.set_calls.join_keys.Given as goal
 
 abbrev pub invariant-loop-key : goal.invariant-loop-key

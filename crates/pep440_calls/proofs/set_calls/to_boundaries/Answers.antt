@@ -1,9 +1,9 @@
 use Rattle.std.proofs.Common.{◌∙◌, ap, inr, map, subst}
 use Rattle.std.proofs.lemmas.Result.{err_from_is_err_and}
-use Rattle.pep440_calls.proofs.SetForming.{invalid_or_memory, is_taken, slice_gives}
+use Rattle.pep440_calls.proofs.Allowed.{invalid_or_memory, is_taken, slice_gives}
 use Rattle.pep440_calls.proofs.set_calls.to_boundaries.Goals as goal
-use Rattle.pep440_calls.specs.JoinedStrings.{Joins}
-use Rattle.pep440_calls.specs.SetCalls.{SetFault}
+use Rattle.pep440_calls.specs.Statuses.{Joins}
+use Rattle.pep440_calls.specs.CallResults.{SetFault}
 
 pub returns-in_err-keys : goal.returns-in_err-keys
 returns-in_err-keys c =

@@ -1,10 +1,10 @@
-use Rattle.std.proofs.Common.{◌∙◌, ◌-◌, ◌++◌, ◌∷◌, [], arith, refl, sym, true≢false}
+use Rattle.std.proofs.Common.{◌∙◌, ◌-◌, ◌++◌, ◌∷◌, [], ◌≡◌, arith, length, refl, sym, true≢false}
 use Rattle.std.proofs.lemmas.List.Elements.{recursion_from_All}
-use Rattle.pep440_compiled.proofs.Checking.{ends_first, ends_next, may_end_there, one_more, release_tested, all_read, one_read}
+use Rattle.pep440_compiled.proofs.Checking.{ends_by_count, ends_first, may_end_there, one_more, release_tested, all_read, one_read}
 use Rattle.pep440_compiled.proofs.Loops.{end_of_numbers, next_number, not_nil}
-use Rattle.pep440_compiled.proofs.Rewritten.{coded_again, none_coded, one_coded}
+use Rattle.pep440_compiled.proofs.Rewritten.{coded_again, none_coded, one_coded, one_counted}
 use Rattle.pep440_compiled.proofs.checked_version.check_release.Goals as goal
-use Rattle.pep440_keys.specs.SortKeys.{number_bytes}
+use Rattle.pep440_keys.specs.SortKeys.{needed_bytes, number_bytes}
 use Rattle.pep440_version.specs.Record.{Fits}
 use Rattle.pep440_version.specs.Key.Trim.{trim}
 
@@ -36,30 +36,32 @@ returns-then-first-eq0-clause-exact c =
     release_tested c.args.bytes.now c.in-Some.later.now s.seen c.args.zeros s.fit (s.ends.trimmed c.if-not-may_end.false) (s.ends.some c.if-not-may_end.false)
     (none_coded (number_bytes 1) c.args.bytes.now c.loop-first.left.now c.in-Some.later.now s.seen c.in-Some.first.now s.coded c.in-Some.ensures.cases.0 c.if-first-eq0.true)
 
-pub returns-in_err-number-clause-found : goal.returns-in_err-number-clause-found
-returns-in_err-number-clause-found c release rest fit some z e =
+pub returns-in_err-rest-clause-found : goal.returns-in_err-rest-clause-found
+returns-in_err-rest-clause-found c release rest fit some z e =
     let left = c.loop-first.invariant.reads (trim release) rest (recursion_from_All Fits (trim release) fit) e in
     let next = next_number Fits c.in-Some.first.now c.loop-first.left.now c.in-Some.later.now rest left.0 left.1 c.in-Some.ensures.cases.0 c.if-first-eq0.false left.3 in
-    absurd (c.in_err-number.ensures.found next.number _ next.holds (omega (arith, next.count)) next.bytes)
+    absurd (c.in_err-rest.ensures.found next.number _ (omega (arith, next.count)) next.bytes)
 
 pub loop-first-preserved : goal.loop-first-preserved
 loop-first-preserved c =
     let s = c.loop-first.invariant in
     let first = c.in-Some.first.now in
-    let number = c.in_ok-number.number in
-    let fits : Fits number = c.prove_fits.ensures in
+    let later = c.in-Some.later.now in
+    let tested = c.in_ok-rest.ensures.exact in
+    let number = tested.0 in
     record {
       seen = s.seen ++ number ∷ [];
-      fit = one_more Fits s.seen number s.fit fits;
+      fit = one_more Fits s.seen number s.fit tested.1;
       reads = λ numbers rest all e.
           let left = s.reads numbers rest all e in
-          let next = next_number Fits first c.loop-first.left.now c.in-Some.later.now rest left.0 left.1 c.in-Some.ensures.cases.0 c.if-first-eq0.false left.3 in
-          let read = c.in_ok-number.ensures.found next.number _ next.holds (omega (arith, next.count)) next.bytes in
-          (next.more, next.all, one_read numbers s.seen left.0 next.more (s.seen ++ number ∷ []) next.number number left.2 next.split read.0 refl, read.1);
+          let next = next_number Fits first c.loop-first.left.now later rest left.0 left.1 c.in-Some.ensures.cases.0 c.if-first-eq0.false left.3 in
+          let count : first - 1 ≡ length (needed_bytes next.number) = omega (arith, next.count) in
+          let same = one_counted number next.number (first - 1) later _ _ tested.1 next.holds tested.2 count tested.3 next.bytes in
+          (next.more, next.all, one_read numbers s.seen left.0 next.more (s.seen ++ number ∷ []) next.number number left.2 next.split same refl, c.in_ok-rest.ensures.found next.number _ count next.bytes);
       coded =
-          let code = coded_again 1 c.loop-first.left.now c.in-Some.later.now c.in_ok-number.rest.now first (first - 1) number c.in-Some.ensures.cases.0 (omega (arith, c.if-first-eq0.false)) c.in_ok-number.ensures.exact.0 c.in_ok-number.ensures.exact.1 in
-          one_coded (number_bytes 1) c.args.bytes.now c.loop-first.left.now c.in_ok-number.rest.now s.seen (s.seen ++ number ∷ []) number s.coded code refl;
-      ends = ends_next c.args.zeros s.seen number;
+          let code = coded_again 1 c.loop-first.left.now later c.in_ok-rest.rest.now first (first - 1) number c.in-Some.ensures.cases.0 (omega (arith, c.if-first-eq0.false)) tested.2 tested.3 in
+          one_coded (number_bytes 1) c.args.bytes.now c.loop-first.left.now c.in_ok-rest.rest.now s.seen (s.seen ++ number ∷ []) number s.coded code refl;
+      ends = ends_by_count c.args.zeros s.seen number first tested.1 (omega (arith, c.if-first-eq0.false, tested.2));
     }
 
 pub returns-clause-found : goal.returns-clause-found
