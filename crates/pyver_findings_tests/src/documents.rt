@@ -15,6 +15,7 @@ fn print_kind(alloc: Global, kind: Option<DocumentKind>) -> Result<String, CaseE
         Some(DocumentKind::Lock(LockKind::Pylock)) => "pylock",
         Some(DocumentKind::Lock(LockKind::Uv)) => "uv",
         Some(DocumentKind::Lock(LockKind::Poetry)) => "poetry",
+        Some(DocumentKind::Lock(LockKind::Pdm)) => "pdm",
         Some(DocumentKind::Lock(LockKind::Pipfile)) => "pipfile",
         Some(DocumentKind::Lock(LockKind::Unknown)) => "unknown",
         None => "-",

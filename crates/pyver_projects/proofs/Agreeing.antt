@@ -1,4 +1,4 @@
--- Where nothing is found, each requirement contains each locked version of its name.
+-- Where nothing is found, each requirement contains a locked version of its name.
 use Rattle.std.proofs.Common.{◌≡◌, ◌∙◌, ℕ, List, [], ◌∷◌, ◌++◌, Bool, true, false, Option, Some, None, refl, sym, ap, subst, inl, inr, if◌then◌else◌}
 use Rattle.std.specs.List.{AllZip, flat_map, zip}
 use Rattle.pep440_pick.specs.Names.{same_name}
@@ -17,25 +17,25 @@ use Rattle.pyver_findings.specs.LineMeanings.{Asks, LineMeaning}
 use Rattle.pyver_findings.specs.Reports.{Report, demands_in, empty_report}
 use Rattle.pyver_findings.specs.declared.finding.Conflict.TheVariants.{PinOutside}
 use Rattle.toml.specs.Data.{Members}
-use Rattle.pyver_projects.proofs.Holding.{asks_always, findings_of}
+use Rattle.pyver_projects.proofs.Holding.{asks_always, findings_of, not_excluded, some_named}
 use Rattle.pyver_projects.proofs.Walks.{beside_it, beside_pair, left_nil, nil_at, right_nil}
-use Rattle.pyver_projects.specs.Comparing.{found_beside, found_in_pair, beside_all, is_beside, compared, compared_demand, excluded, invalid_package, is_locked, missing, own_report, unmet, with_own_reports}
-use Rattle.pyver_projects.specs.Documents.{sources}
+use Rattle.pyver_projects.specs.Comparing.{absent, is_installer, lacking, found_beside, found_in_pair, beside_all, is_beside, compared, compared_demand, excluded, invalid_package, is_locked, missing, own_report, unmet, with_own_reports}
+use Rattle.pyver_projects.specs.Documents.{has_group_tool, sources}
 use Rattle.pyver_projects.specs.Groups.{groups}
 use Rattle.pyver_projects.specs.Meanings.{Document, DocumentReading, IsDocumentReading, IsLockReading, IsLockedReading, IsProject, IsRequirementReading, IsStringReading, IsVersionReading, LockedReading, StringReading, package_line, requirement_line, string_line}
-use Rattle.pyver_projects.specs.ProjectLaws.{AllContained, AllMet, HasContents, HasTable, NoFindingImpliesContained}
+use Rattle.pyver_projects.specs.ProjectLaws.{AllContained, AllMet, AllPresent, HasContents, HasTable, NoFindingImpliesContained}
 use Rattle.pyver_projects.specs.ProjectStrings.{LockContents, LockedPackage, LockedRequirement, Section}
 use Rattle.pyver_projects.specs.declared.document_kind.DocumentKind.TheVariants.{Lock, Project}
 use Rattle.pyver_projects.specs.declared.document_kind.LockKind.{LockKind}
 
 -- a project with this table was read
-pub project_read : (file : File) (t : Members) (x : DocumentReading) → HasTable file t → IsDocumentReading (record { kind = Project; file = file }) x → (xs : List StringReading) × AllZip (IsStringReading (groups t) file) (sources t) xs × (x ≡ IsProject xs)
+pub project_read : (file : File) (t : Members) (x : DocumentReading) → HasTable file t → IsDocumentReading (record { kind = Project; file = file }) x → (xs : List StringReading) × AllZip (IsStringReading (groups t) file) (sources t) xs × (x ≡ IsProject (has_group_tool t) xs)
 project_read file t x (text, e) (inl (none, broken)) = absurd (none text)
 project_read file t x (text, e) (inr (again, inr (none, broken))) = let same : Some t ≡ None = sym e ∙ none in cc same
 project_read file t x (text, e) (inr (again, inl (u, f, (xs, h, is)))) =
     let same : Some u ≡ Some t = sym f ∙ e in
     let table : u ≡ t = cc same in
-    (xs, subst (λ (m : Members). AllZip (IsStringReading (groups m) file) (sources m) xs) table h, is)
+    (xs, subst (λ (m : Members). AllZip (IsStringReading (groups m) file) (sources m) xs) table h, is ∙ ap (λ (m : Members). IsProject (has_group_tool m) xs) table)
 
 -- a lock with this was read
 lock_read : (file : File) (kind : LockKind) (l : LockContents) (x : DocumentReading) → HasContents kind file l → IsDocumentReading (record { kind = Lock kind; file = file }) x → IsLockReading file.name l x
@@ -46,42 +46,20 @@ lock_read file kind l x (text, e) (inr (again, inl (m, f, is))) =
     let equal : m ≡ l = cc same in
     subst (λ (c : LockContents). IsLockReading file.name c x) equal is
 
--- a version is contained where it is not excluded
-by_match : (line : FileLine) (other : FileLine) (b : Bool) → (if b then [] else Conflicting PinOutside (line ∷ (other ∷ [])) ∷ []) ≡ [] → b ≡ true
-by_match line other true e = refl
-by_match line other false e = cc e
-
-by_name : (line : FileLine) (n : Needed) (p : LockedPackage) (v : Record) (other : FileLine) (a : Bool) → a ≡ true → (if a then (if list_matches_literally n.specifiers v then [] else Conflicting PinOutside (line ∷ (other ∷ [])) ∷ []) else []) ≡ []
-    → list_matches_literally n.specifiers v ≡ true
-by_name line n p v other true same e = by_match line other (list_matches_literally n.specifiers v) e
-by_name line n p v other false same e = cc same
-
-not_excluded : (line : FileLine) (n : Needed) (lock : List ℕ) (p : LockedPackage) (y : LockedReading) (w : Option (List ℕ)) (text : List ℕ) (v : Record) → w ≡ Some text → Derives text v → same_name n.name p.name ≡ true
-    → IsVersionReading (package_line lock p) p.name w y → excluded (line_demand line None n) y ≡ [] → list_matches_literally n.specifiers v ≡ true
-not_excluded line n lock p y None text v written d same is e = cc written
-not_excluded line n lock p y (Some t) text v written d same (inr (f, r, is)) e =
-    let equal : t ≡ text = cc written in
-    absurd (not_both t v f (subst (λ (q : List ℕ). Derives q v) (sym equal) d) r)
-not_excluded line n lock p y (Some t) text v written d same (inl (r, c, is)) e =
-    let equal : t ≡ text = cc written in
-    let one : r ≡ v = one_record t r v c (subst (λ (q : List ℕ). Derives q v) (sym equal) d) in
-    subst (λ (q : Record). list_matches_literally n.specifiers q ≡ true) one
-    (by_name line n p r (package_line lock p) (same_name n.name p.name) same (ap (λ (z : LockedReading). excluded (line_demand line None n) z) (sym is) ∙ e))
-
 -- nothing is found of a string, which always asks for this
-not_compared : (ys : List LockedReading) (a : Demand) (section : Section) (x : StringReading) → x.section ≡ section → x.meaning ≡ Asks a → is_locked section ≡ true → compared ys x ≡ [] → compared_demand ys section a ≡ []
-not_compared ys a section x same is counts e =
-    let here : (if is_locked section then flat_map (compared_demand ys section) (demands_in (Asks a)) else []) ≡ [] =
-    (λ j. if is_locked (sym same j) then flat_map (compared_demand ys (sym same j)) (demands_in (sym is j)) else []) ∙ e in
-    let counted : flat_map (compared_demand ys section) (demands_in (Asks a)) ≡ [] = ap (λ (b : Bool). if b then flat_map (compared_demand ys section) (demands_in (Asks a)) else []) (sym counts) ∙ here in
-    left_nil (compared_demand ys section a) [] counted
+not_compared : (kind : LockKind) (ys : List LockedReading) (a : Demand) (section : Section) (x : StringReading) → x.section ≡ section → x.meaning ≡ Asks a → is_locked section ≡ true → compared kind ys x ≡ [] → compared_demand kind ys section a ≡ []
+not_compared kind ys a section x same is counts e =
+    let here : (if is_locked section then flat_map (compared_demand kind ys section) (demands_in (Asks a)) else []) ≡ [] =
+    (λ j. if is_locked (sym same j) then flat_map (compared_demand kind ys (sym same j)) (demands_in (sym is j)) else []) ∙ e in
+    let counted : flat_map (compared_demand kind ys section) (demands_in (Asks a)) ≡ [] = ap (λ (b : Bool). if b then flat_map (compared_demand kind ys section) (demands_in (Asks a)) else []) (sym counts) ∙ here in
+    left_nil (compared_demand kind ys section a) [] counted
 
 counted : (b : Bool) (found : List Finding) → b ≡ true → (if b then found else []) ≡ [] → found ≡ []
 counted true found is none = none
 counted false found is none = cc is
 
 all_contained : (documents : List Document) (zs : List DocumentReading) → AllZip IsDocumentReading documents zs → flat_map (beside_all documents (zip documents zs)) (zip documents zs) ≡ [] → AllContained documents
-all_contained documents zs h found file lock kind l s p n text v (t, ((k, inside, at), table), (i, within, here)) ((m, below, there), other) (j, under, this) beside counts asks same written d =
+all_contained documents zs h found file lock kind l s p n v (t, ((k, inside, at), table), (i, within, here)) ((m, below, there), other) (j, under, this) beside counts asks locks =
     let project : Document = record { kind = Project; file = file } in
     let locked : Document = record { kind = Lock kind; file = lock } in
     let pairs = zip documents zs in
@@ -89,17 +67,15 @@ all_contained documents zs h found file lock kind l s p n text v (t, ((k, inside
     let (y, (b, in_y, is_y), ry) = beside_pair IsDocumentReading documents zs locked m below there h in
     let (xs, g, is_project) = project_read file t x table rx in
     let (ys, ms, q, required, is_lock) = lock_read lock kind l y other ry in
-    let nothing : found_beside x y ≡ [] =
-    counted (is_beside documents project locked) (found_beside x y) beside
+    let nothing : found_beside (Lock kind) x y ≡ [] =
+    counted (is_beside documents project locked) (found_beside (Lock kind) x y) beside
     (nil_at (found_in_pair documents (project, x)) pairs (locked, y) b in_y is_y (nil_at (beside_all documents pairs) pairs (project, x) a in_x is_x found)) in
-    let compares : flat_map (compared ys) xs ≡ [] = (λ e. found_beside (sym is_project e) (sym is_lock e)) ∙ nothing in
+    let compares : flat_map (compared kind ys) xs ≡ [] = (λ e. found_beside (Lock kind) (sym is_project e) (sym is_lock e)) ∙ nothing in
     let (z, (c, in_z, is_z), rz) = beside_it (IsStringReading (groups t) file) (sources t) xs s i within here g in
-    let (w, (o, in_w, is_w), rl) = beside_it (IsLockedReading lock.name) l.packages ys p j under this q in
     let meaning = asks_always (string_line file s) n asks.0 asks.1 asks.2 asks.3 (groups t) s.text s.section z.meaning counts rz.1 in
     let asked = line_demand (string_line file s) None n in
-    let both : missing ys s.section asked ++ flat_map (excluded asked) ys ≡ [] = not_compared ys asked s.section z rz.0 meaning counts (nil_at (compared ys) xs z c in_z is_z compares) in
-    let one : excluded asked w ≡ [] = nil_at (excluded asked) ys w o in_w is_w (right_nil (missing ys s.section asked) (flat_map (excluded asked) ys) both) in
-    not_excluded (string_line file s) n lock.name p w p.version text v written d same rl one
+    let both : missing kind ys s.section asked ++ excluded asked ys ≡ [] = not_compared kind ys asked s.section z rz.0 meaning counts (nil_at (compared kind ys) xs z c in_z is_z compares) in
+    not_excluded lock.name l.packages (string_line file s) n ys q p j under this v locks (right_nil (missing kind ys s.section asked) (excluded asked ys) both)
 
 -- a requirement asks for its list
 asks_for : (file : List ℕ) (q : LockedRequirement) (list : List Spec) (m : LineMeaning) → DerivesList q.list list → IsRequirementReading file q m → m ≡ Asks (line_demand (requirement_line file q) None (record { name = q.name; extras = []; specifiers = list }))
@@ -108,22 +84,36 @@ asks_for file q list m d (inl (other, e, is)) =
 asks_for file q list m d (inr (f, r, is)) = absurd (not_both_list q.list list f d r)
 
 all_met : (documents : List Document) (zs : List DocumentReading) → AllZip IsDocumentReading documents zs → flat_map (λ x. (own_report x).findings) zs ≡ [] → AllMet documents
-all_met documents zs h own lock q p list text v (kind, l, ((m, below, there), other), (i, within, here), (j, under, this)) d same written derives =
+all_met documents zs h own lock kind l q p list v ((m, below, there), other) (i, within, here) (j, under, this) d locks =
     let (y, (b, in_y, is_y), ry) = beside_it IsDocumentReading documents zs (record { kind = Lock kind; file = lock }) m below there h in
     let (ys, ms, packages, requirements, is_lock) = lock_read lock kind l y other ry in
     let nothing : flat_map invalid_package ys ++ flat_map (unmet ys) ms ≡ [] = ap (λ (e : DocumentReading). (own_report e).findings) (sym is_lock) ∙ nil_at (λ x. (own_report x).findings) zs y b in_y is_y own in
     let (z, (c, in_z, is_z), rz) = beside_it (IsRequirementReading lock.name) l.requirements ms q i within here requirements in
-    let (w, (o, in_w, is_w), rw) = beside_it (IsLockedReading lock.name) l.packages ys p j under this packages in
     let n : Needed = record { name = q.name; extras = []; specifiers = list } in
     let asked = line_demand (requirement_line lock.name q) None n in
     let met : unmet ys (Asks asked) ≡ [] =
     ap (unmet ys) (sym (asks_for lock.name q list z d rz)) ∙ nil_at (unmet ys) ms z c in_z is_z (right_nil (flat_map invalid_package ys) (flat_map (unmet ys) ms) nothing) in
-    let one : excluded asked w ≡ [] = nil_at (excluded asked) ys w o in_w is_w (left_nil (flat_map (excluded asked) ys) [] met) in
-    not_excluded (requirement_line lock.name q) n lock.name p w p.version text v written derives same rw one
+    not_excluded lock.name l.packages (requirement_line lock.name q) n ys packages p j under this v locks (right_nil (lacking ys asked) (excluded asked ys) (left_nil (lacking ys asked ++ excluded asked ys) [] met))
+
+not_lacking : (b : Bool) (fs : List Finding) → (b ≡ true → ⊥) → (if b then [] else fs) ≡ [] → fs ≡ []
+not_lacking true fs unlike e = absurd (unlike refl)
+not_lacking false fs unlike e = e
+
+all_present : (documents : List Document) (zs : List DocumentReading) → AllZip IsDocumentReading documents zs → flat_map (λ x. (own_report x).findings) zs ≡ [] → AllPresent documents
+all_present documents zs h own lock kind l q list ((m, below, there), other) (i, within, here) d named =
+    let (y, (b, in_y, is_y), ry) = beside_it IsDocumentReading documents zs (record { kind = Lock kind; file = lock }) m below there h in
+    let (ys, ms, packages, requirements, is_lock) = lock_read lock kind l y other ry in
+    let nothing : flat_map invalid_package ys ++ flat_map (unmet ys) ms ≡ [] = ap (λ (e : DocumentReading). (own_report e).findings) (sym is_lock) ∙ nil_at (λ x. (own_report x).findings) zs y b in_y is_y own in
+    let (z, (c, in_z, is_z), rz) = beside_it (IsRequirementReading lock.name) l.requirements ms q i within here requirements in
+    let n : Needed = record { name = q.name; extras = []; specifiers = list } in
+    let asked = line_demand (requirement_line lock.name q) None n in
+    let met : unmet ys (Asks asked) ≡ [] =
+    ap (unmet ys) (sym (asks_for lock.name q list z d rz)) ∙ nil_at (unmet ys) ms z c in_z is_z (right_nil (flat_map invalid_package ys) (flat_map (unmet ys) ms) nothing) in
+    some_named lock.name l.packages (requirement_line lock.name q) n ys packages (not_lacking (is_installer asked.name) (absent ys asked) named (left_nil (lacking ys asked) (excluded asked ys) (left_nil (lacking ys asked ++ excluded asked ys) [] met)))
 
 pub no_finding_means_contained : NoFindingImpliesContained
 no_finding_means_contained documents r (zs, h, fs, cs, finds, is) none =
     let compared = flat_map (beside_all documents (zip documents zs)) (zip documents zs) in
     let found : (with_own_reports empty_report zs).findings ++ compared ≡ [] = left_nil ((with_own_reports empty_report zs).findings ++ compared) fs (sym (ap (λ (e : Report). e.findings) is) ∙ none) in
     let own : flat_map (λ x. (own_report x).findings) zs ≡ [] = sym (findings_of documents empty_report zs) ∙ left_nil (with_own_reports empty_report zs).findings compared found in
-    (all_contained documents zs h (right_nil (with_own_reports empty_report zs).findings compared found), all_met documents zs h own)
+    (all_contained documents zs h (right_nil (with_own_reports empty_report zs).findings compared found), (all_met documents zs h own, all_present documents zs h own))

@@ -1,14 +1,17 @@
 -- Each finding of a report of documents is right, as are requirements of a project that have no version in common; documents that were read have
 -- lists that strings can give; and requirements that count always.
-use Rattle.std.proofs.Common.{Bool, Err, List, None, Ok, Option, Result, Some, [], ap, codes, false, if◌then◌else◌, inl, inr, length, map, option_map, refl, subst, sym, true, ℕ, ◌++◌, ◌+◌, ◌∙◌, ◌∷◌, ◌≡◌}
+use Rattle.std.proofs.Common.{Bool, Err, get_or, List, None, Ok, Option, Result, Some, [], ap, codes, false, if◌then◌else◌, inl, inr, length, map, option_map, refl, subst, sym, true, ℕ, ◌++◌, ◌+◌, ◌∙◌, ◌∷◌, ◌≡◌, ◌&&◌, ◌<◌}
 use Rattle.std.proofs.lemmas.Bool.{true≢false}
+use Rattle.std.proofs.lemmas.List.Folds.{list_any_at}
 use Rattle.std.proofs.lemmas.List.{append-nil, append_assoc}
 use Rattle.std.proofs.lemmas.List.Elements.{All-append, All-cons, All-contains_itself, All-head, All-nil, All-tail, All-weaker}
 use Rattle.std.specs.List.{All, AllZip, Contains, flat_map, list_any, zip}
 use Rattle.std.specs.Str.{IsUtf8}
-use Rattle.pep440_pick.specs.Names.{same_name}
+use Rattle.pep440_pick.specs.Names.{normal, same_name}
 use Rattle.pep440_pick.specs.RequirementGrammar.{DerivesRequirement, Needed}
 use Rattle.pep440_rs.specs.LiteralMatching.{list_matches_literally}
+use Rattle.pep440_version.proofs.Reading.Agreement.{one_record}
+use Rattle.pep440_version.proofs.Rejections.ExactlyOne.{not_both}
 use Rattle.pep440_version.specs.ErrorTexts.{rejection_text}
 use Rattle.pep440_version.specs.Grammar.{Derives}
 use Rattle.pep440_version.specs.Record.{Record}
@@ -21,12 +24,12 @@ use Rattle.pyver_requirements.specs.LineParts.{LineParts, line_parts}
 use Rattle.toml.specs.Data.{Members}
 use Rattle.toml.specs.Parse.{parse_document}
 use Rattle.pyver_projects.specs.Together.{FindsOfPart, FindsOfParts, demand_in_part, has_group, holds_in, part_conflicts, part_demands, parts, project_conflicts, same_finding, sections, with_new}
-use Rattle.pyver_projects.proofs.Walks.{all_flat, left_false, pairs_each, right_false, zip_each}
-use Rattle.pyver_projects.specs.Comparing.{FindsOfReading, beside_all, compared, compared_demand, documents_report, excluded, found_beside, found_in_pair, has_name, invalid_package, invalid_string, is_beside, is_locked, is_needed, own_report, unmet, with_own_reports}
-use Rattle.pyver_projects.specs.Documents.{locked, sources}
+use Rattle.pyver_projects.proofs.Walks.{all_flat, beside_it, beside_some, left_false, nil_at, pairs_each, right_false, zip_each}
+use Rattle.pyver_projects.specs.Comparing.{FindsOfReading, absent, beside_all, compared, compared_demand, documents_report, excluded, found_beside, found_in_pair, has_name, invalid_package, invalid_string, is_allowed, is_beside, is_installer, is_locked, is_needed, lacking, named_line, outside, own_report, unmet, with_own_reports}
+use Rattle.pyver_projects.specs.Documents.{has_group_tool, locked, sources}
 use Rattle.pyver_projects.specs.Groups.{Groups, Inclusion, groups, inclusions, no_group}
-use Rattle.pyver_projects.specs.Meanings.{Document, DocumentReading, IsBrokenReading, IsDocumentReading, IsLockedReading, IsProject, IsRequirementReading, IsSectionMeaning, IsSoundDocument, IsSoundString, IsStringReading, IsVersionReading, LockedReading, StringReading, package_line, requirement_line, string_line}
-use Rattle.pyver_projects.specs.ProjectLaws.{AlwaysAsks, DocumentFindingsHold, HasLock, HasPackage, HasProject, IsDocumentFinding, IsReadable, IsReadableAs, line_in_part, part_lines}
+use Rattle.pyver_projects.specs.Meanings.{Document, DocumentReading, IsBroken, IsBrokenReading, IsDocumentReading, IsLock, IsLockedReading, IsProject, IsRequirementReading, IsSectionMeaning, IsSoundDocument, IsSoundString, IsStringReading, IsVersionReading, LockedReading, StringReading, package_line, requirement_line, string_line}
+use Rattle.pyver_projects.specs.ProjectLaws.{AlwaysAsks, DocumentFindingsHold, HasLock, HasPackage, HasProject, IsDocumentFinding, IsLineOfName, IsOutside, IsReadable, IsReadableAs, LocksVersion, SomeContained, line_in_part, part_lines}
 use Rattle.pyver_projects.specs.ProjectStrings.{Build, Dependencies, Extra, Group, Include, Invalid, LockContents, LockedPackage, LockedRequirement, ProjectString, Python, Section, Version}
 use Rattle.pyver_projects.specs.declared.document_kind.DocumentKind.{DocumentKind}
 use Rattle.pyver_projects.specs.declared.document_kind.DocumentKind.TheVariants.{Lock, Project}
@@ -146,10 +149,10 @@ sound_by true x k = k
 sound_by false x k = All-nil IsSound
 
 -- the lists of a part are sound
-pub sound_part : (is : List Inclusion) (part : Section) (xs : List StringReading) → All IsSoundString xs → All IsSound (part_demands is part xs)
-sound_part is part xs k =
-    all_flat IsSound (demand_in_part (has_group is part) part) xs
-    (All-weaker IsSoundString (λ x. All IsSound (demand_in_part (has_group is part) part x)) (λ x sound. sound_by (holds_in (has_group is part) part x.section) x sound) xs k)
+pub sound_part : (together : Bool) (is : List Inclusion) (part : Section) (xs : List StringReading) → All IsSoundString xs → All IsSound (part_demands together is part xs)
+sound_part together is part xs k =
+    all_flat IsSound (demand_in_part together (has_group is part) part) xs
+    (All-weaker IsSoundString (λ x. All IsSound (demand_in_part together (has_group is part) part x)) (λ x sound. sound_by (holds_in together (has_group is part) part x.section) x sound) xs k)
 
 module _ {X : Type 0} (P : X → Type 0) where
   -- what holds of everything holds of all
@@ -183,22 +186,22 @@ sections_same all file (s ∷ ss) (x ∷ xs) (r, h) = let rest = sections_same a
 
 -- ---- a part
 
-module _ (all : Groups) (file : File) (has : List ℕ → Bool) (part : Section) (read : List FileLine) where
+module _ (all : Groups) (file : File) (together : Bool) (has : List ℕ → Bool) (part : Section) (read : List FileLine) where
   -- the line of the string is known, if that holds in the part
   abbrev pub IsKnown : ProjectString → Type 0
-  IsKnown s = All (Contains read) (line_in_part has part file s)
+  IsKnown s = All (Contains read) (line_in_part together has part file s)
 
-  of_part_string : (s : ProjectString) (x : StringReading) (b : Bool) → holds_in has part s.section ≡ b → IsKnown s → IsStringReading all file s x → All (IsAsked line_parts read) (if b then demands_in x.meaning else [])
-  of_part_string s x true e known (same, is) = asked_of all read (string_line file s) s.text s.section x.meaning (of_one (Contains read) (holds_in has part s.section) (string_line file s) e known) is
+  of_part_string : (s : ProjectString) (x : StringReading) (b : Bool) → holds_in together has part s.section ≡ b → IsKnown s → IsStringReading all file s x → All (IsAsked line_parts read) (if b then demands_in x.meaning else [])
+  of_part_string s x true e known (same, is) = asked_of all read (string_line file s) s.text s.section x.meaning (of_one (Contains read) (holds_in together has part s.section) (string_line file s) e known) is
   of_part_string s x false e known r = All-nil (IsAsked line_parts read)
 
-  one_string : (s : ProjectString) (x : StringReading) → IsKnown s → IsStringReading all file s x → All (IsAsked line_parts read) (demand_in_part has part x)
+  one_string : (s : ProjectString) (x : StringReading) → IsKnown s → IsStringReading all file s x → All (IsAsked line_parts read) (demand_in_part together has part x)
   one_string s x known r =
-      subst (λ (section : Section). All (IsAsked line_parts read) (if holds_in has part section then demands_in x.meaning else [])) (sym r.0)
-      (of_part_string s x (holds_in has part s.section) refl known r)
+      subst (λ (section : Section). All (IsAsked line_parts read) (if holds_in together has part section then demands_in x.meaning else [])) (sym r.0)
+      (of_part_string s x (holds_in together has part s.section) refl known r)
 
-  in_part : (ss : List ProjectString) (xs : List StringReading) → All IsKnown ss → AllZip (IsStringReading all file) ss xs → All (IsAsked line_parts read) (flat_map (demand_in_part has part) xs)
-  in_part ss xs known h = all_flat (IsAsked line_parts read) (demand_in_part has part) xs (zip_each (IsStringReading all file) IsKnown (λ x. All (IsAsked line_parts read) (demand_in_part has part x)) one_string ss xs known h)
+  in_part : (ss : List ProjectString) (xs : List StringReading) → All IsKnown ss → AllZip (IsStringReading all file) ss xs → All (IsAsked line_parts read) (flat_map (demand_in_part together has part) xs)
+  in_part ss xs known h = all_flat (IsAsked line_parts read) (demand_in_part together has part) xs (zip_each (IsStringReading all file) IsKnown (λ x. All (IsAsked line_parts read) (demand_in_part together has part x)) one_string ss xs known h)
 
 module _ (P : Finding → Type 0) where
   by_new : (b : Bool) (found : List Finding) (f : Finding) → All P found → P f → All P (if b then found else found ++ f ∷ [])
@@ -211,33 +214,33 @@ module _ (P : Finding → Type 0) where
       with_new_all (if list_any (same_finding f) found then found else found ++ f ∷ []) fs (by_new (list_any (same_finding f) found) found f k (All-head P f fs each)) (All-tail P f fs each)
 
 module _ (P : Finding → Type 0) (file : File) (t : Members) (so : (part : Section) (f : Finding) → IsRightConflict line_parts (part_lines file t part) f → P f) where
-  part_holds : (xs : List StringReading) → AllZip (IsStringReading (groups t) file) (sources t) xs → (part : Section) → All P (part_conflicts xs part)
+  part_holds : (xs : List StringReading) → AllZip (IsStringReading (groups t) file) (sources t) xs → (part : Section) → All P (part_conflicts (has_group_tool t) xs part)
   part_holds xs h part =
       let read = part_lines file t part in
-      let known = each_flat (Contains read) (line_in_part (has_group (groups t).inclusions part) part file) (sources t) (All-contains_itself read) in
-      let asks = in_part (groups t) file (has_group (groups t).inclusions part) part read (sources t) xs known h in
+      let known = each_flat (Contains read) (line_in_part (has_group_tool t) (has_group (groups t).inclusions part) part file) (sources t) (All-contains_itself read) in
+      let asks = in_part (groups t) file (has_group_tool t) (has_group (groups t).inclusions part) part read (sources t) xs known h in
       let same : inclusions (sections xs) ≡ (groups t).inclusions = ap inclusions (sections_same (groups t) file (sources t) xs h) in
-      All-weaker (IsRightConflict line_parts read) P (so part) (part_conflicts xs part)
-      (conflicts_right line_parts read (part_demands (inclusions (sections xs)) part xs) (subst (λ (is : List Inclusion). All (IsAsked line_parts read) (part_demands is part xs)) (sym same) asks))
+      All-weaker (IsRightConflict line_parts read) P (so part) (part_conflicts (has_group_tool t) xs part)
+      (conflicts_right line_parts read (part_demands (has_group_tool t) (inclusions (sections xs)) part xs) (subst (λ (is : List Inclusion). All (IsAsked line_parts read) (part_demands (has_group_tool t) is part xs)) (sym same) asks))
 
-  pub conflicts_hold : (xs : List StringReading) → AllZip (IsStringReading (groups t) file) (sources t) xs → All P (project_conflicts xs)
+  pub conflicts_hold : (xs : List StringReading) → AllZip (IsStringReading (groups t) file) (sources t) xs → All P (project_conflicts (has_group_tool t) xs)
   conflicts_hold xs h =
-      with_new_all P [] (flat_map (part_conflicts xs) (parts xs)) (All-nil P) (all_flat P (part_conflicts xs) (parts xs) (everywhere (λ part. All P (part_conflicts xs part)) (part_holds xs h) (parts xs)))
+      with_new_all P [] (flat_map (part_conflicts (has_group_tool t) xs) (parts xs)) (All-nil P) (all_flat P (part_conflicts (has_group_tool t) xs) (parts xs) (everywhere (λ part. All P (part_conflicts (has_group_tool t) xs part)) (part_holds xs h) (parts xs)))
 
 -- what is found under two markers
 module _ (P : Finding → Type 0) (file : File) (t : Members) (so : (part : Section) (f : Finding) → IsRightPair line_parts (part_lines file t part) f → P f) where
-  part_pairs_hold : (xs : List StringReading) → AllZip (IsStringReading (groups t) file) (sources t) xs → (part : Section) (fs : List Finding) (cs : List Cause) → FindsOfPart xs part fs cs → All P fs
+  part_pairs_hold : (xs : List StringReading) → AllZip (IsStringReading (groups t) file) (sources t) xs → (part : Section) (fs : List Finding) (cs : List Cause) → FindsOfPart (has_group_tool t) xs part fs cs → All P fs
   part_pairs_hold xs h part fs cs finds =
       let read = part_lines file t part in
-      let known = each_flat (Contains read) (line_in_part (has_group (groups t).inclusions part) part file) (sources t) (All-contains_itself read) in
-      let asks = in_part (groups t) file (has_group (groups t).inclusions part) part read (sources t) xs known h in
+      let known = each_flat (Contains read) (line_in_part (has_group_tool t) (has_group (groups t).inclusions part) part file) (sources t) (All-contains_itself read) in
+      let asks = in_part (groups t) file (has_group_tool t) (has_group (groups t).inclusions part) part read (sources t) xs known h in
       let same : inclusions (sections xs) ≡ (groups t).inclusions = ap inclusions (sections_same (groups t) file (sources t) xs h) in
       All-weaker (IsRightPair line_parts read) P (so part) fs
-      (pairs_of_names_right line_parts read (part_demands (inclusions (sections xs)) part xs) (subst (λ (is : List Inclusion). All (IsAsked line_parts read) (part_demands is part xs)) (sym same) asks) fs cs finds)
+      (pairs_of_names_right line_parts read (part_demands (has_group_tool t) (inclusions (sections xs)) part xs) (subst (λ (is : List Inclusion). All (IsAsked line_parts read) (part_demands (has_group_tool t) is part xs)) (sym same) asks) fs cs finds)
 
-  pub pairs_hold : (xs : List StringReading) → AllZip (IsStringReading (groups t) file) (sources t) xs → (fs : List Finding) (cs : List Cause) → FindsOfParts xs fs cs → All P fs
+  pub pairs_hold : (xs : List StringReading) → AllZip (IsStringReading (groups t) file) (sources t) xs → (fs : List Finding) (cs : List Cause) → FindsOfParts (has_group_tool t) xs fs cs → All P fs
   pairs_hold xs h fs cs (found, finds, is) =
-      subst (All P) (sym is) (with_new_all P [] found (All-nil P) (found_each P (FindsOfPart xs) (λ part gs ds one. part_pairs_hold xs h part gs ds one) (parts xs) found cs finds))
+      subst (All P) (sym is) (with_new_all P [] found (All-nil P) (found_each P (FindsOfPart (has_group_tool t) xs) (λ part gs ds one. part_pairs_hold xs h part gs ds one) (parts xs) found cs finds))
 
 -- it holds of what is found of each element of a list
 known_each : {X : Type 0} (Q : Finding → Type 0) (P : X → List Finding → List Cause → Type 0) (xs : List X) → All (λ x. (fs : List Finding) (cs : List Cause) → P x fs cs → All Q fs) xs → (fs : List Finding) (cs : List Cause) → FindsOfEach P xs fs cs → All Q fs
@@ -246,6 +249,139 @@ known_each Q P (x ∷ xs) k fs cs (f, g, c, d, here, later, is, also) =
     subst (All Q) (sym is)
     (All-append Q f g (All-head (λ y. (gs : List Finding) (ds : List Cause) → P y gs ds → All Q gs) x xs k f c here)
     (known_each Q P xs (All-tail (λ y. (gs : List Finding) (ds : List Cause) → P y gs ds → All Q gs) x xs k) g d later))
+
+-- ---- versions that a requirement excludes
+
+and_left : (a b : Bool) → (a && b) ≡ true → a ≡ true
+and_left true b e = refl
+and_left false b e = absurd (true≢false (sym e))
+
+and_right : (a b : Bool) → (a && b) ≡ true → b ≡ true
+and_right true b e = e
+and_right false b e = absurd (true≢false (sym e))
+
+module _ (lock : List ℕ) (ps : List LockedPackage) (line : FileLine) (n : Needed) where
+  -- what the requirement asks for
+  abbrev pub always : Demand
+  always = line_demand line None n
+
+  abbrev pub IsHere : FileLine → Type 0
+  IsHere = IsLineOfName lock ps n.name
+
+  abbrev pub IsOutsideHere : Finding → Type 0
+  IsOutsideHere = IsOutside lock ps n.name n.specifiers line
+
+  shown : (b : Bool) (p : LockedPackage) (text : List ℕ) (v : Record) → Contains ps p → p.version ≡ Some text → Derives text v → same_name n.name p.name ≡ b → All IsHere (if b then package_line lock p ∷ [] else [])
+  shown true p text v here written d e = All-cons IsHere (package_line lock p) [] (p, v, here, (e, text, written, d), refl) (All-nil IsHere)
+  shown false p text v here written d e = All-nil IsHere
+
+  hidden : (b : Bool) → All IsHere (if b then [] else [])
+  hidden true = All-nil IsHere
+  hidden false = All-nil IsHere
+
+  line_right : (p : LockedPackage) (w : Option (List ℕ)) (y : LockedReading) → Contains ps p → p.version ≡ w → IsVersionReading (package_line lock p) p.name w y → All IsHere (named_line always y)
+  line_right p None y here written is = subst (λ (z : LockedReading). All IsHere (named_line always z)) (sym is) (hidden (same_name n.name p.name))
+  line_right p (Some text) y here written (inl (r, d, is)) = subst (λ (z : LockedReading). All IsHere (named_line always z)) (sym is) (shown (same_name n.name p.name) p text r here written d refl)
+  line_right p (Some text) y here written (inr (f, r, is)) = subst (λ (z : LockedReading). All IsHere (named_line always z)) (sym is) (hidden (same_name n.name p.name))
+
+  module _ (p : LockedPackage) (y : LockedReading) (text : List ℕ) (v : Record) (d : Derives text v) (same : same_name n.name p.name ≡ true) where
+    -- a package with this version is read so
+    version_read : (w : Option (List ℕ)) → w ≡ Some text → IsVersionReading (package_line lock p) p.name w y → y ≡ record { line = package_line lock p; name = normal p.name; version = Some v; invalid = None }
+    version_read None written is = cc written
+    version_read (Some t) written (inr (f, r, is)) =
+        let equal : t ≡ text = cc written in
+        absurd (not_both t v f (subst (λ (q : List ℕ). Derives q v) (sym equal) d) r)
+    version_read (Some t) written (inl (r, c, is)) =
+        let equal : t ≡ text = cc written in
+        let one : r ≡ v = one_record t r v c (subst (λ (q : List ℕ). Derives q v) (sym equal) d) in
+        is ∙ ap (λ (q : Record). record { line = package_line lock p; name = normal p.name; version = Some q; invalid = None }) one
+
+    module _ (written : p.version ≡ Some text) (is : IsLockedReading lock p y) where
+      allowed_is : is_allowed always y ≡ list_matches_literally n.specifiers v
+      allowed_is = ap (λ (z : LockedReading). is_allowed always z) (version_read p.version written is) ∙ ap (λ (b : Bool). b && list_matches_literally n.specifiers v) same
+
+      line_is : named_line always y ≡ package_line lock p ∷ []
+      line_is = ap (λ (z : LockedReading). named_line always z) (version_read p.version written is) ∙ ap (λ (b : Bool). if b then package_line lock p ∷ [] else []) same
+
+  -- a package has another name than the requirement
+  abbrev pub HasOtherName : LockedPackage → Type 0
+  HasOtherName p = same_name n.name p.name ≡ false
+
+  name_is : (p : LockedPackage) (w : Option (List ℕ)) (y : LockedReading) → IsVersionReading (package_line lock p) p.name w y → has_name always y ≡ same_name n.name p.name
+  name_is p None y is = ap (λ (z : LockedReading). has_name always z) is
+  name_is p (Some text) y (inl (r, d, is)) = ap (λ (z : LockedReading). has_name always z) is
+  name_is p (Some text) y (inr (f, r, is)) = ap (λ (z : LockedReading). has_name always z) is
+
+  pub none_named : (qs : List LockedPackage) (ys : List LockedReading) → AllZip (IsLockedReading lock) qs ys → list_any (has_name always) ys ≡ false → All HasOtherName qs
+  none_named [] [] h e = All-nil HasOtherName
+  none_named [] (y ∷ ys) h e = absurd h
+  none_named (p ∷ qs) [] h e = absurd h
+  none_named (p ∷ qs) (y ∷ ys) h e =
+      All-cons HasOtherName p qs (sym (name_is p p.version y h.0) ∙ left_false (has_name always y) (list_any (has_name always) ys) e) (none_named qs ys h.1 (right_false (has_name always y) (list_any (has_name always) ys) e))
+
+  no_nil : (b : Bool) (f : Finding) → (if b then [] else f ∷ []) ≡ [] → b ≡ true
+  no_nil true f e = refl
+  no_nil false f e = cc e
+
+  -- where none is absent, some package has the name
+  pub some_named : (ys : List LockedReading) → AllZip (IsLockedReading lock) ps ys → absent ys always ≡ [] → (p : LockedPackage) × Contains ps p × (same_name n.name p.name ≡ true)
+  some_named ys h none =
+      let (p, y, here, r, e) = beside_some (IsLockedReading lock) (has_name always) ps ys h (no_nil (list_any (has_name always) ys) _ none) in
+      (p, here, sym (name_is p p.version y r) ∙ e)
+
+  module _ (ys : List LockedReading) (h : AllZip (IsLockedReading lock) ps ys) where
+    none_contained : list_any (is_allowed always) ys ≡ false → SomeContained ps n.name n.specifiers → ⊥
+    none_contained none (p, v, (k, inside, at), (same, text, written, d), contained) =
+        let (y, (j, within, here), r) = beside_it (IsLockedReading lock) ps ys p k inside at h in
+        let there : list_any (is_allowed always) ys ≡ true = list_any_at (is_allowed always) ys j y within (ap (λ (z : LockedReading). is_allowed always z) here ∙ allowed_is p y text v d same written r ∙ contained) in
+        true≢false (sym there ∙ none)
+
+    outside_right : (lines : List FileLine) → All IsHere lines → (SomeContained ps n.name n.specifiers → ⊥) → All IsOutsideHere (outside line lines)
+    outside_right [] each none = All-nil IsOutsideHere
+    outside_right (first ∷ others) each none =
+        All-cons IsOutsideHere (Conflicting PinOutside (line ∷ (first ∷ others))) [] (record { first = first; others = others; each = each; none = none; is = refl }) (All-nil IsOutsideHere)
+
+    excluded_by : (b : Bool) → list_any (is_allowed always) ys ≡ b → All IsOutsideHere (if b then [] else outside line (flat_map (named_line always) ys))
+    excluded_by true e = All-nil IsOutsideHere
+    excluded_by false e =
+        outside_right (flat_map (named_line always) ys)
+        (all_flat IsHere (named_line always) ys
+        (zip_each (IsLockedReading lock) (Contains ps) (λ y. All IsHere (named_line always y)) (λ p y here r. line_right p p.version y here refl r) ps ys (All-contains_itself ps) h)) (none_contained e)
+
+    -- what is excluded is right
+    pub excluded_right : All IsOutsideHere (excluded always ys)
+    excluded_right = excluded_by (list_any (is_allowed always) ys) refl
+
+    module _ (p : LockedPackage) (k : ℕ) (inside : k < length ps) (at : get_or ps k p ≡ p) (v : Record) (locks : LocksVersion n.name p v) where
+      known : (q : LockedPackage) (w : Option (List ℕ)) (z : LockedReading) → Contains ps q → q.version ≡ w → IsVersionReading (package_line lock q) q.name w z → is_allowed always z ≡ true → SomeContained ps n.name n.specifiers
+      known q None z here written is e =
+          let no : false ≡ true = and_right (same_name n.name q.name) false (ap (λ (x : LockedReading). is_allowed always x) (sym is) ∙ e) in
+          absurd (true≢false (sym no))
+      known q (Some text) z here written (inr (f, r, is)) e =
+          let no : false ≡ true = and_right (same_name n.name q.name) false (ap (λ (x : LockedReading). is_allowed always x) (sym is) ∙ e) in
+          absurd (true≢false (sym no))
+      known q (Some text) z here written (inl (r, d, is)) e =
+          let both : (same_name n.name q.name && list_matches_literally n.specifiers r) ≡ true = ap (λ (x : LockedReading). is_allowed always x) (sym is) ∙ e in
+          (q, r, here, (and_left (same_name n.name q.name) (list_matches_literally n.specifiers r) both, text, written, d), and_right (same_name n.name q.name) (list_matches_literally n.specifiers r) both)
+
+      outside_nil : (lines : List FileLine) → outside line lines ≡ [] → lines ≡ []
+      outside_nil [] e = refl
+      outside_nil (first ∷ others) e = cc e
+
+      contained_by : (b : Bool) → list_any (is_allowed always) ys ≡ b → (if b then [] else outside line (flat_map (named_line always) ys)) ≡ [] → SomeContained ps n.name n.specifiers
+      contained_by true e none =
+          let (q, z, here, r, allowed) = beside_some (IsLockedReading lock) (is_allowed always) ps ys h e in
+          known q q.version z here refl r allowed
+      contained_by false e none =
+          let (same, text, written, d) = locks in
+          let (y, (j, within, here), r) = beside_it (IsLockedReading lock) ps ys p k inside at h in
+          let no_line : named_line always y ≡ [] = nil_at (named_line always) ys y j within here (outside_nil (flat_map (named_line always) ys) none) in
+          let no : package_line lock p ∷ [] ≡ [] = sym (line_is p y text v d same written r) ∙ no_line in
+          cc no
+
+      -- where nothing is excluded, a version is contained
+      pub not_excluded : excluded always ys ≡ [] → SomeContained ps n.name n.specifiers
+      not_excluded none = contained_by (list_any (is_allowed always) ys) refl none
 
 module _ (documents : List Document) where
   abbrev pub Right : Finding → Type 0
@@ -271,30 +407,27 @@ module _ (documents : List Document) where
       subst (λ (z : LockedReading). All Right (invalid_package z)) (sym is)
       (All-cons Right (NoRequirement (package_line file.name p) (rejection_text f) (length p.name + 1)) [] (inr (inl (record { file = file; locked = p; text = text; reason = f; has = has; version = at; refuses = r; is = refl }))) (All-nil Right))
 
-  -- ---- versions that a requirement excludes
+  unless_right : (b : Bool) (fs : List Finding) → All Right fs → All Right (if b then [] else fs)
+  unless_right true fs k = All-nil Right
+  unless_right false fs k = k
 
-  module _ (lock : List ℕ) (u : LockContents) (line : FileLine) (n : Needed)
-      (so : (p : LockedPackage) (text : List ℕ) (v : Record) → Contains u.packages p → p.version ≡ Some text → Derives text v → same_name n.name p.name ≡ true → list_matches_literally n.specifiers v ≡ false → Right (Conflicting PinOutside (line ∷ (package_line lock p ∷ [])))) where
-    by_match : (p : LockedPackage) (text : List ℕ) (v : Record) → Contains u.packages p → p.version ≡ Some text → Derives text v → (a b : Bool) → same_name n.name p.name ≡ a → list_matches_literally n.specifiers v ≡ b
-        → All Right (if a then (if b then [] else Conflicting PinOutside (line ∷ (package_line lock p ∷ [])) ∷ []) else [])
-    by_match p text v here written d true true e f = All-nil Right
-    by_match p text v here written d false b e f = All-nil Right
-    by_match p text v here written d true false e f = All-cons Right (Conflicting PinOutside (line ∷ (package_line lock p ∷ []))) [] (so p text v here written d e f) (All-nil Right)
-
-    nothing : (b : Bool) → All Right (if b then [] else [])
-    nothing true = All-nil Right
-    nothing false = All-nil Right
-
-    excluded_right : (p : LockedPackage) (v : Option (List ℕ)) (y : LockedReading) → Contains u.packages p → p.version ≡ v → IsVersionReading (package_line lock p) p.name v y → All Right (excluded (line_demand line None n) y)
-    excluded_right p None y here written is = subst (λ (z : LockedReading). All Right (excluded (line_demand line None n) z)) (sym is) (nothing (same_name n.name p.name))
-    excluded_right p (Some text) y here written (inl (r, d, is)) =
-        subst (λ (z : LockedReading). All Right (excluded (line_demand line None n) z)) (sym is) (by_match p text r here written d (same_name n.name p.name) (list_matches_literally n.specifiers r) refl refl)
-    excluded_right p (Some text) y here written (inr (f, r, is)) = subst (λ (z : LockedReading). All Right (excluded (line_demand line None n) z)) (sym is) (nothing (same_name n.name p.name))
-
-    all_excluded : (ys : List LockedReading) → AllZip (IsLockedReading lock) u.packages ys → All Right (flat_map (excluded (line_demand line None n)) ys)
-    all_excluded ys h =
-        all_flat Right (excluded (line_demand line None n)) ys
-        (zip_each (IsLockedReading lock) (Contains u.packages) (λ y. All Right (excluded (line_demand line None n) y)) (λ p y here r. excluded_right p p.version y here refl r) u.packages ys (All-contains_itself u.packages) h)
+  absent_right : (lock : File) (kind : LockKind) (l : LockContents) → HasLock documents kind lock l → (q : LockedRequirement) → Contains l.requirements q → (ys : List LockedReading) → AllZip (IsLockedReading lock.name) l.packages ys
+      → (n : Needed) (b : Bool) → n.name ≡ q.name → list_any (has_name (line_demand (requirement_line lock.name q) None n)) ys ≡ b
+      → All Right (if b then [] else NoRequirement (requirement_line lock.name q) (codes "the lock has no package of this name") 0 ∷ [])
+  absent_right lock kind l known q at ys h n true named e = All-nil Right
+  absent_right lock kind l known q at ys h n false named e =
+      let line = requirement_line lock.name q in
+      All-cons Right (NoRequirement line (codes "the lock has no package of this name") 0) []
+      (inr (inr (inr (inr (inr (inr (inr (record {
+        lock = lock;
+        kind = kind;
+        contents = l;
+        requirement = q;
+        known = known;
+        within = at;
+        none = subst (λ (name : List ℕ). All (λ (p : LockedPackage). same_name name p.name ≡ false) l.packages) named (none_named lock.name l.packages line n l.packages ys h e);
+        is = refl;
+      })))))))) (All-nil Right)
 
   -- a requirement of a package
   of_requirement : (lock : File) (kind : LockKind) (l : LockContents) → HasLock documents kind lock l → (q : LockedRequirement) → Contains l.requirements q → (ys : List LockedReading) → AllZip (IsLockedReading lock.name) l.packages ys
@@ -302,24 +435,14 @@ module _ (documents : List Document) where
   of_requirement lock kind l known q at ys h m (inr (f, r, is)) = subst (λ (x : LineMeaning). All Right (unmet ys x)) (sym is) (All-nil Right)
   of_requirement lock kind l known q at ys h m (inl (list, read, is)) =
       let n : Needed = record { name = q.name; extras = []; specifiers = list } in
+      let line = requirement_line lock.name q in
+      let asked = line_demand line None n in
       subst (λ (x : LineMeaning). All Right (unmet ys x)) (sym is)
-      (All-append Right (flat_map (excluded (line_demand (requirement_line lock.name q) None n)) ys) []
-      (all_excluded lock.name l (requirement_line lock.name q) n
-      (λ p text v here written d e f. inr (inr (inr (inr (inr (inr (record {
-        lock = lock;
-        requirement = q;
-        locked_package = p;
-        list = list;
-        text = text;
-        version = v;
-        has = (kind, l, known, at, here);
-        read = read;
-        same = e;
-        written = written;
-        derives = d;
-        outside = λ m. true≢false (sym m ∙ f);
-        is = refl;
-      }))))))) ys h) (All-nil Right))
+      (All-append Right (lacking ys asked ++ excluded asked ys) []
+      (All-append Right (lacking ys asked) (excluded asked ys) (unless_right (is_installer asked.name) (absent ys asked) (absent_right lock kind l known q at ys h n (list_any (has_name asked) ys) refl refl))
+      (All-weaker (IsOutsideHere lock.name l.packages line n) Right
+      (λ f out. inr (inr (inr (inr (inr (inr (inl (record { lock = lock; kind = kind; contents = l; requirement = q; list = list; known = known; within = at; read = read; outside = out })))))))) (excluded asked ys)
+      (excluded_right lock.name l.packages line n ys h))) (All-nil Right))
 
   no_utf8 : (kind : DocumentKind) (file : File) → (IsUtf8 file.text → ⊥) → IsReadableAs kind file → ⊥
   no_utf8 Project file none (t, (text, e)) = none text
@@ -337,7 +460,7 @@ module _ (documents : List Document) where
   of_document (Lock kind) file x known (inr (text, inr (none, broken))) = unread (record { kind = Lock kind; file = file }) x known (no_contents kind file none) broken
   of_document Project file x known (inr (text, inl (t, e, (xs, h, is)))) =
       subst (λ (y : DocumentReading). All Right (own_report y).findings) (sym is)
-      (All-append Right (flat_map invalid_string xs) (project_conflicts xs)
+      (All-append Right (flat_map invalid_string xs) (project_conflicts (has_group_tool t) xs)
       (all_flat Right invalid_string xs
       (zip_each (IsStringReading (groups t) file) (Contains (sources t)) (λ z. All Right (invalid_string z)) (λ s z at r. of_string file t s z.meaning (known, (text, e)) at r.1) (sources t) xs (All-contains_itself (sources t)) h))
       (conflicts_hold Right file t (λ part f right. inr (inr (inr (inr (inr (inl (record { file = file; table = t; part = part; has = (known, (text, e)); right = inl right }))))))) xs h))
@@ -358,44 +481,11 @@ module _ (documents : List Document) where
         abbrev pub asked : Demand
         asked = line_demand (string_line file s) None n
 
-        excludes : (p : LockedPackage) (text : List ℕ) (v : Record) → Contains u.packages p → p.version ≡ Some text → Derives text v → same_name n.name p.name ≡ true → list_matches_literally n.specifiers v ≡ false
-            → Right (Conflicting PinOutside (string_line file s ∷ (package_line lock.name p ∷ [])))
-        excludes p text v here written d e f = inr (inr (inr (inr (inl (record {
-          file = file;
-          string = s;
-          lock = lock;
-          locked_package = p;
-          needed = n;
-          text = text;
-          version = v;
-          has = (t, known, at);
-          asks = asks;
-          known = (kind, u, other, here);
-          same = e;
-          written = written;
-          derives = d;
-          outside = λ m. true≢false (sym m ∙ f);
-          is = refl;
-        })))))
-
-        -- a package has another name than the requirement
-        abbrev pub HasOtherName : LockedPackage → Type 0
-        HasOtherName p = same_name n.name p.name ≡ false
-
-        other_name : (p : LockedPackage) (v : Option (List ℕ)) (y : LockedReading) → IsVersionReading (package_line lock.name p) p.name v y → has_name asked y ≡ false → HasOtherName p
-        other_name p None y is e = ap (λ (z : LockedReading). has_name asked z) (sym is) ∙ e
-        other_name p (Some text) y (inl (r, d, is)) e = ap (λ (z : LockedReading). has_name asked z) (sym is) ∙ e
-        other_name p (Some text) y (inr (f, r, is)) e = ap (λ (z : LockedReading). has_name asked z) (sym is) ∙ e
-
-        none_named : (ps : List LockedPackage) (ys : List LockedReading) → AllZip (IsLockedReading lock.name) ps ys → list_any (has_name asked) ys ≡ false → All HasOtherName ps
-        none_named [] [] h e = All-nil HasOtherName
-        none_named [] (y ∷ ys) h e = absurd h
-        none_named (p ∷ ps) [] h e = absurd h
-        none_named (p ∷ ps) (y ∷ ys) h e =
-            All-cons HasOtherName p ps (other_name p p.version y h.0 (left_false (has_name asked y) (list_any (has_name asked) ys) e)) (none_named ps ys h.1 (right_false (has_name asked y) (list_any (has_name asked) ys) e))
+        excludes : (f : Finding) → IsOutsideHere lock.name u.packages (string_line file s) n f → Right f
+        excludes f out = inr (inr (inr (inr (inl (record { file = file; string = s; lock = lock; kind = kind; contents = u; needed = n; has = (t, known, at); asks = asks; known = other; outside = out })))))
 
         module _ (ys : List LockedReading) (h : AllZip (IsLockedReading lock.name) u.packages ys) where
-          missing_right : (b c : Bool) → is_needed s.section ≡ b → list_any (has_name asked) ys ≡ c
+          missing_right : (b c : Bool) → is_needed kind s.section ≡ b → list_any (has_name asked) ys ≡ c
               → All Right (if b then (if c then [] else NoRequirement (string_line file s) (codes "the lock has no package of this name") 0 ∷ []) else [])
           missing_right false c needs e = All-nil Right
           missing_right true true needs e = All-nil Right
@@ -412,65 +502,80 @@ module _ (documents : List Document) where
                 counts = needs;
                 asks = asks;
                 known = other;
-                none = none_named u.packages ys h e;
+                none = none_named lock.name u.packages (string_line file s) n u.packages ys h e;
                 is = refl;
               }))))) (All-nil Right)
 
-          always_right : All Right (compared_demand ys s.section asked)
+          always_right : All Right (compared_demand kind ys s.section asked)
           always_right =
-              All-append Right _ (flat_map (excluded asked) ys) (missing_right (is_needed s.section) (list_any (has_name asked) ys) refl refl) (all_excluded lock.name u (string_line file s) n excludes ys h)
+              All-append Right _ (excluded asked ys) (missing_right (is_needed kind s.section) (list_any (has_name asked) ys) refl refl)
+              (All-weaker (IsOutsideHere lock.name u.packages (string_line file s) n) Right excludes (excluded asked ys) (excluded_right lock.name u.packages (string_line file s) n ys h))
 
       module _ (ys : List LockedReading) (h : AllZip (IsLockedReading lock.name) u.packages ys) where
-        by_marker : (a : Demand) (k : AsksFor (string_line file s) (line_parts s.text) a) (marker : Option (List ℕ)) → (marker ≡ None → (line_parts s.text).marker ≡ None) → All Right (compared_demand ys s.section (line_demand (string_line file s) marker k.needed))
-        by_marker a k None always = always_right k.needed (k.text, k.derives, always refl, k.url) ys h
-        by_marker a k (Some m) always = All-nil Right
+        by_marker : (a : Demand) (k : AsksFor (string_line file s) (line_parts s.text) a) (marker : Option (List ℕ)) → (marker ≡ None → (line_parts s.text).marker ≡ None) → All Right (compared_demand kind ys s.section (line_demand (string_line file s) marker k.needed))
+        by_marker a k None unmarked = always_right k.needed (k.text, k.derives, unmarked refl, k.url) ys h
+        by_marker a k (Some m) unmarked = All-nil Right
 
-        of_asked : (a : Demand) → AsksFor (string_line file s) (line_parts s.text) a → All Right (compared_demand ys s.section a)
-        of_asked a k = subst (λ (b : Demand). All Right (compared_demand ys s.section b)) (sym k.is) (by_marker a k k.marker k.always)
+        of_asked : (a : Demand) → AsksFor (string_line file s) (line_parts s.text) a → All Right (compared_demand kind ys s.section a)
+        of_asked a k = subst (λ (b : Demand). All Right (compared_demand kind ys s.section b)) (sym k.is) (by_marker a k k.marker k.always)
 
-        of_meaning : (m : LineMeaning) → IsSectionMeaning (groups t) s.section (string_line file s) s.text m → All Right (flat_map (compared_demand ys s.section) (demands_in m))
-        of_meaning (Asks a) is = All-append Right (compared_demand ys s.section a) [] (of_asked a (of_section (groups t) (string_line file s) s.text a s.section is)) (All-nil Right)
+        of_meaning : (m : LineMeaning) → IsSectionMeaning (groups t) s.section (string_line file s) s.text m → All Right (flat_map (compared_demand kind ys s.section) (demands_in m))
+        of_meaning (Asks a) is = All-append Right (compared_demand kind ys s.section a) [] (of_asked a (of_section (groups t) (string_line file s) s.text a s.section is)) (All-nil Right)
         of_meaning (IsNone f) is = All-nil Right
         of_meaning (LeftOut c) is = All-nil Right
         of_meaning AsksNothing is = All-nil Right
 
-        by_section : (b : Bool) (m : LineMeaning) → IsSectionMeaning (groups t) s.section (string_line file s) s.text m → All Right (if b then flat_map (compared_demand ys s.section) (demands_in m) else [])
+        by_section : (b : Bool) (m : LineMeaning) → IsSectionMeaning (groups t) s.section (string_line file s) s.text m → All Right (if b then flat_map (compared_demand kind ys s.section) (demands_in m) else [])
         by_section true m is = of_meaning m is
         by_section false m is = All-nil Right
 
-        compared_right : (x : StringReading) → IsStringReading (groups t) file s x → All Right (compared ys x)
+        compared_right : (x : StringReading) → IsStringReading (groups t) file s x → All Right (compared kind ys x)
         compared_right x (same, is) =
-            subst (λ section. All Right (if is_locked section then flat_map (compared_demand ys section) (demands_in x.meaning) else [])) (sym same) (by_section (is_locked s.section) x.meaning is)
+            subst (λ section. All Right (if is_locked section then flat_map (compared_demand kind ys section) (demands_in x.meaning) else [])) (sym same) (by_section (is_locked s.section) x.meaning is)
 
-    pub pair_right : (xs : List StringReading) (ys : List LockedReading) → AllZip (IsStringReading (groups t) file) (sources t) xs → AllZip (IsLockedReading lock.name) u.packages ys → All Right (flat_map (compared ys) xs)
+    pub pair_right : (xs : List StringReading) (ys : List LockedReading) → AllZip (IsStringReading (groups t) file) (sources t) xs → AllZip (IsLockedReading lock.name) u.packages ys → All Right (flat_map (compared kind ys) xs)
     pair_right xs ys g h =
-        all_flat Right (compared ys) xs (zip_each (IsStringReading (groups t) file) (Contains (sources t)) (λ x. All Right (compared ys x)) (λ s x at r. compared_right s at ys h x r) (sources t) xs (All-contains_itself (sources t)) g)
+        all_flat Right (compared kind ys) xs (zip_each (IsStringReading (groups t) file) (Contains (sources t)) (λ x. All Right (compared kind ys x)) (λ s x at r. compared_right s at ys h x r) (sources t) xs (All-contains_itself (sources t)) g)
 
   -- ---- a document beside another
 
-  broken_right : (file : File) (x y : DocumentReading) → IsBrokenReading file x → All Right (found_beside x y)
-  broken_right file x y (line, reason, column, place, is) = subst (λ (z : DocumentReading). All Right (found_beside z y)) (sym is) (All-nil Right)
+  nothing_broken : (kind : DocumentKind) (f : Finding) (y : DocumentReading) → All Right (found_beside kind (IsBroken f) y)
+  nothing_broken Project f y = All-nil Right
+  nothing_broken (Lock kind) f y = All-nil Right
+
+  nothing_beside : (kind : DocumentKind) (together : Bool) (xs : List StringReading) (f : Finding) → All Right (found_beside kind (IsProject together xs) (IsBroken f))
+  nothing_beside Project together xs f = All-nil Right
+  nothing_beside (Lock kind) together xs f = All-nil Right
+
+  nothing_of_lock : (kind : DocumentKind) (ys : List LockedReading) (ms : List LineMeaning) (y : DocumentReading) → All Right (found_beside kind (IsLock ys ms) y)
+  nothing_of_lock Project ys ms y = All-nil Right
+  nothing_of_lock (Lock kind) ys ms y = All-nil Right
+
+  broken_right : (kind : DocumentKind) (file : File) (x y : DocumentReading) → IsBrokenReading file x → All Right (found_beside kind x y)
+  broken_right kind file x y (line, reason, column, place, is) = subst (λ (z : DocumentReading). All Right (found_beside kind z y)) (sym is) (nothing_broken kind (NoRequirement line reason column) y)
 
   module _ (file : File) (t : Members) (known : HasProject documents file t) (xs : List StringReading) (g : AllZip (IsStringReading (groups t) file) (sources t) xs) where
-    beside_broken : (other : File) (y : DocumentReading) → IsBrokenReading other y → All Right (found_beside (IsProject xs) y)
-    beside_broken other y (line, reason, column, place, is) = subst (λ (z : DocumentReading). All Right (found_beside (IsProject xs) z)) (sym is) (All-nil Right)
+    beside_broken : (kind : DocumentKind) (other : File) (y : DocumentReading) → IsBrokenReading other y → All Right (found_beside kind (IsProject (has_group_tool t) xs) y)
+    beside_broken kind other y (line, reason, column, place, is) =
+        subst (λ (z : DocumentReading). All Right (found_beside kind (IsProject (has_group_tool t) xs) z)) (sym is) (nothing_beside kind (has_group_tool t) xs (NoRequirement line reason column))
 
-    beside_project : (kind : DocumentKind) (other : File) (y : DocumentReading) → Contains documents (record { kind = kind; file = other }) → IsDocumentReading (record { kind = kind; file = other }) y → All Right (found_beside (IsProject xs) y)
-    beside_project kind other y at (inl (none, broken)) = beside_broken other y broken
-    beside_project Project other y at (inr (text, inr (none, broken))) = beside_broken other y broken
-    beside_project (Lock kind) other y at (inr (text, inr (none, broken))) = beside_broken other y broken
-    beside_project Project other y at (inr (text, inl (u, e, (zs, h, is)))) = subst (λ (z : DocumentReading). All Right (found_beside (IsProject xs) z)) (sym is) (All-nil Right)
+    beside_project : (kind : DocumentKind) (other : File) (y : DocumentReading) → Contains documents (record { kind = kind; file = other }) → IsDocumentReading (record { kind = kind; file = other }) y
+        → All Right (found_beside kind (IsProject (has_group_tool t) xs) y)
+    beside_project kind other y at (inl (none, broken)) = beside_broken kind other y broken
+    beside_project Project other y at (inr (text, inr (none, broken))) = beside_broken Project other y broken
+    beside_project (Lock kind) other y at (inr (text, inr (none, broken))) = beside_broken (Lock kind) other y broken
+    beside_project Project other y at (inr (text, inl (u, e, (zs, h, is)))) = subst (λ (z : DocumentReading). All Right (found_beside Project (IsProject (has_group_tool t) xs) z)) (sym is) (All-nil Right)
     beside_project (Lock kind) other y at (inr (text, inl (u, e, (ys, ms, h, required, is)))) =
-        subst (λ (z : DocumentReading). All Right (found_beside (IsProject xs) z)) (sym is) (pair_right file other kind t u known (at, (text, e)) xs ys g h)
+        subst (λ (z : DocumentReading). All Right (found_beside (Lock kind) (IsProject (has_group_tool t) xs) z)) (sym is) (pair_right file other kind t u known (at, (text, e)) xs ys g h)
 
   beside_right : (kind : DocumentKind) (file : File) (other : Document) (x y : DocumentReading) → Contains documents (record { kind = kind; file = file }) → Contains documents other → IsDocumentReading (record { kind = kind; file = file }) x
-      → IsDocumentReading other y → All Right (found_beside x y)
-  beside_right kind file other x y known at (inl (none, broken)) r = broken_right file x y broken
-  beside_right Project file other x y known at (inr (text, inr (none, broken))) r = broken_right file x y broken
-  beside_right (Lock kind) file other x y known at (inr (text, inr (none, broken))) r = broken_right file x y broken
-  beside_right (Lock kind) file other x y known at (inr (text, inl (t, e, (ys, ms, g, h, is)))) r = subst (λ (z : DocumentReading). All Right (found_beside z y)) (sym is) (All-nil Right)
+      → IsDocumentReading other y → All Right (found_beside other.kind x y)
+  beside_right kind file other x y known at (inl (none, broken)) r = broken_right other.kind file x y broken
+  beside_right Project file other x y known at (inr (text, inr (none, broken))) r = broken_right other.kind file x y broken
+  beside_right (Lock kind) file other x y known at (inr (text, inr (none, broken))) r = broken_right other.kind file x y broken
+  beside_right (Lock kind) file other x y known at (inr (text, inl (t, e, (ys, ms, g, h, is)))) r = subst (λ (z : DocumentReading). All Right (found_beside other.kind z y)) (sym is) (nothing_of_lock other.kind ys ms y)
   beside_right Project file other x y known at (inr (text, inl (t, e, (xs, h, is)))) r =
-      subst (λ (z : DocumentReading). All Right (found_beside z y)) (sym is) (beside_project file t (known, (text, e)) xs h other.kind other.file y at r)
+      subst (λ (z : DocumentReading). All Right (found_beside other.kind z y)) (sym is) (beside_project file t (known, (text, e)) xs h other.kind other.file y at r)
 
   -- ---- all documents
 
@@ -478,9 +583,9 @@ module _ (documents : List Document) where
   findings_of a [] = sym (append-nil a.findings)
   findings_of a (x ∷ xs) = findings_of (joined_report a (own_report x)) xs ∙ append_assoc a.findings (own_report x).findings (flat_map (λ y. (own_report y).findings) xs)
 
-  counted_right : (b : Bool) (x y : DocumentReading) → All Right (found_beside x y) → All Right (if b then found_beside x y else [])
-  counted_right true x y k = k
-  counted_right false x y k = All-nil Right
+  counted_right : (b : Bool) (fs : List Finding) → All Right fs → All Right (if b then fs else [])
+  counted_right true fs k = k
+  counted_right false fs k = All-nil Right
 
   pub all_right : (xs : List DocumentReading) → AllZip IsDocumentReading documents xs → All Right (documents_report documents xs).findings
   all_right xs h =
@@ -493,7 +598,7 @@ module _ (documents : List Document) where
       (pairs_each IsDocumentReading (Contains documents) (λ a. All Right (beside_all documents pairs a))
       (λ d x known r. all_flat Right (found_in_pair documents (d, x)) pairs
       (pairs_each IsDocumentReading (Contains documents) (λ b. All Right (found_in_pair documents (d, x) b))
-      (λ e y at s. counted_right (is_beside documents d e) x y (beside_right d.kind d.file e x y known at r s)) documents xs (All-contains_itself documents) h)) documents xs
+      (λ e y at s. counted_right (is_beside documents d e) (found_beside e.kind x y) (beside_right d.kind d.file e x y known at r s)) documents xs (All-contains_itself documents) h)) documents xs
       (All-contains_itself documents) h))
 
 -- what is found of a document under two markers

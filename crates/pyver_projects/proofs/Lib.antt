@@ -1,6 +1,5 @@
 pub mod Walks
 pub mod Holding
-pub mod RepeatedNames
 pub mod GroupWalks
 pub mod Agreeing
 pub mod Once

@@ -1,5 +1,5 @@
 -- Documents that are TOML or JSON in UTF-8 have at most one report.
-use Rattle.std.proofs.Common.{◌≡◌, ◌∙◌, ℕ, ◌+◌, List, [], ◌++◌, Option, Some, None, length, sym, ap, subst, inl, inr}
+use Rattle.std.proofs.Common.{Bool, ◌≡◌, ◌∙◌, ℕ, ◌+◌, List, [], ◌++◌, Option, Some, None, length, sym, ap, subst, inl, inr}
 use Rattle.std.proofs.lemmas.List.Elements.{All-contains_itself}
 use Rattle.std.specs.List.{Contains}
 use Rattle.pep440_pick.specs.Names.{normal}
@@ -21,7 +21,7 @@ use Rattle.pyver_requirements.specs.LineParts.{line_parts}
 use Rattle.toml.specs.Data.{Members}
 use Rattle.pyver_projects.proofs.Walks.{zip_once}
 use Rattle.pyver_projects.specs.Comparing.{FindsOfReading, documents_report, with_found}
-use Rattle.pyver_projects.specs.Documents.{sources}
+use Rattle.pyver_projects.specs.Documents.{has_group_tool, sources}
 use Rattle.pyver_projects.specs.Groups.{Groups, groups, inclusions}
 use Rattle.pyver_projects.specs.Meanings.{DocumentReading, IsBroken, IsDocumentReading, IsLock, IsLockReading, IsLockedReading, IsProject, IsProjectReading, IsRequirementReading, IsSectionMeaning, IsStringReading, IsVersionReading, LockedReading, StringReading, requirement_line, string_line}
 use Rattle.pyver_projects.specs.ProjectLaws.{DocumentReportsOnce, IsReadable, IsReadableAs}
@@ -68,7 +68,7 @@ one_version line name (Some text) x y (inr (f, r, a)) (inr (g, s, b)) =
 
 one_project : (file : File) (t : Members) (x y : DocumentReading) → IsProjectReading file t x → IsProjectReading file t y → x ≡ y
 one_project file t x y (xs, g, a) (ys, h, b) =
-    a ∙ ap (λ (zs : List StringReading). IsProject zs)
+    a ∙ ap (λ (zs : List StringReading). IsProject (has_group_tool t) zs)
     (zip_once (IsStringReading (groups t) file) (Contains (sources t)) (λ s v w known p q. one_string (groups t) file s v w p q) (sources t) xs ys (All-contains_itself (sources t)) g h) ∙ sym b
 
 one_requirement : (file : List ℕ) (q : LockedRequirement) (x y : LineMeaning) → IsRequirementReading file q x → IsRequirementReading file q y → x ≡ y
@@ -104,17 +104,17 @@ one_document (Lock kind) file x y (ps, (text, e)) (inr (u, inl (ms, f, a))) (inr
 
 -- ---- under two markers
 
-part_told : (xs : List StringReading) (part : Section) (fs : List Finding) (cs : List Cause) → FindsOfPart xs part fs cs → IsTold cs
-part_told xs part fs cs finds = names_tell (part_demands (inclusions (sections xs)) part xs) fs cs finds
+part_told : (together : Bool) (xs : List StringReading) (part : Section) (fs : List Finding) (cs : List Cause) → FindsOfPart together xs part fs cs → IsTold cs
+part_told together xs part fs cs finds = names_tell (part_demands together (inclusions (sections xs)) part xs) fs cs finds
 
 reading_told : (x : DocumentReading) (fs : List Finding) (cs : List Cause) → FindsOfReading x fs cs → IsTold cs
-reading_told (IsProject xs) fs cs (found, finds, is) = each_told (FindsOfPart xs) (part_told xs) (parts xs) found cs finds
+reading_told (IsProject together xs) fs cs (found, finds, is) = each_told (FindsOfPart together xs) (part_told together xs) (parts xs) found cs finds
 reading_told (IsLock ys ms) fs cs (is, also) = inl also
 reading_told (IsBroken f) fs cs (is, also) = inl also
 
 reading_once : (x : DocumentReading) → IsOnce (FindsOfReading x)
-reading_once (IsProject xs) fs gs (found, finds, is) (others, also, so) =
-    is ∙ ap (with_new same_finding []) (each_once (FindsOfPart xs) (λ part. names_once (part_demands (inclusions (sections xs)) part xs)) (parts xs) found others finds also) ∙ sym so
+reading_once (IsProject together xs) fs gs (found, finds, is) (others, also, so) =
+    is ∙ ap (with_new same_finding []) (each_once (FindsOfPart together xs) (λ part. names_once (part_demands together (inclusions (sections xs)) part xs)) (parts xs) found others finds also) ∙ sym so
 reading_once (IsLock ys ms) fs gs (is, _) (so, _) = is ∙ sym so
 reading_once (IsBroken f) fs gs (is, _) (so, _) = is ∙ sym so
 

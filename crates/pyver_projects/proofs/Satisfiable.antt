@@ -18,7 +18,7 @@ use Rattle.pyver_projects.proofs.Holding.{each_flat, findings_of, sections_same,
 use Rattle.pyver_projects.proofs.Once.{one_string}
 use Rattle.pyver_projects.proofs.Walks.{all_flat, beside_it, left_nil, nil_at, right_nil, zip_each, zip_once}
 use Rattle.pyver_projects.specs.Comparing.{beside_all, invalid_string, own_report, with_own_reports}
-use Rattle.pyver_projects.specs.Documents.{sources}
+use Rattle.pyver_projects.specs.Documents.{has_group_tool, sources}
 use Rattle.pyver_projects.specs.Groups.{Inclusion, groups, inclusions}
 use Rattle.pyver_projects.specs.Meanings.{DocumentReading, IsDocumentReading, IsProject, IsSoundString, IsStringReading, StringReading}
 use Rattle.pyver_projects.specs.ProjectLaws.{NoFindingImpliesSatisfiable}
@@ -114,16 +114,17 @@ no_finding_means_satisfiable documents r (zs, h, fs, cs, finds, is) none file t 
     let compared = flat_map (beside_all documents (zip documents zs)) (zip documents zs) in
     let found : (with_own_reports empty_report zs).findings ++ compared ≡ [] = left_nil ((with_own_reports empty_report zs).findings ++ compared) fs (sym (ap (λ (e : Report). e.findings) is) ∙ none) in
     let own : flat_map (λ x. (own_report x).findings) zs ≡ [] = sym (findings_of documents empty_report zs) ∙ left_nil (with_own_reports empty_report zs).findings compared found in
-    let nothing : flat_map invalid_string xs ++ project_conflicts xs ≡ [] =
-    ap (λ (e : List StringReading). (own_report (IsProject e)).findings) (sym one) ∙ ap (λ (e : DocumentReading). (own_report e).findings) (sym is_project) ∙ nil_at (λ x. (own_report x).findings) zs x c in_x is_x own in
-    let conflicts_nil : flat_map (part_conflicts xs) (parts xs) ≡ [] = none_new (flat_map (part_conflicts xs) (parts xs)) (right_nil (flat_map invalid_string xs) (project_conflicts xs) nothing) in
+    let together = has_group_tool t in
+    let nothing : flat_map invalid_string xs ++ project_conflicts together xs ≡ [] =
+    ap (λ (e : List StringReading). (own_report (IsProject together e)).findings) (sym one) ∙ ap (λ (e : DocumentReading). (own_report e).findings) (sym is_project) ∙ nil_at (λ x. (own_report x).findings) zs x c in_x is_x own in
+    let conflicts_nil : flat_map (part_conflicts together xs) (parts xs) ≡ [] = none_new (flat_map (part_conflicts together xs) (parts xs)) (right_nil (flat_map invalid_string xs) (project_conflicts together xs) nothing) in
     let (z, (j, in_z, is_z), rz) = beside_it (IsStringReading all file) (sources t) xs s i within is_s g in
     let part = section_part s.section in
-    let here_nil : part_conflicts xs (section_part z.section) ≡ [] = part_nil (part_conflicts xs) [] xs z j in_z is_z conflicts_nil in
+    let here_nil : part_conflicts together xs (section_part z.section) ≡ [] = part_nil (part_conflicts together xs) [] xs z j in_z is_z conflicts_nil in
     let same : inclusions (sections xs) ≡ all.inclusions = ap inclusions (sections_same all file (sources t) xs g) in
-    let lines = part_demands all.inclusions part xs in
-    let last : conflicts lines ≡ [] = (λ v. conflicts (part_demands (sym same v) (section_part (sym rz.0 v)) xs)) ∙ here_nil in
-    let sound : All IsSound lines = sound_part all.inclusions part xs (zip_each (IsStringReading all file) (Contains (sources t)) IsSoundString (λ p v known n. sound_string all file p v n) (sources t) xs (All-contains_itself (sources t)) g) in
+    let lines = part_demands together all.inclusions part xs in
+    let last : conflicts lines ≡ [] = (λ v. conflicts (part_demands together (sym same v) (section_part (sym rz.0 v)) xs)) ∙ here_nil in
+    let sound : All IsSound lines = sound_part together all.inclusions part xs (zip_each (IsStringReading all file) (Contains (sources t)) IsSoundString (λ p v known n. sound_string all file p v n) (sources t) xs (All-contains_itself (sources t)) g) in
     let these = All-filter (counts_under m) IsSound (filter (has_same_name a) lines) (All-filter (has_same_name a) IsSound lines sound) in
     subst (Some_is (Fits (filter (has_same_name a) lines) m)) last (some_fits lines a m known (none_found (under m (filter (has_same_name a) lines)) these empty))
 
@@ -220,19 +221,19 @@ in_part_by all demands true k = k
 in_part_by all demands false k = All-nil (Contains all)
 
 -- the requirements of a part are some of all
-pub part_known : (is : List Inclusion) (part : Section) (xs : List StringReading) → All (Contains (all_demands xs)) (part_demands is part xs)
-part_known is part xs =
+pub part_known : (together : Bool) (is : List Inclusion) (part : Section) (xs : List StringReading) → All (Contains (all_demands xs)) (part_demands together is part xs)
+part_known together is part xs =
     let all = all_demands xs in
-    all_flat (Contains all) (demand_in_part (has_group is part) part) xs
-    (All-weaker (λ x. All (Contains all) (demands_in x.meaning)) (λ x. All (Contains all) (demand_in_part (has_group is part) part x))
-    (λ x k. in_part_by all (demands_in x.meaning) (holds_in (has_group is part) part x.section) k) xs
+    all_flat (Contains all) (demand_in_part together (has_group is part) part) xs
+    (All-weaker (λ x. All (Contains all) (demands_in x.meaning)) (λ x. All (Contains all) (demand_in_part together (has_group is part) part x))
+    (λ x k. in_part_by all (demands_in x.meaning) (holds_in together (has_group is part) part x.section) k) xs
     (each_flat (Contains all) (λ (x : StringReading). demands_in x.meaning) xs (All-contains_itself all)))
 
-pub none_in_parts : (xs : List StringReading) → All IsSound (all_demands xs) → conflicts (all_demands xs) ≡ [] → project_conflicts xs ≡ []
-none_in_parts xs sound none =
+pub none_in_parts : (together : Bool) (xs : List StringReading) → All IsSound (all_demands xs) → conflicts (all_demands xs) ≡ [] → project_conflicts together xs ≡ []
+none_in_parts together xs sound none =
     ap (with_new same_finding [])
-    (flat_nil (part_conflicts xs) (parts xs)
-    (everywhere (λ part. part_conflicts xs part ≡ []) (λ part. nothing_in_part (all_demands xs) (part_demands (inclusions (sections xs)) part xs) sound (part_known (inclusions (sections xs)) part xs) none) (parts xs)))
+    (flat_nil (part_conflicts together xs) (parts xs)
+    (everywhere (λ part. part_conflicts together xs part ≡ []) (λ part. nothing_in_part (all_demands xs) (part_demands together (inclusions (sections xs)) part xs) sound (part_known together (inclusions (sections xs)) part xs) none) (parts xs)))
 
 -- the lists of all strings are sound
 pub sound_all : (xs : List StringReading) → All IsSoundString xs → All IsSound (all_demands xs)
@@ -277,20 +278,20 @@ no_names : (lines : List Demand) → All Unmarked lines → FindsOfNames lines [
 no_names lines k = nothing_each (of_name_of lines) (λ a. no_name (filter (has_same_name a) lines) (All-filter (has_same_name a) Unmarked lines k)) (first_mentions has_same_name [] lines)
 
 -- nothing is found where no requirement has a marker
-pub no_parts : (xs : List StringReading) → list_any is_marked (all_demands xs) ≡ false → FindsOfParts xs [] []
-no_parts xs none =
+pub no_parts : (together : Bool) (xs : List StringReading) → list_any is_marked (all_demands xs) ≡ false → FindsOfParts together xs [] []
+no_parts together xs none =
     let all = all_demands xs in
     let unmarked = all_unmarked all none in (
       [],
-      nothing_each (FindsOfPart xs)
-          (λ part. no_names (part_demands (inclusions (sections xs)) part xs)
-          (All-weaker (Contains all) Unmarked (λ a is. All-contains Unmarked all a unmarked is) (part_demands (inclusions (sections xs)) part xs) (part_known (inclusions (sections xs)) part xs)))
+      nothing_each (FindsOfPart together xs)
+          (λ part. no_names (part_demands together (inclusions (sections xs)) part xs)
+          (All-weaker (Contains all) Unmarked (λ a is. All-contains Unmarked all a unmarked is) (part_demands together (inclusions (sections xs)) part xs) (part_known together (inclusions (sections xs)) part xs)))
           (parts xs),
       refl,
     )
 
 -- ---- findings, each once
 
-pub parts_found : (xs : List StringReading) (pairs once : List FindingValue) (before after : List Cause) → map finding_of once ≡ with_new same_finding [] (map finding_of pairs) → AddsFound (FindsOfEach (FindsOfPart xs) (parts xs)) [] pairs before after
-    → AddsFound (FindsOfParts xs) [] once before after
-parts_found xs pairs once before after is (fs, cs, finds, adds, also) = (with_new same_finding [] fs, cs, (fs, finds, refl), is ∙ ap (with_new same_finding []) adds, also)
+pub parts_found : (together : Bool) (xs : List StringReading) (pairs once : List FindingValue) (before after : List Cause) → map finding_of once ≡ with_new same_finding [] (map finding_of pairs) → AddsFound (FindsOfEach (FindsOfPart together xs) (parts xs)) [] pairs before after
+    → AddsFound (FindsOfParts together xs) [] once before after
+parts_found together xs pairs once before after is (fs, cs, finds, adds, also) = (with_new same_finding [] fs, cs, (fs, finds, refl), is ∙ ap (with_new same_finding []) adds, also)

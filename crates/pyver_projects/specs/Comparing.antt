@@ -1,7 +1,8 @@
 -- What is found in documents: in each by itself, and in each project beside each lock.
-use Rattle.std.specs.Prelude.{◌≡◌, ◌&&◌, List, [], ◌∷◌, ◌++◌, Bool, true, false, Option, Some, None, bytes_eq, codes, is_none, length, nat_lt, not, if◌then◌else◌}
+use Rattle.std.specs.Prelude.{ℕ, ◌≡◌, ◌||◌, ◌&&◌, List, [], ◌∷◌, ◌++◌, Bool, true, false, Option, Some, None, bytes_eq, codes, is_none, is_some, length, nat_lt, not, if◌then◌else◌}
 use Rattle.std.specs.List.{AllZip, flat_map, list_any, zip}
 use Rattle.pep440_rs.specs.LiteralMatching.{list_matches_literally}
+use Rattle.pep440_rs.specs.Specifiers.{Spec}
 use Rattle.pep440_version.specs.Record.{Record}
 use Rattle.pyver_findings.specs.Demands.{Demand}
 use Rattle.pyver_findings.specs.FileLines.{Conflicting, FileLine, Finding, NoRequirement}
@@ -17,6 +18,8 @@ use Rattle.pyver_findings.specs.NamedFiles.{folder}
 use Rattle.pyver_projects.specs.Documents.{lies_above}
 use Rattle.pyver_projects.specs.declared.document_kind.DocumentKind.{DocumentKind}
 use Rattle.pyver_projects.specs.declared.document_kind.DocumentKind.TheVariants.{Lock, Project}
+use Rattle.pyver_projects.specs.declared.document_kind.LockKind.{LockKind}
+use Rattle.pyver_projects.specs.declared.document_kind.LockKind.TheVariants.{Pdm, Pipfile, Poetry, Pylock, Unknown, Uv}
 
 -- ---- a document by itself
 
@@ -41,22 +44,51 @@ left_out_string x = left_out_in x.meaning
 abbrev pub has_name : Demand → LockedReading → Bool
 has_name a y = bytes_eq a.name y.name
 
--- the version is contained in the list, or both lines are a finding
-abbrev pub excluded_by : Demand → FileLine → Option Record → List Finding
-excluded_by a line None = []
-excluded_by a line (Some v) = if list_matches_literally a.specifiers v then [] else Conflicting PinOutside (a.line ∷ (line ∷ [])) ∷ []
+-- the list contains the version, if there is one
+abbrev pub contains_locked : List Spec → Option Record → Bool
+contains_locked list None = false
+contains_locked list (Some v) = list_matches_literally list v
 
--- the list of the requirement does not contain the locked version of its name
-abbrev pub excluded : Demand → LockedReading → List Finding
-excluded a y = if has_name a y then excluded_by a y.line y.version else []
+-- the package has the name of the requirement, and a version that its list contains
+abbrev pub is_allowed : Demand → LockedReading → Bool
+is_allowed a y = has_name a y && contains_locked a.specifiers y.version
 
--- what the requirement of a package excludes in its own lock
+-- the line of a package with a version
+abbrev pub locked_line : LockedReading → List FileLine
+locked_line y = if is_some y.version then y.line ∷ [] else []
+
+-- the line, if it has the name of the requirement
+abbrev pub named_line : Demand → LockedReading → List FileLine
+named_line a y = if has_name a y then locked_line y else []
+
+-- the line of a requirement beside those of versions that it excludes, if there are some
+abbrev pub outside : FileLine → List FileLine → List Finding
+outside line [] = []
+outside line (other ∷ others) = Conflicting PinOutside (line ∷ (other ∷ others)) ∷ []
+
+-- the list of the requirement contains none of the locked versions of its name
+abbrev pub excluded : Demand → List LockedReading → List Finding
+excluded a ys = if list_any (is_allowed a) ys then [] else outside a.line (flat_map (named_line a) ys)
+
+-- the lock has no package of the name of the requirement
+abbrev pub absent : List LockedReading → Demand → List Finding
+absent ys a = if list_any (has_name a) ys then [] else NoRequirement a.line (codes "the lock has no package of this name") 0 ∷ []
+
+-- a tool that builds or installs, which older releases of Poetry do not lock
+abbrev pub is_installer : List ℕ → Bool
+is_installer name = bytes_eq name (codes "setuptools") || (bytes_eq name (codes "distribute") || (bytes_eq name (codes "pip") || bytes_eq name (codes "wheel")))
+
+-- the lock lacks what a package requires
+abbrev pub lacking : List LockedReading → Demand → List Finding
+lacking ys a = if is_installer a.name then [] else absent ys a
+
+-- what the requirement of a package lacks and excludes in its own lock
 abbrev pub unmet : List LockedReading → LineMeaning → List Finding
-unmet ys m = flat_map (λ a. flat_map (excluded a) ys) (demands_in m)
+unmet ys m = flat_map (λ a. lacking ys a ++ excluded a ys) (demands_in m)
 
 -- the report of a document by itself: the strings or the packages count as lines
 abbrev pub own_report : DocumentReading → Report
-own_report (IsProject xs) = record { findings = flat_map invalid_string xs ++ project_conflicts xs; ignored = []; lines = length xs; files = 1; left_out = flat_map left_out_string xs }
+own_report (IsProject together xs) = record { findings = flat_map invalid_string xs ++ project_conflicts together xs; ignored = []; lines = length xs; files = 1; left_out = flat_map left_out_string xs }
 own_report (IsLock ys ms) = record { findings = flat_map invalid_package ys ++ flat_map (unmet ys) ms; ignored = []; lines = length ys; files = 1; left_out = flat_map left_out_in ms }
 own_report (IsBroken f) = record { findings = f ∷ []; ignored = []; lines = 0; files = 1; left_out = [] }
 
@@ -67,10 +99,17 @@ with_own_reports a (x ∷ xs) = with_own_reports (joined_report a (own_report x)
 
 -- ---- a project beside a lock
 
+-- the lock has what extras and groups need, as that of uv
+abbrev pub has_all : LockKind → Bool
+has_all Uv = true
+has_all _ = false
+
 -- a lock has the dependencies of the project,
-abbrev pub is_needed : Section → Bool
-is_needed Dependencies = true
-is_needed _ = false
+abbrev pub is_needed : LockKind → Section → Bool
+is_needed kind Dependencies = true
+is_needed kind (Extra name) = has_all kind
+is_needed kind (Group name) = has_all kind
+is_needed kind _ = false
 
 -- and may have what its extras and groups need, but not what builds it
 abbrev pub is_locked : Section → Bool
@@ -79,25 +118,22 @@ is_locked (Extra name) = true
 is_locked (Group name) = true
 is_locked _ = false
 
--- the lock has no package of the name of the requirement
-abbrev pub missing : List LockedReading → Section → Demand → List Finding
-missing ys section a = if is_needed section then (if list_any (has_name a) ys then [] else NoRequirement a.line (codes "the lock has no package of this name") 0 ∷ []) else []
+-- a lock has the package, if it needs it
+abbrev pub missing : LockKind → List LockedReading → Section → Demand → List Finding
+missing kind ys section a = if is_needed kind section then absent ys a else []
 
 -- a requirement beside the lock, which counts if it has no marker
-abbrev pub compared_demand : List LockedReading → Section → Demand → List Finding
-compared_demand ys section a = if is_none a.marker then missing ys section a ++ flat_map (excluded a) ys else []
+abbrev pub compared_demand : LockKind → List LockedReading → Section → Demand → List Finding
+compared_demand kind ys section a = if is_none a.marker then missing kind ys section a ++ excluded a ys else []
 
 -- a string beside the lock
-abbrev pub compared : List LockedReading → StringReading → List Finding
-compared ys x = if is_locked x.section then flat_map (compared_demand ys x.section) (demands_in x.meaning) else []
+abbrev pub compared : LockKind → List LockedReading → StringReading → List Finding
+compared kind ys x = if is_locked x.section then flat_map (compared_demand kind ys x.section) (demands_in x.meaning) else []
 
--- the first document beside the second, if that is a project and this a lock
-abbrev pub found_beside : DocumentReading → DocumentReading → List Finding
-found_beside (IsProject xs) (IsLock ys ms) = flat_map (compared ys) xs
-found_beside (IsProject xs) (IsProject others) = []
-found_beside (IsProject xs) (IsBroken f) = []
-found_beside (IsLock ys ms) other = []
-found_beside (IsBroken f) other = []
+-- the first document beside the second, of this kind, if that is a project and this a lock
+abbrev pub found_beside : DocumentKind → DocumentReading → DocumentReading → List Finding
+found_beside (Lock kind) (IsProject together xs) (IsLock ys ms) = flat_map (compared kind ys) xs
+found_beside kind x y = []
 
 -- ---- which lock is compared with which project
 
@@ -109,11 +145,26 @@ is_project (Lock kind) = false
 abbrev pub is_below : Document → Document → Bool
 is_below lock d = is_project d.kind && lies_above lock.file.name d.file.name
 
--- the document is a lock in a folder nearer to the project
-abbrev pub is_nearer : Document → Document → Document → Bool
-is_nearer project lock d = not (is_project d.kind) && (lies_above d.file.name project.file.name && nat_lt (length (folder lock.file.name)) (length (folder d.file.name)))
+abbrev pub same_lock_kind : LockKind → LockKind → Bool
+same_lock_kind Pylock Pylock = true
+same_lock_kind Uv Uv = true
+same_lock_kind Poetry Poetry = true
+same_lock_kind Pdm Pdm = true
+same_lock_kind Pipfile Pipfile = true
+same_lock_kind Unknown Unknown = true
+same_lock_kind _ _ = false
 
--- a lock counts for the projects in its folder and below that have none nearer, or for all, if there is none
+-- both are locks of one kind
+abbrev pub same_kind : DocumentKind → DocumentKind → Bool
+same_kind (Lock one) (Lock other) = same_lock_kind one other
+same_kind Project other = false
+same_kind (Lock one) Project = false
+
+-- the document is a lock of the same kind in a folder nearer to the project
+abbrev pub is_nearer : Document → Document → Document → Bool
+is_nearer project lock d = same_kind lock.kind d.kind && (lies_above d.file.name project.file.name && nat_lt (length (folder lock.file.name)) (length (folder d.file.name)))
+
+-- a lock counts for the projects in its folder and below that have none of its kind nearer, or for all, if there is none
 abbrev pub is_beside : List Document → Document → Document → Bool
 is_beside documents project lock =
     if list_any (is_below lock) documents then lies_above lock.file.name project.file.name && not (list_any (is_nearer project lock) documents)
@@ -121,7 +172,7 @@ is_beside documents project lock =
 
 -- a document that was read beside another, if it is compared with it
 abbrev pub found_in_pair : List Document → Document × DocumentReading → Document × DocumentReading → List Finding
-found_in_pair documents a b = if is_beside documents a.0 b.0 then found_beside a.1 b.1 else []
+found_in_pair documents a b = if is_beside documents a.0 b.0 then found_beside b.0.kind a.1 b.1 else []
 
 -- a document beside each of these
 abbrev pub beside_all : List Document → List (Document × DocumentReading) → Document × DocumentReading → List Finding
@@ -139,7 +190,7 @@ documents_report documents xs = with_findings (with_own_reports empty_report xs)
 
 -- of a project the requirements that hold together under two markers
 abbrev pub FindsOfReading : DocumentReading → List Finding → List Cause → Type 0
-FindsOfReading (IsProject xs) fs cs = FindsOfParts xs fs cs
+FindsOfReading (IsProject together xs) fs cs = FindsOfParts together xs fs cs
 FindsOfReading (IsLock ys ms) fs cs = FindsNothing fs cs
 FindsOfReading (IsBroken f) fs cs = FindsNothing fs cs
 

@@ -1,5 +1,5 @@
 -- The kinds of documents, by their paths and by words, and what a parsed one has to check: the strings of `pyproject.toml`, and the versions of a lock.
-use Rattle.std.specs.Prelude.{Bool, List, None, Option, Some, [], bytes_eq, codes, count_by, get_or, if◌then◌else◌, is_none, length, map, nat_eq, nat_lt, option_map, ℕ, ◌&&◌, ◌++◌, ◌+◌, ◌==◌, ◌||◌, ◌∷◌}
+use Rattle.std.specs.Prelude.{Bool, List, None, Option, Some, [], bytes_eq, codes, count_by, get_or, if◌then◌else◌, is_none, is_some, length, map, nat_eq, nat_lt, option_map, ℕ, ◌&&◌, ◌++◌, ◌+◌, ◌==◌, ◌||◌, ◌∷◌}
 use Rattle.std.specs.List.{ends_with, flat_map, list_any, starts_with}
 use Rattle.pep440_pick.specs.Names.{is_name, normal}
 use Rattle.toml.specs.Data.{Data, Members, as_str, get, get_member}
@@ -10,7 +10,7 @@ use Rattle.pyver_projects.specs.PipfileLocks.{member_packages}
 use Rattle.pyver_findings.specs.NamedFiles.{folder}
 use Rattle.pyver_projects.specs.declared.document_kind.DocumentKind.{DocumentKind}
 use Rattle.pyver_projects.specs.declared.document_kind.DocumentKind.TheVariants.{Lock, Project}
-use Rattle.pyver_projects.specs.declared.document_kind.LockKind.TheVariants.{Pipfile, Poetry, Pylock, Unknown, Uv}
+use Rattle.pyver_projects.specs.declared.document_kind.LockKind.TheVariants.{Pdm, Pipfile, Poetry, Pylock, Unknown, Uv}
 use Rattle.serde_json.specs.Data.{Data as JsonData}
 use Rattle.serde_json.specs.Read.{read}
 use Rattle.toml.specs.Parse.{parse_document}
@@ -138,6 +138,14 @@ sources document = table_faults document
     ++ (flat_map (group_sources (group_names document)) (groups_table document)
     ++ array_sources (codes "requires") Build (inside (codes "requires") (get_member (codes "build-system") document)))))
 
+-- the document has this table of a tool
+abbrev pub has_tool : List ℕ → Members → Bool
+has_tool name document = is_some (inside name (get_member (codes "tool") document))
+
+-- the tool of the project installs its groups with its dependencies, as uv and Poetry do; by PEP 735 a group stands alone
+abbrev pub has_group_tool : Members → Bool
+has_group_tool document = has_tool (codes "uv") document || has_tool (codes "poetry") document
+
 -- ---- locks
 
 -- the tables from a number on, each with the number of the line of its header, or with 1 if there are not so many headers
@@ -193,6 +201,7 @@ kind_of_path path =
     else if is_named_pylock (last_section path) then Some (Lock Pylock)
     else if ends_path path (codes "uv.lock") (codes "/uv.lock") then Some (Lock Uv)
     else if ends_path path (codes "poetry.lock") (codes "/poetry.lock") then Some (Lock Poetry)
+    else if ends_path path (codes "pdm.lock") (codes "/pdm.lock") then Some (Lock Pdm)
     else if ends_path path (codes "Pipfile.lock") (codes "/Pipfile.lock") then Some (Lock Pipfile)
     else None
 
@@ -203,6 +212,7 @@ kind_of_word word =
     else if bytes_eq word (codes "pylock") then Some (Lock Pylock)
     else if bytes_eq word (codes "uv") then Some (Lock Uv)
     else if bytes_eq word (codes "poetry") then Some (Lock Poetry)
+    else if bytes_eq word (codes "pdm") then Some (Lock Pdm)
     else if bytes_eq word (codes "pipfile") then Some (Lock Pipfile)
     else None
 
@@ -218,6 +228,7 @@ pipfile_contents text document = record { packages = member_packages text docume
 abbrev pub locked : LockKind → List ℕ → Option LockContents
 locked Pylock text = toml_contents (codes "packages") (codes "[[packages]]") text
 locked Uv text = toml_contents (codes "package") (codes "[[package]]") text
+locked Pdm text = toml_contents (codes "package") (codes "[[package]]") text
 locked Poetry text = toml_contents (codes "package") (codes "[[package]]") text
 locked Pipfile text = option_map (pipfile_contents text) (read text)
 locked Unknown text = None

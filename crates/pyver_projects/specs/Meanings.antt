@@ -1,5 +1,5 @@
 -- What a string of `pyproject.toml`, a locked package and a document are to the check.
-use Rattle.std.specs.Prelude.{◌≡◌, ◌⊎◌, ℕ, ◌+◌, List, [], ◌++◌, Option, Some, None, codes, length, ⊤}
+use Rattle.std.specs.Prelude.{◌≡◌, ◌⊎◌, ℕ, ◌+◌, List, [], ◌++◌, Bool, Option, Some, None, codes, length, ⊤}
 use Rattle.std.specs.List.{AllZip, All}
 use Rattle.std.specs.Str.{IsUtf8}
 use Rattle.pep440_pick.specs.Names.{normal}
@@ -16,9 +16,9 @@ use Rattle.pyver_findings.specs.declared.cause.Cause.TheVariants as cause
 use Rattle.pyver_requirements.specs.LineParts.{line_parts}
 use Rattle.toml.specs.Data.{Members}
 use Rattle.toml.specs.Parse.{parse_document}
-use Rattle.pyver_projects.specs.Documents.{locked, sources}
+use Rattle.pyver_projects.specs.Documents.{has_group_tool, locked, sources}
 use Rattle.pyver_projects.specs.Groups.{Groups, groups, include_meaning, no_group}
-use Rattle.pyver_projects.specs.PackageRequirements.{package_text}
+use Rattle.pyver_projects.specs.PackageRequirements.{package_text, requirement_text}
 use Rattle.pyver_projects.specs.ProjectStrings.{Build, Dependencies, Extra, Group, Include, Invalid, LockContents, LockedPackage, LockedRequirement, ProjectString, Python, Section, Version, first_line, number_or_one}
 use Rattle.pyver_projects.specs.declared.document_kind.DocumentKind.{DocumentKind}
 use Rattle.pyver_projects.specs.declared.document_kind.DocumentKind.TheVariants.{Lock, Project}
@@ -79,7 +79,7 @@ IsLockedReading file p y = IsVersionReading (package_line file p) p.name p.versi
 
 -- a requirement as a line of the file with this name
 abbrev pub requirement_line : List ℕ → LockedRequirement → FileLine
-requirement_line file q = record { file = file; number = q.line; text = q.requirer ++ (codes " requires " ++ (q.name ++ (codes " " ++ q.list))); comment = [] }
+requirement_line file q = record { file = file; number = q.line; text = q.requirer ++ (codes " requires " ++ requirement_text q.name q.list); comment = [] }
 
 -- what it is: a name with a list, or left out, if the list is none of PEP 440
 abbrev pub IsRequirementReading : List ℕ → LockedRequirement → LineMeaning → Type 0
@@ -92,15 +92,16 @@ pub record Document : Type 0 where
   pub kind : DocumentKind
   pub file : File
 
--- a document that was read: the strings of a project, the packages of a lock and what they require, or why it was not read
+-- a document that was read: of a project whether its groups hold together with its dependencies, and its strings; the packages of a lock and
+-- what they require; or why it was not read
 pub data DocumentReading : Type 0 where
-  IsProject : List StringReading → DocumentReading
+  IsProject : Bool → List StringReading → DocumentReading
   IsLock : List LockedReading → List LineMeaning → DocumentReading
   IsBroken : Finding → DocumentReading
 
 -- what a project with this table is
 abbrev pub IsProjectReading : File → Members → DocumentReading → Type 0
-IsProjectReading file t x = (xs : List StringReading) × AllZip (IsStringReading (groups t) file) (sources t) xs × (x ≡ IsProject xs)
+IsProjectReading file t x = (xs : List StringReading) × AllZip (IsStringReading (groups t) file) (sources t) xs × (x ≡ IsProject (has_group_tool t) xs)
 
 -- what a lock is that has this
 abbrev pub IsLockReading : List ℕ → LockContents → DocumentReading → Type 0
@@ -129,6 +130,6 @@ IsSoundString x = All IsSound (demands_in x.meaning)
 
 -- and the lists of a project
 abbrev pub IsSoundDocument : DocumentReading → Type 0
-IsSoundDocument (IsProject xs) = All IsSoundString xs
+IsSoundDocument (IsProject together xs) = All IsSoundString xs
 IsSoundDocument (IsLock ys ms) = ⊤
 IsSoundDocument (IsBroken f) = ⊤

@@ -1,6 +1,7 @@
 -- What locked packages require of one another.
 use Rattle.std.specs.Prelude.{ℕ, ◌&&◌, List, [], ◌∷◌, ◌++◌, Bool, Option, Some, None, bytes_eq, codes, if◌then◌else◌, is_none}
 use Rattle.std.specs.List.{flat_map}
+use Rattle.std.specs.Option.{unwrap_or}
 use Rattle.toml.specs.Data.{Data, as_str, get}
 use Rattle.pyver_projects.specs.ProjectStrings.{LockedRequirement}
 use Rattle.pyver_projects.specs.TomlValues.{entries, inside, listed, text_in}
@@ -14,20 +15,33 @@ package_text name (Some version) = name ++ (codes " " ++ version)
 abbrev pub lacks : List ℕ → Data → Bool
 lacks key d = is_none (get key d)
 
+-- the list, where Poetry's `*` excludes no version
+abbrev pub plain_list : List ℕ → List ℕ
+plain_list list = if bytes_eq list (codes "*") then [] else list
+
+-- a name, and a list if that is not empty
+abbrev pub requirement_text : List ℕ → List ℕ → List ℕ
+requirement_text name [] = name
+requirement_text name (b ∷ list) = name ++ (codes " " ++ (b ∷ list))
+
 module _ (line : ℕ) (requirer : List ℕ) where
-  -- a requirement of this name, if it has a list: `*` excludes no version
+  -- a requirement of this name with this list
+  abbrev pub requirement : List ℕ → List ℕ → LockedRequirement
+  requirement name list = record { line = line; requirer = requirer; name = name; list = list }
+
+  -- a requirement of this name, if it has a list
   abbrev pub requirement_in : List ℕ → Option (List ℕ) → List LockedRequirement
   requirement_in name None = []
-  requirement_in name (Some list) = if bytes_eq list (codes "*") then [] else record { line = line; requirer = requirer; name = name; list = list } ∷ []
+  requirement_in name (Some list) = requirement name (plain_list list) ∷ []
 
-  -- the same, if it has a name
-  abbrev pub named_requirement : Option (List ℕ) → Option (List ℕ) → List LockedRequirement
+  -- a requirement with this list, if it has a name
+  abbrev pub named_requirement : Option (List ℕ) → List ℕ → List LockedRequirement
   named_requirement None list = []
-  named_requirement (Some name) list = requirement_in name list
+  named_requirement (Some name) list = requirement name list ∷ []
 
-  -- an item of uv's `requires-dist`, unless it has a marker
+  -- an item of uv's `requires-dist`, or of an array `dependencies`, unless it has a marker
   abbrev pub item_requirements : Data → List LockedRequirement
-  item_requirements d = if lacks (codes "marker") d then named_requirement (text_in (get (codes "name") d)) (text_in (get (codes "specifier") d)) else []
+  item_requirements d = if lacks (codes "marker") d then named_requirement (text_in (get (codes "name") d)) (unwrap_or (text_in (get (codes "specifier") d)) []) else []
 
   -- Poetry's requirement of this name: a list, or a table with one, unless it has markers or is optional
   abbrev pub version_requirements : List ℕ → Data → List LockedRequirement
@@ -38,10 +52,11 @@ module _ (line : ℕ) (requirer : List ℕ) where
   abbrev pub member_requirements : List ℕ × Data → List LockedRequirement
   member_requirements e = version_requirements e.0 e.1 ++ flat_map (version_requirements e.0) (listed (Some e.1))
 
-  -- the requirements of uv, and of Poetry
+  -- the requirements of uv, of uv and of PEP 751, and of Poetry
   abbrev pub table_requirements : Data → List LockedRequirement
   table_requirements d = flat_map item_requirements (listed (inside (codes "requires-dist") (get (codes "metadata") d)))
-      ++ flat_map member_requirements (entries (get (codes "dependencies") d))
+      ++ (flat_map item_requirements (listed (get (codes "dependencies") d))
+      ++ flat_map member_requirements (entries (get (codes "dependencies") d)))
 
 -- the package is locked without markers
 abbrev pub is_unconditional : Data → Bool

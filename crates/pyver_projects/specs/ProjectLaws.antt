@@ -1,9 +1,9 @@
--- What holds of reports of documents: each finding is right; where there is none, each requirement contains each locked version of its
+-- What holds of reports of documents: each finding is right; where there is none, each requirement contains a locked version of its
 -- name; there is one report.
 use Rattle.std.specs.Prelude.{◌≡◌, ◌⊎◌, ℕ, ◌+◌, List, [], ◌∷◌, Bool, false, true, IsTrue, if◌then◌else◌, Option, None, Some, codes, length}
 use Rattle.std.specs.List.{All, AllZip, Contains, filter, flat_map}
 use Rattle.std.specs.Str.{IsUtf8}
-use Rattle.pep440_pick.specs.Names.{same_name}
+use Rattle.pep440_pick.specs.Names.{normal, same_name}
 use Rattle.pep440_pick.specs.RequirementGrammar.{DerivesRequirement, Needed}
 use Rattle.pep440_rs.specs.Lists.ListGrammar.{DerivesList}
 use Rattle.pep440_rs.specs.LiteralMatching.{list_matches_literally}
@@ -22,8 +22,8 @@ use Rattle.pyver_findings.specs.declared.finding.Conflict.TheVariants.{PinOutsid
 use Rattle.pyver_requirements.specs.LineParts.{line_parts}
 use Rattle.toml.specs.Data.{Members}
 use Rattle.toml.specs.Parse.{parse_document}
-use Rattle.pyver_projects.specs.Comparing.{IsDocumentsReport, is_beside, is_locked, is_needed}
-use Rattle.pyver_projects.specs.Documents.{locked, sources}
+use Rattle.pyver_projects.specs.Comparing.{IsDocumentsReport, is_beside, is_installer, is_locked, is_needed}
+use Rattle.pyver_projects.specs.Documents.{has_group_tool, locked, sources}
 use Rattle.pyver_projects.specs.Groups.{groups}
 use Rattle.pyver_projects.specs.Meanings.{Document, IsSectionMeaning, IsStringReading, StringReading, package_line, requirement_line, string_line}
 use Rattle.pyver_projects.specs.ProjectStrings.{LockContents, LockedPackage, LockedRequirement, ProjectString, Section}
@@ -64,9 +64,17 @@ HasLock documents kind file l = Contains documents (record { kind = Lock kind; f
 abbrev pub HasPackage : List Document → File → LockedPackage → Type 0
 HasPackage documents file p = (kind : LockKind) × (l : LockContents) × HasLock documents kind file l × Contains l.packages p
 
--- one of the documents is a lock in this file, and has this package and this requirement of a package
-abbrev pub HasBoth : List Document → File → LockedRequirement → LockedPackage → Type 0
-HasBoth documents file q p = (kind : LockKind) × (l : LockContents) × HasLock documents kind file l × Contains l.requirements q × Contains l.packages p
+-- the package has this name and this version
+abbrev pub LocksVersion : List ℕ → LockedPackage → Record → Type 0
+LocksVersion name p v = IsTrue (same_name name p.name) × (text : List ℕ) × (p.version ≡ Some text) × Derives text v
+
+-- the list contains the version of a package of this name
+abbrev pub SomeContained : List LockedPackage → List ℕ → List Spec → Type 0
+SomeContained ps name list = (p : LockedPackage) × (v : Record) × Contains ps p × LocksVersion name p v × IsTrue (list_matches_literally list v)
+
+-- the line is that of a package of this name with a version
+abbrev pub IsLineOfName : List ℕ → List LockedPackage → List ℕ → FileLine → Type 0
+IsLineOfName lock ps name line = (p : LockedPackage) × (v : Record) × Contains ps p × LocksVersion name p v × (line ≡ package_line lock p)
 
 -- the string is this requirement, and has no marker and no URL
 abbrev pub AlwaysAsks : ProjectString → Needed → Type 0
@@ -84,12 +92,12 @@ pub record IsInvalidString (documents : List Document) (f : Finding) : Type 0 wh
   pub is : IsSectionMeaning (groups table) string.section (string_line file string) string.text (IsNone f)
 
 -- the line of a string that holds in the part, which has these groups
-abbrev pub line_in_part : (List ℕ → Bool) → Section → File → ProjectString → List FileLine
-line_in_part has part file s = if holds_in has part s.section then string_line file s ∷ [] else []
+abbrev pub line_in_part : Bool → (List ℕ → Bool) → Section → File → ProjectString → List FileLine
+line_in_part together has part file s = if holds_in together has part s.section then string_line file s ∷ [] else []
 
 -- the lines of the strings that hold in the part
 abbrev pub part_lines : File → Members → Section → List FileLine
-part_lines file t part = flat_map (line_in_part (has_group (groups t).inclusions part) part file) (sources t)
+part_lines file t part = flat_map (line_in_part (has_group_tool t) (has_group (groups t).inclusions part) part file) (sources t)
 
 -- lines that hold together in a part of a project have no version in common, as a finding of requirements files has none, under one marker or two
 pub record IsConflict (documents : List Document) (f : Finding) : Type 0 where
@@ -130,50 +138,60 @@ pub record IsMissing (documents : List Document) (f : Finding) : Type 0 where
   pub contents : LockContents
   pub needed : Needed
   pub has : HasString documents file string
-  pub counts : is_needed string.section ≡ true
+  pub counts : is_needed kind string.section ≡ true
   pub asks : AlwaysAsks string needed
   pub known : HasLock documents kind lock contents
   pub none : All (λ (p : LockedPackage). same_name needed.name p.name ≡ false) contents.packages
   pub is : f ≡ NoRequirement (string_line file string) (codes "the lock has no package of this name") 0
 
--- the list of a requirement of a project does not contain the version of a package of its name
+-- a requirement for this name is on this line, beside packages of the name in this lock, and its list contains the version of none
+pub record IsOutside (lock : List ℕ) (ps : List LockedPackage) (name : List ℕ) (list : List Spec) (line : FileLine) (f : Finding) : Type 0 where
+  pub first : FileLine
+  pub others : List FileLine
+  pub each : All (IsLineOfName lock ps name) (first ∷ others)
+  pub none : ¬ SomeContained ps name list
+  pub is : f ≡ Conflicting PinOutside (line ∷ (first ∷ others))
+
+-- the list of a requirement of a project contains no version of a package of its name in a lock
 pub record IsExcluded (documents : List Document) (f : Finding) : Type 0 where
   pub file : File
   pub string : ProjectString
   pub lock : File
-  pub locked_package : LockedPackage
+  pub kind : LockKind
+  pub contents : LockContents
   pub needed : Needed
-  pub text : List ℕ
-  pub version : Record
   pub has : HasString documents file string
   pub asks : AlwaysAsks string needed
-  pub known : HasPackage documents lock locked_package
-  pub same : IsTrue (same_name needed.name locked_package.name)
-  pub written : locked_package.version ≡ Some text
-  pub derives : Derives text version
-  pub outside : ¬ IsTrue (list_matches_literally needed.specifiers version)
-  pub is : f ≡ Conflicting PinOutside (string_line file string ∷ (package_line lock.name locked_package ∷ []))
+  pub known : HasLock documents kind lock contents
+  pub outside : IsOutside lock.name contents.packages needed.name needed.specifiers (string_line file string) f
 
--- the list of a requirement of a package does not contain the version of a package of its name in the same lock
+-- the list of a requirement of a package contains no version of a package of its name in the same lock
 pub record IsUnmet (documents : List Document) (f : Finding) : Type 0 where
   pub lock : File
+  pub kind : LockKind
+  pub contents : LockContents
   pub requirement : LockedRequirement
-  pub locked_package : LockedPackage
   pub list : List Spec
-  pub text : List ℕ
-  pub version : Record
-  pub has : HasBoth documents lock requirement locked_package
+  pub known : HasLock documents kind lock contents
+  pub within : Contains contents.requirements requirement
   pub read : DerivesList requirement.list list
-  pub same : IsTrue (same_name requirement.name locked_package.name)
-  pub written : locked_package.version ≡ Some text
-  pub derives : Derives text version
-  pub outside : ¬ IsTrue (list_matches_literally list version)
-  pub is : f ≡ Conflicting PinOutside (requirement_line lock.name requirement ∷ (package_line lock.name locked_package ∷ []))
+  pub outside : IsOutside lock.name contents.packages requirement.name list (requirement_line lock.name requirement) f
+
+-- no package of a lock has the name that another one requires
+pub record IsAbsent (documents : List Document) (f : Finding) : Type 0 where
+  pub lock : File
+  pub kind : LockKind
+  pub contents : LockContents
+  pub requirement : LockedRequirement
+  pub known : HasLock documents kind lock contents
+  pub within : Contains contents.requirements requirement
+  pub none : All (λ (p : LockedPackage). same_name requirement.name p.name ≡ false) contents.packages
+  pub is : f ≡ NoRequirement (requirement_line lock.name requirement) (codes "the lock has no package of this name") 0
 
 -- the finding is right
 abbrev pub IsDocumentFinding : List Document → Finding → Type 0
 IsDocumentFinding documents f = IsInvalidString documents f
-    ⊎ (IsInvalidPackage documents f ⊎ (IsUnread documents f ⊎ (IsMissing documents f ⊎ (IsExcluded documents f ⊎ (IsConflict documents f ⊎ IsUnmet documents f)))))
+    ⊎ (IsInvalidPackage documents f ⊎ (IsUnread documents f ⊎ (IsMissing documents f ⊎ (IsExcluded documents f ⊎ (IsConflict documents f ⊎ (IsUnmet documents f ⊎ IsAbsent documents f))))))
 
 -- each finding is right
 abbrev pub DocumentFindingsHold : Type 0
@@ -181,26 +199,31 @@ DocumentFindingsHold = (documents : List Document) (r : Report) → IsDocumentsR
 
 -- ---- no finding
 
--- each requirement of each project contains each version of its name in each lock that counts for it
+-- each requirement of each project contains a version of its name in each lock that counts for it and has one
 abbrev pub AllContained : List Document → Type 0
-AllContained documents = (file lock : File) (kind : LockKind) (l : LockContents) (s : ProjectString) (p : LockedPackage) (n : Needed) (text : List ℕ) (v : Record)
+AllContained documents = (file lock : File) (kind : LockKind) (l : LockContents) (s : ProjectString) (p : LockedPackage) (n : Needed) (v : Record)
     → HasString documents file s → HasLock documents kind lock l → Contains l.packages p → IsTrue (is_beside documents (record { kind = Project; file = file }) (record { kind = Lock kind; file = lock }))
-    → IsTrue (is_locked s.section) → AlwaysAsks s n → IsTrue (same_name n.name p.name) → p.version ≡ Some text → Derives text v → IsTrue (list_matches_literally n.specifiers v)
+    → IsTrue (is_locked s.section) → AlwaysAsks s n → LocksVersion n.name p v → SomeContained l.packages n.name n.specifiers
 
--- each requirement of a package whose list is one contains each version of its name in the same lock
+-- each requirement of a package whose list is one contains a version of its name in the same lock, if that has one
 abbrev pub AllMet : List Document → Type 0
-AllMet documents = (lock : File) (q : LockedRequirement) (p : LockedPackage) (list : List Spec) (text : List ℕ) (v : Record) → HasBoth documents lock q p
-    → DerivesList q.list list → IsTrue (same_name q.name p.name) → p.version ≡ Some text → Derives text v → IsTrue (list_matches_literally list v)
+AllMet documents = (lock : File) (kind : LockKind) (l : LockContents) (q : LockedRequirement) (p : LockedPackage) (list : List Spec) (v : Record) → HasLock documents kind lock l
+    → Contains l.requirements q → Contains l.packages p → DerivesList q.list list → LocksVersion q.name p v → SomeContained l.packages q.name list
+
+-- some package has the name that a package requires in the same lock, but for installers
+abbrev pub AllPresent : List Document → Type 0
+AllPresent documents = (lock : File) (kind : LockKind) (l : LockContents) (q : LockedRequirement) (list : List Spec) → HasLock documents kind lock l → Contains l.requirements q → DerivesList q.list list
+    → ¬ IsTrue (is_installer (normal q.name)) → (p : LockedPackage) × Contains l.packages p × IsTrue (same_name q.name p.name)
 
 -- where nothing is found, they do
 abbrev pub NoFindingImpliesContained : Type 0
-NoFindingImpliesContained = (documents : List Document) (r : Report) → IsDocumentsReport documents r → r.findings ≡ [] → AllContained documents × AllMet documents
+NoFindingImpliesContained = (documents : List Document) (r : Report) → IsDocumentsReport documents r → r.findings ≡ [] → AllContained documents × (AllMet documents × AllPresent documents)
 
 -- the requirements of the part of each string of each project that have one name, and the same marker or none, have a version in common
 abbrev pub AllSatisfiable : List Document → Type 0
 AllSatisfiable documents = (file : File) (t : Members) (s : ProjectString) (xs : List StringReading) (a : Demand) (m : Option (List ℕ)) → HasProject documents file t → Contains (sources t) s
-    → AllZip (IsStringReading (groups t) file) (sources t) xs → Contains (part_demands (groups t).inclusions (section_part s.section) xs) a
-    → ¬ HaveNone (under m (filter (has_same_name a) (part_demands (groups t).inclusions (section_part s.section) xs)))
+    → AllZip (IsStringReading (groups t) file) (sources t) xs → Contains (part_demands (has_group_tool t) (groups t).inclusions (section_part s.section) xs) a
+    → ¬ HaveNone (under m (filter (has_same_name a) (part_demands (has_group_tool t) (groups t).inclusions (section_part s.section) xs)))
 
 -- where nothing is found, they do
 abbrev pub NoFindingImpliesSatisfiable : Type 0

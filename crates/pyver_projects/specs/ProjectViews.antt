@@ -53,7 +53,7 @@ abbrev pub document_of : DocumentValue → Document
 document_of d = record { kind = d.kind; file = file_of d.file }
 
 abbrev pub document_reading_of : DocumentReadingValue → DocumentReading
-document_reading_of (reading.Project xs) = IsProject (map string_reading_of xs.items)
+document_reading_of (reading.Project p) = IsProject p.together (map string_reading_of p.strings.items)
 document_reading_of (reading.Lock ys ms) = IsLock (map locked_reading_of ys.items) (map line_meaning_of ms.items)
 document_reading_of (reading.Broken f) = IsBroken (finding_of f)
 

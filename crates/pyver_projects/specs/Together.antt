@@ -1,5 +1,5 @@
--- Requirements of a project that hold together: its dependencies; those of an extra, or of a group with the groups that it includes, with
--- the dependencies; and those of its build.
+-- Requirements of a project that hold together: its dependencies; those of an extra with the dependencies; those of a group with the groups
+-- that it includes, and with the dependencies if `together` is true; and those of its build.
 use Rattle.std.specs.Prelude.{◌≡◌, ℕ, ◌&&◌, List, [], ◌∷◌, ◌++◌, Bool, true, false, bytes_eq, map, nat_eq, if◌then◌else◌, is_some}
 use Rattle.std.specs.List.{flat_map, list_any}
 use Rattle.pyver_findings.specs.Conflicts.{conflicts}
@@ -34,11 +34,11 @@ same_part Build Build = true
 same_part _ _ = false
 
 -- the part holds together with the dependencies
-abbrev pub has_dependencies : Section → Bool
-has_dependencies Dependencies = true
-has_dependencies (Extra name) = true
-has_dependencies (Group name) = true
-has_dependencies _ = false
+abbrev pub has_dependencies : Bool → Section → Bool
+has_dependencies together Dependencies = true
+has_dependencies together (Extra name) = true
+has_dependencies together (Group name) = together
+has_dependencies together _ = false
 
 -- the part is this extra
 abbrev pub is_extra : List ℕ → Section → Bool
@@ -61,23 +61,23 @@ is_build Build = true
 is_build _ = false
 
 -- a string of the section holds in the part, which has these groups
-abbrev pub holds_in : (List ℕ → Bool) → Section → Section → Bool
-holds_in has part Dependencies = has_dependencies part
-holds_in has part (Extra name) = is_extra name part
-holds_in has part (Group name) = has name
-holds_in has part Build = is_build part
-holds_in has part (Include group included) = false
-holds_in has part (Invalid reason) = false
-holds_in has part Python = false
-holds_in has part Version = false
+abbrev pub holds_in : Bool → (List ℕ → Bool) → Section → Section → Bool
+holds_in together has part Dependencies = has_dependencies together part
+holds_in together has part (Extra name) = is_extra name part
+holds_in together has part (Group name) = has name
+holds_in together has part Build = is_build part
+holds_in together has part (Include group included) = false
+holds_in together has part (Invalid reason) = false
+holds_in together has part Python = false
+holds_in together has part Version = false
 
 -- the requirement of a string that holds in the part
-abbrev pub demand_in_part : (List ℕ → Bool) → Section → StringReading → List Demand
-demand_in_part has part x = if holds_in has part x.section then demands_in x.meaning else []
+abbrev pub demand_in_part : Bool → (List ℕ → Bool) → Section → StringReading → List Demand
+demand_in_part together has part x = if holds_in together has part x.section then demands_in x.meaning else []
 
 -- the requirements of a part
-abbrev pub part_demands : List Inclusion → Section → List StringReading → List Demand
-part_demands is part xs = flat_map (demand_in_part (has_group is part) part) xs
+abbrev pub part_demands : Bool → List Inclusion → Section → List StringReading → List Demand
+part_demands together is part xs = flat_map (demand_in_part together (has_group is part) part) xs
 
 -- the requirements of all strings
 abbrev pub all_demands : List StringReading → List Demand
@@ -116,12 +116,12 @@ abbrev pub parts : List StringReading → List Section
 parts xs = with_new same_part [] (map section_part (sections xs))
 
 -- the requirements of a part that have no version in common
-abbrev pub part_conflicts : List StringReading → Section → List Finding
-part_conflicts xs part = conflicts (part_demands (inclusions (sections xs)) part xs)
+abbrev pub part_conflicts : Bool → List StringReading → Section → List Finding
+part_conflicts together xs part = conflicts (part_demands together (inclusions (sections xs)) part xs)
 
 -- of each part the requirements that have no version in common, each finding once
-abbrev pub project_conflicts : List StringReading → List Finding
-project_conflicts xs = with_new same_finding [] (flat_map (part_conflicts xs) (parts xs))
+abbrev pub project_conflicts : Bool → List StringReading → List Finding
+project_conflicts together xs = with_new same_finding [] (flat_map (part_conflicts together xs) (parts xs))
 
 -- ---- under two markers
 
@@ -130,9 +130,9 @@ abbrev pub is_marked : Demand → Bool
 is_marked a = is_some a.marker
 
 -- of the requirements of a part those that have no version in common under two markers that hold together
-abbrev pub FindsOfPart : List StringReading → Section → List Finding → List Cause → Type 0
-FindsOfPart xs part = FindsOfNames (part_demands (inclusions (sections xs)) part xs)
+abbrev pub FindsOfPart : Bool → List StringReading → Section → List Finding → List Cause → Type 0
+FindsOfPart together xs part = FindsOfNames (part_demands together (inclusions (sections xs)) part xs)
 
 -- of each part, each finding once
-abbrev pub FindsOfParts : List StringReading → List Finding → List Cause → Type 0
-FindsOfParts xs fs cs = (found : List Finding) × FindsOfEach (FindsOfPart xs) (parts xs) found cs × (fs ≡ with_new same_finding [] found)
+abbrev pub FindsOfParts : Bool → List StringReading → List Finding → List Cause → Type 0
+FindsOfParts together xs fs cs = (found : List Finding) × FindsOfEach (FindsOfPart together xs) (parts xs) found cs × (fs ≡ with_new same_finding [] found)

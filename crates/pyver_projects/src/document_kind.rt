@@ -2,7 +2,7 @@
 ghost use Rattle.std.specs.List.{list_any};
 ghost use Rattle.std.specs.Prelude.{◌≡◌, ◌==◌, count_by, map};
 ghost use Rattle.pyver_findings.specs.NamedFiles.{folder};
-ghost use Rattle.pyver_projects.specs.Comparing.{is_below, is_beside, is_nearer, is_project};
+ghost use Rattle.pyver_projects.specs.Comparing.{is_below, is_beside, is_nearer, is_project, same_kind, same_lock_kind};
 ghost use Rattle.pyver_projects.specs.ProjectViews.{document_of};
 ghost use Rattle.pyver_projects.specs.Documents.{ends_path, has_slash, lies_above, is_document_path, is_named_pylock, kind_of_path, kind_of_word, last_section};
 
@@ -17,6 +17,8 @@ pub enum LockKind {
     Uv,
     /// `poetry.lock`.
     Poetry,
+    /// `pdm.lock`.
+    Pdm,
     /// `Pipfile.lock`.
     Pipfile,
     /// Any other file with the ending of a document. It is not read.
@@ -39,6 +41,30 @@ pub struct Document {
     pub file: SourceFile,
 }
 
+fn same_lock_kind(one: LockKind, other: LockKind) -> bool
+    ensures { result ≡ same_lock_kind one other }
+{
+    matches!(
+        (one, other),
+        (LockKind::Pylock, LockKind::Pylock)
+            | (LockKind::Uv, LockKind::Uv)
+            | (LockKind::Poetry, LockKind::Poetry)
+            | (LockKind::Pdm, LockKind::Pdm)
+            | (LockKind::Pipfile, LockKind::Pipfile)
+            | (LockKind::Unknown, LockKind::Unknown)
+    )
+}
+
+// Both are locks of one kind.
+fn same_kind(one: DocumentKind, other: DocumentKind) -> bool
+    ensures { result ≡ same_kind one other }
+{
+    match (one, other) {
+        (DocumentKind::Lock(one), DocumentKind::Lock(other)) => same_lock_kind(one, other),
+        _ => false,
+    }
+}
+
 impl Document {
     fn path(&self) -> &[u8]
         ensures { result.now ≡ (document_of self.now).file.name }
@@ -59,11 +85,11 @@ impl Document {
         self.is_project() && lies_above(lock.path(), self.path())
     }
 
-    // It is a lock in a folder nearer to the project than that of the other lock.
+    // It is a lock of the same kind in a folder nearer to the project than that of the other lock.
     fn is_nearer(&self, project: &Document, lock: &Document) -> bool
         ensures { result ≡ is_nearer (document_of project.now) (document_of lock.now) (document_of self.now) }
     {
-        !self.is_project()
+        same_kind(lock.kind, self.kind)
             && lies_above(self.path(), project.path())
             && folder(lock.path()).len() < folder(self.path()).len()
     }
@@ -76,7 +102,7 @@ fn has_below(documents: &[Document], lock: &Document) -> bool
     documents.iter().any(|document| document.is_below(lock))
 }
 
-// Some document is a lock in a folder nearer to the project.
+// Some document is a lock of the same kind in a folder nearer to the project.
 fn has_nearer(documents: &[Document], project: &Document, lock: &Document) -> bool
     ensures { result ≡ list_any (λ d. is_nearer (document_of project.now) (document_of lock.now) (document_of d)) documents.now }
 {
@@ -166,7 +192,7 @@ pub fn is_document_path(path: &[u8]) -> bool
 }
 
 /// The kind of the document with this path, by its last section: `pyproject.toml`, `pylock.toml`, `pylock.NAME.toml` with a
-/// NAME without a dot, `uv.lock`, `poetry.lock` or `Pipfile.lock`. Any other document has none.
+/// NAME without a dot, `uv.lock`, `poetry.lock`, `pdm.lock` or `Pipfile.lock`. Any other document has none.
 ///
 /// Allocates nothing.
 pub fn kind_of_path(path: &[u8]) -> Option<DocumentKind>
@@ -182,6 +208,8 @@ pub fn kind_of_path(path: &[u8]) -> Option<DocumentKind>
         Some(DocumentKind::Lock(LockKind::Uv))
     } else if ends_path(path, b"poetry.lock", b"/poetry.lock") {
         Some(DocumentKind::Lock(LockKind::Poetry))
+    } else if ends_path(path, b"pdm.lock", b"/pdm.lock") {
+        Some(DocumentKind::Lock(LockKind::Pdm))
     } else if ends_path(path, b"Pipfile.lock", b"/Pipfile.lock") {
         Some(DocumentKind::Lock(LockKind::Pipfile))
     } else {
@@ -189,7 +217,7 @@ pub fn kind_of_path(path: &[u8]) -> Option<DocumentKind>
     }
 }
 
-/// The kind of document that this word names: `pyproject`, `pylock`, `uv`, `poetry` or `pipfile`. Any other word names none.
+/// The kind of document that this word names: `pyproject`, `pylock`, `uv`, `poetry`, `pdm` or `pipfile`. Any other word names none.
 ///
 /// Allocates nothing.
 pub fn kind_of_word(word: &str) -> Option<DocumentKind>
@@ -200,6 +228,7 @@ pub fn kind_of_word(word: &str) -> Option<DocumentKind>
         "pylock" => Some(DocumentKind::Lock(LockKind::Pylock)),
         "uv" => Some(DocumentKind::Lock(LockKind::Uv)),
         "poetry" => Some(DocumentKind::Lock(LockKind::Poetry)),
+        "pdm" => Some(DocumentKind::Lock(LockKind::Pdm)),
         "pipfile" => Some(DocumentKind::Lock(LockKind::Pipfile)),
         _ => None,
     }

@@ -8,7 +8,7 @@ ghost use Rattle.pyver_projects.specs.declared.document_kind.LockKind.TheVariant
 ghost use Rattle.toml.specs.View.{table_view};
 
 use crate::document_kind::{Document, DocumentKind, LockKind};
-use crate::groups::{Groups, group_names, string_inclusions};
+use crate::groups::{Groups, group_names, has_group_tool, string_inclusions};
 use crate::locked_package::LockContents;
 use crate::locked_reading::{LockedReading, read_packages};
 use crate::pipfile_lock::pipfile_contents;
@@ -23,11 +23,18 @@ use serde_json::Value;
 use std::alloc::{AllocError, Global};
 use toml::Table;
 
+// A project that was read.
+#[derive(Drop)]
+pub(crate) struct ProjectReading {
+    // Its groups hold together with its dependencies.
+    pub(crate) together: bool,
+    pub(crate) strings: Vec<StringReading>,
+}
+
 // A document that was read.
 #[derive(Drop)]
 pub(crate) enum DocumentReading {
-    // The strings of a project.
-    Project(Vec<StringReading>),
+    Project(ProjectReading),
     // The packages of a lock, and what they require of one another.
     Lock(Vec<LockedReading>, Vec<LineMeaning>),
     // Why it was not read.
@@ -54,8 +61,9 @@ fn read_project(
     let inclusions = string_inclusions(alloc, strings.as_slice())?;
     let groups = Groups::new(alloc, names.as_slice(), inclusions.as_slice())?;
     let lines = read_quoted_lines(alloc, text.as_bytes())?;
-    let readings = read_strings(alloc, &groups, name, &lines, strings.as_slice())?;
-    Ok(DocumentReading::Project(readings))
+    let strings = read_strings(alloc, &groups, name, &lines, strings.as_slice())?;
+    let together = has_group_tool(table);
+    Ok(DocumentReading::Project(ProjectReading { together, strings }))
 }
 
 // What a lock with this name is, which has this.
@@ -155,7 +163,7 @@ fn read_text(
         DocumentKind::Lock(LockKind::Pylock) => {
             read_toml_lock(alloc, name, text, "packages", "[[packages]]")
         }
-        DocumentKind::Lock(LockKind::Uv | LockKind::Poetry) => {
+        DocumentKind::Lock(LockKind::Uv | LockKind::Poetry | LockKind::Pdm) => {
             read_toml_lock(alloc, name, text, "package", "[[package]]")
         }
         DocumentKind::Lock(LockKind::Pipfile) => read_pipfile_lock(alloc, name, text),

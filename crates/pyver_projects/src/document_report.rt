@@ -10,7 +10,7 @@ ghost use Rattle.pyver_projects.specs.Together.{project_conflicts};
 ghost use Rattle.pyver_projects.specs.ProjectViews.{document_of, document_reading_of, locked_reading_of, read_pair, reading_in, string_reading_of};
 
 use crate::document_kind::Document;
-use crate::document_reading::{DocumentReading, ReadDocument, read_document};
+use crate::document_reading::{DocumentReading, ProjectReading, ReadDocument, read_document};
 use crate::lock_comparison::{push_beside_all, push_unmet_requirements};
 use crate::locked_reading::LockedReading;
 use crate::string_reading::StringReading;
@@ -38,14 +38,18 @@ fn push_string(report: &mut Report, string: StringReading) -> Result<(), AllocEr
     Ok(())
 }
 
-fn report_strings(alloc: Global, strings: Vec<StringReading>) -> Result<Report, AllocError>
+fn report_strings(
+    alloc: Global,
+    together: bool,
+    strings: Vec<StringReading>,
+) -> Result<Report, AllocError>
     requires { All IsSoundString (map string_reading_of strings.items) }
-    ensures { IfOk result (λ r. report_of r ≡ own_report (IsProject (map string_reading_of strings.items))) }
+    ensures { IfOk result (λ r. report_of r ≡ own_report (IsProject together (map string_reading_of strings.items))) }
 {
     let mut report = Report::empty(alloc);
     report.lines = strings.len();
     report.files = 1;
-    let mut conflicts = project_conflicts(alloc, strings.as_slice())?;
+    let mut conflicts = project_conflicts(alloc, together, strings.as_slice())?;
     for string in strings {
         push_string(&mut report, string)?;
     }
@@ -126,7 +130,10 @@ fn report_document(alloc: Global, document: DocumentReading) -> Result<Report, A
     ensures { IfOk result (λ r. report_of r ≡ own_report (document_reading_of document)) }
 {
     match document {
-        DocumentReading::Project(strings) => report_strings(alloc, strings),
+        DocumentReading::Project(project) => {
+            let ProjectReading { together, strings } = project;
+            report_strings(alloc, together, strings)
+        }
         DocumentReading::Lock(packages, requirements) => {
             report_packages(alloc, packages, requirements.as_slice())
         }
@@ -180,8 +187,9 @@ fn push_reading_pairs(
     ensures { IfOk result (λ _. AddsFound (FindsOfReading (document_reading_of reading.now)) findings.old.items findings.new.items left_out.old.items left_out.new.items) }
 {
     match reading {
-        DocumentReading::Project(strings) => {
-            let mut pairs = project_pairs(alloc, left_out, strings.as_slice())?;
+        DocumentReading::Project(project) => {
+            let strings = project.strings.as_slice();
+            let mut pairs = project_pairs(alloc, left_out, project.together, strings)?;
             findings.append(&mut pairs)?;
             Ok(())
         }
@@ -223,28 +231,31 @@ fn read_documents<'a>(
 
 #[tactic(auto, using(crate::proofs::Holding::sound_documents))]
 /// What is wrong in the documents. First what is wrong in each by itself, in order: tables, arrays or strings of a project that are none,
-/// strings that are no requirement, no list of specifiers or no version, a list that no version satisfies, groups (PEP 735) with the normal name of another, with an item that is neither a string nor a table of
-/// `include-group` only, or that include a group that does not exist or that includes them in turn, versions of a lock that are none, and a
-/// document that is not TOML, or JSON, in UTF-8. After the strings of a project its requirements that hold together and have no version in
-/// common, as `pyver_findings` reports them, each once: `project.dependencies`; these with each extra, and with each group and all that it
-/// includes; and what the build requires. After the packages of a lock, for each of their requirements, the locked versions of its name that
-/// it does not contain. Then what is wrong in each project beside each lock in its folder, or in the nearest above that has one, and
-/// beside each lock for which that is no project: for each requirement, in order, whether the lock lacks a
-/// package of its name, and the lines of the locked versions of its name that it does not contain, each with the line of the requirement.
-/// Then the requirements of each project that hold together and have no version in common under two markers, as `pyver_findings` reports them.
+/// strings that are no requirement, no list of specifiers or no version, a list that no version satisfies, groups (PEP 735) with the
+/// normal name of another, with an item that is neither a string nor a table of `include-group` only, or that include a group that does
+/// not exist or that includes them in turn, versions of a lock that are none, and a document that is not TOML, or JSON, in UTF-8. After
+/// the strings of a project its requirements that hold together and have no version in common, as `pyver_findings` reports them, each
+/// once: `project.dependencies`; these with each extra; each group with all that it includes, and with these if there is a table
+/// `tool.uv` or `tool.poetry`; and what the build requires. After the packages of a lock, for each of their requirements, whether no
+/// package has its name, and the locked versions of its name, if it contains none. Then what is wrong in each project beside each lock in
+/// its folder, or in the nearest above that has one of its kind, and beside each lock for which that is no project: for each requirement,
+/// in order, whether the lock lacks a package of its name, and the lines of the locked versions of its name with the line of the
+/// requirement, if it contains none. Then the requirements of each project that hold together and have no version in common under two
+/// markers, as `pyver_findings` reports them.
 ///
 /// Of `pyproject.toml` these are read: `project.dependencies`, `project.optional-dependencies`, `project.requires-python`,
-/// `project.version`, `dependency-groups` with the names of included groups, and `build-system.requires`; of a lock
-/// the names and versions of its packages, in `Pipfile.lock` of the members of `default` and of those of `develop` that are not there with
-/// the same version. Their requirements are the `specifier` of each item of uv's `metadata.requires-dist`, and the lists of Poetry's table
-/// `dependencies`, but `*`; one that PEP 440 does not know, as `^1.0`, is left out. Values of other types in a lock are passed over. Extras and
-/// groups come in the order of their names. A string has the number of the first line on which it stands in quotes, a package of `Pipfile.lock`
-/// the number of the first line with its name in quotes, another package, with what it requires, the number of its header. Either has 1
-/// without one. Each string and each package counts as a line.
+/// `project.version`, `dependency-groups` with the names of included groups, and `build-system.requires`; of a lock the names and
+/// versions of its packages, in `Pipfile.lock` of the members of `default` and of those of `develop` that are not there with the same
+/// version. Their requirements are the names in uv's `metadata.requires-dist`, each with its `specifier`, those in an array
+/// `dependencies`, and those in Poetry's table `dependencies` with their lists; one that PEP 440 does not know, as `^1.0`, is left out.
+/// Values of other types in a lock are passed over. Extras and groups come in the order of their names. A string has the number of the
+/// first line on which it stands in quotes, a package of `Pipfile.lock` the number of the first line with its name in quotes, another
+/// package, with what it requires, the number of its header. Either has 1 without one. Each string and each package counts as a line.
 ///
-/// A requirement with a marker or a URL, of a package with markers, of the build, or that is optional, is not compared, and only
-/// `project.dependencies` are to be in each lock. Takes time for each requirement, each package, each pair of them with one name, and, if
-/// not all requirements of a project have a version in common, for each extra or group and requirement.
+/// A requirement with a marker or a URL, of a package with markers, of the build, or that is optional, is not compared. Each lock is to
+/// have packages for `project.dependencies`, `uv.lock` for extras and groups, too. Takes time for each requirement, each package, each
+/// pair of them with one name, and, if not all requirements of a project have a version in common, for each extra or group and
+/// requirement.
 ///
 /// Allocates.
 pub fn find_document_problems(alloc: Global, documents: &[Document]) -> Result<Report, AllocError>

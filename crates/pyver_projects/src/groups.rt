@@ -1,7 +1,7 @@
 //! Groups that include others.
 ghost use Rattle.std.specs.Prelude.{◌≡◌, ◌++◌, IfOk, bytes_eq, map};
 ghost use Rattle.std.specs.List.{flat_map, list_any};
-ghost use Rattle.pyver_projects.specs.Documents.{entry_names, group_names};
+ghost use Rattle.pyver_projects.specs.Documents.{entry_names, group_names, has_group_tool, has_tool};
 ghost use Rattle.pyver_projects.specs.Groups.{includes, inclusion, inclusions};
 ghost use Rattle.pyver_projects.specs.NameMaps.{HasGroups, IsInclusionIndex, IsNameIndex, IsGroupOrder, groups_of, inclusions_of, indexed_names};
 ghost use Rattle.pyver_projects.specs.ProjectViews.{inclusion_of, project_string_of, section_of, string_reading_of};
@@ -15,7 +15,7 @@ use crate::inclusion_index::InclusionIndex;
 use crate::name_index::NameIndex;
 use crate::section::{ProjectString, Section};
 use crate::string_reading::StringReading;
-use crate::table::{table, top};
+use crate::table::{inside, table, top};
 use pyver_findings::normalize_name;
 use std::alloc::{AllocError, Global};
 use toml::Table;
@@ -100,6 +100,19 @@ pub(crate) fn group_names(alloc: Global, document: &Table) -> Result<Vec<Vec<u8>
         Some(groups) => table_names(alloc, groups),
         None => Ok(Vec::new(alloc)),
     }
+}
+
+fn has_tool(name: &str, document: &Table) -> bool
+    ensures { result ≡ has_tool name.now (table_view document.now) }
+{
+    inside(top(document, "tool"), name).is_some()
+}
+
+// The tool of the project installs its groups with its dependencies, as uv and Poetry do.
+pub(crate) fn has_group_tool(document: &Table) -> bool
+    ensures { result ≡ has_group_tool (table_view document.now) }
+{
+    has_tool("uv", document) || has_tool("poetry", document)
 }
 
 impl<'a> Groups<'a> {

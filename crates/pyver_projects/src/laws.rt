@@ -3,21 +3,22 @@ ghost use Rattle.pyver_projects.specs.ProjectLaws.{DocumentReportsOnce, Document
 
 /// What is reported by itself is a string of a project that is not what it is to be there, a group that is invalid, a package whose version
 /// is none, a document that is not TOML, or JSON, in UTF-8, or a requirement whose name no package of some lock has. Lines that are
-/// reported together belong to a requirement, of a project or of a package in the same lock, and to a package of its name whose version it
-/// does not contain, or to requirements of a project that hold together, have no version in common, and have one without any one of them.
+/// reported together belong to a requirement, of a project or of a package in the same lock, and to packages of its name, none of whose
+/// versions it contains, or to requirements of a project that hold together, have no version in common, and have one without any one of them.
 pub fn findings_hold()
     ensures { DocumentFindingsHold }
 {}
 
-/// Where nothing is reported, each requirement of a project without a marker and a URL, but of its build, contains each version of its
-/// name in a lock that counts for it, and each requirement of a locked package that is read and is in PEP 440's syntax contains each version of its name in
-/// the same lock.
+/// Where nothing is reported, each requirement of a project without a marker and a URL, but of its build, contains a version of its
+/// name in each lock that counts for it and has one. Each requirement of a locked package that is read and is in PEP 440's syntax names a
+/// package of the same lock, if it is none of setuptools, distribute, pip and wheel, and contains a version of that name if there is one.
 pub fn no_finding_means_contained()
     ensures { NoFindingImpliesContained }
 {}
 
 /// Where nothing is reported, the requirements of a project that hold together, of one name and with the same marker or none, have a version
-/// in common: its dependencies; these with an extra, or with a group and all that it includes; and what its build requires.
+/// in common: its dependencies; these with an extra; a group with all that it includes, and with these if there is a table `tool.uv` or
+/// `tool.poetry`; and what its build requires.
 pub fn no_finding_means_satisfiable()
     ensures { NoFindingImpliesSatisfiable }
 {}

@@ -1,15 +1,13 @@
 //! A project beside a lock, and the requirements of a lock beside its packages.
-ghost use Rattle.std.specs.Prelude.{◌≡◌, ◌∷◌, ◌++◌, [], IfOk, map};
+ghost use Rattle.std.specs.Prelude.{◌≡◌, ◌++◌, [], IfOk, if◌then◌else◌, map};
 ghost use Rattle.std.specs.List.{flat_map, list_any};
-ghost use Rattle.pyver_findings.specs.FileLines.{Conflicting};
 ghost use Rattle.pyver_findings.specs.Reports.{demands_in};
 ghost use Rattle.pyver_findings.specs.Views.{demand_of, file_line_of, finding_of, line_meaning_of};
-ghost use Rattle.pyver_findings.specs.declared.finding.Conflict.TheVariants.{PinOutside};
-ghost use Rattle.pyver_projects.specs.Comparing.{found_beside, found_in_pair, beside_all, compared, compared_demand, excluded, excluded_by, has_name, is_locked, is_needed, missing, unmet};
+ghost use Rattle.pyver_projects.specs.Comparing.{absent, found_beside, found_in_pair, beside_all, compared, compared_demand, contains_locked, excluded, has_all, has_name, is_installer, is_locked, is_needed, lacking, locked_line, missing, outside, unmet};
 ghost use Rattle.pyver_projects.specs.NameMaps.{IsIndex, packages_of};
 ghost use Rattle.pyver_projects.specs.ProjectViews.{document_of, document_reading_of, locked_reading_of, read_pair, section_of, string_reading_of};
 
-use crate::document_kind::{Document, is_beside};
+use crate::document_kind::{Document, DocumentKind, LockKind, is_beside};
 use crate::document_reading::{DocumentReading, ReadDocument};
 use crate::locked_reading::LockedReading;
 use crate::package_index::PackageIndex;
@@ -19,10 +17,27 @@ use pep440_rs::Version;
 use pyver_findings::{Conflict, Demand, FileLine, Finding, LineMeaning};
 use std::alloc::{AllocError, Global};
 
-fn is_needed(section: &Section) -> bool
-    ensures { result ≡ is_needed (section_of section.now) }
+// A lock, and its packages by their names.
+#[derive(Drop)]
+struct IndexedLock<'a> {
+    kind: LockKind,
+    packages: PackageIndex<'a>,
+}
+
+fn has_all(kind: LockKind) -> bool
+    ensures { result ≡ has_all kind }
 {
-    matches!(section, Section::Dependencies)
+    matches!(kind, LockKind::Uv)
+}
+
+fn is_needed(kind: LockKind, section: &Section) -> bool
+    ensures { result ≡ is_needed kind (section_of section.now) }
+{
+    match section {
+        Section::Dependencies => true,
+        Section::Extra(_) | Section::Group(_) => has_all(kind),
+        _ => false,
+    }
 }
 
 fn is_locked(section: &Section) -> bool
@@ -34,54 +49,93 @@ fn is_locked(section: &Section) -> bool
     )
 }
 
-fn push_pair(
+// Adds the line beside those of versions that it excludes, if there are some.
+fn push_outside(
     alloc: Global,
     findings: &mut Vec<Finding>,
-    demand: &Demand,
     line: &FileLine,
+    others: Vec<FileLine>,
 ) -> Result<(), AllocError>
-    ensures { IfOk result (λ _. map finding_of findings.new.items ≡ map finding_of findings.old.items ++ Conflicting PinOutside ((demand_of demand.now).line ∷ (file_line_of line.now ∷ [])) ∷ []) }
+    ensures { IfOk result (λ _. map finding_of findings.new.items ≡ map finding_of findings.old.items ++ outside (file_line_of line.now) (map file_line_of others.items)) }
 {
+    let mut others = others;
+    if others.is_empty() {
+        return Ok(());
+    }
     let mut lines = Vec::new(alloc);
-    lines.push(demand.line.clone()?)?;
     lines.push(line.clone()?)?;
+    lines.append(&mut others)?;
     findings.push(Finding::Conflicting(Conflict::PinOutside, lines))?;
     Ok(())
 }
 
-// Adds both lines, if the list of the requirement does not contain the version.
-fn push_excluded_by(
+// The list of the requirement contains the version, if there is one.
+fn contains_locked(
     alloc: Global,
-    findings: &mut Vec<Finding>,
     demand: &Demand,
-    line: &FileLine,
     version: &Option<Version>,
-) -> Result<(), AllocError>
-    ensures { IfOk result (λ _. map finding_of findings.new.items ≡ map finding_of findings.old.items ++ excluded_by (demand_of demand.now) (file_line_of line.now) version.now) }
+) -> Result<bool, AllocError>
+    ensures { IfOk result (λ b. b ≡ contains_locked (demand_of demand.now).specifiers version.now) }
 {
-    let Some(version) = version else {
-        return Ok(());
-    };
-    if demand.specifiers.matches_literally(alloc, version)? {
-        return Ok(());
+    match version {
+        Some(version) => demand.specifiers.matches_literally(alloc, version),
+        None => Ok(false),
     }
-    push_pair(alloc, findings, demand, line)
 }
 
+// The list of the requirement contains the version of one of these packages.
+fn contains_any(
+    alloc: Global,
+    demand: &Demand,
+    group: &[&LockedReading],
+) -> Result<bool, AllocError>
+    ensures { IfOk result (λ b. b ≡ list_any (λ y. contains_locked (demand_of demand.now).specifiers y.version) (map (λ y. locked_reading_of y.now) group.now)) }
+{
+    for locked in group {
+        if contains_locked(alloc, demand, &locked.version)? {
+            return Ok(true);
+        }
+    }
+    Ok(false)
+}
+
+fn push_locked_line(lines: &mut Vec<FileLine>, locked: &LockedReading) -> Result<(), AllocError>
+    ensures { IfOk result (λ _. map file_line_of lines.new.items ≡ map file_line_of lines.old.items ++ locked_line (locked_reading_of locked.now)) }
+{
+    if locked.version.is_some() {
+        lines.push(locked.line.clone()?)?;
+    }
+    Ok(())
+}
+
+// The lines of the packages with a version.
+fn locked_lines(alloc: Global, group: &[&LockedReading]) -> Result<Vec<FileLine>, AllocError>
+    ensures { IfOk result (λ lines. map file_line_of lines.items ≡ flat_map locked_line (map (λ y. locked_reading_of y.now) group.now)) }
+{
+    let mut lines = Vec::new(alloc);
+    for locked in group {
+        push_locked_line(&mut lines, locked)?;
+    }
+    Ok(lines)
+}
+
+// Adds the requirement beside these packages, if its list contains the version of none.
 fn push_excluded(
     alloc: Global,
     findings: &mut Vec<Finding>,
     demand: &Demand,
     group: &[&LockedReading],
 ) -> Result<(), AllocError>
-    ensures { IfOk result (λ _. map finding_of findings.new.items ≡ map finding_of findings.old.items ++ flat_map (λ y. excluded_by (demand_of demand.now) y.line y.version) (map (λ y. locked_reading_of y.now) group.now)) }
+    ensures { IfOk result (λ _. map finding_of findings.new.items ≡ map finding_of findings.old.items ++ (if list_any (λ y. contains_locked (demand_of demand.now).specifiers y.version) (map (λ y. locked_reading_of y.now) group.now) then [] else outside (demand_of demand.now).line (flat_map locked_line (map (λ y. locked_reading_of y.now) group.now)))) }
 {
-    for locked in group {
-        push_excluded_by(alloc, findings, demand, &locked.line, &locked.version)?;
+    if contains_any(alloc, demand, group)? {
+        return Ok(());
     }
-    Ok(())
+    let others = locked_lines(alloc, group)?;
+    push_outside(alloc, findings, &demand.line, others)
 }
 
+// Adds the requirement beside the packages of its name, if its list contains the version of none.
 fn push_all_excluded(
     alloc: Global,
     findings: &mut Vec<Finding>,
@@ -89,7 +143,7 @@ fn push_all_excluded(
     packages: &PackageIndex<'_>,
 ) -> Result<(), AllocError>
     requires { IsIndex packages.now }
-    ensures { IfOk result (λ _. map finding_of findings.new.items ≡ map finding_of findings.old.items ++ flat_map (excluded (demand_of demand.now)) (packages_of packages.now)) }
+    ensures { IfOk result (λ _. map finding_of findings.new.items ≡ map finding_of findings.old.items ++ excluded (demand_of demand.now) (packages_of packages.now)) }
 {
     match packages.of_name(demand.name.as_slice()) {
         Some(group) => push_excluded(alloc, findings, demand, group.as_slice()),
@@ -97,7 +151,61 @@ fn push_all_excluded(
     }
 }
 
-// Adds what a requirement of a package excludes in its own lock.
+// Some package has the name of the requirement.
+fn has_package(demand: &Demand, packages: &PackageIndex<'_>) -> bool
+    requires { IsIndex packages.now }
+    ensures { result ≡ list_any (has_name (demand_of demand.now)) (packages_of packages.now) }
+{
+    match packages.of_name(demand.name.as_slice()) {
+        Some(group) => !group.as_slice().is_empty(),
+        None => false,
+    }
+}
+
+// Adds that no package has the name of the requirement, if none has.
+fn push_absent(
+    alloc: Global,
+    findings: &mut Vec<Finding>,
+    packages: &PackageIndex<'_>,
+    demand: &Demand,
+) -> Result<(), AllocError>
+    requires { IsIndex packages.now }
+    ensures { IfOk result (λ _. map finding_of findings.new.items ≡ map finding_of findings.old.items ++ absent (packages_of packages.now) (demand_of demand.now)) }
+{
+    if has_package(demand, packages) {
+        return Ok(());
+    }
+    let reason = String::from_str(alloc, "the lock has no package of this name")?;
+    findings.push(Finding::NoRequirement(demand.line.clone()?, reason, 0))?;
+    Ok(())
+}
+
+fn is_installer(name: &[u8]) -> bool
+    ensures { result ≡ is_installer name.now }
+{
+    name == b"setuptools".as_slice()
+        || name == b"distribute".as_slice()
+        || name == b"pip".as_slice()
+        || name == b"wheel".as_slice()
+}
+
+// Adds that no package has the name of the requirement of a package, if the lock lacks it.
+fn push_lacking(
+    alloc: Global,
+    findings: &mut Vec<Finding>,
+    packages: &PackageIndex<'_>,
+    demand: &Demand,
+) -> Result<(), AllocError>
+    requires { IsIndex packages.now }
+    ensures { IfOk result (λ _. map finding_of findings.new.items ≡ map finding_of findings.old.items ++ lacking (packages_of packages.now) (demand_of demand.now)) }
+{
+    if is_installer(demand.name.as_slice()) {
+        return Ok(());
+    }
+    push_absent(alloc, findings, packages, demand)
+}
+
+// Adds what a requirement of a package lacks and excludes in its own lock.
 fn push_unmet(
     alloc: Global,
     findings: &mut Vec<Finding>,
@@ -108,7 +216,10 @@ fn push_unmet(
     ensures { IfOk result (λ _. map finding_of findings.new.items ≡ map finding_of findings.old.items ++ unmet (packages_of packages.now) (line_meaning_of requirement.now)) }
 {
     match requirement {
-        LineMeaning::Asks(demand) => push_all_excluded(alloc, findings, demand, packages),
+        LineMeaning::Asks(demand) => {
+            push_lacking(alloc, findings, packages, demand)?;
+            push_all_excluded(alloc, findings, demand, packages)
+        }
         LineMeaning::IsNone(_) | LineMeaning::LeftOut(_) | LineMeaning::AsksNothing => Ok(()),
     }
 }
@@ -128,7 +239,7 @@ fn push_unmet_in_index(
     Ok(())
 }
 
-// Adds what requirements of packages exclude in their own lock.
+// Adds what requirements of packages lack and exclude in their own lock.
 pub(crate) fn push_unmet_requirements(
     alloc: Global,
     findings: &mut Vec<Finding>,
@@ -141,65 +252,52 @@ pub(crate) fn push_unmet_requirements(
     push_unmet_in_index(alloc, findings, &packages, requirements)
 }
 
-// Some package has the name of the requirement.
-fn has_package(demand: &Demand, packages: &PackageIndex<'_>) -> bool
-    requires { IsIndex packages.now }
-    ensures { result ≡ list_any (has_name (demand_of demand.now)) (packages_of packages.now) }
-{
-    match packages.of_name(demand.name.as_slice()) {
-        Some(group) => !group.as_slice().is_empty(),
-        None => false,
-    }
-}
-
 fn push_missing(
     alloc: Global,
     findings: &mut Vec<Finding>,
-    packages: &PackageIndex<'_>,
+    lock: &IndexedLock<'_>,
     section: &Section,
     demand: &Demand,
 ) -> Result<(), AllocError>
-    requires { IsIndex packages.now }
-    ensures { IfOk result (λ _. map finding_of findings.new.items ≡ map finding_of findings.old.items ++ missing (packages_of packages.now) (section_of section.now) (demand_of demand.now)) }
+    requires { IsIndex lock.now.packages }
+    ensures { IfOk result (λ _. map finding_of findings.new.items ≡ map finding_of findings.old.items ++ missing lock.now.kind (packages_of lock.now.packages) (section_of section.now) (demand_of demand.now)) }
 {
-    if !is_needed(section) || has_package(demand, packages) {
+    if !is_needed(lock.kind, section) {
         return Ok(());
     }
-    let reason = String::from_str(alloc, "the lock has no package of this name")?;
-    findings.push(Finding::NoRequirement(demand.line.clone()?, reason, 0))?;
-    Ok(())
+    push_absent(alloc, findings, &lock.packages, demand)
 }
 
 fn push_compared_demand(
     alloc: Global,
     findings: &mut Vec<Finding>,
-    packages: &PackageIndex<'_>,
+    lock: &IndexedLock<'_>,
     section: &Section,
     demand: &Demand,
 ) -> Result<(), AllocError>
-    requires { IsIndex packages.now }
-    ensures { IfOk result (λ _. map finding_of findings.new.items ≡ map finding_of findings.old.items ++ compared_demand (packages_of packages.now) (section_of section.now) (demand_of demand.now)) }
+    requires { IsIndex lock.now.packages }
+    ensures { IfOk result (λ _. map finding_of findings.new.items ≡ map finding_of findings.old.items ++ compared_demand lock.now.kind (packages_of lock.now.packages) (section_of section.now) (demand_of demand.now)) }
 {
     if demand.marker.is_some() {
         return Ok(());
     }
-    push_missing(alloc, findings, packages, section, demand)?;
-    push_all_excluded(alloc, findings, demand, packages)
+    push_missing(alloc, findings, lock, section, demand)?;
+    push_all_excluded(alloc, findings, demand, &lock.packages)
 }
 
 fn push_compared_meaning(
     alloc: Global,
     findings: &mut Vec<Finding>,
-    packages: &PackageIndex<'_>,
+    lock: &IndexedLock<'_>,
     section: &Section,
     meaning: &LineMeaning,
 ) -> Result<(), AllocError>
-    requires { IsIndex packages.now }
-    ensures { IfOk result (λ _. map finding_of findings.new.items ≡ map finding_of findings.old.items ++ flat_map (compared_demand (packages_of packages.now) (section_of section.now)) (demands_in (line_meaning_of meaning.now))) }
+    requires { IsIndex lock.now.packages }
+    ensures { IfOk result (λ _. map finding_of findings.new.items ≡ map finding_of findings.old.items ++ flat_map (compared_demand lock.now.kind (packages_of lock.now.packages) (section_of section.now)) (demands_in (line_meaning_of meaning.now))) }
 {
     match meaning {
         LineMeaning::Asks(demand) => {
-            push_compared_demand(alloc, findings, packages, section, demand)
+            push_compared_demand(alloc, findings, lock, section, demand)
         }
         LineMeaning::IsNone(_) | LineMeaning::LeftOut(_) | LineMeaning::AsksNothing => Ok(()),
     }
@@ -208,50 +306,55 @@ fn push_compared_meaning(
 fn push_compared(
     alloc: Global,
     findings: &mut Vec<Finding>,
-    packages: &PackageIndex<'_>,
+    lock: &IndexedLock<'_>,
     string: &StringReading,
 ) -> Result<(), AllocError>
-    requires { IsIndex packages.now }
-    ensures { IfOk result (λ _. map finding_of findings.new.items ≡ map finding_of findings.old.items ++ compared (packages_of packages.now) (string_reading_of string.now)) }
+    requires { IsIndex lock.now.packages }
+    ensures { IfOk result (λ _. map finding_of findings.new.items ≡ map finding_of findings.old.items ++ compared lock.now.kind (packages_of lock.now.packages) (string_reading_of string.now)) }
 {
     if !is_locked(&string.section) {
         return Ok(());
     }
-    push_compared_meaning(alloc, findings, packages, &string.section, &string.meaning)
+    push_compared_meaning(alloc, findings, lock, &string.section, &string.meaning)
 }
 
 fn push_all_compared(
     alloc: Global,
     findings: &mut Vec<Finding>,
-    packages: &PackageIndex<'_>,
+    lock: &IndexedLock<'_>,
     strings: &[StringReading],
 ) -> Result<(), AllocError>
-    requires { IsIndex packages.now }
-    ensures { IfOk result (λ _. map finding_of findings.new.items ≡ map finding_of findings.old.items ++ flat_map (compared (packages_of packages.now)) (map string_reading_of strings.now)) }
+    requires { IsIndex lock.now.packages }
+    ensures { IfOk result (λ _. map finding_of findings.new.items ≡ map finding_of findings.old.items ++ flat_map (compared lock.now.kind (packages_of lock.now.packages)) (map string_reading_of strings.now)) }
 {
     for string in strings {
-        push_compared(alloc, findings, packages, string)?;
+        push_compared(alloc, findings, lock, string)?;
     }
     Ok(())
 }
 
-// What is found in the first document beside the second.
+// What is found in the first document beside the second, of this kind.
 fn push_beside(
     alloc: Global,
     findings: &mut Vec<Finding>,
+    kind: DocumentKind,
     document: &DocumentReading,
     other: &DocumentReading,
 ) -> Result<(), AllocError>
-    ensures { IfOk result (λ _. map finding_of findings.new.items ≡ map finding_of findings.old.items ++ found_beside (document_reading_of document.now) (document_reading_of other.now)) }
+    ensures { IfOk result (λ _. map finding_of findings.new.items ≡ map finding_of findings.old.items ++ found_beside kind (document_reading_of document.now) (document_reading_of other.now)) }
 {
-    let DocumentReading::Project(strings) = document else {
+    let DocumentKind::Lock(kind) = kind else {
+        return Ok(());
+    };
+    let DocumentReading::Project(project) = document else {
         return Ok(());
     };
     let DocumentReading::Lock(packages, _) = other else {
         return Ok(());
     };
     let packages = PackageIndex::new(alloc, packages.as_slice())?;
-    push_all_compared(alloc, findings, &packages, strings.as_slice())
+    let lock = IndexedLock { kind, packages };
+    push_all_compared(alloc, findings, &lock, project.strings.as_slice())
 }
 
 // What is found in the first document beside the second, if this counts for it, of these documents.
@@ -267,7 +370,13 @@ fn push_pair_of_documents(
     if !is_beside(documents, read.document, other.document) {
         return Ok(());
     }
-    push_beside(alloc, findings, &read.reading, &other.reading)
+    push_beside(
+        alloc,
+        findings,
+        other.document.kind,
+        &read.reading,
+        &other.reading,
+    )
 }
 
 // What is found in the document beside each of the others.

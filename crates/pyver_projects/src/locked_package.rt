@@ -22,7 +22,7 @@ pub(crate) struct LockedRequirement {
     pub(crate) requirer: Vec<u8>,
     // The name that it requires.
     pub(crate) name: String,
-    // The list of specifiers.
+    // The list of specifiers; empty if it has none.
     pub(crate) list: String,
 }
 

@@ -1,7 +1,8 @@
 //! What locked packages require of one another, as it is written.
-ghost use Rattle.std.specs.Prelude.{◌≡◌, ◌++◌, IfOk, map, option_map, string_bytes};
+ghost use Rattle.std.specs.Prelude.{◌≡◌, ◌∷◌, ◌++◌, [], IfOk, map, option_map, string_bytes};
 ghost use Rattle.std.specs.List.{flat_map};
-ghost use Rattle.pyver_projects.specs.PackageRequirements.{is_unconditional, item_requirements, lacks, member_requirements, requirement_in, named_requirement, requirements_by, requirements_from, table_requirements, version_requirements};
+ghost use Rattle.std.specs.Option.{unwrap_or};
+ghost use Rattle.pyver_projects.specs.PackageRequirements.{is_unconditional, item_requirements, lacks, member_requirements, plain_list, requirement, requirement_in, named_requirement, requirements_by, requirements_from, table_requirements, version_requirements};
 ghost use Rattle.pyver_projects.specs.ProjectViews.{requirement_of};
 ghost use Rattle.pyver_projects.specs.TomlValues.{entries, listed, members_list};
 ghost use Rattle.toml.specs.View.{table_view, view};
@@ -17,7 +18,33 @@ fn lacks(value: &Value, key: &str) -> bool
     value.get(key).is_none()
 }
 
-// Adds the requirement of this name, if there is a list other than `*`.
+fn push_requirement(
+    alloc: Global,
+    found: &mut Vec<LockedRequirement>,
+    line: u64,
+    requirer: &[u8],
+    name: &str,
+    list: &str,
+) -> Result<(), AllocError>
+    ensures { IfOk result (λ _. map requirement_of found.new.items ≡ map requirement_of found.old.items ++ requirement line requirer.now name.now list.now ∷ []) }
+{
+    found.push(LockedRequirement {
+        line,
+        requirer: Vec::from_slice(alloc, requirer)?,
+        name: String::from_str(alloc, name)?,
+        list: String::from_str(alloc, list)?,
+    })?;
+    Ok(())
+}
+
+// The list, where Poetry's `*` excludes no version.
+fn plain_list(list: &str) -> &str
+    ensures { result.now ≡ plain_list list.now }
+{
+    if list == "*" { "" } else { list }
+}
+
+// Adds the requirement of this name, if there is a list.
 fn push_list(
     alloc: Global,
     found: &mut Vec<LockedRequirement>,
@@ -28,18 +55,10 @@ fn push_list(
 ) -> Result<(), AllocError>
     ensures { IfOk result (λ _. map requirement_of found.new.items ≡ map requirement_of found.old.items ++ requirement_in line requirer.now name.now (option_map (λ t. t.now) list.entry)) }
 {
-    let Some(list) = list else {
-        return Ok(());
-    };
-    if list != "*" {
-        found.push(LockedRequirement {
-            line,
-            requirer: Vec::from_slice(alloc, requirer)?,
-            name: String::from_str(alloc, name)?,
-            list: String::from_str(alloc, list)?,
-        })?;
+    match list {
+        Some(list) => push_requirement(alloc, found, line, requirer, name, plain_list(list)),
+        None => Ok(()),
     }
-    Ok(())
 }
 
 fn push_named(
@@ -48,17 +67,26 @@ fn push_named(
     line: u64,
     requirer: &[u8],
     name: Option<&str>,
-    list: Option<&str>,
+    list: &str,
 ) -> Result<(), AllocError>
-    ensures { IfOk result (λ _. map requirement_of found.new.items ≡ map requirement_of found.old.items ++ named_requirement line requirer.now (option_map (λ t. t.now) name.entry) (option_map (λ t. t.now) list.entry)) }
+    ensures { IfOk result (λ _. map requirement_of found.new.items ≡ map requirement_of found.old.items ++ named_requirement line requirer.now (option_map (λ t. t.now) name.entry) list.now) }
 {
     match name {
-        Some(name) => push_list(alloc, found, line, requirer, name, list),
+        Some(name) => push_requirement(alloc, found, line, requirer, name, list),
         None => Ok(()),
     }
 }
 
-// Adds the item of uv's `requires-dist`, unless it has a marker.
+fn text_or_empty(text: Option<&str>) -> &str
+    ensures { result.now ≡ unwrap_or (option_map (λ t. t.now) text.entry) [] }
+{
+    match text {
+        Some(text) => text,
+        None => "",
+    }
+}
+
+// Adds the item of uv's `requires-dist`, or of an array `dependencies`, unless it has a marker.
 fn push_item(
     alloc: Global,
     found: &mut Vec<LockedRequirement>,
@@ -72,7 +100,7 @@ fn push_item(
         return Ok(());
     }
     let name = text(item.get("name"));
-    let list = text(item.get("specifier"));
+    let list = text_or_empty(text(item.get("specifier")));
     push_named(alloc, found, line, requirer, name, list)
 }
 
@@ -178,7 +206,7 @@ fn push_dependencies(
     }
 }
 
-// Adds the requirements of uv, and of Poetry.
+// Adds the requirements of uv, of uv and of PEP 751, and of Poetry.
 fn push_table(
     alloc: Global,
     found: &mut Vec<LockedRequirement>,
@@ -189,6 +217,8 @@ fn push_table(
     ensures { IfOk result (λ _. map requirement_of found.new.items ≡ map requirement_of found.old.items ++ table_requirements line requirer.now (view table.now)) }
 {
     let list = items(inside(table.get("metadata"), "requires-dist"));
+    push_items(alloc, found, line, requirer, list)?;
+    let list = items(table.get("dependencies"));
     push_items(alloc, found, line, requirer, list)?;
     push_dependencies(alloc, found, line, requirer, table.get("dependencies"))
 }

@@ -1,5 +1,5 @@
 //! What the requirements of locked packages are to the check.
-ghost use Rattle.std.specs.Prelude.{◌≡◌, [], IfOk, None, Some, map, string_bytes};
+ghost use Rattle.std.specs.Prelude.{◌≡◌, ◌++◌, [], IfOk, None, Some, map, string_bytes};
 ghost use Rattle.std.specs.List.{AllZip};
 ghost use Rattle.pep440_rs.specs.Lists.ListResults.{list_kind_of};
 ghost use Rattle.pep440_rs.specs.Lists.ListErrors.{IsListLifted, list_rejection_of};
@@ -9,6 +9,7 @@ ghost use Rattle.pyver_findings.specs.LineMeanings.{Asks, LeftOut};
 ghost use Rattle.pyver_findings.specs.declared.cause.Cause.TheVariants as cause;
 ghost use Rattle.pyver_findings.specs.Views.{file_line_of, line_meaning_of};
 ghost use Rattle.pyver_projects.specs.Meanings.{IsRequirementReading, requirement_line};
+ghost use Rattle.pyver_projects.specs.PackageRequirements.{requirement_text};
 ghost use Rattle.pyver_projects.specs.ProjectViews.{requirement_of};
 
 use crate::locked_package::LockedRequirement;
@@ -16,6 +17,20 @@ use pep440_pick::Requirement;
 use pep440_rs::{VersionSpecifiers, VersionSpecifiersParseError};
 use pyver_findings::{Cause, Demand, FileLine, LineMeaning};
 use std::alloc::{AllocError, Global};
+
+// Adds the name, and the list if it is not empty.
+fn push_requirement_text(text: &mut Vec<u8>, name: &str, list: &str) -> Result<(), AllocError>
+    ensures { IfOk result (λ _. text.new.items ≡ text.old.items ++ requirement_text name.now list.now) }
+{
+    text.extend_from_slice(name.as_bytes())?;
+    match list.as_bytes() {
+        [] => Ok(()),
+        [_, ..] => {
+            text.push(b' ')?;
+            text.extend_from_slice(list.as_bytes())
+        }
+    }
+}
 
 // The requirement as a line of the file with this name.
 fn requirement_line(
@@ -27,9 +42,11 @@ fn requirement_line(
 {
     let mut text = Vec::from_slice(alloc, requirement.requirer.as_slice())?;
     text.extend_from_slice(b" requires ")?;
-    text.extend_from_slice(requirement.name.as_bytes())?;
-    text.push(b' ')?;
-    text.extend_from_slice(requirement.list.as_bytes())?;
+    push_requirement_text(
+        &mut text,
+        requirement.name.as_str(),
+        requirement.list.as_str(),
+    )?;
     Ok(FileLine {
         file: Vec::from_slice(alloc, file)?,
         number: requirement.line,

@@ -25,6 +25,14 @@ use std::collections::HashMap;
 
 // ---- parts of a project
 
+// The strings of a project, which groups include which, and whether groups hold together with the dependencies.
+#[derive(Drop)]
+struct ProjectParts<'a> {
+    together: bool,
+    inclusions: InclusionIndex<'a>,
+    strings: &'a [StringReading],
+}
+
 fn section_part(section: &Section) -> Result<Section, AllocError>
     ensures { IfOk result (λ part. section_of part ≡ section_part (section_of section.now)) }
 {
@@ -71,13 +79,14 @@ fn parts(alloc: Global, strings: &[StringReading]) -> Result<Vec<Section>, Alloc
     Ok(found)
 }
 
-fn has_dependencies(part: &Section) -> bool
-    ensures { result ≡ has_dependencies (section_of part.now) }
+fn has_dependencies(together: bool, part: &Section) -> bool
+    ensures { result ≡ has_dependencies together (section_of part.now) }
 {
-    matches!(
-        part,
-        Section::Dependencies | Section::Extra(_) | Section::Group(_)
-    )
+    match part {
+        Section::Dependencies | Section::Extra(_) => true,
+        Section::Group(_) => together,
+        _ => false,
+    }
 }
 
 fn is_extra(name: &[u8], part: &Section) -> bool
@@ -111,11 +120,11 @@ fn part_groups<'a>(
 }
 
 // A string of the section holds in the part, which has these groups.
-fn holds_in(groups: &HashMap<&[u8], ()>, part: &Section, section: &Section) -> bool
-    ensures { result ≡ holds_in (has_key groups.now) (section_of part.now) (section_of section.now) }
+fn holds_in(together: bool, groups: &HashMap<&[u8], ()>, part: &Section, section: &Section) -> bool
+    ensures { result ≡ holds_in together (has_key groups.now) (section_of part.now) (section_of section.now) }
 {
     match section {
-        Section::Dependencies => has_dependencies(part),
+        Section::Dependencies => has_dependencies(together, part),
         Section::Extra(name) => is_extra(name.as_slice(), part),
         Section::Group(name) => groups.contains_key(name.as_slice()),
         Section::Build => is_build(part),
@@ -158,13 +167,14 @@ fn push_demand(demands: &mut Vec<Demand>, meaning: &LineMeaning) -> Result<(), A
 
 fn push_in_part(
     demands: &mut Vec<Demand>,
+    together: bool,
     groups: &HashMap<&[u8], ()>,
     part: &Section,
     string: &StringReading,
 ) -> Result<(), AllocError>
-    ensures { IfOk result (λ _. map demand_of demands.new.items ≡ map demand_of demands.old.items ++ demand_in_part (has_key groups.now) (section_of part.now) (string_reading_of string.now)) }
+    ensures { IfOk result (λ _. map demand_of demands.new.items ≡ map demand_of demands.old.items ++ demand_in_part together (has_key groups.now) (section_of part.now) (string_reading_of string.now)) }
 {
-    if holds_in(groups, part, &string.section) {
+    if holds_in(together, groups, part, &string.section) {
         push_demand(demands, &string.meaning)?;
     }
     Ok(())
@@ -173,15 +183,16 @@ fn push_in_part(
 // The requirements of the part, which has these groups.
 fn demands_of_part(
     alloc: Global,
+    together: bool,
     groups: &HashMap<&[u8], ()>,
     part: &Section,
     strings: &[StringReading],
 ) -> Result<Vec<Demand>, AllocError>
-    ensures { IfOk result (λ demands. map demand_of demands.items ≡ flat_map (demand_in_part (has_key groups.now) (section_of part.now)) (map string_reading_of strings.now)) }
+    ensures { IfOk result (λ demands. map demand_of demands.items ≡ flat_map (demand_in_part together (has_key groups.now) (section_of part.now)) (map string_reading_of strings.now)) }
 {
     let mut demands = Vec::new(alloc);
     for string in strings {
-        push_in_part(&mut demands, groups, part, string)?;
+        push_in_part(&mut demands, together, groups, part, string)?;
     }
     Ok(demands)
 }
@@ -189,31 +200,29 @@ fn demands_of_part(
 // The requirements of the part.
 fn part_demands(
     alloc: Global,
-    inclusions: &InclusionIndex<'_>,
+    project: &ProjectParts<'_>,
     part: &Section,
-    strings: &[StringReading],
 ) -> Result<Vec<Demand>, AllocError>
-    requires { IsInclusionIndex inclusions.now }
-    ensures { IfOk result (λ demands. map demand_of demands.items ≡ part_demands (inclusions_of inclusions.now) (section_of part.now) (map string_reading_of strings.now)) }
+    requires { IsInclusionIndex project.now.inclusions }
+    ensures { IfOk result (λ demands. map demand_of demands.items ≡ part_demands project.now.together (inclusions_of project.now.inclusions) (section_of part.now) (map string_reading_of project.now.strings.now)) }
 {
-    let groups = part_groups(alloc, inclusions, part)?;
-    demands_of_part(alloc, &groups, part, strings)
+    let groups = part_groups(alloc, &project.inclusions, part)?;
+    demands_of_part(alloc, project.together, &groups, part, project.strings)
 }
 
 // Adds what is wrong with the requirements of the part together.
 fn push_part_conflicts(
     alloc: Global,
     findings: &mut Vec<Finding>,
-    inclusions: &InclusionIndex<'_>,
+    project: &ProjectParts<'_>,
     part: &Section,
-    strings: &[StringReading],
 ) -> Result<(), AllocError>
-    requires sound { All IsSoundString (map string_reading_of strings.now) }
-    requires known { inclusions_of inclusions.now ≡ inclusions_in (sections (map string_reading_of strings.now)) }
-    requires index { IsInclusionIndex inclusions.now }
-    ensures { IfOk result (λ _. map finding_of findings.new.items ≡ map finding_of findings.old.items ++ part_conflicts (map string_reading_of strings.now) (section_of part.now)) }
+    requires sound { All IsSoundString (map string_reading_of project.now.strings.now) }
+    requires known { inclusions_of project.now.inclusions ≡ inclusions_in (sections (map string_reading_of project.now.strings.now)) }
+    requires index { IsInclusionIndex project.now.inclusions }
+    ensures { IfOk result (λ _. map finding_of findings.new.items ≡ map finding_of findings.old.items ++ part_conflicts project.now.together (map string_reading_of project.now.strings.now) (section_of part.now)) }
 {
-    let demands = part_demands(alloc, inclusions, part, strings)?;
+    let demands = part_demands(alloc, project, part)?;
     push_conflicts(alloc, findings, demands.as_slice())?;
     Ok(())
 }
@@ -221,17 +230,23 @@ fn push_part_conflicts(
 // What is wrong with the requirements of each of the parts together.
 fn conflicts_of_parts(
     alloc: Global,
+    together: bool,
     parts: &[Section],
     strings: &[StringReading],
 ) -> Result<Vec<Finding>, AllocError>
     requires { All IsSoundString (map string_reading_of strings.now) }
-    ensures { IfOk result (λ found. map finding_of found.items ≡ flat_map (part_conflicts (map string_reading_of strings.now)) (map section_of parts.now)) }
+    ensures { IfOk result (λ found. map finding_of found.items ≡ flat_map (part_conflicts together (map string_reading_of strings.now)) (map section_of parts.now)) }
 {
     let inclusions = inclusions(alloc, strings)?;
     let inclusions = InclusionIndex::new(alloc, inclusions.as_slice())?;
+    let project = ProjectParts {
+        together,
+        inclusions,
+        strings,
+    };
     let mut findings = Vec::new(alloc);
     for part in parts {
-        push_part_conflicts(alloc, &mut findings, &inclusions, part, strings)?;
+        push_part_conflicts(alloc, &mut findings, &project, part)?;
     }
     Ok(findings)
 }
@@ -318,17 +333,18 @@ fn conflicts_of_all(alloc: Global, strings: &[StringReading]) -> Result<Vec<Find
 // What is wrong with requirements of a project together. If nothing is wrong with all of them, nothing is with any part.
 pub(crate) fn project_conflicts(
     alloc: Global,
+    together: bool,
     strings: &[StringReading],
 ) -> Result<Vec<Finding>, AllocError>
     requires { All IsSoundString (map string_reading_of strings.now) }
-    ensures { IfOk result (λ found. map finding_of found.items ≡ project_conflicts (map string_reading_of strings.now)) }
+    ensures { IfOk result (λ found. map finding_of found.items ≡ project_conflicts together (map string_reading_of strings.now)) }
 {
     let all = conflicts_of_all(alloc, strings)?;
     if all.is_empty() {
         return Ok(all);
     }
     let parts = parts(alloc, strings)?;
-    let findings = conflicts_of_parts(alloc, parts.as_slice(), strings)?;
+    let findings = conflicts_of_parts(alloc, together, parts.as_slice(), strings)?;
     each_once(alloc, findings)
 }
 
@@ -339,16 +355,15 @@ fn push_part_pairs(
     alloc: Global,
     findings: &mut Vec<Finding>,
     left_out: &mut Vec<Cause>,
-    inclusions: &InclusionIndex<'_>,
+    project: &ProjectParts<'_>,
     part: &Section,
-    strings: &[StringReading],
 ) -> Result<(), AllocError>
-    requires sound { All IsSoundString (map string_reading_of strings.now) }
-    requires known { inclusions_of inclusions.now ≡ inclusions_in (sections (map string_reading_of strings.now)) }
-    requires index { IsInclusionIndex inclusions.now }
-    ensures { IfOk result (λ _. AddsFound (FindsOfPart (map string_reading_of strings.now) (section_of part.now)) findings.old.items findings.new.items left_out.old.items left_out.new.items) }
+    requires sound { All IsSoundString (map string_reading_of project.now.strings.now) }
+    requires known { inclusions_of project.now.inclusions ≡ inclusions_in (sections (map string_reading_of project.now.strings.now)) }
+    requires index { IsInclusionIndex project.now.inclusions }
+    ensures { IfOk result (λ _. AddsFound (FindsOfPart project.now.together (map string_reading_of project.now.strings.now) (section_of part.now)) findings.old.items findings.new.items left_out.old.items left_out.new.items) }
 {
-    let demands = part_demands(alloc, inclusions, part, strings)?;
+    let demands = part_demands(alloc, project, part)?;
     push_pair_conflicts(alloc, findings, left_out, demands.as_slice())?;
     Ok(())
 }
@@ -357,17 +372,23 @@ fn push_part_pairs(
 fn pairs_of_parts(
     alloc: Global,
     left_out: &mut Vec<Cause>,
+    together: bool,
     parts: &[Section],
     strings: &[StringReading],
 ) -> Result<Vec<Finding>, AllocError>
     requires { All IsSoundString (map string_reading_of strings.now) }
-    ensures { IfOk result (λ found. AddsFound (FindsOfEach (FindsOfPart (map string_reading_of strings.now)) (map section_of parts.now)) [] found.items left_out.old.items left_out.new.items) }
+    ensures { IfOk result (λ found. AddsFound (FindsOfEach (FindsOfPart together (map string_reading_of strings.now)) (map section_of parts.now)) [] found.items left_out.old.items left_out.new.items) }
 {
     let inclusions = inclusions(alloc, strings)?;
     let inclusions = InclusionIndex::new(alloc, inclusions.as_slice())?;
+    let project = ProjectParts {
+        together,
+        inclusions,
+        strings,
+    };
     let mut findings = Vec::new(alloc);
     for part in parts {
-        push_part_pairs(alloc, &mut findings, left_out, &inclusions, part, strings)?;
+        push_part_pairs(alloc, &mut findings, left_out, &project, part)?;
     }
     Ok(findings)
 }
@@ -399,16 +420,17 @@ fn has_marker(strings: &[StringReading]) -> bool
 pub(crate) fn project_pairs(
     alloc: Global,
     left_out: &mut Vec<Cause>,
+    together: bool,
     strings: &[StringReading],
 ) -> Result<Vec<Finding>, AllocError>
     requires { All IsSoundString (map string_reading_of strings.now) }
-    ensures { IfOk result (λ found. AddsFound (FindsOfParts (map string_reading_of strings.now)) [] found.items left_out.old.items left_out.new.items) }
+    ensures { IfOk result (λ found. AddsFound (FindsOfParts together (map string_reading_of strings.now)) [] found.items left_out.old.items left_out.new.items) }
 {
     if !has_marker(strings) {
         return Ok(Vec::new(alloc));
     }
     let parts = parts(alloc, strings)?;
-    let found = pairs_of_parts(alloc, left_out, parts.as_slice(), strings)?;
+    let found = pairs_of_parts(alloc, left_out, together, parts.as_slice(), strings)?;
     let once = each_once(alloc, found)?;
     Ok(once)
 }

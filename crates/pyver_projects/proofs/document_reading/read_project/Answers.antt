@@ -1,9 +1,9 @@
-use Rattle.std.proofs.Common.{◌≡◌, ◌∙◌, ap, map, refl, subst}
+use Rattle.std.proofs.Common.{◌≡◌, ◌∙◌, ap, map, subst}
 use Rattle.std.specs.List.{AllZip}
 use Rattle.pyver_findings.specs.FileLines.{File}
 use Rattle.pyver_projects.specs.Documents.{group_names, sources}
 use Rattle.pyver_projects.specs.Groups.{Groups, groups, inclusions}
-use Rattle.pyver_projects.specs.Meanings.{IsStringReading}
+use Rattle.pyver_projects.specs.Meanings.{IsProject, IsStringReading}
 use Rattle.pyver_projects.specs.NameMaps.{groups_of}
 use Rattle.pyver_projects.specs.ProjectStrings.{ProjectString}
 use Rattle.pyver_projects.specs.ProjectViews.{inclusion_of, project_string_of, string_reading_of}
@@ -14,7 +14,7 @@ pub returns : goal.returns
 returns c =
     let t = table_view c.args.table.now in
     let all = groups_of c.in_ok-groups.groups in
-    let xs = map string_reading_of c.in_ok-readings.readings.items in
+    let xs = map string_reading_of c.in_ok-strings-2.strings.items in
     let names : map (λ n. n.items) c.as_slice-2.result.now ≡ group_names t = ap (map (λ n. n.items)) c.as_slice-2.ensures.value ∙ c.in_ok-names.ensures in
     let strings : map project_string_of c.as_slice.result.now ≡ sources t = ap (map project_string_of) c.as_slice.ensures.value ∙ c.in_ok-strings.ensures in
     let again : map project_string_of c.as_slice-4.result.now ≡ sources t = ap (map project_string_of) c.as_slice-4.ensures.value ∙ c.in_ok-strings.ensures in
@@ -24,5 +24,5 @@ returns c =
     let text : c.in_ok-lines.lines.text.now ≡ c.args.text.now = c.in_ok-lines.ensures.text ∙ c.as_bytes.ensures.value in
     let file : File = record { name = c.args.name.now; text = c.args.text.now } in
     let read : AllZip (IsStringReading all file) (map project_string_of c.as_slice-4.result.now) xs =
-    subst (λ bytes. AllZip (IsStringReading all (record { name = c.args.name.now; text = bytes })) (map project_string_of c.as_slice-4.result.now) xs) text c.in_ok-readings.ensures in
-    (xs, subst (λ (g : Groups). AllZip (IsStringReading g file) (sources t) xs) same (subst (λ ss. AllZip (IsStringReading all file) ss xs) again read), refl)
+    subst (λ bytes. AllZip (IsStringReading all (record { name = c.args.name.now; text = bytes })) (map project_string_of c.as_slice-4.result.now) xs) text c.in_ok-strings-2.ensures in
+    (xs, subst (λ (g : Groups). AllZip (IsStringReading g file) (sources t) xs) same (subst (λ ss. AllZip (IsStringReading all file) ss xs) again read), ap (λ b. IsProject b xs) c.has_group_tool-together.ensures)

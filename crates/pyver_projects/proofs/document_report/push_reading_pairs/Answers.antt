@@ -8,7 +8,7 @@ use Rattle.pyver_projects.proofs.document_report.push_reading_pairs.Goals as goa
 
 pub project_pairs-requires : goal.project_pairs-requires
 project_pairs-requires c =
-    subst (λ xs. All IsSoundString (map string_reading_of xs)) (sym c.as_slice.ensures.value) (subst (λ r. IsSoundDocument (document_reading_of r)) c.in-Project.is c.requires)
+    subst (λ xs. All IsSoundString (map string_reading_of xs)) (sym c.as_slice-strings.ensures.value) (subst (λ r. IsSoundDocument (document_reading_of r)) c.in-Project.is c.requires)
 
 pub returns-in-Lock : goal.returns-in-Lock
 returns-in-Lock c = nothing_found (FindsOfReading (document_reading_of c.args.reading.now)) _ _ _ _ (subst (λ r. FindsOfReading (document_reading_of r) [] []) (sym c.in-Lock.is) (refl, refl)) refl refl

@@ -7,5 +7,5 @@ use Rattle.pyver_projects.proofs.together.conflicts_of_parts.Goals as goal
 
 pub loop-part-preserved : goal.loop-part-preserved
 loop-part-preserved c =
-    one_more section_of (part_conflicts (map string_reading_of c.args.strings.now)) c.args.parts.now c.loop-part.part-index c.part-item.result (map finding_of c.loop-part.findings.items) (map finding_of c.push_part_conflicts.new.findings.items) _
+    one_more section_of (part_conflicts c.args.together (map string_reading_of c.args.strings.now)) c.args.parts.now c.loop-part.part-index c.part-item.result (map finding_of c.loop-part.findings.items) (map finding_of c.push_part_conflicts.new.findings.items) _
     c.loop-part-test.true c.part-item.is c.in_ok-push_part_conflicts.ensures c.loop-part.invariant

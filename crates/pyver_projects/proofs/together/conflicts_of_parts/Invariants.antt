@@ -7,5 +7,5 @@ use Rattle.pyver_projects.proofs.together.conflicts_of_parts.Given as goal
 
 abbrev pub invariant-loop-part : goal.invariant-loop-part
 invariant-loop-part l =
-    map finding_of l.findings.items ++ flat_map (part_conflicts (map string_reading_of l.strings)) (map section_of (drop l.part-index l.parts))
-    ≡ flat_map (part_conflicts (map string_reading_of l.strings)) (map section_of l.parts)
+    map finding_of l.findings.items ++ flat_map (part_conflicts l.together (map string_reading_of l.strings)) (map section_of (drop l.part-index l.parts))
+    ≡ flat_map (part_conflicts l.together (map string_reading_of l.strings)) (map section_of l.parts)

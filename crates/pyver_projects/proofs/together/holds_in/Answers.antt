@@ -8,4 +8,4 @@ pub returns-in-Group : goal.returns-in-Group
 returns-in-Group c =
     let has = has_key c.args.groups.now in
     let part = section_of c.args.part.now in
-    c.contains_key.ensures ∙ ap has c.as_slice-in-Group.ensures.value ∙ ap (λ s. holds_in has part (section_of s)) (sym c.in-Group.is)
+    c.contains_key.ensures ∙ ap has c.as_slice-in-Group.ensures.value ∙ ap (λ s. holds_in c.args.together has part (section_of s)) (sym c.in-Group.is)

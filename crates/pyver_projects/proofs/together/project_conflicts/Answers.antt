@@ -11,4 +11,4 @@ returns-then-is_empty c =
     let xs = map string_reading_of c.args.strings.now in
     let nil : all.items ≡ [] = is_nil all.items (ap (λ n. n == 0) (sym all.ok.0) ∙ sym c.is_empty.ensures ∙ c.if-is_empty.true) in
     let none = ap (map finding_of) nil in
-    none ∙ sym (none_in_parts xs (sound_all xs c.requires) (sym c.in_ok-all.ensures ∙ none))
+    none ∙ sym (none_in_parts c.args.together xs (sound_all xs c.requires) (sym c.in_ok-all.ensures ∙ none))

@@ -10,11 +10,11 @@ use Rattle.pyver_projects.proofs.together.project_pairs.Goals as goal
 pub returns-then-not-has_marker : goal.returns-then-not-has_marker
 returns-then-not-has_marker c =
     let xs = map string_reading_of c.args.strings.now in
-    nothing_found (FindsOfParts xs) [] _ _ _ (no_parts xs (sym c.has_marker.ensures ∙ c.if-not-has_marker.true)) c.new.ensures.items refl
+    nothing_found (FindsOfParts c.args.together xs) [] _ _ _ (no_parts c.args.together xs (sym c.has_marker.ensures ∙ c.if-not-has_marker.true)) c.new.ensures.items refl
 
 pub returns : goal.returns
 returns c =
     let xs = map string_reading_of c.args.strings.now in
-    parts_found xs c.in_ok-found.found.items c.in_ok-once.once.items c.args.left_out.now.items c.pairs_of_parts.new.left_out.items c.in_ok-once.ensures
-    (subst (λ l. AddsFound (FindsOfEach (FindsOfPart xs) l) [] c.in_ok-found.found.items c.args.left_out.now.items c.pairs_of_parts.new.left_out.items)
+    parts_found c.args.together xs c.in_ok-found.found.items c.in_ok-once.once.items c.args.left_out.now.items c.pairs_of_parts.new.left_out.items c.in_ok-once.ensures
+    (subst (λ l. AddsFound (FindsOfEach (FindsOfPart c.args.together xs) l) [] c.in_ok-found.found.items c.args.left_out.now.items c.pairs_of_parts.new.left_out.items)
     (ap (map section_of) c.as_slice.ensures.value ∙ c.in_ok-parts.ensures) c.in_ok-found.ensures)

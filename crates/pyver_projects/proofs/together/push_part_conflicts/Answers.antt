@@ -12,11 +12,11 @@ use Rattle.pyver_projects.proofs.together.push_part_conflicts.Goals as goal
 pub push_conflicts-requires : goal.push_conflicts-requires
 push_conflicts-requires c =
     subst (λ xs. All IsSound (map demand_of xs)) (sym c.as_slice.ensures.value)
-    (subst (All IsSound) (sym c.in_ok-demands.ensures) (sound_part (inclusions_of c.args.inclusions.now) (section_of c.args.part.now) (map string_reading_of c.args.strings.now) c.requires.sound))
+    (subst (All IsSound) (sym c.in_ok-demands.ensures) (sound_part c.args.project.now.together (inclusions_of c.args.project.now.inclusions) (section_of c.args.part.now) (map string_reading_of c.args.project.now.strings.now) c.requires.sound))
 
 pub returns : goal.returns
 returns c =
-    let xs = map string_reading_of c.args.strings.now in
+    let xs = map string_reading_of c.args.project.now.strings.now in
     c.in_ok-push_conflicts.ensures
     ∙ ap (λ l. map finding_of c.args.findings.now.items ++ conflicts l)
-    (ap (map demand_of) c.as_slice.ensures.value ∙ c.in_ok-demands.ensures ∙ ap (λ is. part_demands is (section_of c.args.part.now) xs) c.requires.known)
+    (ap (map demand_of) c.as_slice.ensures.value ∙ c.in_ok-demands.ensures ∙ ap (λ is. part_demands c.args.project.now.together is (section_of c.args.part.now) xs) c.requires.known)

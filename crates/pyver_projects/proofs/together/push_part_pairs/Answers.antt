@@ -12,10 +12,10 @@ use Rattle.pyver_projects.proofs.together.push_part_pairs.Goals as goal
 pub push_pair_conflicts-requires : goal.push_pair_conflicts-requires
 push_pair_conflicts-requires c =
     subst (λ xs. All IsSound (map demand_of xs)) (sym c.as_slice.ensures.value)
-    (subst (All IsSound) (sym c.in_ok-demands.ensures) (sound_part (inclusions_of c.args.inclusions.now) (section_of c.args.part.now) (map string_reading_of c.args.strings.now) c.requires.sound))
+    (subst (All IsSound) (sym c.in_ok-demands.ensures) (sound_part c.args.project.now.together (inclusions_of c.args.project.now.inclusions) (section_of c.args.part.now) (map string_reading_of c.args.project.now.strings.now) c.requires.sound))
 
 pub returns : goal.returns
 returns c =
-    let xs = map string_reading_of c.args.strings.now in
+    let xs = map string_reading_of c.args.project.now.strings.now in
     subst (λ l. AddsFound (FindsOfNames l) c.args.findings.now.items c.push_pair_conflicts.new.findings.items c.args.left_out.now.items c.push_pair_conflicts.new.left_out.items)
-    (ap (map demand_of) c.as_slice.ensures.value ∙ c.in_ok-demands.ensures ∙ ap (λ is. part_demands is (section_of c.args.part.now) xs) c.requires.known) c.in_ok-push_pair_conflicts.ensures
+    (ap (map demand_of) c.as_slice.ensures.value ∙ c.in_ok-demands.ensures ∙ ap (λ is. part_demands c.args.project.now.together is (section_of c.args.part.now) xs) c.requires.known) c.in_ok-push_pair_conflicts.ensures

@@ -1,6 +1,6 @@
 use Rattle.std.proofs.Common.{◌∙◌, [], Bor, ap, map}
 use Rattle.std.specs.Option.{option_map_or}
-use Rattle.pyver_projects.proofs.RepeatedNames.{copied}
+use Rattle.pyver_projects.proofs.Walks.{copied}
 use Rattle.pyver_projects.specs.ProjectViews.{inclusion_of}
 use Rattle.pyver_projects.specs.declared.groups.Inclusion.{Inclusion as InclusionValue}
 use Rattle.pyver_projects.proofs.inclusion_index.InclusionIndex.of_group.Goals as goal

@@ -1,5 +1,5 @@
 use Rattle.std.proofs.Common.{◌∙◌, bytes_eq}
-use Rattle.pyver_projects.proofs.RepeatedNames.{is_one}
+use Rattle.pyver_projects.proofs.Walks.{is_one}
 use Rattle.pyver_projects.specs.NameMaps.{indexed_names}
 use Rattle.pyver_projects.proofs.name_index.NameIndex.has.Goals as goal
 

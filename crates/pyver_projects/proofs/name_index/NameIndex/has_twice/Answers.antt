@@ -1,5 +1,5 @@
 use Rattle.std.proofs.Common.{◌∙◌, bytes_eq, count_by, sym}
-use Rattle.pyver_projects.proofs.RepeatedNames.{is_not_twice, is_twice}
+use Rattle.pyver_projects.proofs.Walks.{is_not_twice, is_twice}
 use Rattle.pyver_projects.specs.NameMaps.{indexed_names}
 use Rattle.pyver_projects.proofs.name_index.NameIndex.has_twice.Goals as goal
 

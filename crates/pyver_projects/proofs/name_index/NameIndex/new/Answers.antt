@@ -1,7 +1,7 @@
 use Rattle.std.proofs.Common.{◌≡◌, ◌∙◌, Some, ap, bytes_eq, cond, is_some}
 use Rattle.std.proofs.lemmas.Map.Text.{hash_map_updates_str}
 use Rattle.std.specs.HashMap.{get_by}
-use Rattle.pyver_projects.proofs.RepeatedNames.{counted_more}
+use Rattle.pyver_projects.proofs.Walks.{counted_more}
 use Rattle.pyver_projects.proofs.name_index.NameIndex.new.Goals as goal
 
 pub loop-name-preserved : goal.loop-name-preserved
