@@ -28,9 +28,9 @@ _pyver() {
         *,bump,*) words='-h --help --to major minor patch stable alpha beta rc post dev' ;;
         *,range,*) words='-h --help --json' ;;
         *,marker,*) words='-h --help' ;;
-        *,check,--format) words='requirements pyproject pylock uv poetry pipfile' ;;
+        *,check,--format) words='requirements pyproject pylock uv poetry pdm pipfile' ;;
         *,check,--output) words='text json github sarif' ;;
-        *,check,*) words='-h --help -q --quiet --each --format --output --json' ;;
+        *,check,*) words='-h --help -q --quiet --each --no-lock --format --output --json' ;;
     esac
     [[ ! ${COMP_WORDS[1]} =~ ^(filter|sort|newest|check)$ ]] || compopt -o default 2> /dev/null
     COMPREPLY=()

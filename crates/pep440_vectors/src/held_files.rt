@@ -34,8 +34,10 @@ pub const VERSIONS: [(&str, HeldFile<'static>); 11] = [
     ("out.txt", HeldFile::Output(b"1.0\n")),
 ];
 
-/// Files of requirements and of a project.
-pub const REQUIREMENTS: [(&str, HeldFile<'static>); 12] = [
+const PROJECT: &[u8] = b"[project]\ndependencies = ['b>=2']\n";
+
+/// Files of requirements, and of projects with and without locks.
+pub const REQUIREMENTS: [(&str, HeldFile<'static>); 20] = [
     (
         "a.txt",
         HeldFile::Text(b"a==1.0\n-r sub/b.txt\n-c ./c.txt\n"),
@@ -55,7 +57,24 @@ pub const REQUIREMENTS: [(&str, HeldFile<'static>); 12] = [
         "uv.lock",
         HeldFile::Text(b"[[package]]\nname = 'B'\nversion = '1'\n"),
     ),
-    ("pdm.lock", HeldFile::Text(b"[[package]]\nname = 'b'\n")),
+    ("other.lock", HeldFile::Text(b"[[package]]\nname = 'b'\n")),
+    ("app/pyproject.toml", HeldFile::Text(PROJECT)),
+    (
+        "app/poetry.lock",
+        HeldFile::Text(b"[[package]]\nname = 'b'\nversion = '1.5'\n"),
+    ),
+    ("app/core/pyproject.toml", HeldFile::Text(PROJECT)),
+    (
+        "app/core/uv.lock",
+        HeldFile::Text(b"[[package]]\nname = 'b'\nversion = '2'\n"),
+    ),
+    ("app/shut/pyproject.toml", HeldFile::Text(PROJECT)),
+    (
+        "app/shut/poetry.lock",
+        HeldFile::NotOpened(OpenFailure::PermissionDenied),
+    ),
+    ("../pyproject.toml", HeldFile::Text(PROJECT)),
+    ("/srv/pyproject.toml", HeldFile::Text(PROJECT)),
     ("lost.txt", HeldFile::Text(b"a b\n-r gone.txt\n")),
     ("bytes.txt", HeldFile::Text(b"-r \xFF.txt\n")),
     ("utf16.txt", HeldFile::Text(b"\xFF\xFEa\0\n\0b\0")),

@@ -1,3 +1,2 @@
 pub mod OneOutcome
 pub mod RunEnds
-pub mod SplitWords

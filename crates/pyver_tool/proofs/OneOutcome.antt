@@ -200,6 +200,7 @@ undecided_there unopened a b q d is found =
     (Contains-append_right a.report.left_out (q.left_out ++ d.left_out) _ (Contains-append_right q.left_out d.left_out _ found))
 
 pub checks_once : ChecksOnce
+unfolding ChecksOnce
 checks_once read a b c readable (q, d, hq, hd, is) (p, e, hp, he, so) decided also =
     let of_lines = reports_once read.requirements q p hq hp (λ found. decided (still_undecided read.unopened a b q d is found)) (λ found. also (still_undecided read.unopened a c p e so found)) in
     let of_documents = document_reports_once read.documents d e readable hd he (λ found. decided (undecided_there read.unopened a b q d is found)) (λ found. also (undecided_there read.unopened a c p e so found)) in

@@ -1,5 +1,5 @@
--- How runs end, by what was written, and requirements files that are read one after another.
-use Rattle.std.proofs.Common.{Bor, List, None, Option, Some, [], ap, append-nil, append_assoc, arith, drop, false, if◌then◌else◌, inl, inr, length, length-append, map, refl, subst, sym, take, take_all, true, ℕ, ◌++◌, ◌+◌, ◌-◌, ◌<◌, ◌∙◌, ◌∷◌, ◌≡◌, ◌≤◌, ◌⊎◌}
+-- How runs end, by what was written; the words of a call, and files that are read, one after another.
+use Rattle.std.proofs.Common.{Bor, List, None, Option, Some, [], ap, append-nil, append_assoc, arith, drop, false, get_or, if◌then◌else◌, inl, inr, length, length-append, map, refl, subst, suc, sym, take, take_all, true, zero, ℕ, ◌++◌, ◌+◌, ◌-◌, ◌<◌, ◌||◌, ◌∙◌, ◌∷◌, ◌≡◌, ◌≤◌, ◌⊎◌, bytes_eq, codes, cond}
 use Rattle.std.proofs.KnownBytes.{Appends-trans}
 use Rattle.std.specs.Io.KnownBytes.{Appends}
 use Rattle.std.specs.Prelude.{Bool, Err, IfErr, IfOk, Ok, Result, is_ok}
@@ -13,7 +13,7 @@ use Rattle.pyver_commands.specs.Sources.{FailsReading, FindsOutput, Input, IsOut
 use Rattle.pyver_commands.specs.WholeInputs.{IsOutcomeOfInput}
 use Rattle.pyver_tool.specs.Checks.{CheckResult, Checks, ChecksGroup, ChecksGroups, FailsInCheck, FailsInGroup, FailsInGroups, summary, together_note}
 use Rattle.pyver_tool.specs.TaskViews.{AnswerEnds, EndsBy, FailsEarly, FailsInStream, FinishesTask, IsFailureOf, IsOutcomeOf, MayFailBy, TaskEnds}
-use Rattle.pyver_tool.specs.Tasks.{Check, IsOutcome, IsStream, NeedsInput, Task, names_of}
+use Rattle.pyver_tool.specs.Tasks.{Check, IsOutcome, IsStream, NeedsInput, Task, names_of, Help, NameVersion, help_task, named_task, task_of, bump_operands, by_last}
 use Rattle.pyver_tool.specs.declared.check.CheckOptions.{CheckOptions}
 use Rattle.pyver_commands.specs.declared.answer.Answer.{Answer}
 use Rattle.pyver_commands.specs.declared.filter.FilterRule.{FilterRule}
@@ -23,24 +23,28 @@ use Rattle.std.specs.Option.{MatchOption, option_copied}
 use Rattle.std.specs.Str.{IsCharBoundary, IsUtf8}
 use Rattle.std.specs.Str.Pattern.{FindsTextPrefix, StripsPrefix}
 use Rattle.std.proofs.lemmas.Str.Pattern.{starts_text}
-use Rattle.pyver_tool.specs.SplitWords.{value_behind}
+use Rattle.pyver_tool.specs.SplitWords.{value_behind, Awaits, End, Given, Missing, Named, Split, UnknownWord, Whole, before, by_end, is_option, split_words, word_options}
 use Rattle.std.proofs.Math.Seq.{take-append_seam}
 use Rattle.std.proofs.lemmas.Grind.{flat_map-append}
-use Rattle.std.specs.List.{flat_map}
+use Rattle.std.proofs.lemmas.List.{drop_all, drop_more, map-append}
+use Rattle.std.specs.List.{flat_map, list_any}
 use Rattle.pyver_commands.proofs.SourceReads.{stops_before}
-use Rattle.pyver_tool.specs.RequirementFiles.{FailsInFiles, FailsInNames, FilesRead, GainsFile, GainsUnopened, HasNames, HasPath, HasReads, ReadsFilesInTurn, ReadsNames, ReadsNext, ReadsStep, StepsOrFailsOpening, file_with, has_path, names_in, names_of_files, none_read, read_of, with_unopened, word_file}
+use Rattle.pyver_tool.specs.RequirementFiles.{EndsSearch, FailsInFiles, FailsInNames, FailsInSearch, FailsInSearches, FailsOpening, FilesRead, GainsFile, GainsUnopened, HasNames, HasPath, HasReads, ReadsFilesInTurn, ReadsNames, ReadsNext, ReadsStep, SeeksFirst, SeeksInTurn, SeeksName, StepsOrFailsOpening, below, file_with, has_path, is_lock, lock_searches, names_in, names_of_files, none_read, read_of, searches_for, with_unopened, word_file}
 use Rattle.pyver_commands.specs.Sources.SourceTexts.{FailsInText}
-use Rattle.pyver_tool.specs.declared.file_kind.FileKind.{FileKind}
+use Rattle.pyver_tool.specs.declared.options.FileKind.{FileKind}
 use Rattle.pyver_commands.specs.declared.sources.open_failure.OpenFailure.{OpenFailure}
 use Rattle.pyver_tool.specs.declared.requirement_files.RequirementFiles.{RequirementFiles}
 use Rattle.pyver_findings.specs.FileLines.{File}
 use Rattle.pyver_findings.specs.NamedFiles.{NamedFile, named_files}
-use Rattle.pyver_tool.specs.Options.{kind_by_name}
+use Rattle.pyver_projects.specs.Meanings.{Document}
+use Rattle.pyver_tool.specs.Options.{kind_by_name, Row}
 use Rattle.pyver_findings.specs.Views.{named_file_of}
 use Rattle.pyver_findings.specs.ReportTexts.{summary_text}
 use Rattle.pyver_findings.specs.Reports.{Report}
+use Rattle.pyver_commands.specs.declared.sources.open_failure.OpenFailure.TheVariants as failure
 use Rattle.pyver_commands.specs.declared.sources.stream.RunFailure.TheVariants as run_failure
-use Rattle.pyver_tool.specs.declared.file_kind.FileKind.TheVariants as file_kind
+use Rattle.pyver_tool.specs.declared.options.FileKind.TheVariants as file_kind
+use Rattle.pyver_tool.specs.declared.help.Topic.TheVariants as topic
 
 -- a beginning of the message after what was written before
 told_more : (a b c : Option (List ℕ)) (xs message : List ℕ) → Appends a b xs → WroteBeginning b c message → WroteBeginning a c (xs ++ message)
@@ -298,22 +302,22 @@ pub no_group : {X : Type 0} (f : X → List ℕ) (words : List X) → length wor
 no_group f [] none = refl
 no_group f (x ∷ words) none = absurd (omega (arith, none))
 
-module _ {R : Type 0} (kind : FileKind) (files : List ℕ → KnownFile) (paths : List ℕ → Option (List ℕ)) (remaining : R → Option (List ℕ)) where
+module _ {R : Type 0} (options : CheckOptions) (files : List ℕ → KnownFile) (paths : List ℕ → Option (List ℕ)) (remaining : R → Option (List ℕ)) where
   -- what comes of the groups that are left comes of all
   abbrev pub Continues : List (List (List ℕ)) → List (List (List ℕ)) → CheckResult → CheckResult → R → R → Type 0
   Continues all left a c reader middle =
-      ((b : CheckResult) (reader' : R) → ChecksGroups kind files paths remaining left c b middle reader' → ChecksGroups kind files paths remaining all a b reader reader')
-      × ((why : RunFailure) (reader' : R) → FailsInGroups kind files paths remaining left c middle reader' why → FailsInGroups kind files paths remaining all a reader reader' why)
+      ((b : CheckResult) (reader' : R) → ChecksGroups options files paths remaining left c b middle reader' → ChecksGroups options files paths remaining all a b reader reader')
+      × ((why : RunFailure) (reader' : R) → FailsInGroups options files paths remaining left c middle reader' why → FailsInGroups options files paths remaining all a reader reader' why)
 
   module _ (all left others : List (List (List ℕ))) (first : List (List ℕ)) (a c : CheckResult) (reader middle : R) (is : left ≡ first ∷ others) (h : Continues all left a c reader middle) where
-    pub continues_more : (d : CheckResult) (later : R) → ChecksGroup kind files paths remaining first c d middle later → Continues all others a d reader later
+    pub continues_more : (d : CheckResult) (later : R) → ChecksGroup options files paths remaining first c d middle later → Continues all others a d reader later
     continues_more d later step = (
-      λ b reader' k. h.0 b reader' (subst (λ l. ChecksGroups kind files paths remaining l c b middle reader') (sym is) (d, later, step, k)),
-      λ why reader' k. h.1 why reader' (subst (λ l. FailsInGroups kind files paths remaining l c middle reader' why) (sym is) (inr (d, later, step, k))),
+      λ b reader' k. h.0 b reader' (subst (λ l. ChecksGroups options files paths remaining l c b middle reader') (sym is) (d, later, step, k)),
+      λ why reader' k. h.1 why reader' (subst (λ l. FailsInGroups options files paths remaining l c middle reader' why) (sym is) (inr (d, later, step, k))),
     )
 
-    pub continues_stop : (why : RunFailure) (reader' : R) → FailsInGroup kind files paths remaining first middle reader' why → FailsInGroups kind files paths remaining all a reader reader' why
-    continues_stop why reader' stops = h.1 why reader' (subst (λ l. FailsInGroups kind files paths remaining l c middle reader' why) (sym is) (inl stops))
+    pub continues_stop : (why : RunFailure) (reader' : R) → FailsInGroup options files paths remaining first middle reader' why → FailsInGroups options files paths remaining all a reader reader' why
+    continues_stop why reader' stops = h.1 why reader' (subst (λ l. FailsInGroups options files paths remaining l c middle reader' why) (sym is) (inl stops))
 
 -- ---- how `check` begins, and its last message
 
@@ -324,10 +328,10 @@ some_source (name ∷ names) = (name, names, refl)
 
 module _ {R : Type 0} (kind : FileKind) (files : List ℕ → KnownFile) (paths : List ℕ → Option (List ℕ)) (remaining : R → Option (List ℕ)) where
   -- an allocation failed before anything was read
-  pub group_stops_at_once : (words : List (List ℕ)) (reader : R) → FailsInFiles kind files paths remaining (source_names words) reader reader run_failure.OutOfMemory
-  group_stops_at_once words reader = let first = some_source words in
-      subst (λ w. FailsInFiles kind files paths remaining w reader reader run_failure.OutOfMemory) (sym first.2)
-      (stops_at_once kind files paths remaining (map word_file (first.0 ∷ first.1)) (word_file first.0) (map word_file first.1) reader refl)
+  pub group_stops_at_once : (seeks : Bool) (words : List (List ℕ)) (reader : R) → FailsInFiles kind files paths remaining seeks (source_names words) reader reader run_failure.OutOfMemory
+  group_stops_at_once seeks words reader = let first = some_source words in
+      inl (subst (λ w. FailsInNames kind files paths remaining (map word_file w) reader reader run_failure.OutOfMemory) (sym first.2)
+      (stops_at_once kind files paths remaining (map word_file (first.0 ∷ first.1)) (word_file first.0) (map word_file first.1) reader refl))
 
 -- a last write, of which this comes
 pub written_last : {T E : Type 0} (r : Result T E) (new old more all : List ℕ) → new ≡ (if is_ok r then old ++ more else old) → old ++ more ≡ all → IfOk r (λ _. new ≡ all)
@@ -341,3 +345,171 @@ summary_is options words r old now note counts loud noted is counted =
     let both : note ++ counts ≡ together_note options words r.findings ++ summary_text r = ap (λ n. n ++ counts) is ∙ ap (λ s. together_note options words r.findings ++ s) counted in
     ap (λ b. b ++ counts) noted ∙ append_assoc old note counts
     ∙ ap (λ t. old ++ t) (subst (λ q. note ++ counts ≡ (if q then [] else together_note options words r.findings ++ summary_text r)) (sym loud) both)
+
+-- ---- the locks of projects
+
+below_step : (n : ℕ) → 0 < n → below n ≡ (n - 1) ∷ below (n - 1)
+below_step zero some = absurd (omega (arith, some))
+below_step (suc n) some = let e : suc n - 1 ≡ n = omega arith in rw e refl
+
+-- one place of a path more
+pub names_more : (f : ℕ → List (List ℕ)) (old new all : List (List ℕ)) (end : ℕ) → 0 < end → old ++ flat_map f (below end) ≡ all → new ≡ old ++ f (end - 1) → new ++ flat_map f (below (end - 1)) ≡ all
+names_more f old new all end some h is =
+    ap (λ l. l ++ flat_map f (below (end - 1))) is ∙ append_assoc old (f (end - 1)) (flat_map f (below (end - 1))) ∙ ap (λ l. old ++ flat_map f l) (sym (below_step end some)) ∙ h
+
+-- no place is left
+pub names_all : (f : ℕ → List (List ℕ)) (old all : List (List ℕ)) (end : ℕ) → end ≤ 0 → old ++ flat_map f (below end) ≡ all → old ≡ all
+names_all f old all zero none h = sym (append-nil old) ∙ h
+names_all f old all (suc end) none h = absurd (omega (arith, none))
+
+-- the items that are left, of which this is the first, or none
+pub items_from : {X Y : Type 0} (f : X → Y) (xs : List X) (i : ℕ) (x : X) → i < length xs → x ≡ get_or xs i x → map f (drop i xs) ≡ f x ∷ map f (drop (i + 1) xs)
+items_from f xs i x inside is = ap (map f) (drop_more xs i x inside) ∙ ap (λ y. f y ∷ map f (drop (i + 1) xs)) (sym is)
+
+pub no_items : {X Y : Type 0} (f : X → Y) (xs : List X) (i : ℕ) → length xs ≤ i → [] ≡ map f (drop i xs)
+no_items f xs i end = sym (ap (map f) (drop_all i xs end))
+
+-- some element of a list that was made of another
+pub any_of : {X Y : Type 0} (p : Y → Bool) (f : X → Y) (xs : List X) → list_any p (map f xs) ≡ list_any (λ x. p (f x)) xs
+any_of p f [] = refl
+any_of p f (x ∷ xs) = ap (λ b. p (f x) || b) (any_of p f xs)
+
+-- none of the documents is a lock, and these are the searches of all
+pub searches_all : (documents : List Document) (found : List (List (List ℕ))) → list_any is_lock documents ≡ false → found ≡ flat_map searches_for documents → found ≡ lock_searches documents
+searches_all documents found none is = subst (λ b. found ≡ (if b then [] else flat_map searches_for documents)) (sym none) is
+
+module _ {R : Type 0} (kind : FileKind) (files : List ℕ → KnownFile) (paths : List ℕ → Option (List ℕ)) (remaining : R → Option (List ℕ)) where
+  -- what comes of the names that are left comes of all
+  abbrev pub SeekContinues : List (List ℕ) → List (List ℕ) → FilesRead → R → Type 0
+  SeekContinues all left a reader =
+      ((b : FilesRead) (reader' : R) → SeeksFirst kind files paths remaining left a b reader reader' → SeeksFirst kind files paths remaining all a b reader reader')
+      × ((why : RunFailure) (reader' : R) → FailsInSearch kind files paths remaining left reader reader' why → FailsInSearch kind files paths remaining all reader reader' why)
+
+  module _ (all left others : List (List ℕ)) (name : List ℕ) (a : FilesRead) (reader : R) (is : left ≡ name ∷ others) (h : SeekContinues all left a reader) where
+    pub seek_more : FailsOpening (files name) name failure.NotFound → SeekContinues all others a reader
+    seek_more refuses = (
+      λ b reader' k. h.0 b reader' (subst (λ l. SeeksFirst kind files paths remaining l a b reader reader') (sym is) (inr (refuses, k))),
+      λ why reader' k. h.1 why reader' (subst (λ l. FailsInSearch kind files paths remaining l reader reader' why) (sym is) (inr (refuses, k))),
+    )
+
+    pub seek_ends : (b : FilesRead) (reader' : R) → EndsSearch kind files paths remaining name a b reader reader' → SeeksFirst kind files paths remaining all a b reader reader'
+    seek_ends b reader' k = h.0 b reader' (subst (λ l. SeeksFirst kind files paths remaining l a b reader reader') (sym is) (inl k))
+
+    pub seek_stops : (why : RunFailure) (reader' : R) → FailsInText files remaining name reader reader' why → FailsInSearch kind files paths remaining all reader reader' why
+    seek_stops why reader' k = h.1 why reader' (subst (λ l. FailsInSearch kind files paths remaining l reader reader' why) (sym is) (inl k))
+
+  module _ (files' : List ℕ → KnownFile) (paths' : List ℕ → Option (List ℕ)) (same_files : files' ≡ files) (same_paths : paths' ≡ paths) (self here new : RequirementFiles) (kept : here ≡ self) (reader middle reader' : R) (unread : middle ≡ reader)
+      (all left others : List (List ℕ)) (name word : List ℕ) (named : word ≡ name) (is : left ≡ name ∷ others) (h : SeekContinues all left (read_of self) reader) where
+    step_here : (ends : Bool) → SeeksName kind files' paths' remaining word here new middle reader' ends → SeeksName kind files paths remaining name self new reader reader' ends
+    step_here ends step =
+        subst (λ f. SeeksName kind f paths remaining name self new reader reader' ends) same_files
+        (subst (λ p. SeeksName kind files' p remaining name self new reader reader' ends) same_paths
+        (subst (λ n. SeeksName kind files' paths' remaining n self new reader reader' ends) named
+        (subst (λ a. SeeksName kind files' paths' remaining word a new reader reader' ends) kept
+        (subst (λ r. SeeksName kind files' paths' remaining word here new r reader' ends) unread step))))
+
+    pub seek_found : (ends : Bool) → ends ≡ true → SeeksName kind files' paths' remaining word here new middle reader' ends → SeeksFirst kind files paths remaining all (read_of self) (read_of new) reader reader'
+    seek_found ends so step =
+        let found = subst (λ e. SeeksName kind files paths remaining name self new reader reader' e) so (step_here ends step) in
+        seek_ends all left others name (read_of self) reader is h (read_of new) reader' found.0
+
+    pub seek_passed : (ends : Bool) → ends ≡ false → SeeksName kind files' paths' remaining word here new middle reader' ends → SeekContinues all others (read_of self) reader × (new ≡ self) × (reader' ≡ reader)
+    seek_passed ends so step =
+        let passed = subst (λ e. SeeksName kind files paths remaining name self new reader reader' e) so (step_here ends step) in
+        (seek_more all left others name (read_of self) reader is h passed.0, passed.1, passed.2)
+
+  -- what comes of the searches that are left comes of all
+  abbrev pub SearchContinues : List (List (List ℕ)) → List (List (List ℕ)) → FilesRead → FilesRead → R → R → Type 0
+  SearchContinues all left a c reader middle =
+      ((b : FilesRead) (reader' : R) → SeeksInTurn kind files paths remaining left c b middle reader' → SeeksInTurn kind files paths remaining all a b reader reader')
+      × ((why : RunFailure) (reader' : R) → FailsInSearches kind files paths remaining left c middle reader' why → FailsInSearches kind files paths remaining all a reader reader' why)
+
+  module _ (all left others : List (List (List ℕ))) (names : List (List ℕ)) (a c : FilesRead) (reader middle : R) (is : left ≡ names ∷ others) (h : SearchContinues all left a c reader middle) where
+    pub search_more : (d : FilesRead) (later : R) → SeeksFirst kind files paths remaining names c d middle later → SearchContinues all others a d reader later
+    search_more d later step = (
+      λ b reader' k. h.0 b reader' (subst (λ l. SeeksInTurn kind files paths remaining l c b middle reader') (sym is) (d, later, step, k)),
+      λ why reader' k. h.1 why reader' (subst (λ l. FailsInSearches kind files paths remaining l c middle reader' why) (sym is) (inr (d, later, step, k))),
+    )
+
+    pub search_stops : (why : RunFailure) (reader' : R) → FailsInSearch kind files paths remaining names middle reader' why → FailsInSearches kind files paths remaining all a reader reader' why
+    search_stops why reader' k = h.1 why reader' (subst (λ l. FailsInSearches kind files paths remaining l c middle reader' why) (sym is) (inl k))
+
+  -- no search is left
+  pub all_searched : (all left : List (List (List ℕ))) (a c : FilesRead) (reader middle : R) → [] ≡ left → SearchContinues all left a c reader middle → SeeksInTurn kind files paths remaining all a c reader middle
+  all_searched all left a c reader middle is h = h.0 c middle (subst (λ l. SeeksInTurn kind files paths remaining l c c middle middle) is (refl, refl))
+
+-- ---- the words of a call
+
+-- the first word and the others
+pub first_word : {W : Type 0} (f : W → List ℕ) (words : List W) (w : W) (text : List ℕ) → 1 ≤ length words → w ≡ get_or words 0 w → text ≡ f w → map f words ≡ text ∷ map f (take (length words - 1) (drop 1 words))
+first_word f [] w text long is same = absurd (omega arith)
+first_word f (x ∷ rest) w text long is same =
+    let whole : take (length (x ∷ rest) - 1) rest ≡ rest = take_all (length (x ∷ rest) - 1) rest (omega arith) in
+    ap (λ t. t ∷ map f rest) (sym (same ∙ ap f is)) ∙ ap (λ l. text ∷ map f l) (sym whole)
+
+-- options after others
+pub options_before : (options more : List (Named × List ℕ)) (operands : List (List ℕ)) (split : Split) → before (options ++ more) operands split ≡ before options operands (before more [] split)
+options_before options more operands (Given others names) = ap (λ x. Given x (operands ++ names)) (append_assoc options more others)
+options_before options more operands (UnknownWord word) = refl
+options_before options more operands (Missing option) = refl
+
+-- operands after others
+pub operands_before : (options : List (Named × List ℕ)) (operands more : List (List ℕ)) (split : Split) → before options (operands ++ more) split ≡ before options operands (before [] more split)
+operands_before options operands more (Given others names) = ap (λ y. Given (options ++ others) y) (append_assoc operands more names)
+operands_before options operands more (UnknownWord word) = refl
+operands_before options operands more (Missing option) = refl
+
+module _ (rows : List Row) (word : List ℕ) (rest : List (List ℕ)) (goes_on : bytes_eq word (codes "--") ≡ false) where
+  -- the word is an operand
+  pub operand_next : is_option word ≡ false → split_words rows None (word ∷ rest) ≡ before [] (word ∷ []) (split_words rows None rest)
+  operand_next none =
+      let others = by_end word (word_options rows word) (λ awaited. split_words rows awaited rest) in
+      let operand = before [] (word ∷ []) (split_words rows None rest) in
+      ap (λ b. cond b (Given [] rest) (cond (is_option word) others operand)) goes_on ∙ ap (λ b. cond b others operand) none
+
+  -- the word has options
+  pub options_next : is_option word ≡ true → split_words rows None (word ∷ rest) ≡ by_end word (word_options rows word) (λ awaited. split_words rows awaited rest)
+  options_next one =
+      let others = by_end word (word_options rows word) (λ awaited. split_words rows awaited rest) in
+      let operand = before [] (word ∷ []) (split_words rows None rest) in
+      ap (λ b. cond b (Given [] rest) (cond (is_option word) others operand)) goes_on ∙ ap (λ b. cond b others operand) one
+
+  -- it has only options
+  pub whole_next : is_option word ≡ true → Whole ≡ (word_options rows word).1 → split_words rows None (word ∷ rest) ≡ before (word_options rows word).0 [] (split_words rows None rest)
+  whole_next one is = options_next one ∙ ap (λ (e : End). by_end word ((word_options rows word).0, e) (λ awaited. split_words rows awaited rest)) (sym is)
+
+  -- its last option awaits a value
+  pub awaits_next : (option : Named) → is_option word ≡ true → Awaits option ≡ (word_options rows word).1 → split_words rows None (word ∷ rest) ≡ before (word_options rows word).0 [] (split_words rows (Some option) rest)
+  awaits_next option one is = options_next one ∙ ap (λ (e : End). by_end word ((word_options rows word).0, e) (λ awaited. split_words rows awaited rest)) (sym is)
+
+neither : (a b : Bool) → a ≡ false → b ≡ false → (a || b) ≡ false
+neither a b x y = rw (x, y) refl
+
+-- a word that neither asks for help nor for the version of the program
+pub named_word : (word : List ℕ) (rest : List (List ℕ)) → bytes_eq word (codes "-h") ≡ false → bytes_eq word (codes "--help") ≡ false → bytes_eq word (codes "-V") ≡ false → bytes_eq word (codes "--version") ≡ false → bytes_eq word (codes "help") ≡ false → task_of (word ∷ rest) ≡ named_task word rest
+named_word word rest no_h no_help no_v no_version no_word =
+    let after_version = cond (bytes_eq word (codes "help")) (help_task rest) (named_task word rest) in
+    let after_help = cond (bytes_eq word (codes "-V") || bytes_eq word (codes "--version")) NameVersion after_version in
+    ap (λ b. cond b (Help topic.Program) after_help) (neither _ _ no_h no_help) ∙ ap (λ b. cond b NameVersion after_version) (neither _ _ no_v no_version) ∙ ap (λ b. cond b (help_task rest) (named_task word rest)) no_word
+
+-- ---- how the words of `bump` are distinguished
+
+front : (first : List ℕ) (words : List (List ℕ)) (last : List ℕ) → take (length (words ++ last ∷ [])) (first ∷ (words ++ last ∷ [])) ≡ first ∷ words
+front first [] last = refl
+front first (word ∷ words) last = ap (λ (ws : List (List ℕ)). first ∷ ws) (front word words last)
+
+end : (first : List ℕ) (words : List (List ℕ)) (last : List ℕ) → get_or (first ∷ (words ++ last ∷ [])) (length (words ++ last ∷ [])) [] ≡ last
+end first [] last = refl
+end first (word ∷ words) last = end word words last
+
+last_word : (to : Option ℕ) (before : List (List ℕ)) (last : List ℕ) → bump_operands to (before ++ last ∷ []) ≡ by_last to (before ++ last ∷ []) before last
+last_word to [] last = refl
+last_word to (word ∷ words) last =
+    ap (λ ws. by_last to (word ∷ (words ++ last ∷ [])) ws (get_or (word ∷ (words ++ last ∷ [])) (length (words ++ last ∷ [])) [])) (front word words last)
+    ∙ ap (by_last to (word ∷ (words ++ last ∷ [])) (word ∷ words)) (end word words last)
+
+-- the operands end with this word
+pub operands_end : {X : Type 0} (view : X → List ℕ) (to : Option ℕ) (words before : List X) (last : X) → words ≡ before ++ last ∷ [] → bump_operands to (map view words) ≡ by_last to (map view words) (map view before) (view last)
+operands_end view to words before last is =
+    let viewed : map view words ≡ map view before ++ view last ∷ [] = ap (map view) is ∙ map-append view before (last ∷ []) in
+    ap (bump_operands to) viewed ∙ last_word to (map view before) (view last) ∙ ap (λ ws. by_last to ws (map view before) (view last)) (sym viewed)

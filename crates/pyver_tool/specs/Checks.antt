@@ -7,7 +7,6 @@ use Rattle.pyver_tool.specs.Settings.{findings_text}
 use Rattle.pyver_tool.specs.RequirementFiles.{FilesRead, ReadsFiles, FailsInFiles, UnopenedFile}
 use Rattle.pyver_commands.specs.Sources.{KnownFile, failure_reason, source_names}
 use Rattle.pyver_tool.specs.declared.check.CheckOptions.{CheckOptions}
-use Rattle.pyver_tool.specs.declared.file_kind.FileKind.{FileKind}
 use Rattle.pyver_commands.specs.declared.sources.stream.RunFailure.{RunFailure}
 use Rattle.pyver_commands.specs.declared.sources.stream.RunFailure.TheVariants as run_failure
 use Rattle.cli_io.specs.Escapes.{escaped}
@@ -40,10 +39,10 @@ abbrev pub GainsReport : FilesRead → CheckResult → CheckResult → Type 0
 GainsReport read a b = (r : Report) × (s : Report) × IsReport read.requirements r × IsDocumentsReport read.documents s
     × (b ≡ with_report read.unopened a (without_ignored (joined_report r s)))
 
-module _ {R : Type 0} (kind : FileKind) (files : List ℕ → KnownFile) (paths : List ℕ → Option (List ℕ)) (remaining : R → Option (List ℕ)) where
+module _ {R : Type 0} (options : CheckOptions) (files : List ℕ → KnownFile) (paths : List ℕ → Option (List ℕ)) (remaining : R → Option (List ℕ)) where
   -- the files that the words name were read, and their report follows
   abbrev pub ChecksGroup : List (List ℕ) → CheckResult → CheckResult → R → R → Type 0
-  ChecksGroup words a b reader reader' = (read : FilesRead) × ReadsFiles kind files paths remaining words reader reader' read × GainsReport read a b
+  ChecksGroup words a b reader reader' = (read : FilesRead) × ReadsFiles options.kind files paths remaining options.seeks_locks words reader reader' read × GainsReport read a b
 
   -- the groups, each in turn
   abbrev pub ChecksGroups : List (List (List ℕ)) → CheckResult → CheckResult → R → R → Type 0
@@ -52,8 +51,8 @@ module _ {R : Type 0} (kind : FileKind) (files : List ℕ → KnownFile) (paths 
 
   -- reading the files that the words name stopped, or an allocation failed after it
   abbrev pub FailsInGroup : List (List ℕ) → R → R → RunFailure → Type 0
-  FailsInGroup words reader reader' why = FailsInFiles kind files paths remaining words reader reader' why
-      ⊎ ((why ≡ run_failure.OutOfMemory) × ((read : FilesRead) × ReadsFiles kind files paths remaining words reader reader' read))
+  FailsInGroup words reader reader' why = FailsInFiles options.kind files paths remaining options.seeks_locks words reader reader' why
+      ⊎ ((why ≡ run_failure.OutOfMemory) × ((read : FilesRead) × ReadsFiles options.kind files paths remaining options.seeks_locks words reader reader' read))
 
   -- some groups were checked, and the next one stopped
   abbrev pub FailsInGroups : List (List (List ℕ)) → CheckResult → R → R → RunFailure → Type 0
@@ -103,9 +102,9 @@ check_outcome options words c = record {
 module _ {R : Type 0} (files : List ℕ → KnownFile) (paths : List ℕ → Option (List ℕ)) (remaining : R → Option (List ℕ)) where
   -- all files were read, and this is to be written
   abbrev pub Checks : CheckOptions → List (List ℕ) → R → R → Outcome → Type 0
-  Checks options words reader reader' o = (c : CheckResult) × ChecksGroups options.kind files paths remaining (word_groups options.each words) none_checked c reader reader' × (o ≡ check_outcome options words c)
+  Checks options words reader reader' o = (c : CheckResult) × ChecksGroups options files paths remaining (word_groups options.each words) none_checked c reader reader' × (o ≡ check_outcome options words c)
 
   -- nothing is to be written: reading stopped, or an allocation failed after it
   abbrev pub FailsInCheck : CheckOptions → List (List ℕ) → R → R → RunFailure → Type 0
-  FailsInCheck options words reader reader' why = FailsInGroups options.kind files paths remaining (word_groups options.each words) none_checked reader reader' why
-      ⊎ ((why ≡ run_failure.OutOfMemory) × ((c : CheckResult) × ChecksGroups options.kind files paths remaining (word_groups options.each words) none_checked c reader reader'))
+  FailsInCheck options words reader reader' why = FailsInGroups options files paths remaining (word_groups options.each words) none_checked reader reader' why
+      ⊎ ((why ≡ run_failure.OutOfMemory) × ((c : CheckResult) × ChecksGroups options files paths remaining (word_groups options.each words) none_checked c reader reader'))

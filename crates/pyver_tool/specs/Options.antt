@@ -6,8 +6,8 @@ use Rattle.pyver_projects.specs.Documents.{is_document_path, kind_of_path, kind_
 use Rattle.pyver_projects.specs.declared.document_kind.DocumentKind.{DocumentKind}
 use Rattle.pyver_projects.specs.declared.document_kind.DocumentKind.TheVariants.{Lock}
 use Rattle.pyver_projects.specs.declared.document_kind.LockKind.TheVariants.{Unknown}
-use Rattle.pyver_tool.specs.declared.file_kind.FileKind.{FileKind}
-use Rattle.pyver_tool.specs.declared.file_kind.FileKind.TheVariants.{Document, Requirements}
+use Rattle.pyver_tool.specs.declared.options.FileKind.{FileKind}
+use Rattle.pyver_tool.specs.declared.options.FileKind.TheVariants.{Document, Requirements}
 use Rattle.pyver_tool.specs.declared.help.Topic.TheVariants as topic
 
 -- an option: its letter or nothing, its name, what its value is or nothing if it has none, and its values if they are few

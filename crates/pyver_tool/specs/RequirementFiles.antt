@@ -1,21 +1,24 @@
--- The files that `check` reads: those that the words name, and those that the lines of requirements files name, step by step.
-use Rattle.std.specs.Prelude.{Bool, List, None, Option, Some, [], bytes_eq, false, length, map, string_bytes, true, ℕ, ◌++◌, ◌<◌, ◌∷◌, ◌≡◌, ◌≤◌, ◌⊎◌}
-use Rattle.std.specs.List.{flat_map, list_any}
+-- The files that `check` reads: those that the words name, those that the lines of requirements files name, and the locks of projects, step by step.
+use Rattle.std.specs.Prelude.{Bool, List, None, Option, Some, [], bytes_eq, codes, drop, false, if◌then◌else◌, length, map, nat_eq, not, string_bytes, suc, take, true, zero, ℕ, ◌&&◌, ◌++◌, ◌+◌, ◌<◌, ◌||◌, ◌∷◌, ◌≡◌, ◌≤◌, ◌⊎◌}
+use Rattle.std.specs.List.{ends_with, flat_map, list_any, starts_with}
 use Rattle.std.specs.Str.{IsUtf8}
 use Rattle.pyver_commands.specs.Sources.SourceTexts.{FailsInText}
 use Rattle.pyver_commands.specs.Sources.{IsKnownPath, KnownFile, MayFailToOpen, ReadsWhole, is_input}
-use Rattle.pyver_tool.specs.declared.file_kind.FileKind.{FileKind}
+use Rattle.pyver_tool.specs.declared.options.FileKind.{FileKind}
 use Rattle.pyver_commands.specs.declared.sources.open_failure.OpenFailure.{OpenFailure}
 use Rattle.pyver_commands.specs.declared.sources.stream.RunFailure.{RunFailure}
+use Rattle.pyver_commands.specs.declared.sources.stream.RunFailure.TheVariants as run_failure
 use Rattle.pyver_findings.specs.FileLines.{File}
 use Rattle.pyver_findings.specs.NamedFiles.{NamedFile, named_files}
+use Rattle.pyver_projects.specs.Comparing.{is_project}
 use Rattle.pyver_projects.specs.Meanings.{Document}
 use Rattle.pyver_tool.specs.Options.{kind_by_name}
+use Rattle.pyver_tool.specs.declared.lock_search.LockSearch.{LockSearch}
 use Rattle.pyver_tool.specs.declared.requirement_files.RequirementFiles.{RequirementFiles}
 use Rattle.pyver_tool.specs.declared.requirement_files.UnopenedFile.{UnopenedFile as UnopenedFileValue}
 use Rattle.pyver_findings.specs.Views.{file_of, named_file_of}
 use Rattle.pyver_projects.specs.ProjectViews.{document_of}
-use Rattle.pyver_tool.specs.declared.file_kind.FileKind.TheVariants as file_kind
+use Rattle.pyver_tool.specs.declared.options.FileKind.TheVariants as file_kind
 use Rattle.pyver_commands.specs.declared.sources.open_failure.OpenFailure.TheVariants as failure
 
 -- a file that was not opened, and why
@@ -62,6 +65,48 @@ FailsOpening file name why = ((¬ IsUtf8 name) × (why ≡ failure.Other)) ⊎ (
 abbrev pub file_with : List ℕ → List ℕ → File
 file_with name text = record { name = name; text = text }
 
+-- ---- where the locks of projects are sought
+
+-- the numbers below this one, the greatest first
+abbrev pub below : ℕ → List ℕ
+below zero = []
+below (suc n) = n ∷ below n
+
+-- the start of a path is a folder in which its file lies, as the path names it: nothing, unless the path begins with `/`, or what ends with
+-- `/`; and no `..` follows, which leads out of it
+abbrev pub is_folder : List ℕ → List ℕ → Bool
+is_folder [] rest = not (starts_with nat_eq rest (codes "/") || starts_with nat_eq rest (codes "../"))
+is_folder (b ∷ start) rest = ends_with nat_eq (b ∷ start) (codes "/") && not (starts_with nat_eq rest (codes "../"))
+
+-- the name of a lock in the folder that the start of a path is, if it is one
+abbrev pub name_between : List ℕ → List ℕ → List ℕ → List (List ℕ)
+name_between lock start rest = if is_folder start rest then (start ++ lock) ∷ [] else []
+
+-- the names of a lock in the folders of a path, the longest first
+abbrev pub sought_names : List ℕ → List ℕ → List (List ℕ)
+sought_names path lock = flat_map (λ n. name_between lock (take n path) (drop n path)) (below (length path + 1))
+
+-- each lock is sought by itself, in this order
+abbrev pub path_searches : List ℕ → List (List (List ℕ))
+path_searches path = map (sought_names path) (codes "pylock.toml" ∷ (codes "uv.lock" ∷ (codes "poetry.lock" ∷ (codes "pdm.lock" ∷ (codes "Pipfile.lock" ∷ [])))))
+
+-- the searches for the locks of a document: it is a project, and not standard input
+abbrev pub searches_for : Document → List (List (List ℕ))
+searches_for d = if is_project d.kind && not (is_input d.file.name) then path_searches d.file.name else []
+
+abbrev pub is_lock : Document → Bool
+is_lock d = not (is_project d.kind)
+
+-- the searches for the locks of these documents, of which none is a lock
+abbrev pub lock_searches : List Document → List (List (List ℕ))
+lock_searches documents = if list_any is_lock documents then [] else flat_map searches_for documents
+
+-- they are made, or none
+abbrev pub searches_if : Bool → List Document → List (List (List ℕ))
+searches_if seeks documents = if seeks then lock_searches documents else []
+
+-- ---- what is read
+
 -- `kind` is the kind of files that have none by name, `files` is what is known of each file, `paths` what is known of its path, and
 -- `remaining` are the bytes that standard input has left
 module _ {R : Type 0} (kind : FileKind) (files : List ℕ → KnownFile) (paths : List ℕ → Option (List ℕ)) (remaining : R → Option (List ℕ)) where
@@ -100,12 +145,44 @@ module _ {R : Type 0} (kind : FileKind) (files : List ℕ → KnownFile) (paths 
     pub each : ReadsFilesInTurn done none_read read reader middle
     pub part : FailsInText files remaining named.name middle reader' why
 
-  -- of the files that the words name, and those that their lines name, each was read in turn
-  abbrev pub ReadsFiles : List (List ℕ) → R → R → FilesRead → Type 0
-  ReadsFiles words reader reader' read = ReadsNames (map word_file words) reader reader' read
+  -- the file with this name was read, unless one with its path had been; or it is there and was not opened
+  abbrev pub EndsSearch : List ℕ → FilesRead → FilesRead → R → R → Type 0
+  EndsSearch name a b reader reader' = OpensNext name a b reader reader'
+      ⊎ ((why : OpenFailure) × (¬ (why ≡ failure.NotFound)) × FailsOpening (files name) name why × (b ≡ with_unopened a (word_file name) why) × (reader' ≡ reader))
 
-  abbrev pub FailsInFiles : List (List ℕ) → R → R → RunFailure → Type 0
-  FailsInFiles words reader reader' why = FailsInNames (map word_file words) reader reader' why
+  -- the first of the files with these names that is there
+  abbrev pub SeeksFirst : List (List ℕ) → FilesRead → FilesRead → R → R → Type 0
+  SeeksFirst [] a b reader reader' = (b ≡ a) × (reader' ≡ reader)
+  SeeksFirst (name ∷ names) a b reader reader' = EndsSearch name a b reader reader' ⊎ (FailsOpening (files name) name failure.NotFound × SeeksFirst names a b reader reader')
+
+  -- each of these searches in turn
+  abbrev pub SeeksInTurn : List (List (List ℕ)) → FilesRead → FilesRead → R → R → Type 0
+  SeeksInTurn [] a b reader reader' = (b ≡ a) × (reader' ≡ reader)
+  SeeksInTurn (names ∷ searches) a b reader reader' = (c : FilesRead) × (middle : R) × SeeksFirst names a c reader middle × SeeksInTurn searches c b middle reader'
+
+  -- some names were of no files, and a part of the source with the next one was read, or, where an allocation failed, nothing
+  abbrev pub FailsInSearch : List (List ℕ) → R → R → RunFailure → Type 0
+  FailsInSearch [] reader reader' why = ⊥
+  FailsInSearch (name ∷ names) reader reader' why = FailsInText files remaining name reader reader' why ⊎ (FailsOpening (files name) name failure.NotFound × FailsInSearch names reader reader' why)
+
+  -- some searches were made, and the next one stopped
+  abbrev pub FailsInSearches : List (List (List ℕ)) → FilesRead → R → R → RunFailure → Type 0
+  FailsInSearches [] a reader reader' why = ⊥
+  FailsInSearches (names ∷ searches) a reader reader' why = FailsInSearch names reader reader' why
+      ⊎ ((c : FilesRead) × (middle : R) × SeeksFirst names a c reader middle × FailsInSearches searches c middle reader' why)
+
+  -- of the files that the words name, and those that their lines name, each was read in turn; then the locks of projects, if they are sought
+  abbrev pub ReadsFiles : Bool → List (List ℕ) → R → R → FilesRead → Type 0
+  ReadsFiles seeks words reader reader' read = (named : FilesRead) × (middle : R) × ReadsNames (map word_file words) reader middle named × SeeksInTurn (searches_if seeks named.documents) named read middle reader'
+
+  -- reading stopped so in one of them, or an allocation failed between
+  abbrev pub FailsInFiles : Bool → List (List ℕ) → R → R → RunFailure → Type 0
+  FailsInFiles seeks words reader reader' why = FailsInNames (map word_file words) reader reader' why
+      ⊎ ((named : FilesRead) × (middle : R) × ReadsNames (map word_file words) reader middle named
+      × (((why ≡ run_failure.OutOfMemory) × (reader' ≡ middle)) ⊎ FailsInSearches (searches_if seeks named.documents) named middle reader' why))
+
+abbrev pub search_of : LockSearch → List (List ℕ)
+search_of search = map (λ name. name.items) search.names.items
 
 abbrev pub unopened_file_of : UnopenedFileValue → UnopenedFile
 unopened_file_of file = record { named = named_file_of file.named; failure = file.failure }
@@ -166,3 +243,8 @@ module _ {R : Type 0} (kind : FileKind) (files : List ℕ → KnownFile) (paths 
   abbrev pub StepsOrFailsOpening : List ℕ → RequirementFiles → RequirementFiles → R → R → Option OpenFailure → Type 0
   StepsOrFailsOpening name a b reader reader' None = OpensStep name a b reader reader'
   StepsOrFailsOpening name a b reader reader' (Some why) = FailsOpening (files name) name why × (b ≡ a) × (reader' ≡ reader)
+
+  -- the search ended with this name; or the file is not there
+  abbrev pub SeeksName : List ℕ → RequirementFiles → RequirementFiles → R → R → Bool → Type 0
+  SeeksName name a b reader reader' true = EndsSearch kind files paths remaining name (read_of a) (read_of b) reader reader' × HasReads b
+  SeeksName name a b reader reader' false = FailsOpening (files name) name failure.NotFound × (b ≡ a) × (reader' ≡ reader)

@@ -7,12 +7,12 @@ use Rattle.pyver_commands.specs.Sources.LineOptions.{no_line_options}
 use Rattle.pyver_commands.specs.Readings.{word_number}
 use Rattle.pyver_tool.specs.SplitWords.{Named}
 use Rattle.pyver_commands.specs.Parts.{part_of}
-use Rattle.pyver_tool.specs.declared.output_form.OutputForm.TheVariants as output_form
+use Rattle.pyver_tool.specs.declared.settings.OutputForm.TheVariants as output_form
 use Rattle.pyver_commands.specs.declared.sources.line_options.LineOptions.{LineOptions}
 use Rattle.pyver_commands.specs.declared.prerelease_rule.Prereleases.TheVariants as prereleases
 use Rattle.pyver_tool.specs.declared.settings.Settings.{Settings}
 use Rattle.pyver_commands.specs.declared.show.ShowFormat.TheVariants as format
-use Rattle.pyver_tool.specs.declared.output_form.OutputForm.{OutputForm}
+use Rattle.pyver_tool.specs.declared.settings.OutputForm.{OutputForm}
 use Rattle.pyver_findings.specs.ReportTexts.{report_commands, report_text}
 use Rattle.pyver_findings.specs.ReportObjects.{report_object}
 use Rattle.pyver_findings.specs.Reports.{Report}
@@ -63,6 +63,7 @@ with_check_option settings name value =
     if bytes_eq name (codes "--each") then Some (record settings { each = true })
     else if bytes_eq name (codes "--format") then option_map (λ kind. record settings { kind = kind }) (file_kind_of value)
     else if bytes_eq name (codes "--output") then option_map (λ form. record settings { output = form }) (output_form_of value)
+    else if bytes_eq name (codes "--no-lock") then Some (record settings { seeks_locks = false })
     else option_map (λ lines. record settings { lines = lines }) (with_line_option settings.lines name value)
 
 -- what an option sets, if its value is right
@@ -82,7 +83,7 @@ with_option settings name value =
 
 -- without an option
 abbrev pub no_settings : Settings
-no_settings = record { quiet = false; prereleases = prereleases.Listed; inverted = false; reversed = false; unique = false; last = None; lines = no_line_options; format = format.Normal; to = None; each = false; kind = unknown_kind; output = output_form.Text }
+no_settings = record { quiet = false; prereleases = prereleases.Listed; inverted = false; reversed = false; unique = false; last = None; lines = no_line_options; format = format.Normal; to = None; each = false; kind = unknown_kind; output = output_form.Text; seeks_locks = true }
 
 -- what options set, or the first of them with a wrong value
 pub data Effect : Type 0 where

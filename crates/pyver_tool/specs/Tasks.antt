@@ -196,7 +196,7 @@ task_with settings topic.Bump words = bump_operands settings.to words
 task_with settings topic.Range (word ∷ words) = Range (is_json settings.format) (word ∷ words)
 task_with settings topic.Marker (marker ∷ []) = Marker marker None
 task_with settings topic.Marker (marker ∷ other ∷ []) = Marker marker (Some other)
-task_with settings topic.Check names = Check (record { output = settings.output; each = settings.each; quiet = settings.quiet; kind = settings.kind }) names
+task_with settings topic.Check names = Check (record { output = settings.output; each = settings.each; quiet = settings.quiet; kind = settings.kind; seeks_locks = settings.seeks_locks }) names
 task_with settings topic _ = Misused (wrong_count topic)
 
 -- ---- words
@@ -292,6 +292,6 @@ OutcomesOnce = (task : Task) (input : Input) (a b : Outcome) → ¬ IsOneOfMany 
 
 -- what is found in files is one thing, if no pair of markers is undecided, and each document is TOML in UTF-8: of another the reason and its
 -- position are not stated
-abbrev pub ChecksOnce : Type 0
+unfoldable pub ChecksOnce : Type 0
 ChecksOnce = (read : FilesRead) (a b c : CheckResult) → All IsReadable read.documents → GainsReport read a b → GainsReport read a c
     → ¬ IsUndecided b.report → ¬ IsUndecided c.report → b ≡ c

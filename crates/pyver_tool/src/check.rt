@@ -10,9 +10,9 @@ ghost use Rattle.pyver_commands.specs.Sources.{source_names};
 ghost use Rattle.pyver_findings.specs.Reports.{spans_files};
 ghost use Rattle.pyver_findings.specs.Views.{finding_of, position_of, report_of};
 
-use crate::file_kind::FileKind;
-use crate::output_form::OutputForm;
+use crate::options::FileKind;
 use crate::requirement_files::{UnopenedFile, read_files};
+use crate::settings::OutputForm;
 use cli_io::push_escaped;
 use pyver_commands::{Answer, Files, RunFailure};
 use pyver_findings::{Finding, Position, Report, find_problems, push_number, push_text};
@@ -30,6 +30,8 @@ pub(crate) struct CheckOptions {
     pub(crate) quiet: bool,
     // The kind of files that have none by name.
     pub(crate) kind: FileKind,
+    // The locks of projects are sought, if no lock is named.
+    pub(crate) seeks_locks: bool,
 }
 
 // What was found so far.
@@ -93,14 +95,9 @@ fn push_all_unopened(
 }
 
 fn spans_files(findings: &[Finding]) -> bool
-    ensures { result ≡ list_any spans_files (map finding_of findings.now) }
+    ensures { result ≡ list_any (λ finding. spans_files (finding_of finding)) findings.now }
 {
-    for finding in findings {
-        if finding.spans_files() {
-            return true;
-        }
-    }
-    false
+    findings.iter().any(|finding| finding.spans_files())
 }
 
 fn are_several(words: &[String]) -> bool
@@ -110,6 +107,7 @@ fn are_several(words: &[String]) -> bool
 }
 
 // That files are taken together, if that matters.
+#[tactic(auto, using(crate::proofs::RunEnds::any_of))]
 fn together_note(options: CheckOptions, words: &[String], findings: &[Finding]) -> &'static str
     ensures { result.now ≡ together_note options (map string_bytes words.now) (map finding_of findings.now) }
 {
@@ -186,43 +184,50 @@ impl CheckResult {
         Ok(())
     }
 
-    // Reads the files that the words name and those that their lines name, and finds what is wrong in them.
+    // Reads the files that the words name, those that their lines name and locks, and finds what is wrong in them.
     fn check_group<F: Files, R: Read>(
         &mut self,
         alloc: Global,
-        kind: FileKind,
+        options: CheckOptions,
         words: &[String],
         files: &mut F,
         input: &mut R,
     ) -> Result<(), RunFailure>
-        ensures checked { IfOk result (λ _. ChecksGroup kind (F.known files.old) (F.path files.old) R.remaining (source_names (map string_bytes words.now)) (check_result_of self.old) (check_result_of self.new) input.old input.new) }
-        ensures stopped { IfErr result (FailsInGroup kind (F.known files.old) (F.path files.old) R.remaining (source_names (map string_bytes words.now)) input.old input.new) }
+        ensures checked { IfOk result (λ _. ChecksGroup options (F.known files.old) (F.path files.old) R.remaining (source_names (map string_bytes words.now)) (check_result_of self.old) (check_result_of self.new) input.old input.new) }
+        ensures stopped { IfErr result (FailsInGroup options (F.known files.old) (F.path files.old) R.remaining (source_names (map string_bytes words.now)) input.old input.new) }
         ensures kept { F.known files.new ≡ F.known files.old }
         ensures kept_paths { F.path files.new ≡ F.path files.old }
     {
-        let read = read_files(alloc, kind, words, files, input)?;
+        let read = read_files(
+            alloc,
+            options.kind,
+            options.seeks_locks,
+            words,
+            files,
+            input,
+        )?;
         let mut report = find_problems(alloc, read.requirements.as_slice())?;
         report.append(find_document_problems(alloc, read.documents.as_slice())?)?;
         Ok(self.push(report.apply_comments(alloc)?, read.unopened)?)
     }
 
-    // Reads the files that each word names, with those that their lines name, and finds what is wrong in them, word by word.
+    // Reads the files that each word names, with those that their lines name and locks, and finds what is wrong in them, word by word.
     fn check_each<F: Files, R: Read>(
         &mut self,
         alloc: Global,
-        kind: FileKind,
+        options: CheckOptions,
         words: &[String],
         files: &mut F,
         input: &mut R,
     ) -> Result<(), RunFailure>
-        ensures checked { IfOk result (λ _. ChecksGroups kind (F.known files.old) (F.path files.old) R.remaining (map (λ word. word ∷ []) (map string_bytes words.now)) (check_result_of self.old) (check_result_of self.new) input.old input.new) }
-        ensures stopped { IfErr result (FailsInGroups kind (F.known files.old) (F.path files.old) R.remaining (map (λ word. word ∷ []) (map string_bytes words.now)) (check_result_of self.old) input.old input.new) }
+        ensures checked { IfOk result (λ _. ChecksGroups options (F.known files.old) (F.path files.old) R.remaining (map (λ word. word ∷ []) (map string_bytes words.now)) (check_result_of self.old) (check_result_of self.new) input.old input.new) }
+        ensures stopped { IfErr result (FailsInGroups options (F.known files.old) (F.path files.old) R.remaining (map (λ word. word ∷ []) (map string_bytes words.now)) (check_result_of self.old) input.old input.new) }
         ensures kept { F.known files.new ≡ F.known files.old }
         ensures kept_paths { F.path files.new ≡ F.path files.old }
     {
         let mut rest = words;
         while let [_, later @ ..] = rest {
-            self.check_group(alloc, kind, &rest[..1], files, input)?;
+            self.check_group(alloc, options, &rest[..1], files, input)?;
             rest = later;
         }
         Ok(())
@@ -237,16 +242,16 @@ impl CheckResult {
         files: &mut F,
         input: &mut R,
     ) -> Result<(), RunFailure>
-        ensures checked { IfOk result (λ _. ChecksGroups options.kind (F.known files.old) (F.path files.old) R.remaining (word_groups options.each (map string_bytes words.now)) (check_result_of self.old) (check_result_of self.new) input.old input.new) }
-        ensures stopped { IfErr result (FailsInGroups options.kind (F.known files.old) (F.path files.old) R.remaining (word_groups options.each (map string_bytes words.now)) (check_result_of self.old) input.old input.new) }
+        ensures checked { IfOk result (λ _. ChecksGroups options (F.known files.old) (F.path files.old) R.remaining (word_groups options.each (map string_bytes words.now)) (check_result_of self.old) (check_result_of self.new) input.old input.new) }
+        ensures stopped { IfErr result (FailsInGroups options (F.known files.old) (F.path files.old) R.remaining (word_groups options.each (map string_bytes words.now)) (check_result_of self.old) input.old input.new) }
         ensures kept { F.known files.new ≡ F.known files.old }
     {
         if !options.each {
-            return self.check_group(alloc, options.kind, words, files, input);
+            return self.check_group(alloc, options, words, files, input);
         }
         match words {
-            [] => self.check_group(alloc, options.kind, words, files, input),
-            [_, ..] => self.check_each(alloc, options.kind, words, files, input),
+            [] => self.check_group(alloc, options, words, files, input),
+            [_, ..] => self.check_each(alloc, options, words, files, input),
         }
     }
 
@@ -289,7 +294,7 @@ impl CheckResult {
     }
 }
 
-// Reads the files that the words name and those that their lines name, and returns what is to be written.
+// Reads the files that the words name, those that their lines name and locks, and returns what is to be written.
 pub(crate) fn check_files<F: Files, R: Read>(
     alloc: Global,
     options: CheckOptions,

@@ -236,6 +236,7 @@ fn parse_check<'a>(settings: Settings, words: &'a [String]) -> Command<'a>
         each: settings.each,
         quiet: settings.quiet,
         kind: settings.kind,
+        seeks_locks: settings.seeks_locks,
     };
     Command::Check(options, words)
 }

@@ -42,7 +42,7 @@ const RANGE_USAGE: &str = "pyver range [--json] SPECS..";
 const MARKER_USAGE: &str = "pyver marker MARKER [MARKER]";
 
 const CHECK_USAGE: &str =
-    "pyver check [-q] [--each] [--format KIND] [--output FORM | --json] [FILE..]";
+    "pyver check [-q] [--each] [--no-lock] [--format KIND] [--output FORM | --json] [FILE..]";
 
 pub(crate) const VERSION_LINE: &str = "pyver 0.3.0\n";
 
@@ -276,12 +276,12 @@ options:
 ";
 
 const CHECK_HELP: &str =
-    "usage: pyver check [-q] [--each] [--format KIND] [--output FORM | --json] [FILE..]
+    "usage: pyver check [-q] [--each] [--no-lock] [--format KIND] [--output FORM | --json] [FILE..]
 
 examples:
   pyver check requirements.txt
   pyver check lock.txt constraints.txt
-  pyver check pyproject.toml uv.lock
+  pyver check pyproject.toml
   git show HEAD:uv.lock | pyver check --format uv pyproject.toml -
   pyver check --each */requirements.txt
   pip freeze | pyver check --json
@@ -292,9 +292,11 @@ satisfies together, and versions that one line names and another excludes. '-' a
 standard input. Files that lines name after -r and -c are read too, each once; their paths are
 relative to the file that names them. Lines with different markers do not count together.
 A file named pyproject.toml is read as a project, one named pylock.toml, pylock.NAME.toml, uv.lock,
-poetry.lock or Pipfile.lock as a lock: malformed strings are reported, requirements that no version satisfies
-together, and, for each lock beside a project, versions that it excludes and names the lock lacks.
-KIND is requirements, pyproject, pylock, uv, poetry or pipfile. FORM is text, json, github or
+poetry.lock, pdm.lock or Pipfile.lock as a lock: malformed strings are reported, requirements that
+no version satisfies together, and, for each lock beside a project, versions that it excludes and
+names the lock lacks. If no lock is named, each of these but pylock.NAME.toml is sought in the folder
+of a project, then in those above it that its path names, up to the first that is there.
+KIND is requirements, pyproject, pylock, uv, poetry, pdm or pipfile. FORM is text, json, github or
 sarif: github prints commands that GitHub Actions shows at the lines, sarif a log of SARIF 2.1.0.
 Standard error says how much was read, and how much was left out: options of pip, editables, paths,
 archives, URLs, and lines with a variable. The exit status is 0 if nothing is wrong, 1 if something
@@ -303,6 +305,7 @@ is, and 2 if a file cannot be opened; the other files are checked all the same.
 options:
   -q, --quiet    print nothing; files that cannot be opened are named
   --each         check each file by itself, with those that its lines name
+  --no-lock      seek no lock of a project
   --format KIND  the kind of files that have none by name
   --output FORM  the form in which what is wrong is printed; without it text
   --json         --output json: an array of objects

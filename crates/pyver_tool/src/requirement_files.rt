@@ -1,10 +1,11 @@
-//! The files that `check` reads, those that the words name and those that the lines of requirements files name.
-ghost use Rattle.std.specs.Prelude.{◌≡◌, ◌∷◌, ◌++◌, [], IfErr, IfOk, map, string_bytes};
-ghost use Rattle.pyver_tool.specs.RequirementFiles.{FailsInFiles, FailsInNames, GainsFile, GainsUnopened, HasReads, IsSourcePath, ReadsFiles, ReadsNames, ReadsStep, StepsOrFailsOpening, file_with, has_path, names_of_files, none_read, read_of, word_file};
+//! The files that `check` reads: those that the words name, those that the lines of requirements files name, and the locks of projects.
+ghost use Rattle.std.specs.Prelude.{◌≡◌, ◌⊎◌, ◌∷◌, ◌++◌, [], IfErr, IfOk, map, string_bytes};
+ghost use Rattle.pyver_tool.specs.RequirementFiles.{FailsInFiles, FailsInNames, FailsInSearch, FailsInSearches, GainsFile, GainsUnopened, HasReads, IsSourcePath, ReadsFiles, ReadsNames, ReadsStep, SeeksFirst, SeeksInTurn, SeeksName, StepsOrFailsOpening, file_with, has_path, lock_searches, names_of_files, none_read, read_of, search_of, word_file};
 ghost use Rattle.pyver_commands.specs.Sources.{is_input, source_names};
 ghost use Rattle.pyver_findings.specs.Views.{named_file_of};
 
-use crate::file_kind::FileKind;
+use crate::lock_search::{LockSearch, list_searches};
+use crate::options::FileKind;
 use pyver_commands::{Files, OpenFailure, RunFailure, is_input, read_by_name};
 use pyver_findings::{NamedFile, SourceFile, push_named_files};
 use pyver_projects::Document;
@@ -224,6 +225,7 @@ impl RequirementFiles {
     ) -> Result<(), RunFailure>
         requires new { (read_of self.old ≡ none_read) × (self.old.read_count ≡ 0) }
         ensures read { IfOk result (λ _. ReadsNames kind (F.known files.old) (F.path files.old) R.remaining (names_of_files self.old) input.old input.new (read_of self.new)) }
+        ensures reads { IfOk result (λ _. HasReads self.new) }
         ensures stopped { IfErr result (FailsInNames kind (F.known files.old) (F.path files.old) R.remaining (names_of_files self.old) input.old input.new) }
         ensures kept { F.known files.new ≡ F.known files.old }
         ensures kept_paths { F.path files.new ≡ F.path files.old }
@@ -238,18 +240,92 @@ impl RequirementFiles {
         }
         Ok(())
     }
+
+    // Reads the file with this name, unless one with its path was read before or it is not opened, and returns whether it is there.
+    fn seek_name<F: Files, R: Read>(
+        &mut self,
+        alloc: Global,
+        kind: FileKind,
+        name: &[u8],
+        files: &mut F,
+        input: &mut R,
+    ) -> Result<bool, RunFailure>
+        requires { HasReads self.old }
+        ensures read { IfOk result (SeeksName kind (F.known files.old) (F.path files.old) R.remaining name.now self.old self.new input.old input.new) }
+        ensures stopped { IfErr result (FailsInText (F.known files.old) R.remaining name.now input.old input.new) }
+        ensures kept { F.known files.new ≡ F.known files.old }
+        ensures kept_paths { F.path files.new ≡ F.path files.old }
+    {
+        match self.read_next(alloc, kind, name, files, input)? {
+            None => Ok(true),
+            Some(OpenFailure::NotFound) => Ok(false),
+            Some(failure) => {
+                let name = Vec::from_slice(alloc, name)?;
+                let position = None;
+                self.push_unopened(NamedFile { name, position }, failure)?;
+                Ok(true)
+            }
+        }
+    }
+
+    // Reads the first of the files that is there.
+    fn seek_first<F: Files, R: Read>(
+        &mut self,
+        alloc: Global,
+        kind: FileKind,
+        search: &LockSearch,
+        files: &mut F,
+        input: &mut R,
+    ) -> Result<(), RunFailure>
+        requires { HasReads self.old }
+        ensures read { IfOk result (λ _. SeeksFirst kind (F.known files.old) (F.path files.old) R.remaining (search_of search.now) (read_of self.old) (read_of self.new) input.old input.new) }
+        ensures reads { IfOk result (λ _. HasReads self.new) }
+        ensures stopped { IfErr result (FailsInSearch kind (F.known files.old) (F.path files.old) R.remaining (search_of search.now) input.old input.new) }
+        ensures kept { F.known files.new ≡ F.known files.old }
+        ensures kept_paths { F.path files.new ≡ F.path files.old }
+    {
+        for name in &search.names {
+            if self.seek_name(alloc, kind, name.as_slice(), files, input)? {
+                return Ok(());
+            }
+        }
+        Ok(())
+    }
+
+    // Reads the locks of the projects that were read, if no lock was.
+    fn seek_locks<F: Files, R: Read>(
+        &mut self,
+        alloc: Global,
+        kind: FileKind,
+        files: &mut F,
+        input: &mut R,
+    ) -> Result<(), RunFailure>
+        requires { HasReads self.old }
+        ensures read { IfOk result (λ _. SeeksInTurn kind (F.known files.old) (F.path files.old) R.remaining (lock_searches (read_of self.old).documents) (read_of self.old) (read_of self.new) input.old input.new) }
+        ensures stopped { IfErr result (λ why. ((why ≡ RunFailure.OutOfMemory) × (input.new ≡ input.old))
+            ⊎ FailsInSearches kind (F.known files.old) (F.path files.old) R.remaining (lock_searches (read_of self.old).documents) (read_of self.old) input.old input.new why) }
+        ensures kept { F.known files.new ≡ F.known files.old }
+        ensures kept_paths { F.path files.new ≡ F.path files.old }
+    {
+        let searches = list_searches(alloc, self.documents.as_slice())?;
+        for search in &searches {
+            self.seek_first(alloc, kind, search, files, input)?;
+        }
+        Ok(())
+    }
 }
 
-// Reads the files that the words name, and then those that their lines name, each once.
+// Reads the files that the words name, then those that their lines name, and then locks of projects, if they are sought, each once.
 pub(crate) fn read_files<F: Files, R: Read>(
     alloc: Global,
     kind: FileKind,
+    seeks_locks: bool,
     words: &[String],
     files: &mut F,
     input: &mut R,
 ) -> Result<RequirementFiles, RunFailure>
-    ensures read { IfOk result (λ state. ReadsFiles kind (F.known files.old) (F.path files.old) R.remaining (source_names (map string_bytes words.now)) input.old input.new (read_of state)) }
-    ensures stopped { IfErr result (FailsInFiles kind (F.known files.old) (F.path files.old) R.remaining (source_names (map string_bytes words.now)) input.old input.new) }
+    ensures read { IfOk result (λ state. ReadsFiles kind (F.known files.old) (F.path files.old) R.remaining seeks_locks (source_names (map string_bytes words.now)) input.old input.new (read_of state)) }
+    ensures stopped { IfErr result (FailsInFiles kind (F.known files.old) (F.path files.old) R.remaining seeks_locks (source_names (map string_bytes words.now)) input.old input.new) }
     ensures kept { F.known files.new ≡ F.known files.old }
     ensures kept_paths { F.path files.new ≡ F.path files.old }
 {
@@ -257,5 +333,9 @@ pub(crate) fn read_files<F: Files, R: Read>(
     push_sources(alloc, &mut names, words)?;
     let mut state = RequirementFiles::new(alloc, names);
     state.read_all(alloc, kind, files, input)?;
+    if !seeks_locks {
+        return Ok(state);
+    }
+    state.seek_locks(alloc, kind, files, input)?;
     Ok(state)
 }

@@ -1,12 +1,21 @@
 //! What options set.
 ghost use Rattle.std.specs.Prelude.{◌≡◌};
-ghost use Rattle.pyver_tool.specs.Settings.{delimiter_of, field_number_of, no_settings, with_check_option, with_line_option, with_option};
+ghost use Rattle.pyver_tool.specs.Settings.{delimiter_of, field_number_of, no_settings, output_form_of, with_check_option, with_line_option, with_option};
 
-use crate::file_kind::{FileKind, parse_file_kind};
-use crate::output_form::{OutputForm, parse_output_form};
+use crate::options::{FileKind, parse_file_kind};
 use pyver_commands::{
     LineOptions, Prereleases, ShowFormat, parse_invalid_lines, parse_number, parse_part,
 };
+
+// How findings are printed.
+#[derive(Clone, Copy)]
+pub(crate) enum OutputForm {
+    Text,
+    Json,
+    // Commands to GitHub Actions.
+    Github,
+    Sarif,
+}
 
 // What the options of any command set; of two that contradict each other the last counts.
 #[derive(Clone, Copy)]
@@ -23,6 +32,20 @@ pub(crate) struct Settings {
     pub(crate) each: bool,
     pub(crate) kind: FileKind,
     pub(crate) output: OutputForm,
+    pub(crate) seeks_locks: bool,
+}
+
+// The form that the word names.
+pub(crate) fn parse_output_form(word: &str) -> Option<OutputForm>
+    ensures { result ≡ output_form_of word.now }
+{
+    match word {
+        "text" => Some(OutputForm::Text),
+        "json" => Some(OutputForm::Json),
+        "github" => Some(OutputForm::Github),
+        "sarif" => Some(OutputForm::Sarif),
+        _ => None,
+    }
 }
 
 // A number from 1.
@@ -78,6 +101,7 @@ impl Settings {
             each: false,
             kind: FileKind::unknown(),
             output: OutputForm::Text,
+            seeks_locks: true,
         }
     }
 
@@ -91,6 +115,7 @@ impl Settings {
             "--each" => settings.each = true,
             "--format" => settings.kind = parse_file_kind(value)?,
             "--output" => settings.output = parse_output_form(value)?,
+            "--no-lock" => settings.seeks_locks = false,
             _ => settings.lines = with_line_option(settings.lines, name, value)?,
         }
         Some(settings)

@@ -44,6 +44,7 @@ fn is_option(word: &str) -> bool
 }
 
 // What stands behind this start of the word.
+#[tactic(auto, using(crate::proofs::RunEnds::behind_is))]
 fn value_behind<'a>(start: &str, word: &'a str) -> Option<&'a str>
     ensures { option_copied result ≡ value_behind start.now word.now }
 {

@@ -1,5 +1,5 @@
 use Rattle.std.proofs.Common.{◌∙◌, ap, map, string_bytes, sym}
-use Rattle.pyver_tool.proofs.SplitWords.{operands_end}
+use Rattle.pyver_tool.proofs.RunEnds.{operands_end}
 use Rattle.pyver_tool.specs.Tasks.{by_last}
 use Rattle.pyver_tool.proofs.command.parse_bump.Goals as goal
 

@@ -1,7 +1,7 @@
 use Rattle.std.proofs.Common.{◌≡◌, ◌∙◌, ◌-◌, ◌++◌, [], ◌∷◌, None, Some, ap, bytes_eq, codes, drop, false, length, map, rules, string_bytes, sym, take, true}
 use Rattle.std.proofs.lemmas.List.{map-append}
 use Rattle.std.specs.Option.{option_map}
-use Rattle.pyver_tool.proofs.SplitWords.{awaits_next, first_word, operand_next, operands_before, options_before, whole_next}
+use Rattle.pyver_tool.proofs.RunEnds.{awaits_next, first_word, operand_next, operands_before, options_before, whole_next}
 use Rattle.pyver_tool.specs.Options.{rows_of}
 use Rattle.pyver_tool.specs.TaskViews.{option_with_value, named_of}
 use Rattle.pyver_tool.specs.SplitWords.{Awaits, Whole, before, is_option, split_words, word_options}

@@ -5,7 +5,7 @@ use Rattle.pyver_tool.proofs.check.CheckResult.check_each.Given as goal
 
 abbrev pub invariant-loop-rest : goal.invariant-loop-rest
 invariant-loop-rest g l =
-    Continues l.kind (g.F.Files.known l.initial.files) (g.F.Files.path l.initial.files) g.R.Read.remaining (map (λ word. word ∷ []) (map string_bytes l.words)) (map (λ word. word ∷ []) (map string_bytes l.rest))
+    Continues l.options (g.F.Files.known l.initial.files) (g.F.Files.path l.initial.files) g.R.Read.remaining (map (λ word. word ∷ []) (map string_bytes l.words)) (map (λ word. word ∷ []) (map string_bytes l.rest))
     (check_result_of l.initial.self) (check_result_of l.self) l.initial.input l.input
     × (g.F.Files.known l.files ≡ g.F.Files.known l.initial.files) × (g.F.Files.path l.files ≡ g.F.Files.path l.initial.files)
 

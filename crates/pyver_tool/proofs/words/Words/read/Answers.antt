@@ -1,5 +1,5 @@
 use Rattle.std.proofs.Common.{◌≡◌, ◌∙◌, ◌-◌, IfOk, ap, bytes_eq, codes, drop, false, length, map, rules, string_bytes, subst, sym, take}
-use Rattle.pyver_tool.proofs.SplitWords.{first_word, named_word}
+use Rattle.pyver_tool.proofs.RunEnds.{first_word, named_word}
 use Rattle.pyver_tool.specs.TaskViews.{words_task}
 use Rattle.pyver_tool.specs.Tasks.{named_task, task_of}
 use Rattle.pyver_tool.proofs.words.Words.read.Goals as goal
