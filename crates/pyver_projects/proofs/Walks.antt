@@ -23,7 +23,7 @@ use Rattle.pyver_findings.proofs.Grouping.{swap}
 use Rattle.pyver_projects.specs.NameMaps.{is_repeated}
 use Rattle.std.specs.Option.{option_copied, option_map_or}
 use Rattle.pyver_findings.specs.Demands.{Demand}
-use Rattle.pyver_projects.specs.Comparing.{contains_locked, excluded, has_name, is_allowed, locked_line, outside}
+use Rattle.pyver_projects.specs.Comparing.{accepts_version, excluded, has_name, is_allowed, locked_line, outside}
 use Rattle.pyver_projects.specs.Meanings.{LockedReading}
 
 pub left_nil : {X : Type 0} (xs ys : List X) → xs ++ ys ≡ [] → xs ≡ []
@@ -304,8 +304,8 @@ module _ {L : Type 0} (view : L → LockedReading) (a : Demand) (ys : List Locke
   has_some e empty = ap not (empty ∙ ap (λ n. n == 0) (sym (length-map group view) ∙ ap length is)) ∙ any-filter (has_name a) ys
 
   -- what is excluded of all is what is excluded of the group
-  pub excluded_of : (if list_any (λ y. contains_locked a.specifiers y.version) (map view group) then [] else outside a.line (flat_map locked_line (map view group))) ≡ excluded a ys
+  pub excluded_of : (if list_any (λ y. accepts_version a.specifiers y.version) (map view group) then [] else outside a.line (flat_map locked_line (map view group))) ≡ excluded a ys
   excluded_of =
-      ap (λ g. if list_any (λ y. contains_locked a.specifiers y.version) g then [] else outside a.line (flat_map locked_line g)) is
-      ∙ ap (λ b. if b then [] else outside a.line (flat_map locked_line (filter (has_name a) ys))) (any-both (has_name a) (λ y. contains_locked a.specifiers y.version) ys)
+      ap (λ g. if list_any (λ y. accepts_version a.specifiers y.version) g then [] else outside a.line (flat_map locked_line g)) is
+      ∙ ap (λ b. if b then [] else outside a.line (flat_map locked_line (filter (has_name a) ys))) (any-both (has_name a) (λ y. accepts_version a.specifiers y.version) ys)
       ∙ ap (λ lines. if list_any (is_allowed a) ys then [] else outside a.line lines) (flat_map-filter (has_name a) locked_line ys)

@@ -45,13 +45,13 @@ abbrev pub has_name : Demand → LockedReading → Bool
 has_name a y = bytes_eq a.name y.name
 
 -- the list contains the version, if there is one
-abbrev pub contains_locked : List Spec → Option Record → Bool
-contains_locked list None = false
-contains_locked list (Some v) = list_matches_literally list v
+abbrev pub accepts_version : List Spec → Option Record → Bool
+accepts_version list None = false
+accepts_version list (Some v) = list_matches_literally list v
 
 -- the package has the name of the requirement, and a version that its list contains
 abbrev pub is_allowed : Demand → LockedReading → Bool
-is_allowed a y = has_name a y && contains_locked a.specifiers y.version
+is_allowed a y = has_name a y && accepts_version a.specifiers y.version
 
 -- the line of a package with a version
 abbrev pub locked_line : LockedReading → List FileLine

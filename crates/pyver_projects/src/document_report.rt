@@ -237,11 +237,11 @@ fn read_documents<'a>(
 /// the strings of a project its requirements that hold together and have no version in common, as `pyver_findings` reports them, each
 /// once: `project.dependencies`; these with each extra; each group with all that it includes, and with these if there is a table
 /// `tool.uv` or `tool.poetry`; and what the build requires. After the packages of a lock, for each of their requirements, whether no
-/// package has its name, and the locked versions of its name, if it contains none. Then what is wrong in each project beside each lock in
-/// its folder, or in the nearest above that has one of its kind, and beside each lock for which that is no project: for each requirement,
-/// in order, whether the lock lacks a package of its name, and the lines of the locked versions of its name with the line of the
-/// requirement, if it contains none. Then the requirements of each project that hold together and have no version in common under two
-/// markers, as `pyver_findings` reports them.
+/// package has its name, unless that is setuptools, distribute, pip or wheel, and the locked versions of its name, if it contains none.
+/// Then what is wrong in each project beside each lock in its folder, or in the nearest above that has one of its kind, and beside each
+/// lock for which that is no project: for each requirement, in order, whether the lock lacks a package of its name, and the lines of the
+/// locked versions of its name with the line of the requirement, if it contains none. Then the requirements of each project that hold
+/// together and have no version in common under two markers, as `pyver_findings` reports them.
 ///
 /// Of `pyproject.toml` these are read: `project.dependencies`, `project.optional-dependencies`, `project.requires-python`,
 /// `project.version`, `dependency-groups` with the names of included groups, and `build-system.requires`; of a lock the names and

@@ -3,7 +3,7 @@ ghost use Rattle.std.specs.Prelude.{◌≡◌, ◌++◌, [], IfOk, if◌then◌e
 ghost use Rattle.std.specs.List.{flat_map, list_any};
 ghost use Rattle.pyver_findings.specs.Reports.{demands_in};
 ghost use Rattle.pyver_findings.specs.Views.{demand_of, file_line_of, finding_of, line_meaning_of};
-ghost use Rattle.pyver_projects.specs.Comparing.{absent, found_beside, found_in_pair, beside_all, compared, compared_demand, contains_locked, excluded, has_all, has_name, is_installer, is_locked, is_needed, lacking, locked_line, missing, outside, unmet};
+ghost use Rattle.pyver_projects.specs.Comparing.{absent, found_beside, found_in_pair, beside_all, compared, compared_demand, accepts_version, excluded, has_all, has_name, is_installer, is_locked, is_needed, lacking, locked_line, missing, outside, unmet};
 ghost use Rattle.pyver_projects.specs.NameMaps.{IsIndex, packages_of};
 ghost use Rattle.pyver_projects.specs.ProjectViews.{document_of, document_reading_of, locked_reading_of, read_pair, section_of, string_reading_of};
 
@@ -70,12 +70,12 @@ fn push_outside(
 }
 
 // The list of the requirement contains the version, if there is one.
-fn contains_locked(
+fn accepts_version(
     alloc: Global,
     demand: &Demand,
     version: &Option<Version>,
 ) -> Result<bool, AllocError>
-    ensures { IfOk result (λ b. b ≡ contains_locked (demand_of demand.now).specifiers version.now) }
+    ensures { IfOk result (λ b. b ≡ accepts_version (demand_of demand.now).specifiers version.now) }
 {
     match version {
         Some(version) => demand.specifiers.matches_literally(alloc, version),
@@ -89,10 +89,10 @@ fn contains_any(
     demand: &Demand,
     group: &[&LockedReading],
 ) -> Result<bool, AllocError>
-    ensures { IfOk result (λ b. b ≡ list_any (λ y. contains_locked (demand_of demand.now).specifiers y.version) (map (λ y. locked_reading_of y.now) group.now)) }
+    ensures { IfOk result (λ b. b ≡ list_any (λ y. accepts_version (demand_of demand.now).specifiers y.version) (map (λ y. locked_reading_of y.now) group.now)) }
 {
     for locked in group {
-        if contains_locked(alloc, demand, &locked.version)? {
+        if accepts_version(alloc, demand, &locked.version)? {
             return Ok(true);
         }
     }
@@ -126,7 +126,7 @@ fn push_excluded(
     demand: &Demand,
     group: &[&LockedReading],
 ) -> Result<(), AllocError>
-    ensures { IfOk result (λ _. map finding_of findings.new.items ≡ map finding_of findings.old.items ++ (if list_any (λ y. contains_locked (demand_of demand.now).specifiers y.version) (map (λ y. locked_reading_of y.now) group.now) then [] else outside (demand_of demand.now).line (flat_map locked_line (map (λ y. locked_reading_of y.now) group.now)))) }
+    ensures { IfOk result (λ _. map finding_of findings.new.items ≡ map finding_of findings.old.items ++ (if list_any (λ y. accepts_version (demand_of demand.now).specifiers y.version) (map (λ y. locked_reading_of y.now) group.now) then [] else outside (demand_of demand.now).line (flat_map locked_line (map (λ y. locked_reading_of y.now) group.now)))) }
 {
     if contains_any(alloc, demand, group)? {
         return Ok(());

@@ -2,7 +2,7 @@ use Rattle.std.proofs.Common.{◌≡◌, ◌++◌, ◌∙◌, [], Bor, IfOk, Lis
 use Rattle.std.proofs.lemmas.List.{append-nil}
 use Rattle.pyver_findings.specs.FileLines.{Finding}
 use Rattle.pyver_findings.specs.Views.{demand_of, finding_of}
-use Rattle.pyver_projects.specs.Comparing.{contains_locked, locked_line, outside}
+use Rattle.pyver_projects.specs.Comparing.{accepts_version, locked_line, outside}
 use Rattle.std.specs.List.{flat_map, list_any}
 use Rattle.pyver_projects.proofs.Walks.{excluded_of, named}
 use Rattle.pyver_projects.specs.NameMaps.{packages_of}
@@ -16,7 +16,7 @@ returns-in-Some c =
     let asked = demand_of c.args.demand.now in
     let group : _ = excluded_of view asked (packages_of c.args.packages.now) c.in-Some.group.now.items (named view _ _ _ _ (Some c.in-Some.group) c.of_name.ensures c.as_slice.ensures.value c.in-Some.is) in
     subst (λ (found : List Finding). IfOk c.push_excluded.result (λ _. map finding_of c.push_excluded.new.findings.items ≡ map finding_of c.args.findings.now.items ++ found))
-    (ap (λ g. if list_any (λ y. contains_locked asked.specifiers y.version) (map view g) then [] else outside asked.line (flat_map locked_line (map view g))) c.as_slice-in-Some.ensures.value ∙ group) c.push_excluded.ensures
+    (ap (λ g. if list_any (λ y. accepts_version asked.specifiers y.version) (map view g) then [] else outside asked.line (flat_map locked_line (map view g))) c.as_slice-in-Some.ensures.value ∙ group) c.push_excluded.ensures
 
 pub returns-in-None : goal.returns-in-None
 returns-in-None c =
