@@ -1,6 +1,7 @@
 -- Where nothing is found, each requirement contains a locked version of its name.
 use Rattle.std.proofs.Common.{◌≡◌, ◌∙◌, ℕ, List, [], ◌∷◌, ◌++◌, Bool, true, false, Option, Some, None, refl, sym, ap, subst, inl, inr, if◌then◌else◌}
 use Rattle.std.specs.List.{AllZip, flat_map, zip}
+use Rattle.std.specs.Ordering.{eq_by_cmp}
 use Rattle.pep440_pick.specs.Names.{same_name}
 use Rattle.pep440_pick.specs.RequirementGrammar.{Needed}
 use Rattle.pep440_rs.proofs.Reading.OneMeaning.{not_both_list, one_list}
@@ -10,11 +11,12 @@ use Rattle.pep440_rs.specs.Specifiers.{Spec}
 use Rattle.pep440_version.proofs.Reading.Agreement.{one_record}
 use Rattle.pep440_version.proofs.Rejections.ExactlyOne.{not_both}
 use Rattle.pep440_version.specs.Grammar.{Derives}
+use Rattle.pep440_version.specs.Key.{record_cmp}
 use Rattle.pep440_version.specs.Record.{Record}
 use Rattle.pyver_findings.specs.Demands.{Demand, line_demand}
 use Rattle.pyver_findings.specs.FileLines.{Conflicting, File, FileLine, Finding}
 use Rattle.pyver_findings.specs.LineMeanings.{Asks, LineMeaning}
-use Rattle.pyver_findings.specs.Reports.{Report, demands_in, empty_report}
+use Rattle.pyver_findings.specs.Reports.{Report, demands_in, empty_report, invalid_in}
 use Rattle.pyver_findings.specs.declared.finding.Conflict.TheVariants.{PinOutside}
 use Rattle.toml.specs.Data.{Members}
 use Rattle.pyver_projects.proofs.Holding.{asks_always, findings_of, not_excluded, some_named}
@@ -22,9 +24,9 @@ use Rattle.pyver_projects.proofs.Walks.{beside_it, beside_pair, left_nil, nil_at
 use Rattle.pyver_projects.specs.Comparing.{absent, is_installer, lacking, found_beside, found_in_pair, beside_all, is_beside, compared, compared_demand, excluded, invalid_package, is_locked, missing, own_report, unmet, with_own_reports}
 use Rattle.pyver_projects.specs.Documents.{has_group_tool, sources}
 use Rattle.pyver_projects.specs.Groups.{groups}
-use Rattle.pyver_projects.specs.Meanings.{Document, DocumentReading, IsDocumentReading, IsLockReading, IsLockedReading, IsProject, IsRequirementReading, IsStringReading, IsVersionReading, LockedReading, StringReading, package_line, requirement_line, string_line}
-use Rattle.pyver_projects.specs.ProjectLaws.{AllContained, AllMet, AllPresent, HasContents, HasTable, NoFindingImpliesContained}
-use Rattle.pyver_projects.specs.ProjectStrings.{LockContents, LockedPackage, LockedRequirement, Section}
+use Rattle.pyver_projects.specs.Meanings.{Document, DocumentReading, IsDocumentReading, IsFileReading, IsLockReading, IsLockedReading, IsProject, IsRequirementReading, IsStringReading, IsVersionReading, LockedReading, StringReading, file_meaning, package_line, requirement_line, string_line}
+use Rattle.pyver_projects.specs.ProjectLaws.{AllContained, AllMet, AllOfVersion, AllPresent, HasContents, HasTable, NoFindingImpliesContained}
+use Rattle.pyver_projects.specs.ProjectStrings.{LockContents, LockedFile, LockedPackage, LockedRequirement, Section}
 use Rattle.pyver_projects.specs.declared.document_kind.DocumentKind.TheVariants.{Lock, Project}
 use Rattle.pyver_projects.specs.declared.document_kind.LockKind.{LockKind}
 
@@ -66,7 +68,7 @@ all_contained documents zs h found file lock kind l s p n v (t, ((k, inside, at)
     let (x, (a, in_x, is_x), rx) = beside_pair IsDocumentReading documents zs project k inside at h in
     let (y, (b, in_y, is_y), ry) = beside_pair IsDocumentReading documents zs locked m below there h in
     let (xs, g, is_project) = project_read file t x table rx in
-    let (ys, ms, q, required, is_lock) = lock_read lock kind l y other ry in
+    let (ys, ms, fs, q, required, files, is_lock) = lock_read lock kind l y other ry in
     let nothing : found_beside (Lock kind) x y ≡ [] =
     counted (is_beside documents project locked) (found_beside (Lock kind) x y) beside
     (nil_at (found_in_pair documents (project, x)) pairs (locked, y) b in_y is_y (nil_at (beside_all documents pairs) pairs (project, x) a in_x is_x found)) in
@@ -86,13 +88,13 @@ asks_for file q list m d (inr (f, r, is)) = absurd (not_both_list q.list list f 
 all_met : (documents : List Document) (zs : List DocumentReading) → AllZip IsDocumentReading documents zs → flat_map (λ x. (own_report x).findings) zs ≡ [] → AllMet documents
 all_met documents zs h own lock kind l q p list v ((m, below, there), other) (i, within, here) (j, under, this) d locks =
     let (y, (b, in_y, is_y), ry) = beside_it IsDocumentReading documents zs (record { kind = Lock kind; file = lock }) m below there h in
-    let (ys, ms, packages, requirements, is_lock) = lock_read lock kind l y other ry in
-    let nothing : flat_map invalid_package ys ++ flat_map (unmet ys) ms ≡ [] = ap (λ (e : DocumentReading). (own_report e).findings) (sym is_lock) ∙ nil_at (λ x. (own_report x).findings) zs y b in_y is_y own in
+    let (ys, ms, fs, packages, requirements, files, is_lock) = lock_read lock kind l y other ry in
+    let nothing : flat_map invalid_package ys ++ (flat_map invalid_in fs ++ flat_map (unmet ys) ms) ≡ [] = ap (λ (e : DocumentReading). (own_report e).findings) (sym is_lock) ∙ nil_at (λ x. (own_report x).findings) zs y b in_y is_y own in
     let (z, (c, in_z, is_z), rz) = beside_it (IsRequirementReading lock.name) l.requirements ms q i within here requirements in
     let n : Needed = record { name = q.name; extras = []; specifiers = list } in
     let asked = line_demand (requirement_line lock.name q) None n in
     let met : unmet ys (Asks asked) ≡ [] =
-    ap (unmet ys) (sym (asks_for lock.name q list z d rz)) ∙ nil_at (unmet ys) ms z c in_z is_z (right_nil (flat_map invalid_package ys) (flat_map (unmet ys) ms) nothing) in
+    ap (unmet ys) (sym (asks_for lock.name q list z d rz)) ∙ nil_at (unmet ys) ms z c in_z is_z (right_nil (flat_map invalid_in fs) (flat_map (unmet ys) ms) (right_nil (flat_map invalid_package ys) (flat_map invalid_in fs ++ flat_map (unmet ys) ms) nothing)) in
     not_excluded lock.name l.packages (requirement_line lock.name q) n ys packages p j under this v locks (right_nil (lacking ys asked) (excluded asked ys) (left_nil (lacking ys asked ++ excluded asked ys) [] met))
 
 not_lacking : (b : Bool) (fs : List Finding) → (b ≡ true → ⊥) → (if b then [] else fs) ≡ [] → fs ≡ []
@@ -102,18 +104,37 @@ not_lacking false fs unlike e = e
 all_present : (documents : List Document) (zs : List DocumentReading) → AllZip IsDocumentReading documents zs → flat_map (λ x. (own_report x).findings) zs ≡ [] → AllPresent documents
 all_present documents zs h own lock kind l q list ((m, below, there), other) (i, within, here) d named =
     let (y, (b, in_y, is_y), ry) = beside_it IsDocumentReading documents zs (record { kind = Lock kind; file = lock }) m below there h in
-    let (ys, ms, packages, requirements, is_lock) = lock_read lock kind l y other ry in
-    let nothing : flat_map invalid_package ys ++ flat_map (unmet ys) ms ≡ [] = ap (λ (e : DocumentReading). (own_report e).findings) (sym is_lock) ∙ nil_at (λ x. (own_report x).findings) zs y b in_y is_y own in
+    let (ys, ms, fs, packages, requirements, files, is_lock) = lock_read lock kind l y other ry in
+    let nothing : flat_map invalid_package ys ++ (flat_map invalid_in fs ++ flat_map (unmet ys) ms) ≡ [] = ap (λ (e : DocumentReading). (own_report e).findings) (sym is_lock) ∙ nil_at (λ x. (own_report x).findings) zs y b in_y is_y own in
     let (z, (c, in_z, is_z), rz) = beside_it (IsRequirementReading lock.name) l.requirements ms q i within here requirements in
     let n : Needed = record { name = q.name; extras = []; specifiers = list } in
     let asked = line_demand (requirement_line lock.name q) None n in
     let met : unmet ys (Asks asked) ≡ [] =
-    ap (unmet ys) (sym (asks_for lock.name q list z d rz)) ∙ nil_at (unmet ys) ms z c in_z is_z (right_nil (flat_map invalid_package ys) (flat_map (unmet ys) ms) nothing) in
+    ap (unmet ys) (sym (asks_for lock.name q list z d rz)) ∙ nil_at (unmet ys) ms z c in_z is_z (right_nil (flat_map invalid_in fs) (flat_map (unmet ys) ms) (right_nil (flat_map invalid_package ys) (flat_map invalid_in fs ++ flat_map (unmet ys) ms) nothing)) in
     some_named lock.name l.packages (requirement_line lock.name q) n ys packages (not_lacking (is_installer asked.name) (absent ys asked) named (left_nil (lacking ys asked) (excluded asked ys) (left_nil (lacking ys asked ++ excluded asked ys) [] met)))
+
+-- nothing is found of a file, whose name has a version, as its package has
+same_as_package : (file : List ℕ) (f : LockedFile) (m : LineMeaning) (r q : Record) (b : Bool) → Derives f.version r → Derives f.written q → IsFileReading file f m → invalid_in m ≡ [] → eq_by_cmp record_cmp r q ≡ b → b ≡ true
+same_as_package file f m r q true d e is none same = refl
+same_as_package file f m r q false d e (inr (inl (k, rejects), is)) none same = absurd (not_both f.version r k d rejects)
+same_as_package file f m r q false d e (inr (inr (k, rejects), is)) none same = absurd (not_both f.written q k e rejects)
+same_as_package file f m r q false d e (inl (s, p, g, h, is)) none same =
+    let other : m ≡ file_meaning file f false = is ∙ (λ i. file_meaning file f (eq_by_cmp record_cmp (one_record f.version s r g d i) (one_record f.written p q h e i))) ∙ ap (file_meaning file f) same in
+    let some : invalid_in (file_meaning file f false) ≡ [] = ap invalid_in (sym other) ∙ none in
+    cc some
+
+all_of_version : (documents : List Document) (zs : List DocumentReading) → AllZip IsDocumentReading documents zs → flat_map (λ x. (own_report x).findings) zs ≡ [] → AllOfVersion documents
+all_of_version documents zs h own lock kind l f r q ((m, below, there), other) (i, within, here) d e =
+    let (y, (b, in_y, is_y), ry) = beside_it IsDocumentReading documents zs (record { kind = Lock kind; file = lock }) m below there h in
+    let (ys, ms, fs, packages, requirements, files, is_lock) = lock_read lock kind l y other ry in
+    let nothing : flat_map invalid_package ys ++ (flat_map invalid_in fs ++ flat_map (unmet ys) ms) ≡ [] = ap (λ (e : DocumentReading). (own_report e).findings) (sym is_lock) ∙ nil_at (λ x. (own_report x).findings) zs y b in_y is_y own in
+    let (z, (c, in_z, is_z), rz) = beside_it (IsFileReading lock.name) l.files fs f i within here files in
+    let none : invalid_in z ≡ [] = nil_at invalid_in fs z c in_z is_z (left_nil (flat_map invalid_in fs) (flat_map (unmet ys) ms) (right_nil (flat_map invalid_package ys) (flat_map invalid_in fs ++ flat_map (unmet ys) ms) nothing)) in
+    same_as_package lock.name f z r q (eq_by_cmp record_cmp r q) d e rz none refl
 
 pub no_finding_means_contained : NoFindingImpliesContained
 no_finding_means_contained documents r (zs, h, fs, cs, finds, is) none =
     let compared = flat_map (beside_all documents (zip documents zs)) (zip documents zs) in
     let found : (with_own_reports empty_report zs).findings ++ compared ≡ [] = left_nil ((with_own_reports empty_report zs).findings ++ compared) fs (sym (ap (λ (e : Report). e.findings) is) ∙ none) in
     let own : flat_map (λ x. (own_report x).findings) zs ≡ [] = sym (findings_of documents empty_report zs) ∙ left_nil (with_own_reports empty_report zs).findings compared found in
-    (all_contained documents zs h (right_nil (with_own_reports empty_report zs).findings compared found), (all_met documents zs h own, all_present documents zs h own))
+    (all_contained documents zs h (right_nil (with_own_reports empty_report zs).findings compared found), (all_met documents zs h own, (all_present documents zs h own, all_of_version documents zs h own)))

@@ -6,6 +6,7 @@ use Rattle.std.proofs.lemmas.List.Folds.{list_any_at}
 use Rattle.std.proofs.lemmas.List.{append-nil, append_assoc}
 use Rattle.std.proofs.lemmas.List.Elements.{All-append, All-cons, All-contains_itself, All-head, All-nil, All-tail, All-weaker}
 use Rattle.std.specs.List.{All, AllZip, Contains, flat_map, list_any, zip}
+use Rattle.std.specs.Ordering.{eq_by_cmp}
 use Rattle.std.specs.Str.{IsUtf8}
 use Rattle.pep440_pick.specs.Names.{normal, same_name}
 use Rattle.pep440_pick.specs.RequirementGrammar.{DerivesRequirement, Needed}
@@ -14,6 +15,7 @@ use Rattle.pep440_version.proofs.Reading.Agreement.{one_record}
 use Rattle.pep440_version.proofs.Rejections.ExactlyOne.{not_both}
 use Rattle.pep440_version.specs.ErrorTexts.{rejection_text}
 use Rattle.pep440_version.specs.Grammar.{Derives}
+use Rattle.pep440_version.specs.Key.{record_cmp}
 use Rattle.pep440_version.specs.Record.{Record}
 use Rattle.pyver_findings.specs.Demands.{Demand, IsSound, line_demand}
 use Rattle.pyver_findings.specs.FileLines.{Conflicting, File, FileLine, Finding, NoRequirement}
@@ -28,9 +30,9 @@ use Rattle.pyver_projects.proofs.Walks.{all_flat, beside_it, beside_some, left_f
 use Rattle.pyver_projects.specs.Comparing.{FindsOfReading, absent, beside_all, compared, compared_demand, documents_report, excluded, found_beside, found_in_pair, has_name, invalid_package, invalid_string, is_allowed, is_beside, is_installer, is_locked, is_needed, lacking, named_line, outside, own_report, unmet, with_own_reports}
 use Rattle.pyver_projects.specs.Documents.{has_group_tool, locked, sources}
 use Rattle.pyver_projects.specs.Groups.{Groups, Inclusion, groups, inclusions, no_group}
-use Rattle.pyver_projects.specs.Meanings.{Document, DocumentReading, IsBroken, IsBrokenReading, IsDocumentReading, IsLock, IsLockedReading, IsProject, IsRequirementReading, IsSectionMeaning, IsSoundDocument, IsSoundString, IsStringReading, IsVersionReading, LockedReading, StringReading, package_line, requirement_line, string_line}
+use Rattle.pyver_projects.specs.Meanings.{Document, DocumentReading, IsBroken, IsBrokenReading, IsDocumentReading, IsFileReading, IsLock, IsLockedReading, IsProject, IsRequirementReading, IsSectionMeaning, IsSoundDocument, IsSoundString, IsStringReading, IsVersionReading, LockedReading, StringReading, file_meaning, package_line, requirement_line, string_line}
 use Rattle.pyver_projects.specs.ProjectLaws.{AlwaysAsks, DocumentFindingsHold, HasLock, HasPackage, HasProject, IsDocumentFinding, IsLineOfName, IsOutside, IsReadable, IsReadableAs, LocksVersion, SomeContained, line_in_part, part_lines}
-use Rattle.pyver_projects.specs.ProjectStrings.{Build, Dependencies, Extra, Group, Include, Invalid, LockContents, LockedPackage, LockedRequirement, ProjectString, Python, Section, Version}
+use Rattle.pyver_projects.specs.ProjectStrings.{Build, Dependencies, Extra, Group, Include, Invalid, LockContents, LockedFile, LockedPackage, LockedRequirement, ProjectString, Python, Section, Version}
 use Rattle.pyver_projects.specs.declared.document_kind.DocumentKind.{DocumentKind}
 use Rattle.pyver_projects.specs.declared.document_kind.DocumentKind.TheVariants.{Lock, Project}
 use Rattle.pyver_projects.specs.declared.document_kind.LockKind.{LockKind}
@@ -418,7 +420,7 @@ module _ (documents : List Document) where
   absent_right lock kind l known q at ys h n false named e =
       let line = requirement_line lock.name q in
       All-cons Right (NoRequirement line (codes "the lock has no package of this name") 0) []
-      (inr (inr (inr (inr (inr (inr (inr (record {
+      (inr (inr (inr (inr (inr (inr (inr (inl (record {
         lock = lock;
         kind = kind;
         contents = l;
@@ -427,7 +429,30 @@ module _ (documents : List Document) where
         within = at;
         none = subst (λ (name : List ℕ). All (λ (p : LockedPackage). same_name name p.name ≡ false) l.packages) named (none_named lock.name l.packages line n l.packages ys h e);
         is = refl;
-      })))))))) (All-nil Right)
+      }))))))))) (All-nil Right)
+
+  -- a file of a package
+  of_file : (lock : File) (kind : LockKind) (l : LockContents) → HasLock documents kind lock l → (p : LockedFile) → Contains l.files p → (m : LineMeaning) → IsFileReading lock.name p m → All Right (invalid_in m)
+  of_file lock kind l known p at m (inr (none, is)) = subst (λ (x : LineMeaning). All Right (invalid_in x)) (sym is) (All-nil Right)
+  of_file lock kind l known p at m (inl (r, q, d, e, is)) = subst (λ (x : LineMeaning). All Right (invalid_in x)) (sym is) (by_order (eq_by_cmp record_cmp r q) refl)
+    where
+      by_order : (b : Bool) → eq_by_cmp record_cmp r q ≡ b → All Right (invalid_in (file_meaning lock.name p b))
+      by_order true same = All-nil Right
+      by_order false differ =
+          All-cons Right _ [] (inr (inr (inr (inr (inr (inr (inr (inr (record {
+            lock = lock;
+            kind = kind;
+            contents = l;
+            locked = p;
+            known = known;
+            within = at;
+            version = r;
+            other = q;
+            derives = d;
+            written = e;
+            differ = differ;
+            is = refl;
+          }))))))))) (All-nil Right)
 
   -- a requirement of a package
   of_requirement : (lock : File) (kind : LockKind) (l : LockContents) → HasLock documents kind lock l → (q : LockedRequirement) → Contains l.requirements q → (ys : List LockedReading) → AllZip (IsLockedReading lock.name) l.packages ys
@@ -464,13 +489,16 @@ module _ (documents : List Document) where
       (all_flat Right invalid_string xs
       (zip_each (IsStringReading (groups t) file) (Contains (sources t)) (λ z. All Right (invalid_string z)) (λ s z at r. of_string file t s z.meaning (known, (text, e)) at r.1) (sources t) xs (All-contains_itself (sources t)) h))
       (conflicts_hold Right file t (λ part f right. inr (inr (inr (inr (inr (inl (record { file = file; table = t; part = part; has = (known, (text, e)); right = inl right }))))))) xs h))
-  of_document (Lock kind) file x known (inr (text, inl (l, e, (ys, ms, g, h, is)))) =
+  of_document (Lock kind) file x known (inr (text, inl (l, e, (ys, ms, fs, g, h, k, is)))) =
       subst (λ (y : DocumentReading). All Right (own_report y).findings) (sym is)
-      (All-append Right (flat_map invalid_package ys) (flat_map (unmet ys) ms)
+      (All-append Right (flat_map invalid_package ys) (flat_map invalid_in fs ++ flat_map (unmet ys) ms)
       (all_flat Right invalid_package ys
       (zip_each (IsLockedReading file.name) (Contains l.packages) (λ z. All Right (invalid_package z)) (λ p z at r. of_package file p p.version z (kind, l, (known, (text, e)), at) refl r) l.packages ys (All-contains_itself l.packages) g))
+      (All-append Right (flat_map invalid_in fs) (flat_map (unmet ys) ms)
+      (all_flat Right invalid_in fs
+      (zip_each (IsFileReading file.name) (Contains l.files) (λ m. All Right (invalid_in m)) (λ p m at r. of_file file kind l (known, (text, e)) p at m r) l.files fs (All-contains_itself l.files) k))
       (all_flat Right (unmet ys) ms
-      (zip_each (IsRequirementReading file.name) (Contains l.requirements) (λ m. All Right (unmet ys m)) (λ q m at r. of_requirement file kind l (known, (text, e)) q at ys g m r) l.requirements ms (All-contains_itself l.requirements) h)))
+      (zip_each (IsRequirementReading file.name) (Contains l.requirements) (λ m. All Right (unmet ys m)) (λ q m at r. of_requirement file kind l (known, (text, e)) q at ys g m r) l.requirements ms (All-contains_itself l.requirements) h))))
 
   -- ---- a project beside a lock
 
@@ -547,9 +575,9 @@ module _ (documents : List Document) where
   nothing_beside Project together xs f = All-nil Right
   nothing_beside (Lock kind) together xs f = All-nil Right
 
-  nothing_of_lock : (kind : DocumentKind) (ys : List LockedReading) (ms : List LineMeaning) (y : DocumentReading) → All Right (found_beside kind (IsLock ys ms) y)
-  nothing_of_lock Project ys ms y = All-nil Right
-  nothing_of_lock (Lock kind) ys ms y = All-nil Right
+  nothing_of_lock : (kind : DocumentKind) (ys : List LockedReading) (ms fs : List LineMeaning) (y : DocumentReading) → All Right (found_beside kind (IsLock ys ms fs) y)
+  nothing_of_lock Project ys ms fs y = All-nil Right
+  nothing_of_lock (Lock kind) ys ms fs y = All-nil Right
 
   broken_right : (kind : DocumentKind) (file : File) (x y : DocumentReading) → IsBrokenReading file x → All Right (found_beside kind x y)
   broken_right kind file x y (line, reason, column, place, is) = subst (λ (z : DocumentReading). All Right (found_beside kind z y)) (sym is) (nothing_broken kind (NoRequirement line reason column) y)
@@ -565,7 +593,7 @@ module _ (documents : List Document) where
     beside_project Project other y at (inr (text, inr (none, broken))) = beside_broken Project other y broken
     beside_project (Lock kind) other y at (inr (text, inr (none, broken))) = beside_broken (Lock kind) other y broken
     beside_project Project other y at (inr (text, inl (u, e, (zs, h, is)))) = subst (λ (z : DocumentReading). All Right (found_beside Project (IsProject (has_group_tool t) xs) z)) (sym is) (All-nil Right)
-    beside_project (Lock kind) other y at (inr (text, inl (u, e, (ys, ms, h, required, is)))) =
+    beside_project (Lock kind) other y at (inr (text, inl (u, e, (ys, ms, fs, h, required, files, is)))) =
         subst (λ (z : DocumentReading). All Right (found_beside (Lock kind) (IsProject (has_group_tool t) xs) z)) (sym is) (pair_right file other kind t u known (at, (text, e)) xs ys g h)
 
   beside_right : (kind : DocumentKind) (file : File) (other : Document) (x y : DocumentReading) → Contains documents (record { kind = kind; file = file }) → Contains documents other → IsDocumentReading (record { kind = kind; file = file }) x
@@ -573,7 +601,7 @@ module _ (documents : List Document) where
   beside_right kind file other x y known at (inl (none, broken)) r = broken_right other.kind file x y broken
   beside_right Project file other x y known at (inr (text, inr (none, broken))) r = broken_right other.kind file x y broken
   beside_right (Lock kind) file other x y known at (inr (text, inr (none, broken))) r = broken_right other.kind file x y broken
-  beside_right (Lock kind) file other x y known at (inr (text, inl (t, e, (ys, ms, g, h, is)))) r = subst (λ (z : DocumentReading). All Right (found_beside other.kind z y)) (sym is) (nothing_of_lock other.kind ys ms y)
+  beside_right (Lock kind) file other x y known at (inr (text, inl (t, e, (ys, ms, fs, g, h, k, is)))) r = subst (λ (z : DocumentReading). All Right (found_beside other.kind z y)) (sym is) (nothing_of_lock other.kind ys ms fs y)
   beside_right Project file other x y known at (inr (text, inl (t, e, (xs, h, is)))) r =
       subst (λ (z : DocumentReading). All Right (found_beside other.kind z y)) (sym is) (beside_project file t (known, (text, e)) xs h other.kind other.file y at r)
 
@@ -614,7 +642,7 @@ module _ (documents : List Document) where
   reading_pairs kind file x known (inl (none, broken)) fs cs finds = broken_pairs file x broken fs cs finds
   reading_pairs Project file x known (inr (text, inr (none, broken))) fs cs finds = broken_pairs file x broken fs cs finds
   reading_pairs (Lock kind) file x known (inr (text, inr (none, broken))) fs cs finds = broken_pairs file x broken fs cs finds
-  reading_pairs (Lock kind) file x known (inr (text, inl (t, e, (ys, ms, g, h, is)))) fs cs finds = none_found fs (subst (λ (z : DocumentReading). FindsOfReading z fs cs) is finds).0
+  reading_pairs (Lock kind) file x known (inr (text, inl (t, e, (ys, ms, files, g, h, k, is)))) fs cs finds = none_found fs (subst (λ (z : DocumentReading). FindsOfReading z fs cs) is finds).0
   reading_pairs Project file x known (inr (text, inl (t, e, (xs, h, is)))) fs cs finds =
       pairs_hold (IsDocumentFinding documents) file t
       (λ part f right. inr (inr (inr (inr (inr (inl (record { file = file; table = t; part = part; has = (known, (text, e)); right = inr right }))))))) xs h fs cs (subst (λ (z : DocumentReading). FindsOfReading z fs cs) is finds)
@@ -636,7 +664,7 @@ sound_document (Lock kind) file x (inr (text, inr (none, broken))) = sound_broke
 sound_document Project file x (inr (text, inl (t, e, (xs, h, is)))) =
     subst (λ (y : DocumentReading). IsSoundDocument y) (sym is)
     (zip_each (IsStringReading (groups t) file) (Contains (sources t)) IsSoundString (λ s z known r. sound_string (groups t) file s z r) (sources t) xs (All-contains_itself (sources t)) h)
-sound_document (Lock kind) file x (inr (text, inl (l, e, (ys, ms, g, h, is)))) = subst (λ (y : DocumentReading). IsSoundDocument y) (sym is) tt
+sound_document (Lock kind) file x (inr (text, inl (l, e, (ys, ms, fs, g, h, k, is)))) = subst (λ (y : DocumentReading). IsSoundDocument y) (sym is) tt
 
 pub sound_documents : (documents : List Document) (xs : List DocumentReading) → AllZip IsDocumentReading documents xs → All IsSoundDocument xs
 sound_documents documents xs h = zip_each IsDocumentReading (Contains documents) IsSoundDocument (λ d x known r. sound_document d.kind d.file x r) documents xs (All-contains_itself documents) h

@@ -1,3 +1,4 @@
+pub mod LockedFiles
 pub mod Walks
 pub mod Holding
 pub mod GroupWalks

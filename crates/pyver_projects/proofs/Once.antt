@@ -2,6 +2,7 @@
 use Rattle.std.proofs.Common.{Bool, ◌≡◌, ◌∙◌, ℕ, ◌+◌, List, [], ◌++◌, Option, Some, None, length, sym, ap, subst, inl, inr}
 use Rattle.std.proofs.lemmas.List.Elements.{All-contains_itself}
 use Rattle.std.specs.List.{Contains}
+use Rattle.std.specs.Ordering.{eq_by_cmp}
 use Rattle.pep440_pick.specs.Names.{normal}
 use Rattle.pep440_rs.proofs.Reading.OneMeaning.{not_both_list, one_list, one_list_refusal}
 use Rattle.pep440_rs.specs.ErrorTexts.{specifier_rejection_text}
@@ -9,6 +10,7 @@ use Rattle.pep440_rs.specs.Lists.ListGrammar.{PieceRejection}
 use Rattle.pep440_rs.specs.Specifiers.{Spec}
 use Rattle.pep440_version.proofs.Reading.Agreement.{one_record}
 use Rattle.pep440_version.proofs.Rejections.ExactlyOne.{not_both, one_refusal}
+use Rattle.pep440_version.specs.Key.{record_cmp}
 use Rattle.pep440_version.specs.ErrorTexts.{rejection_text}
 use Rattle.pep440_version.specs.Record.{Record}
 use Rattle.pep440_version.specs.Rejections.{Rejection}
@@ -23,9 +25,9 @@ use Rattle.pyver_projects.proofs.Walks.{zip_once}
 use Rattle.pyver_projects.specs.Comparing.{FindsOfReading, documents_report, with_found}
 use Rattle.pyver_projects.specs.Documents.{has_group_tool, sources}
 use Rattle.pyver_projects.specs.Groups.{Groups, groups, inclusions}
-use Rattle.pyver_projects.specs.Meanings.{DocumentReading, IsBroken, IsDocumentReading, IsLock, IsLockReading, IsLockedReading, IsProject, IsProjectReading, IsRequirementReading, IsSectionMeaning, IsStringReading, IsVersionReading, LockedReading, StringReading, requirement_line, string_line}
+use Rattle.pyver_projects.specs.Meanings.{DocumentReading, IsBroken, IsDocumentReading, IsFileReading, IsLock, IsLockReading, IsLockedReading, IsProject, IsProjectReading, IsRequirementReading, IsSectionMeaning, IsStringReading, IsVersionReading, LockedReading, StringReading, file_meaning, requirement_line, string_line}
 use Rattle.pyver_projects.specs.ProjectLaws.{DocumentReportsOnce, IsReadable, IsReadableAs}
-use Rattle.pyver_projects.specs.ProjectStrings.{Build, Dependencies, Extra, Group, Include, Invalid, LockContents, LockedRequirement, Section, Python, ProjectString, Version}
+use Rattle.pyver_projects.specs.ProjectStrings.{Build, Dependencies, Extra, Group, Include, Invalid, LockContents, LockedFile, LockedRequirement, Section, Python, ProjectString, Version}
 use Rattle.pyver_projects.specs.declared.document_kind.DocumentKind.{DocumentKind}
 use Rattle.pyver_projects.specs.declared.document_kind.DocumentKind.TheVariants.{Lock, Project}
 use Rattle.pyver_findings.proofs.MarkerPairs.{IsOnce, IsTold, each_once, each_told, names_once, names_tell, no_causes}
@@ -78,11 +80,21 @@ one_requirement file q x y (inl (l, d, a)) (inr (f, r, b)) = absurd (not_both_li
 one_requirement file q x y (inr (f, r, a)) (inl (l, d, b)) = absurd (not_both_list q.list l f d r)
 one_requirement file q x y (inr (f, r, a)) (inr (g, s, b)) = a ∙ sym b
 
+one_file : (file : List ℕ) (f : LockedFile) (x y : LineMeaning) → IsFileReading file f x → IsFileReading file f y → x ≡ y
+one_file file f x y (inl (r, q, d, e, a)) (inl (s, p, g, h, b)) =
+    a ∙ (λ i. file_meaning file f (eq_by_cmp record_cmp (one_record f.version r s d g i) (one_record f.written q p e h i))) ∙ sym b
+one_file file f x y (inl (r, q, d, e, a)) (inr (inl (j, k), b)) = absurd (not_both f.version r j d k)
+one_file file f x y (inl (r, q, d, e, a)) (inr (inr (j, k), b)) = absurd (not_both f.written q j e k)
+one_file file f x y (inr (inl (j, k), a)) (inl (r, q, d, e, b)) = absurd (not_both f.version r j d k)
+one_file file f x y (inr (inr (j, k), a)) (inl (r, q, d, e, b)) = absurd (not_both f.written q j e k)
+one_file file f x y (inr (none, a)) (inr (other, b)) = a ∙ sym b
+
 one_lock : (file : List ℕ) (l : LockContents) (x y : DocumentReading) → IsLockReading file l x → IsLockReading file l y → x ≡ y
-one_lock file l x y (ys, ms, g, h, a) (zs, ns, j, k, b) =
+one_lock file l x y (ys, ms, fs, g, h, i, a) (zs, ns, gs, j, k, m, b) =
     let packages = zip_once (IsLockedReading file) (Contains l.packages) (λ p v w known q r. one_version _ p.name p.version v w q r) l.packages ys zs (All-contains_itself l.packages) g j in
     let requirements = zip_once (IsRequirementReading file) (Contains l.requirements) (λ p v w known q r. one_requirement file p v w q r) l.requirements ms ns (All-contains_itself l.requirements) h k in
-    a ∙ (λ i. IsLock (packages i) (requirements i)) ∙ sym b
+    let files = zip_once (IsFileReading file) (Contains l.files) (λ p v w known q r. one_file file p v w q r) l.files fs gs (All-contains_itself l.files) i m in
+    a ∙ (λ n. IsLock (packages n) (requirements n) (files n)) ∙ sym b
 
 one_document : (kind : DocumentKind) (file : File) (x y : DocumentReading) → IsReadableAs kind file → IsDocumentReading (record { kind = kind; file = file }) x → IsDocumentReading (record { kind = kind; file = file }) y → x ≡ y
 one_document Project file x y (t, (text, e)) (inl (none, a)) b = absurd (none text)
@@ -109,13 +121,13 @@ part_told together xs part fs cs finds = names_tell (part_demands together (incl
 
 reading_told : (x : DocumentReading) (fs : List Finding) (cs : List Cause) → FindsOfReading x fs cs → IsTold cs
 reading_told (IsProject together xs) fs cs (found, finds, is) = each_told (FindsOfPart together xs) (part_told together xs) (parts xs) found cs finds
-reading_told (IsLock ys ms) fs cs (is, also) = inl also
+reading_told (IsLock ys ms files) fs cs (is, also) = inl also
 reading_told (IsBroken f) fs cs (is, also) = inl also
 
 reading_once : (x : DocumentReading) → IsOnce (FindsOfReading x)
 reading_once (IsProject together xs) fs gs (found, finds, is) (others, also, so) =
     is ∙ ap (with_new same_finding []) (each_once (FindsOfPart together xs) (λ part. names_once (part_demands together (inclusions (sections xs)) part xs)) (parts xs) found others finds also) ∙ sym so
-reading_once (IsLock ys ms) fs gs (is, _) (so, _) = is ∙ sym so
+reading_once (IsLock ys ms files) fs gs (is, _) (so, _) = is ∙ sym so
 reading_once (IsBroken f) fs gs (is, _) (so, _) = is ∙ sym so
 
 in_report : (a r : Report) (fs : List Finding) (cs : List Cause) → r ≡ with_found a fs cs → Contains (a.left_out ++ cs) cause.Undecided → IsUndecided r

@@ -3,7 +3,7 @@ use Rattle.std.proofs.Common.{Bool, Err, IfOk, IfSome, List, None, Ok, Option, R
 use Rattle.std.proofs.lemmas.Bool.{true≢false}
 use Rattle.std.proofs.lemmas.List.Elements.{All-append, All-cons, All-head, All-nil, All-tail}
 use Rattle.pyver_findings.specs.NamedFiles.{folder}
-use Rattle.pyver_projects.specs.Documents.{has_slash, last_section}
+use Rattle.pyver_projects.specs.LockedFiles.{has_slash, last_section}
 use Rattle.std.specs.List.{All, AllZip, Contains, flat_map, list_any, zip, filter}
 use Rattle.std.proofs.lemmas.List.{map-append, take_more, length-map}
 use Rattle.std.proofs.lemmas.Slice.Zip.{all_zipped_more}

@@ -89,7 +89,7 @@ unmet ys m = flat_map (λ a. lacking ys a ++ excluded a ys) (demands_in m)
 -- the report of a document by itself: the strings or the packages count as lines
 abbrev pub own_report : DocumentReading → Report
 own_report (IsProject together xs) = record { findings = flat_map invalid_string xs ++ project_conflicts together xs; ignored = []; lines = length xs; files = 1; left_out = flat_map left_out_string xs }
-own_report (IsLock ys ms) = record { findings = flat_map invalid_package ys ++ flat_map (unmet ys) ms; ignored = []; lines = length ys; files = 1; left_out = flat_map left_out_in ms }
+own_report (IsLock ys ms fs) = record { findings = flat_map invalid_package ys ++ (flat_map invalid_in fs ++ flat_map (unmet ys) ms); ignored = []; lines = length ys; files = 1; left_out = flat_map left_out_in ms }
 own_report (IsBroken f) = record { findings = f ∷ []; ignored = []; lines = 0; files = 1; left_out = [] }
 
 -- a report, and after it those of documents
@@ -132,7 +132,7 @@ compared kind ys x = if is_locked x.section then flat_map (compared_demand kind 
 
 -- the first document beside the second, of this kind, if that is a project and this a lock
 abbrev pub found_beside : DocumentKind → DocumentReading → DocumentReading → List Finding
-found_beside (Lock kind) (IsProject together xs) (IsLock ys ms) = flat_map (compared kind ys) xs
+found_beside (Lock kind) (IsProject together xs) (IsLock ys ms fs) = flat_map (compared kind ys) xs
 found_beside kind x y = []
 
 -- ---- which lock is compared with which project
@@ -191,7 +191,7 @@ documents_report documents xs = with_findings (with_own_reports empty_report xs)
 -- of a project the requirements that hold together under two markers
 abbrev pub FindsOfReading : DocumentReading → List Finding → List Cause → Type 0
 FindsOfReading (IsProject together xs) fs cs = FindsOfParts together xs fs cs
-FindsOfReading (IsLock ys ms) fs cs = FindsNothing fs cs
+FindsOfReading (IsLock ys ms files) fs cs = FindsNothing fs cs
 FindsOfReading (IsBroken f) fs cs = FindsNothing fs cs
 
 -- a report with more findings and causes

@@ -3,6 +3,7 @@ use Rattle.std.specs.Prelude.{Bool, List, None, Option, Some, [], bytes_eq, code
 use Rattle.std.specs.List.{ends_with, flat_map, list_any, starts_with}
 use Rattle.pep440_pick.specs.Names.{is_name, normal}
 use Rattle.toml.specs.Data.{Data, Members, as_str, get, get_member}
+use Rattle.pyver_projects.specs.LockedFiles.{files_from, last_section}
 use Rattle.pyver_projects.specs.PackageRequirements.{requirements_from}
 use Rattle.pyver_projects.specs.ProjectStrings.{Build, Dependencies, Extra, Group, Include, Invalid, LockContents, LockedPackage, ProjectString, Python, Section, Version, header_lines}
 use Rattle.pyver_projects.specs.TomlValues.{entries, inside, is_array_or_none, is_table_or_none, listed, text_in}
@@ -163,7 +164,7 @@ package_from e = package_in e.0 (text_in (get (codes "name") e.1)) (text_in (get
 
 -- what the tables of packages have
 abbrev pub table_contents : List (ℕ × Data) → LockContents
-table_contents tables = record { packages = flat_map package_from tables; requirements = flat_map requirements_from tables }
+table_contents tables = record { packages = flat_map package_from tables; requirements = flat_map requirements_from tables; files = flat_map files_from tables }
 
 -- what a lock has in the array of tables at this key, with these lines of headers
 abbrev pub contents : List ℕ → List ℕ → Members → LockContents
@@ -172,14 +173,6 @@ contents lines key document = table_contents (numbered_tables lines 0 (listed (g
 -- the path is this name, or ends with it after a `/`
 abbrev pub ends_path : List ℕ → List ℕ → List ℕ → Bool
 ends_path path name after_slash = bytes_eq path name || ends_with nat_eq path after_slash
-
-abbrev pub has_slash : List ℕ → Bool
-has_slash path = list_any (λ b. b == 47) path
-
--- what stands after the last `/`, or all
-abbrev pub last_section : List ℕ → List ℕ
-last_section [] = []
-last_section (b ∷ rest) = if has_slash (b ∷ rest) then last_section rest else b ∷ rest
 
 -- the first path names a file in the folder of the second, or in one above
 abbrev pub lies_above : List ℕ → List ℕ → Bool
@@ -222,7 +215,7 @@ toml_contents key header text = option_map (contents (header_lines header text) 
 
 -- what `Pipfile.lock` has: only packages
 abbrev pub pipfile_contents : List ℕ → JsonData → LockContents
-pipfile_contents text document = record { packages = member_packages text document; requirements = [] }
+pipfile_contents text document = record { packages = member_packages text document; requirements = []; files = [] }
 
 -- what a lock with this text has, if it is TOML, or JSON, of a known format
 abbrev pub locked : LockKind → List ℕ → Option LockContents

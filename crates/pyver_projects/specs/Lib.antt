@@ -2,6 +2,7 @@ pub mod ProjectStrings
 pub mod TomlValues
 pub mod PipfileLocks
 pub mod PackageRequirements
+pub mod LockedFiles
 pub mod Documents
 pub mod Groups
 pub mod Meanings

@@ -1,12 +1,14 @@
 -- What a string of `pyproject.toml`, a locked package and a document are to the check.
-use Rattle.std.specs.Prelude.{◌≡◌, ◌⊎◌, ℕ, ◌+◌, List, [], ◌++◌, Bool, Option, Some, None, codes, length, ⊤}
+use Rattle.std.specs.Prelude.{◌≡◌, ◌⊎◌, ℕ, ◌+◌, List, [], ◌++◌, Bool, true, false, Option, Some, None, codes, length, ⊤}
 use Rattle.std.specs.List.{AllZip, All}
+use Rattle.std.specs.Ordering.{eq_by_cmp}
 use Rattle.std.specs.Str.{IsUtf8}
 use Rattle.pep440_pick.specs.Names.{normal}
 use Rattle.pep440_rs.specs.Lists.ListGrammar.{DerivesList, PieceRejection, RejectsList}
 use Rattle.pep440_rs.specs.Specifiers.{Spec}
 use Rattle.pep440_version.specs.ErrorTexts.{rejection_text}
 use Rattle.pep440_version.specs.Grammar.{Derives}
+use Rattle.pep440_version.specs.Key.{record_cmp}
 use Rattle.pep440_version.specs.Record.{Record}
 use Rattle.pep440_version.specs.Rejections.{Rejection, Rejects}
 use Rattle.pyver_findings.specs.Demands.{line_demand, IsSound}
@@ -19,7 +21,7 @@ use Rattle.toml.specs.Parse.{parse_document}
 use Rattle.pyver_projects.specs.Documents.{has_group_tool, locked, sources}
 use Rattle.pyver_projects.specs.Groups.{Groups, groups, include_meaning, no_group}
 use Rattle.pyver_projects.specs.PackageRequirements.{package_text, requirement_text}
-use Rattle.pyver_projects.specs.ProjectStrings.{Build, Dependencies, Extra, Group, Include, Invalid, LockContents, LockedPackage, LockedRequirement, ProjectString, Python, Section, Version, first_line, number_or_one}
+use Rattle.pyver_projects.specs.ProjectStrings.{Build, Dependencies, Extra, Group, Include, Invalid, LockContents, LockedFile, LockedPackage, LockedRequirement, ProjectString, Python, Section, Version, first_line, number_or_one}
 use Rattle.pyver_projects.specs.declared.document_kind.DocumentKind.{DocumentKind}
 use Rattle.pyver_projects.specs.declared.document_kind.DocumentKind.TheVariants.{Lock, Project}
 use Rattle.pyver_findings.specs.Reports.{demands_in}
@@ -86,17 +88,37 @@ abbrev pub IsRequirementReading : List ℕ → LockedRequirement → LineMeaning
 IsRequirementReading file q x = ((list : List Spec) × DerivesList q.list list × (x ≡ Asks (line_demand (requirement_line file q) None (record { name = q.name; extras = []; specifiers = list }))))
     ⊎ ((f : PieceRejection) × RejectsList q.list f × (x ≡ LeftOut cause.OtherSyntax))
 
+-- ---- files of locked packages
+
+-- the line of the package of a file
+abbrev pub file_package_line : List ℕ → LockedFile → FileLine
+file_package_line file f = record { file = file; number = f.line; text = package_text f.name (Some f.version); comment = [] }
+
+-- what a file is, in whose name the version of its package stands, or another one
+abbrev pub file_meaning : List ℕ → LockedFile → Bool → LineMeaning
+file_meaning file f true = AsksNothing
+file_meaning file f false = IsNone (NoRequirement (file_package_line file f) (codes "its file " ++ (f.file ++ codes " has another version")) (length f.name + 1))
+
+-- the string is no version
+abbrev pub IsNoVersion : List ℕ → Type 0
+IsNoVersion text = (f : Rejection) × Rejects text f
+
+-- what it is: compared with its package, if both are versions
+abbrev pub IsFileReading : List ℕ → LockedFile → LineMeaning → Type 0
+IsFileReading file f x = ((r q : Record) × Derives f.version r × Derives f.written q × (x ≡ file_meaning file f (eq_by_cmp record_cmp r q)))
+    ⊎ ((IsNoVersion f.version ⊎ IsNoVersion f.written) × (x ≡ AsksNothing))
+
 -- ---- documents
 
 pub record Document : Type 0 where
   pub kind : DocumentKind
   pub file : File
 
--- a document that was read: of a project whether its groups hold together with its dependencies, and its strings; the packages of a lock and
--- what they require; or why it was not read
+-- a document that was read: of a project whether its groups hold together with its dependencies, and its strings; the packages of a lock,
+-- what they require and their files; or why it was not read
 pub data DocumentReading : Type 0 where
   IsProject : Bool → List StringReading → DocumentReading
-  IsLock : List LockedReading → List LineMeaning → DocumentReading
+  IsLock : List LockedReading → (requirements files : List LineMeaning) → DocumentReading
   IsBroken : Finding → DocumentReading
 
 -- what a project with this table is
@@ -105,7 +127,8 @@ IsProjectReading file t x = (xs : List StringReading) × AllZip (IsStringReading
 
 -- what a lock is that has this
 abbrev pub IsLockReading : List ℕ → LockContents → DocumentReading → Type 0
-IsLockReading file l x = (ys : List LockedReading) × (ms : List LineMeaning) × AllZip (IsLockedReading file) l.packages ys × AllZip (IsRequirementReading file) l.requirements ms × (x ≡ IsLock ys ms)
+IsLockReading file l x = (ys : List LockedReading) × (ms fs : List LineMeaning) × AllZip (IsLockedReading file) l.packages ys × AllZip (IsRequirementReading file) l.requirements ms
+    × AllZip (IsFileReading file) l.files fs × (x ≡ IsLock ys ms fs)
 
 -- the document is not read, for some reason at some position of it
 abbrev pub IsBrokenReading : File → DocumentReading → Type 0
@@ -131,5 +154,5 @@ IsSoundString x = All IsSound (demands_in x.meaning)
 -- and the lists of a project
 abbrev pub IsSoundDocument : DocumentReading → Type 0
 IsSoundDocument (IsProject together xs) = All IsSoundString xs
-IsSoundDocument (IsLock ys ms) = ⊤
+IsSoundDocument (IsLock ys ms fs) = ⊤
 IsSoundDocument (IsBroken f) = ⊤

@@ -2,6 +2,7 @@
 -- name; there is one report.
 use Rattle.std.specs.Prelude.{◌≡◌, ◌⊎◌, ℕ, ◌+◌, List, [], ◌∷◌, Bool, false, true, IsTrue, if◌then◌else◌, Option, None, Some, codes, length}
 use Rattle.std.specs.List.{All, AllZip, Contains, filter, flat_map}
+use Rattle.std.specs.Ordering.{eq_by_cmp}
 use Rattle.std.specs.Str.{IsUtf8}
 use Rattle.pep440_pick.specs.Names.{normal, same_name}
 use Rattle.pep440_pick.specs.RequirementGrammar.{DerivesRequirement, Needed}
@@ -10,6 +11,7 @@ use Rattle.pep440_rs.specs.LiteralMatching.{list_matches_literally}
 use Rattle.pep440_rs.specs.Specifiers.{Spec}
 use Rattle.pep440_version.specs.ErrorTexts.{rejection_text}
 use Rattle.pep440_version.specs.Grammar.{Derives}
+use Rattle.pep440_version.specs.Key.{record_cmp}
 use Rattle.pep440_version.specs.Record.{Record}
 use Rattle.pep440_version.specs.Rejections.{Rejection, Rejects}
 use Rattle.pyver_findings.specs.Conflicts.{has_same_name, under}
@@ -25,8 +27,8 @@ use Rattle.toml.specs.Parse.{parse_document}
 use Rattle.pyver_projects.specs.Comparing.{IsDocumentsReport, is_beside, is_installer, is_locked, is_needed}
 use Rattle.pyver_projects.specs.Documents.{has_group_tool, locked, sources}
 use Rattle.pyver_projects.specs.Groups.{groups}
-use Rattle.pyver_projects.specs.Meanings.{Document, IsSectionMeaning, IsStringReading, StringReading, package_line, requirement_line, string_line}
-use Rattle.pyver_projects.specs.ProjectStrings.{LockContents, LockedPackage, LockedRequirement, ProjectString, Section}
+use Rattle.pyver_projects.specs.Meanings.{Document, IsSectionMeaning, IsStringReading, StringReading, file_meaning, package_line, requirement_line, string_line}
+use Rattle.pyver_projects.specs.ProjectStrings.{LockContents, LockedFile, LockedPackage, LockedRequirement, ProjectString, Section}
 use Rattle.pyver_projects.specs.Together.{has_group, holds_in, part_demands, section_part}
 use Rattle.pyver_projects.specs.declared.document_kind.DocumentKind.{DocumentKind}
 use Rattle.pyver_projects.specs.declared.document_kind.DocumentKind.TheVariants.{Lock, Project}
@@ -129,6 +131,21 @@ pub record IsUnread (documents : List Document) (f : Finding) : Type 0 where
   pub place : line.file ≡ document.file.name
   pub is : f ≡ NoRequirement line reason column
 
+-- a file of a package of a lock has another version in its name than the package, and both are versions
+pub record IsOtherFile (documents : List Document) (f : Finding) : Type 0 where
+  pub lock : File
+  pub kind : LockKind
+  pub contents : LockContents
+  pub locked : LockedFile
+  pub known : HasLock documents kind lock contents
+  pub within : Contains contents.files locked
+  pub version : Record
+  pub other : Record
+  pub derives : Derives locked.version version
+  pub written : Derives locked.written other
+  pub differ : eq_by_cmp record_cmp version other ≡ false
+  pub is : IsNone f ≡ file_meaning lock.name locked false
+
 -- the project needs a package, and some lock has none of its name
 pub record IsMissing (documents : List Document) (f : Finding) : Type 0 where
   pub file : File
@@ -191,7 +208,7 @@ pub record IsAbsent (documents : List Document) (f : Finding) : Type 0 where
 -- the finding is right
 abbrev pub IsDocumentFinding : List Document → Finding → Type 0
 IsDocumentFinding documents f = IsInvalidString documents f
-    ⊎ (IsInvalidPackage documents f ⊎ (IsUnread documents f ⊎ (IsMissing documents f ⊎ (IsExcluded documents f ⊎ (IsConflict documents f ⊎ (IsUnmet documents f ⊎ IsAbsent documents f))))))
+    ⊎ (IsInvalidPackage documents f ⊎ (IsUnread documents f ⊎ (IsMissing documents f ⊎ (IsExcluded documents f ⊎ (IsConflict documents f ⊎ (IsUnmet documents f ⊎ (IsAbsent documents f ⊎ IsOtherFile documents f)))))))
 
 -- each finding is right
 abbrev pub DocumentFindingsHold : Type 0
@@ -215,9 +232,14 @@ abbrev pub AllPresent : List Document → Type 0
 AllPresent documents = (lock : File) (kind : LockKind) (l : LockContents) (q : LockedRequirement) (list : List Spec) → HasLock documents kind lock l → Contains l.requirements q → DerivesList q.list list
     → ¬ IsTrue (is_installer (normal q.name)) → (p : LockedPackage) × Contains l.packages p × IsTrue (same_name q.name p.name)
 
+-- each file of a package of a lock whose name has a version has that of the package
+abbrev pub AllOfVersion : List Document → Type 0
+AllOfVersion documents = (lock : File) (kind : LockKind) (l : LockContents) (f : LockedFile) (r q : Record) → HasLock documents kind lock l → Contains l.files f → Derives f.version r → Derives f.written q
+    → eq_by_cmp record_cmp r q ≡ true
+
 -- where nothing is found, they do
 abbrev pub NoFindingImpliesContained : Type 0
-NoFindingImpliesContained = (documents : List Document) (r : Report) → IsDocumentsReport documents r → r.findings ≡ [] → AllContained documents × (AllMet documents × AllPresent documents)
+NoFindingImpliesContained = (documents : List Document) (r : Report) → IsDocumentsReport documents r → r.findings ≡ [] → AllContained documents × (AllMet documents × (AllPresent documents × AllOfVersion documents))
 
 -- the requirements of the part of each string of each project that have one name, and the same marker or none, have a version in common
 abbrev pub AllSatisfiable : List Document → Type 0

@@ -36,10 +36,20 @@ pub record LockedRequirement : Type 0 where
   pub name : List ℕ
   pub list : List ℕ
 
+-- a file of a locked package, in whose name a version stands: the number of the line of that package, its name and its version, the name of
+-- the file, and the version in it, as they are written
+pub record LockedFile : Type 0 where
+  pub line : ℕ
+  pub name : List ℕ
+  pub version : List ℕ
+  pub file : List ℕ
+  pub written : List ℕ
+
 -- what is read of a lock
 pub record LockContents : Type 0 where
   pub packages : List LockedPackage
   pub requirements : List LockedRequirement
+  pub files : List LockedFile
 
 -- a quote of TOML or JSON: `"` or `'`
 abbrev pub is_string_quote : ℕ → Bool

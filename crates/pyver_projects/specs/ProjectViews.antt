@@ -3,13 +3,14 @@ use Rattle.std.specs.Prelude.{map, option_map, string_bytes}
 use Rattle.pyver_findings.specs.Views.{file_line_of, file_of, finding_of, line_meaning_of}
 use Rattle.pyver_projects.specs.Groups.{Inclusion}
 use Rattle.pyver_projects.specs.Meanings.{Document, DocumentReading, IsBroken, IsLock, IsProject, LockedReading, StringReading}
-use Rattle.pyver_projects.specs.ProjectStrings.{Build, Dependencies, Extra, Group, Include, Invalid, LockContents, LockedPackage, LockedRequirement, Section, Python, ProjectString, Version}
+use Rattle.pyver_projects.specs.ProjectStrings.{Build, Dependencies, Extra, Group, Include, Invalid, LockContents, LockedFile, LockedPackage, LockedRequirement, Section, Python, ProjectString, Version}
 use Rattle.pyver_projects.specs.declared.document_kind.Document.{Document as DocumentValue}
 use Rattle.pyver_projects.specs.declared.document_reading.DocumentReading.{DocumentReading as DocumentReadingValue}
 use Rattle.pyver_projects.specs.declared.document_reading.ReadDocument.{ReadDocument as ReadDocumentValue}
 use Rattle.pyver_projects.specs.declared.document_reading.DocumentReading.TheVariants as reading
 use Rattle.pyver_projects.specs.declared.groups.Inclusion.{Inclusion as InclusionValue}
 use Rattle.pyver_projects.specs.declared.locked_package.LockContents.{LockContents as ContentsValue}
+use Rattle.pyver_projects.specs.declared.locked_package.LockedFile.{LockedFile as FileValue}
 use Rattle.pyver_projects.specs.declared.locked_package.LockedPackage.{LockedPackage as LockedValue}
 use Rattle.pyver_projects.specs.declared.locked_package.LockedRequirement.{LockedRequirement as RequirementValue}
 use Rattle.pyver_projects.specs.declared.locked_reading.LockedReading.{LockedReading as LockedReadingValue}
@@ -40,8 +41,11 @@ locked_of l = record { line = l.line; name = string_bytes l.name; version = opti
 abbrev pub requirement_of : RequirementValue → LockedRequirement
 requirement_of q = record { line = q.line; requirer = q.requirer.items; name = string_bytes q.name; list = string_bytes q.list }
 
+abbrev pub locked_file_of : FileValue → LockedFile
+locked_file_of f = record { line = f.line; name = string_bytes f.name; version = string_bytes f.version; file = string_bytes f.file; written = string_bytes f.written }
+
 abbrev pub contents_of : ContentsValue → LockContents
-contents_of l = record { packages = map locked_of l.packages.items; requirements = map requirement_of l.requirements.items }
+contents_of l = record { packages = map locked_of l.packages.items; requirements = map requirement_of l.requirements.items; files = map locked_file_of l.files.items }
 
 abbrev pub string_reading_of : StringReadingValue → StringReading
 string_reading_of x = record { section = section_of x.section; meaning = line_meaning_of x.meaning }
@@ -54,7 +58,7 @@ document_of d = record { kind = d.kind; file = file_of d.file }
 
 abbrev pub document_reading_of : DocumentReadingValue → DocumentReading
 document_reading_of (reading.Project p) = IsProject p.together (map string_reading_of p.strings.items)
-document_reading_of (reading.Lock ys ms) = IsLock (map locked_reading_of ys.items) (map line_meaning_of ms.items)
+document_reading_of (reading.Lock l) = IsLock (map locked_reading_of l.packages.items) (map line_meaning_of l.requirements.items) (map line_meaning_of l.files.items)
 document_reading_of (reading.Broken f) = IsBroken (finding_of f)
 
 -- what a document was read as

@@ -4,7 +4,8 @@ ghost use Rattle.std.specs.Prelude.{◌≡◌, ◌==◌, count_by, map};
 ghost use Rattle.pyver_findings.specs.NamedFiles.{folder};
 ghost use Rattle.pyver_projects.specs.Comparing.{is_below, is_beside, is_nearer, is_project, same_kind, same_lock_kind};
 ghost use Rattle.pyver_projects.specs.ProjectViews.{document_of};
-ghost use Rattle.pyver_projects.specs.Documents.{ends_path, has_slash, lies_above, is_document_path, is_named_pylock, kind_of_path, kind_of_word, last_section};
+ghost use Rattle.pyver_projects.specs.Documents.{ends_path, lies_above, is_document_path, is_named_pylock, kind_of_path, kind_of_word};
+ghost use Rattle.pyver_projects.specs.LockedFiles.{has_slash, last_section};
 
 use pyver_findings::SourceFile;
 

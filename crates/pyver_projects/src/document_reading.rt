@@ -10,7 +10,7 @@ ghost use Rattle.toml.specs.View.{table_view};
 use crate::document_kind::{Document, DocumentKind, LockKind};
 use crate::groups::{Groups, group_names, has_group_tool, string_inclusions};
 use crate::locked_package::LockContents;
-use crate::locked_reading::{LockedReading, read_packages};
+use crate::locked_reading::{LockedReading, read_files, read_packages};
 use crate::pipfile_lock::pipfile_contents;
 use crate::place::{position_of, reject_document};
 use crate::project::project_strings;
@@ -31,12 +31,21 @@ pub(crate) struct ProjectReading {
     pub(crate) strings: Vec<StringReading>,
 }
 
+// A lock that was read.
+#[derive(Drop)]
+pub(crate) struct LockReading {
+    pub(crate) packages: Vec<LockedReading>,
+    // What the packages require of one another.
+    pub(crate) requirements: Vec<LineMeaning>,
+    // What is wrong with their files.
+    pub(crate) files: Vec<LineMeaning>,
+}
+
 // A document that was read.
 #[derive(Drop)]
 pub(crate) enum DocumentReading {
     Project(ProjectReading),
-    // The packages of a lock, and what they require of one another.
-    Lock(Vec<LockedReading>, Vec<LineMeaning>),
+    Lock(LockReading),
     // Why it was not read.
     Broken(Finding),
 }
@@ -76,7 +85,12 @@ fn read_lock(
 {
     let packages = read_packages(alloc, name, contents.packages.as_slice())?;
     let requirements = read_requirements(alloc, name, contents.requirements.as_slice())?;
-    Ok(DocumentReading::Lock(packages, requirements))
+    let files = read_files(alloc, name, contents.files.as_slice())?;
+    Ok(DocumentReading::Lock(LockReading {
+        packages,
+        requirements,
+        files,
+    }))
 }
 
 fn reject_toml(

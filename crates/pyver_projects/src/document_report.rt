@@ -1,16 +1,19 @@
 //! The report of documents.
 ghost use Rattle.std.specs.Prelude.{◌≡◌, ◌++◌, IfOk, map};
 ghost use Rattle.std.specs.List.{All, AllZip, flat_map, zip};
-ghost use Rattle.pyver_findings.specs.Reports.{empty_report, left_out_in};
+ghost use Rattle.pyver_findings.specs.Reports.{empty_report, invalid_in, left_out_in};
 ghost use Rattle.pyver_findings.specs.MarkerPairs.{FindsOfEach};
 ghost use Rattle.pyver_findings.specs.Views.{AddsFound, finding_of, line_meaning_of, report_of};
 ghost use Rattle.pyver_projects.specs.Comparing.{FindsOfReading, IsDocumentsReport, beside_all, invalid_package, invalid_string, left_out_string, own_report, with_own_reports};
-ghost use Rattle.pyver_projects.specs.Meanings.{IsDocumentReading, IsLock, IsProject, IsSoundDocument, IsSoundString};
+ghost use Rattle.pyver_projects.specs.Meanings.{IsDocumentReading, IsProject, IsSoundDocument, IsSoundString};
 ghost use Rattle.pyver_projects.specs.Together.{project_conflicts};
+ghost use Rattle.pyver_projects.specs.declared.document_reading.DocumentReading.TheVariants as reading;
 ghost use Rattle.pyver_projects.specs.ProjectViews.{document_of, document_reading_of, locked_reading_of, read_pair, reading_in, string_reading_of};
 
 use crate::document_kind::Document;
-use crate::document_reading::{DocumentReading, ProjectReading, ReadDocument, read_document};
+use crate::document_reading::{
+    DocumentReading, LockReading, ProjectReading, ReadDocument, read_document,
+};
 use crate::lock_comparison::{push_beside_all, push_unmet_requirements};
 use crate::locked_reading::LockedReading;
 use crate::string_reading::StringReading;
@@ -84,6 +87,25 @@ fn push_packages(
     Ok(())
 }
 
+// Adds what is wrong with a file, if something is.
+fn push_file(findings: &mut Vec<Finding>, file: LineMeaning) -> Result<(), AllocError>
+    ensures { IfOk result (λ _. map finding_of findings.new.items ≡ map finding_of findings.old.items ++ invalid_in (line_meaning_of file)) }
+{
+    if let LineMeaning::IsNone(finding) = file {
+        findings.push(finding)?;
+    }
+    Ok(())
+}
+
+fn push_files(findings: &mut Vec<Finding>, files: Vec<LineMeaning>) -> Result<(), AllocError>
+    ensures { IfOk result (λ _. map finding_of findings.new.items ≡ map finding_of findings.old.items ++ flat_map invalid_in (map line_meaning_of files.items)) }
+{
+    for file in files {
+        push_file(findings, file)?;
+    }
+    Ok(())
+}
+
 // Adds why the requirement is left out, if it is.
 fn push_left_out(causes: &mut Vec<Cause>, requirement: &LineMeaning) -> Result<(), AllocError>
     ensures { IfOk result (λ _. causes.new.items ≡ causes.old.items ++ left_out_in (line_meaning_of requirement.now)) }
@@ -106,19 +128,22 @@ fn push_all_left_out(
     Ok(())
 }
 
-fn report_packages(
-    alloc: Global,
-    packages: Vec<LockedReading>,
-    requirements: &[LineMeaning],
-) -> Result<Report, AllocError>
-    ensures { IfOk result (λ r. report_of r ≡ own_report (IsLock (map locked_reading_of packages.items) (map line_meaning_of requirements.now))) }
+fn report_lock(alloc: Global, lock: LockReading) -> Result<Report, AllocError>
+    ensures { IfOk result (λ r. report_of r ≡ own_report (document_reading_of (reading.Lock lock))) }
 {
+    let LockReading {
+        packages,
+        requirements,
+        files,
+    } = lock;
+    let requirements = requirements.as_slice();
     let mut report = Report::empty(alloc);
     report.lines = packages.len();
     report.files = 1;
     let mut unmet = Vec::new(alloc);
     push_unmet_requirements(alloc, &mut unmet, packages.as_slice(), requirements)?;
     push_packages(&mut report.findings, packages)?;
+    push_files(&mut report.findings, files)?;
     report.findings.append(&mut unmet)?;
     push_all_left_out(&mut report.left_out, requirements)?;
     Ok(report)
@@ -134,9 +159,7 @@ fn report_document(alloc: Global, document: DocumentReading) -> Result<Report, A
             let ProjectReading { together, strings } = project;
             report_strings(alloc, together, strings)
         }
-        DocumentReading::Lock(packages, requirements) => {
-            report_packages(alloc, packages, requirements.as_slice())
-        }
+        DocumentReading::Lock(lock) => report_lock(alloc, lock),
         DocumentReading::Broken(finding) => {
             let mut report = Report::empty(alloc);
             report.files = 1;
@@ -193,7 +216,7 @@ fn push_reading_pairs(
             findings.append(&mut pairs)?;
             Ok(())
         }
-        DocumentReading::Lock(_, _) => Ok(()),
+        DocumentReading::Lock(_) => Ok(()),
         DocumentReading::Broken(_) => Ok(()),
     }
 }

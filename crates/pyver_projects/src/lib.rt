@@ -12,6 +12,7 @@ mod groups;
 mod inclusion_index;
 pub mod laws;
 mod lock_comparison;
+mod locked_file;
 mod locked_package;
 mod locked_reading;
 mod name_index;

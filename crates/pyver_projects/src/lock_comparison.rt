@@ -349,10 +349,10 @@ fn push_beside(
     let DocumentReading::Project(project) = document else {
         return Ok(());
     };
-    let DocumentReading::Lock(packages, _) = other else {
+    let DocumentReading::Lock(lock) = other else {
         return Ok(());
     };
-    let packages = PackageIndex::new(alloc, packages.as_slice())?;
+    let packages = PackageIndex::new(alloc, lock.packages.as_slice())?;
     let lock = IndexedLock { kind, packages };
     push_all_compared(alloc, findings, &lock, project.strings.as_slice())
 }

@@ -26,11 +26,25 @@ pub(crate) struct LockedRequirement {
     pub(crate) list: String,
 }
 
+// A file of a package in a lock, in whose name a version stands.
+#[derive(Drop)]
+pub(crate) struct LockedFile {
+    // The number of the line of the package, from 1.
+    pub(crate) line: u64,
+    // The name and the version of the package.
+    pub(crate) name: String,
+    pub(crate) version: String,
+    // The name of the file, and the version in it.
+    pub(crate) file: String,
+    pub(crate) written: String,
+}
+
 // What is read of a lock.
 #[derive(Drop)]
 pub(crate) struct LockContents {
     pub(crate) packages: Vec<LockedPackage>,
     pub(crate) requirements: Vec<LockedRequirement>,
+    pub(crate) files: Vec<LockedFile>,
 }
 
 // The name and the version.

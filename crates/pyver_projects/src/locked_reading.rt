@@ -1,19 +1,20 @@
-//! What locked packages are to the check.
-ghost use Rattle.std.specs.Prelude.{◌≡◌, ◌+◌, IfOk, IfSome, None, Some, length, map, option_map, string_bytes};
+//! What locked packages and their files are to the check.
+ghost use Rattle.std.specs.Prelude.{◌≡◌, ◌+◌, IfOk, IfSome, MatchOption, None, Some, false, length, map, option_map, string_bytes};
 ghost use Rattle.std.specs.List.{AllZip};
 ghost use Rattle.pep440_pick.specs.Names.{normal};
 ghost use Rattle.pep440_version.specs.Errors.{error_rejection};
 ghost use Rattle.pep440_version.specs.ErrorTexts.{error_text, rejection_text};
+ghost use Rattle.pep440_version.specs.Grammar.{Derives};
 ghost use Rattle.pep440_version.specs.Rejections.{Rejection};
 ghost use Rattle.pyver_findings.specs.FileLines.{NoRequirement};
-ghost use Rattle.pyver_findings.specs.Views.{file_line_of};
-ghost use Rattle.pyver_projects.specs.Meanings.{IsLockedReading, IsVersionReading, package_line};
-ghost use Rattle.pyver_projects.specs.ProjectViews.{locked_of, locked_reading_of};
+ghost use Rattle.pyver_findings.specs.Views.{file_line_of, line_meaning_of};
+ghost use Rattle.pyver_projects.specs.Meanings.{IsFileReading, IsLockedReading, IsNoVersion, IsVersionReading, file_meaning, file_package_line, package_line};
+ghost use Rattle.pyver_projects.specs.ProjectViews.{locked_file_of, locked_of, locked_reading_of};
 
-use crate::locked_package::{LockedPackage, package_text};
+use crate::locked_package::{LockedFile, LockedPackage, package_text};
 use crate::version_reason::version_reason;
 use pep440_rs::{Version, VersionParseError};
-use pyver_findings::{FileLine, Finding, normalize_name};
+use pyver_findings::{FileLine, Finding, LineMeaning, normalize_name};
 use std::alloc::{AllocError, Global};
 
 // A package, and what is wrong with it.
@@ -129,6 +130,77 @@ pub(crate) fn read_packages(
     let mut readings = Vec::new(alloc);
     for locked in packages {
         readings.push(read_package(alloc, file, locked)?)?;
+    }
+    Ok(readings)
+}
+
+// The version, unless the string is none.
+fn parse_locked_version(alloc: Global, text: &str) -> Result<Option<Version>, AllocError>
+    ensures { IfOk result (λ found. MatchOption found (IsNoVersion text.now) (λ version. Derives text.now version)) }
+{
+    match Version::from_str(alloc, text) {
+        Ok(version) => Ok(Some(version)),
+        Err(error) if error.is_out_of_memory() => Err(AllocError),
+        Err(_) => Ok(None),
+    }
+}
+
+// The line of the package of the file.
+fn file_package_line(
+    alloc: Global,
+    name: &[u8],
+    locked: &LockedFile,
+) -> Result<FileLine, AllocError>
+    ensures { IfOk result (λ line. file_line_of line ≡ file_package_line name.now (locked_file_of locked.now)) }
+{
+    Ok(FileLine {
+        file: Vec::from_slice(alloc, name)?,
+        number: locked.line,
+        text: package_text(alloc, locked.name.as_str(), Some(locked.version.as_str()))?,
+        comment: Vec::new(alloc),
+    })
+}
+
+// That the file has another version than its package.
+fn reject_file(alloc: Global, name: &[u8], locked: &LockedFile) -> Result<LineMeaning, AllocError>
+    ensures { IfOk result (λ x. line_meaning_of x ≡ file_meaning name.now (locked_file_of locked.now) false) }
+{
+    let mut reason = String::from_str(alloc, "its file ")?;
+    reason.push_str(locked.file.as_str())?;
+    reason.push_str(" has another version")?;
+    let line = file_package_line(alloc, name, locked)?;
+    let column = locked.name.len() + 1;
+    Ok(LineMeaning::IsNone(Finding::NoRequirement(line, reason, column)))
+}
+
+// What the file is.
+fn read_file(alloc: Global, name: &[u8], locked: &LockedFile) -> Result<LineMeaning, AllocError>
+    ensures { IfOk result (λ x. IsFileReading name.now (locked_file_of locked.now) (line_meaning_of x)) }
+{
+    let Some(version) = parse_locked_version(alloc, locked.version.as_str())? else {
+        return Ok(LineMeaning::AsksNothing);
+    };
+    let Some(written) = parse_locked_version(alloc, locked.written.as_str())? else {
+        return Ok(LineMeaning::AsksNothing);
+    };
+    if version == written {
+        Ok(LineMeaning::AsksNothing)
+    } else {
+        reject_file(alloc, name, locked)
+    }
+}
+
+// What the files are, of the lock with this name.
+pub(crate) fn read_files(
+    alloc: Global,
+    name: &[u8],
+    files: &[LockedFile],
+) -> Result<Vec<LineMeaning>, AllocError>
+    ensures { IfOk result (λ xs. AllZip (IsFileReading name.now) (map locked_file_of files.now) (map line_meaning_of xs.items)) }
+{
+    let mut readings = Vec::new(alloc);
+    for locked in files {
+        readings.push(read_file(alloc, name, locked)?)?;
     }
     Ok(readings)
 }

@@ -156,9 +156,9 @@ pub(crate) fn pipfile_contents(
     push_section(alloc, &mut packages, lines, None, "default", document)?;
     let before = document.get("default");
     push_section(alloc, &mut packages, lines, before, "develop", document)?;
-    let requirements = Vec::new(alloc);
     Ok(LockContents {
         packages,
-        requirements,
+        requirements: Vec::new(alloc),
+        files: Vec::new(alloc),
     })
 }

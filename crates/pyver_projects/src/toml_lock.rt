@@ -5,6 +5,7 @@ ghost use Rattle.pyver_projects.specs.ProjectStrings.{header_lines};
 ghost use Rattle.pyver_projects.specs.ProjectViews.{contents_of, locked_of};
 ghost use Rattle.toml.specs.View.{table_view, view};
 
+use crate::locked_file::push_locked_files;
 use crate::locked_package::{LockContents, LockedPackage, copy_text};
 use crate::package_requirements::push_requirements;
 use crate::place::header_lines;
@@ -60,14 +61,17 @@ fn read_tables(alloc: Global, lines: &[u64], tables: &[Value]) -> Result<LockCon
 {
     let mut packages = Vec::new(alloc);
     let mut requirements = Vec::new(alloc);
+    let mut files = Vec::new(alloc);
     for (index, item) in tables.iter().enumerate() {
         let line = line_or_one(lines, index);
         push_item(alloc, &mut packages, line, item)?;
         push_requirements(alloc, &mut requirements, line, item)?;
+        push_locked_files(alloc, &mut files, line, item)?;
     }
     Ok(LockContents {
         packages,
         requirements,
+        files,
     })
 }
 
