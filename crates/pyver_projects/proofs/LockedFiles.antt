@@ -3,13 +3,12 @@ use Rattle.std.proofs.Common.{Bool, Bor, List, None, Option, Some, [], ap, arith
 use Rattle.std.proofs.lemmas.Bool.Decides.{Decides-eqb}
 use Rattle.std.proofs.lemmas.List.{take-append-drop}
 use Rattle.std.proofs.lemmas.Slice.Eq.{ends_is}
-use Rattle.std.proofs.lemmas.Str.Pattern.{IsSplitOnceResult, NoCharPasses-char, drop_at_char, ends_text, split_parts}
+use Rattle.std.proofs.lemmas.Str.Pattern.{NoCharPasses-char, drop_at_char, ends_text}
 use Rattle.std.specs.List.{ends_with, list_any}
 use Rattle.std.specs.Option.{MatchOption}
 use Rattle.std.specs.Str.{NoCharPasses}
 use Rattle.std.specs.Str.Pattern.{FindsTextSuffix, RFindsChar, StripsSuffix}
-use Rattle.pep440_pick.proofs.Joined.{has_none, split_is}
-use Rattle.pep440_pick.specs.RequirementReading.{split_at_byte}
+use Rattle.pep440_pick.proofs.Joined.{has_none}
 use Rattle.pyver_projects.specs.LockedFiles.{has_slash, last_section, without_ending}
 
 -- ---- the last section of a path
@@ -48,10 +47,7 @@ section_is path (Some y) h x e =
     let whole : path ≡ take h.0 path ++ (47 ∷ drop h.1 path) = sym (take-append-drop h.0 path) ∙ ap (λ l. take h.0 path ++ l) (drop_at_char 47 path h.0 h.1 h.2.1 (omega arith)) in
     sym same ∙ h.4 ∙ sym (ap last_section whole ∙ after_slash (take h.0 path) (drop h.1 path) (no_slash (drop h.1 path) h.2.0))
 
--- ---- at a dash, and at an ending
-
-pub dash_parts : (text : List ℕ) (r : Option (Bor (List ℕ) × Bor (List ℕ))) → IsSplitOnceResult 45 text r → option_map (λ x. (x.0.now, x.1.now)) r ≡ split_at_byte 45 text
-dash_parts text r h = split_is 45 text r (split_parts 45 text r h (omega arith))
+-- ---- an ending
 
 pub ending_is : (ending text : List ℕ) (r : Option (Bor (List ℕ))) → MatchOption r (FindsTextSuffix ending text None) (λ x. StripsSuffix (FindsTextSuffix ending) text x.now) → option_map (λ t. t.now) r ≡ without_ending ending text
 ending_is ending text None h = ap (λ b. if b then Some (take (length text - length ending) text) else None) (ends_text false ending text h)

@@ -1,7 +1,12 @@
 -- What locked packages require of one another.
-use Rattle.std.specs.Prelude.{ℕ, ◌&&◌, List, [], ◌∷◌, ◌++◌, Bool, Option, Some, None, bytes_eq, codes, if◌then◌else◌, is_none}
+use Rattle.std.specs.Prelude.{ℕ, ◌&&◌, List, [], ◌∷◌, ◌++◌, Bool, Option, Some, None, bytes_eq, codes, if◌then◌else◌, is_none, not, option_map}
 use Rattle.std.specs.List.{flat_map}
 use Rattle.std.specs.Option.{unwrap_or}
+use Rattle.pep440_pick.specs.Names.{is_name, is_name_byte}
+use Rattle.pep440_pick.specs.RequirementGrammar.{has_byte}
+use Rattle.pep440_pick.specs.RequirementReading.{split_at_byte}
+use Rattle.pep440_rs.specs.Blanks.{opens}
+use Rattle.pep440_version.specs.Reading.{lead, past}
 use Rattle.toml.specs.Data.{Data, as_str, get}
 use Rattle.pyver_projects.specs.ProjectStrings.{LockedRequirement}
 use Rattle.pyver_projects.specs.TomlValues.{entries, inside, listed, text_in}
@@ -24,6 +29,14 @@ abbrev pub requirement_text : List ℕ → List ℕ → List ℕ
 requirement_text name [] = name
 requirement_text name (b ∷ list) = name ++ (codes " " ++ (b ∷ list))
 
+-- what follows the extras of a name, if it has some
+abbrev pub past_extras : List ℕ → List ℕ
+past_extras rest = if opens 91 rest then unwrap_or (option_map (λ p. p.1) (split_at_byte 93 rest)) rest else rest
+
+-- a string that begins with a name (PEP 508), and has no marker and no URL
+abbrev pub is_plain_string : List ℕ → Bool
+is_plain_string text = is_name (lead is_name_byte text) && (not (has_byte 59 text) && not (has_byte 64 text))
+
 module _ (line : ℕ) (requirer : List ℕ) where
   -- a requirement of this name with this list
   abbrev pub requirement : List ℕ → List ℕ → LockedRequirement
@@ -39,9 +52,18 @@ module _ (line : ℕ) (requirer : List ℕ) where
   named_requirement None list = []
   named_requirement (Some name) list = requirement name list ∷ []
 
+  -- PDM's requirement: a string, unless it has a marker or a URL
+  abbrev pub string_requirement : List ℕ → List LockedRequirement
+  string_requirement text = if is_plain_string text then requirement (lead is_name_byte text) (past_extras (past is_name_byte text)) ∷ [] else []
+
+  abbrev pub requirement_of_text : Option (List ℕ) → List LockedRequirement
+  requirement_of_text None = []
+  requirement_of_text (Some text) = string_requirement text
+
   -- an item of uv's `requires-dist`, or of an array `dependencies`, unless it has a marker
   abbrev pub item_requirements : Data → List LockedRequirement
-  item_requirements d = if lacks (codes "marker") d then named_requirement (text_in (get (codes "name") d)) (unwrap_or (text_in (get (codes "specifier") d)) []) else []
+  item_requirements d = requirement_of_text (as_str d)
+      ++ (if lacks (codes "marker") d then named_requirement (text_in (get (codes "name") d)) (unwrap_or (text_in (get (codes "specifier") d)) []) else [])
 
   -- Poetry's requirement of this name: a list, or a table with one, unless it has markers or is optional
   abbrev pub version_requirements : List ℕ → Data → List LockedRequirement
@@ -52,7 +74,7 @@ module _ (line : ℕ) (requirer : List ℕ) where
   abbrev pub member_requirements : List ℕ × Data → List LockedRequirement
   member_requirements e = version_requirements e.0 e.1 ++ flat_map (version_requirements e.0) (listed (Some e.1))
 
-  -- the requirements of uv, of uv and of PEP 751, and of Poetry
+  -- the requirements of uv, of uv, of PDM and of PEP 751, and of Poetry
   abbrev pub table_requirements : Data → List LockedRequirement
   table_requirements d = flat_map item_requirements (listed (inside (codes "requires-dist") (get (codes "metadata") d)))
       ++ (flat_map item_requirements (listed (get (codes "dependencies") d))

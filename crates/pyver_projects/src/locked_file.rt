@@ -1,5 +1,5 @@
 //! The files of locked packages, and the versions in their names.
-ghost use Rattle.std.specs.Prelude.{◌≡◌, ◌++◌, IfOk, map, option_map, option_to_list};
+ghost use Rattle.std.specs.Prelude.{◌<◌, ◌≡◌, ◌++◌, IfOk, map, option_map, option_to_list};
 ghost use Rattle.std.specs.Option.{option_or};
 ghost use Rattle.pep440_pick.specs.RequirementReading.{split_at_byte};
 ghost use Rattle.pyver_projects.specs.LockedFiles.{archive_version, file_name, file_path, file_version, files_after, files_by, files_from, files_in, last_section, named_file, new_file, version_from, wheel_version, without_ending};
@@ -32,11 +32,12 @@ fn last_section(path: &str) -> &str
     }
 }
 
-// What stands before the first dash, and what after it.
-fn split_at_dash(text: &str) -> Option<(&str, &str)>
-    ensures { option_map (λ x. (x.0.now, x.1.now)) result ≡ split_at_byte 45 text.now }
+// What stands before the first such character, and what after it.
+pub(crate) fn split_at_byte(text: &str, character: char) -> Option<(&str, &str)>
+    requires { character < 128 }
+    ensures { option_map (λ x. (x.0.now, x.1.now)) result ≡ split_at_byte character text.now }
 {
-    text.split_once('-')
+    text.split_once(character)
 }
 
 // The string before the ending, if it ends so.
@@ -52,7 +53,7 @@ fn wheel_version(rest: &str) -> Option<&str>
     ensures { option_map (λ t. t.now) result ≡ wheel_version rest.now }
 {
     let tagged = without_ending(rest, ".whl")?;
-    let (version, _) = split_at_dash(tagged)?;
+    let (version, _) = split_at_byte(tagged, '-')?;
     Some(version)
 }
 
@@ -70,7 +71,7 @@ fn archive_version(rest: &str) -> Option<&str>
 fn file_version<'a>(name: &str, file: &'a str) -> Option<&'a str>
     ensures { option_map (λ t. t.now) result ≡ file_version name.now file.now }
 {
-    let (project, rest) = split_at_dash(file)?;
+    let (project, rest) = split_at_byte(file, '-')?;
     if !same_name(project, name) {
         return None;
     }

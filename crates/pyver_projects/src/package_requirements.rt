@@ -1,14 +1,19 @@
 //! What locked packages require of one another, as it is written.
-ghost use Rattle.std.specs.Prelude.{◌≡◌, ◌∷◌, ◌++◌, [], IfOk, map, option_map, string_bytes};
-ghost use Rattle.std.specs.List.{flat_map};
+ghost use Rattle.std.specs.Prelude.{◌≡◌, ◌∷◌, ◌++◌, ◌≤◌, [], IfOk, length, map, option_map, string_bytes};
+ghost use Rattle.std.specs.List.{flat_map, prefix_len};
 ghost use Rattle.std.specs.Option.{unwrap_or};
-ghost use Rattle.pyver_projects.specs.PackageRequirements.{is_unconditional, item_requirements, lacks, member_requirements, plain_list, requirement, requirement_in, named_requirement, requirements_by, requirements_from, table_requirements, version_requirements};
+ghost use Rattle.pep440_pick.specs.Names.{is_name_byte};
+ghost use Rattle.pep440_rs.specs.Blanks.{opens};
+ghost use Rattle.pep440_version.specs.Reading.{lead, past};
+ghost use Rattle.pyver_projects.specs.PackageRequirements.{is_unconditional, item_requirements, lacks, member_requirements, plain_list, requirement, requirement_in, is_plain_string, named_requirement, past_extras, requirement_of_text, requirements_by, string_requirement, requirements_from, table_requirements, version_requirements};
 ghost use Rattle.pyver_projects.specs.ProjectViews.{requirement_of};
 ghost use Rattle.pyver_projects.specs.TomlValues.{entries, listed, members_list};
 ghost use Rattle.toml.specs.View.{table_view, view};
 
+use crate::locked_file::split_at_byte;
 use crate::locked_package::{LockedRequirement, package_text};
 use crate::table::{inside, items, table, text};
+use pep440_pick::is_name;
 use std::alloc::{AllocError, Global};
 use toml::{Table, Value};
 
@@ -86,6 +91,87 @@ fn text_or_empty(text: Option<&str>) -> &str
     }
 }
 
+fn count_name_bytes(text: &[u8]) -> usize
+    ensures count { result ≡ prefix_len is_name_byte text.now }
+    ensures inside { result ≤ length text.now }
+{
+    text.iter().take_while(|byte| is_name_byte(**byte)).count()
+}
+
+fn is_name_byte(byte: u8) -> bool
+    ensures { result ≡ is_name_byte byte }
+{
+    byte.is_ascii_alphanumeric() || matches!(byte, b'-' | b'_' | b'.')
+}
+
+// The longest run of bytes of names at the start, and what follows it.
+fn split_name(text: &str) -> (&str, &str)
+    ensures name { result.0.now ≡ lead is_name_byte text.now }
+    ensures rest { result.1.now ≡ past is_name_byte text.now }
+{
+    text.split_at(count_name_bytes(text.as_bytes()))
+}
+
+fn has_extras(rest: &[u8]) -> bool
+    ensures { result ≡ opens 91 rest.now }
+{
+    matches!(rest, [b'[', ..])
+}
+
+// What follows the extras of a name, if it has some.
+fn past_extras(rest: &str) -> &str
+    ensures { result.now ≡ past_extras rest.now }
+{
+    if !has_extras(rest.as_bytes()) {
+        return rest;
+    }
+    match split_at_byte(rest, ']') {
+        Some((_, list)) => list,
+        None => rest,
+    }
+}
+
+fn is_plain_string(text: &str, name: &str) -> bool
+    requires { name.now ≡ lead is_name_byte text.now }
+    ensures { result ≡ is_plain_string text.now }
+{
+    let bytes = text.as_bytes();
+    is_name(name) && !bytes.contains(&b';') && !bytes.contains(&b'@')
+}
+
+// Adds PDM's requirement, unless it has a marker or a URL.
+fn push_string(
+    alloc: Global,
+    found: &mut Vec<LockedRequirement>,
+    line: u64,
+    requirer: &[u8],
+    text: &str,
+) -> Result<(), AllocError>
+    ensures { IfOk result (λ _. map requirement_of found.new.items ≡ map requirement_of found.old.items ++ string_requirement line requirer.now text.now) }
+{
+    let (name, rest) = split_name(text);
+    if !is_plain_string(text, name) {
+        return Ok(());
+    }
+    push_requirement(alloc, found, line, requirer, name, past_extras(rest))
+}
+
+// Adds the requirement of this string, if there is one.
+fn push_text(
+    alloc: Global,
+    found: &mut Vec<LockedRequirement>,
+    line: u64,
+    requirer: &[u8],
+    text: Option<&str>,
+) -> Result<(), AllocError>
+    ensures { IfOk result (λ _. map requirement_of found.new.items ≡ map requirement_of found.old.items ++ requirement_of_text line requirer.now (option_map (λ t. t.now) text.entry)) }
+{
+    match text {
+        Some(text) => push_string(alloc, found, line, requirer, text),
+        None => Ok(()),
+    }
+}
+
 // Adds the item of uv's `requires-dist`, or of an array `dependencies`, unless it has a marker.
 fn push_item(
     alloc: Global,
@@ -96,6 +182,7 @@ fn push_item(
 ) -> Result<(), AllocError>
     ensures { IfOk result (λ _. map requirement_of found.new.items ≡ map requirement_of found.old.items ++ item_requirements line requirer.now (view item.now)) }
 {
+    push_text(alloc, found, line, requirer, item.as_str())?;
     if !lacks(item, "marker") {
         return Ok(());
     }
@@ -206,7 +293,7 @@ fn push_dependencies(
     }
 }
 
-// Adds the requirements of uv, of uv and of PEP 751, and of Poetry.
+// Adds the requirements of uv, of uv, of PDM and of PEP 751, and of Poetry.
 fn push_table(
     alloc: Global,
     found: &mut Vec<LockedRequirement>,
