@@ -99,16 +99,21 @@ with_own_reports a (x ∷ xs) = with_own_reports (joined_report a (own_report x)
 
 -- ---- a project beside a lock
 
--- the lock has what extras and groups need, as that of uv
-abbrev pub has_all : LockKind → Bool
-has_all Uv = true
-has_all _ = false
+-- the lock has what the groups need, as that of uv
+abbrev pub locks_groups : LockKind → Bool
+locks_groups Uv = true
+locks_groups _ = false
+
+-- the lock has what the extras need, as those of uv and Poetry
+abbrev pub locks_extras : LockKind → Bool
+locks_extras Poetry = true
+locks_extras kind = locks_groups kind
 
 -- a lock has the dependencies of the project,
 abbrev pub is_needed : LockKind → Section → Bool
 is_needed kind Dependencies = true
-is_needed kind (Extra name) = has_all kind
-is_needed kind (Group name) = has_all kind
+is_needed kind (Extra name) = locks_extras kind
+is_needed kind (Group name) = locks_groups kind
 is_needed kind _ = false
 
 -- and may have what its extras and groups need, but not what builds it

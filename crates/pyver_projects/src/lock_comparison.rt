@@ -3,7 +3,7 @@ ghost use Rattle.std.specs.Prelude.{◌≡◌, ◌++◌, [], IfOk, if◌then◌e
 ghost use Rattle.std.specs.List.{flat_map, list_any};
 ghost use Rattle.pyver_findings.specs.Reports.{demands_in};
 ghost use Rattle.pyver_findings.specs.Views.{demand_of, file_line_of, finding_of, line_meaning_of};
-ghost use Rattle.pyver_projects.specs.Comparing.{absent, found_beside, found_in_pair, beside_all, compared, compared_demand, accepts_version, excluded, has_all, has_name, is_installer, is_locked, is_needed, lacking, locked_line, missing, outside, unmet};
+ghost use Rattle.pyver_projects.specs.Comparing.{absent, found_beside, found_in_pair, beside_all, compared, compared_demand, accepts_version, excluded, locks_extras, locks_groups, has_name, is_installer, is_locked, is_needed, lacking, locked_line, missing, outside, unmet};
 ghost use Rattle.pyver_projects.specs.NameMaps.{IsIndex, packages_of};
 ghost use Rattle.pyver_projects.specs.ProjectViews.{document_of, document_reading_of, locked_reading_of, read_pair, section_of, string_reading_of};
 
@@ -24,10 +24,16 @@ struct IndexedLock<'a> {
     packages: PackageIndex<'a>,
 }
 
-fn has_all(kind: LockKind) -> bool
-    ensures { result ≡ has_all kind }
+fn locks_groups(kind: LockKind) -> bool
+    ensures { result ≡ locks_groups kind }
 {
     matches!(kind, LockKind::Uv)
+}
+
+fn locks_extras(kind: LockKind) -> bool
+    ensures { result ≡ locks_extras kind }
+{
+    matches!(kind, LockKind::Uv | LockKind::Poetry)
 }
 
 fn is_needed(kind: LockKind, section: &Section) -> bool
@@ -35,7 +41,8 @@ fn is_needed(kind: LockKind, section: &Section) -> bool
 {
     match section {
         Section::Dependencies => true,
-        Section::Extra(_) | Section::Group(_) => has_all(kind),
+        Section::Extra(_) => locks_extras(kind),
+        Section::Group(_) => locks_groups(kind),
         _ => false,
     }
 }

@@ -112,7 +112,7 @@ fn split_name(text: &str) -> (&str, &str)
     text.split_at(count_name_bytes(text.as_bytes()))
 }
 
-fn has_extras(rest: &[u8]) -> bool
+fn opens_bracket(rest: &[u8]) -> bool
     ensures { result ≡ opens 91 rest.now }
 {
     matches!(rest, [b'[', ..])
@@ -122,7 +122,7 @@ fn has_extras(rest: &[u8]) -> bool
 fn past_extras(rest: &str) -> &str
     ensures { result.now ≡ past_extras rest.now }
 {
-    if !has_extras(rest.as_bytes()) {
+    if !opens_bracket(rest.as_bytes()) {
         return rest;
     }
     match split_at_byte(rest, ']') {
