@@ -8,8 +8,8 @@ use Rattle.pyver_projects.specs.Groups.{Groups, Inclusion}
 use Rattle.pyver_projects.specs.ProjectViews.{inclusion_of, locked_reading_of}
 use Rattle.pyver_projects.specs.declared.group_order.GroupOrder.{GroupOrder}
 use Rattle.pyver_projects.specs.declared.groups.Groups.{Groups as GroupsValue}
-use Rattle.pyver_projects.specs.declared.inclusion_index.InclusionIndex.{InclusionIndex}
-use Rattle.pyver_projects.specs.declared.name_index.NameIndex.{NameIndex}
+use Rattle.pyver_projects.specs.declared.groups.InclusionIndex.{InclusionIndex}
+use Rattle.pyver_projects.specs.declared.groups.NameIndex.{NameIndex}
 use Rattle.pyver_projects.specs.Meanings.{LockedReading}
 use Rattle.pyver_projects.specs.declared.package_index.PackageIndex.{PackageIndex}
 

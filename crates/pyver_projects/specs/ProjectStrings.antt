@@ -4,7 +4,7 @@ use Rattle.std.specs.List.{prefix_len, starts_with}
 use Rattle.std.specs.BTreeMap.{get_by}
 use Rattle.std.specs.Cmp.Lexicographic.{slice_cmp}
 use Rattle.std.specs.Ordering.{nat_cmp}
-use Rattle.pyver_projects.specs.declared.quoted_lines.QuotedLines.{QuotedLines}
+use Rattle.pyver_projects.specs.declared.place.QuotedLines.{QuotedLines}
 
 -- where a string stands in `pyproject.toml`: extras and groups by the normal forms of their names, and for the name of a group that another
 -- includes both; or, for the name of a group that is invalid, why it is

@@ -14,9 +14,9 @@ use Rattle.pyver_projects.specs.declared.locked_package.LockedFile.{LockedFile a
 use Rattle.pyver_projects.specs.declared.locked_package.LockedPackage.{LockedPackage as LockedValue}
 use Rattle.pyver_projects.specs.declared.locked_package.LockedRequirement.{LockedRequirement as RequirementValue}
 use Rattle.pyver_projects.specs.declared.locked_reading.LockedReading.{LockedReading as LockedReadingValue}
-use Rattle.pyver_projects.specs.declared.section.ProjectString.{ProjectString as SourceValue}
-use Rattle.pyver_projects.specs.declared.section.Section.{Section as SectionValue}
-use Rattle.pyver_projects.specs.declared.section.Section.TheVariants as section
+use Rattle.pyver_projects.specs.declared.project.ProjectString.{ProjectString as SourceValue}
+use Rattle.pyver_projects.specs.declared.project.Section.{Section as SectionValue}
+use Rattle.pyver_projects.specs.declared.project.Section.TheVariants as section
 use Rattle.pyver_projects.specs.declared.string_reading.StringReading.{StringReading as StringReadingValue}
 
 abbrev pub section_of : SectionValue → Section

@@ -1,23 +1,24 @@
 //! Groups that include others.
-ghost use Rattle.std.specs.Prelude.{◌≡◌, ◌++◌, IfOk, bytes_eq, map};
-ghost use Rattle.std.specs.List.{flat_map, list_any};
+ghost use Rattle.std.specs.Prelude.{◌≡◌, ◌++◌, IfOk, bytes_eq, map, ◌∷◌, [], List, ℕ, if◌then◌else◌, count_by, nat_lt};
+ghost use Rattle.std.specs.List.{flat_map, list_any, filter};
 ghost use Rattle.pyver_projects.specs.Documents.{entry_names, group_names, has_group_tool, has_tool};
 ghost use Rattle.pyver_projects.specs.Groups.{includes, inclusion, inclusions};
-ghost use Rattle.pyver_projects.specs.NameMaps.{HasGroups, IsInclusionIndex, IsNameIndex, IsGroupOrder, groups_of, inclusions_of, indexed_names};
+ghost use Rattle.pyver_projects.specs.NameMaps.{HasGroups, IsInclusionIndex, IsNameIndex, IsGroupOrder, groups_of, inclusions_of, indexed_names, is_repeated};
 ghost use Rattle.pyver_projects.specs.ProjectViews.{inclusion_of, project_string_of, section_of, string_reading_of};
 ghost use Rattle.pyver_projects.specs.Together.{sections};
 ghost use Rattle.pyver_projects.specs.TomlValues.{members_list};
 ghost use Rattle.toml.specs.View.{table_view};
+ghost use Rattle.std.specs.HashMap.{get_by};
+ghost use Rattle.std.specs.Option.{option_map_or};
 
 use crate::group_order::GroupOrder;
-use crate::group_walk::included_groups;
-use crate::inclusion_index::InclusionIndex;
-use crate::name_index::NameIndex;
-use crate::section::{ProjectString, Section};
+use crate::group_order::included_groups;
+use crate::project::{ProjectString, Section};
 use crate::string_reading::StringReading;
 use crate::table::{inside, table, top};
 use pyver_findings::normalize_name;
 use std::alloc::{AllocError, Global};
+use std::collections::HashMap;
 use toml::Table;
 
 // One group includes another. Names are in their normal form.
@@ -158,5 +159,104 @@ impl<'a> Groups<'a> {
         }
         let names = included_groups(alloc, &self.inclusions, group)?;
         Ok(names.contains_key(name))
+    }
+}
+
+// All inclusions, and those of each group in their order.
+#[derive(Drop)]
+pub(crate) struct InclusionIndex<'a> {
+    pub(crate) inclusions: &'a [Inclusion],
+    by_group: HashMap<&'a [u8], Vec<&'a Inclusion>>,
+}
+
+// The inclusions, or none.
+fn inclusions_or_none<'a>(alloc: Global, group: Option<Vec<&'a Inclusion>>) -> Vec<&'a Inclusion>
+    ensures { result.items ≡ option_map_or (λ g. g.items) group.entry [] }
+{
+    match group {
+        Some(inclusions) => inclusions,
+        None => Vec::new(alloc),
+    }
+}
+
+// Adds the inclusion to those of its group.
+fn push_to_group<'a>(
+    alloc: Global,
+    groups: &mut HashMap<&'a [u8], Vec<&'a Inclusion>>,
+    inclusion: &'a Inclusion,
+) -> Result<(), AllocError>
+    ensures { IfOk result (λ _. (q : List ℕ) → map (λ i. inclusion_of i.now) (option_map_or (λ g. g.items) (get_by (λ k. bytes_eq q k.now) groups.new) []) ≡ map (λ i. inclusion_of i.now) (option_map_or (λ g. g.items) (get_by (λ k. bytes_eq q k.now) groups.old) []) ++ (if bytes_eq q inclusion.now.group.items then inclusion_of inclusion.now ∷ [] else [])) }
+{
+    let name = inclusion.group.as_slice();
+    let mut group = inclusions_or_none(alloc, groups.remove(name));
+    group.push(inclusion)?;
+    groups.insert(name, group)?;
+    Ok(())
+}
+
+impl<'a> InclusionIndex<'a> {
+    pub(crate) fn new(
+        alloc: Global,
+        inclusions: &'a [Inclusion],
+    ) -> Result<InclusionIndex<'a>, AllocError>
+        ensures index { IfOk result (λ index. IsInclusionIndex index) }
+        ensures inclusions { IfOk result (λ index. inclusions_of index ≡ map inclusion_of inclusions.now) }
+    {
+        let mut by_group: HashMap<&'a [u8], Vec<&'a Inclusion>> = HashMap::new(alloc);
+        for inclusion in inclusions {
+            push_to_group(alloc, &mut by_group, inclusion)?;
+        }
+        Ok(InclusionIndex {
+            inclusions,
+            by_group,
+        })
+    }
+
+    // The inclusions of the group with this name, if there are any.
+    pub(crate) fn of_group(&self, name: &[u8]) -> Option<&Vec<&'a Inclusion>>
+        requires { IsInclusionIndex self.now }
+        ensures { map (λ i. inclusion_of i.now) (option_map_or (λ g. g.now.items) result []) ≡ filter (λ i. bytes_eq name.now i.group) (inclusions_of self.now) }
+    {
+        self.by_group.get(name)
+    }
+}
+
+// Names, and for each whether it is repeated.
+#[derive(Drop)]
+pub(crate) struct NameIndex<'a> {
+    names: &'a [Vec<u8>],
+    repeated: HashMap<&'a [u8], bool>,
+}
+
+impl<'a> NameIndex<'a> {
+    pub(crate) fn new(alloc: Global, names: &'a [Vec<u8>]) -> Result<NameIndex<'a>, AllocError>
+        ensures index { IfOk result (λ index. IsNameIndex index) }
+        ensures names { IfOk result (λ index. indexed_names index ≡ map (λ n. n.items) names.now) }
+    {
+        let mut repeated: HashMap<&'a [u8], bool> = HashMap::new(alloc);
+        for name in names {
+            let is_known = repeated.contains_key(name.as_slice());
+            repeated.insert(name.as_slice(), is_known)?;
+        }
+        Ok(NameIndex { names, repeated })
+    }
+
+    // The name is one of these.
+    pub(crate) fn has(&self, name: &[u8]) -> bool
+        requires { IsNameIndex self.now }
+        ensures { result ≡ list_any (bytes_eq name.now) (indexed_names self.now) }
+    {
+        self.repeated.contains_key(name)
+    }
+
+    // The name is two of these, or more.
+    pub(crate) fn has_twice(&self, name: &[u8]) -> bool
+        requires { IsNameIndex self.now }
+        ensures { result ≡ nat_lt 1 (count_by (bytes_eq name.now) (indexed_names self.now)) }
+    {
+        match self.repeated.get(name) {
+            Some(is_repeated) => *is_repeated,
+            None => false,
+        }
     }
 }

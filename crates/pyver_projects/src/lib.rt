@@ -7,28 +7,20 @@ mod document_kind;
 mod document_reading;
 mod document_report;
 mod group_order;
-mod group_walk;
 mod groups;
-mod inclusion_index;
 pub mod laws;
 mod lock_comparison;
-mod locked_file;
 mod locked_package;
 mod locked_reading;
-mod name_index;
 mod package_index;
 mod package_requirements;
 mod pipfile_lock;
 mod place;
 mod project;
-mod quoted_lines;
-mod requirement_reading;
-mod section;
 mod string_reading;
 mod table;
 mod together;
 mod toml_lock;
-mod version_reason;
 
 pub use document_kind::{
     Document, DocumentKind, LockKind, is_document_path, kind_of_path, kind_of_word,

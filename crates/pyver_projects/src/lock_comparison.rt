@@ -11,7 +11,7 @@ use crate::document_kind::{Document, DocumentKind, LockKind, is_beside};
 use crate::document_reading::{DocumentReading, ReadDocument};
 use crate::locked_reading::LockedReading;
 use crate::package_index::PackageIndex;
-use crate::section::Section;
+use crate::project::Section;
 use crate::string_reading::StringReading;
 use pep440_rs::Version;
 use pyver_findings::{Conflict, Demand, FileLine, Finding, LineMeaning};

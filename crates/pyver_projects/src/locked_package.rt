@@ -1,8 +1,16 @@
 //! Packages in locks and what they require, as it is written.
-ghost use Rattle.std.specs.Prelude.{◌≡◌, IfOk, option_map, string_bytes};
+ghost use Rattle.std.specs.Prelude.{◌≡◌, IfOk, option_map, string_bytes, ◌<◌, ◌++◌, map, option_to_list};
 ghost use Rattle.pyver_projects.specs.PackageRequirements.{package_text};
+ghost use Rattle.std.specs.Option.{option_or};
+ghost use Rattle.pep440_pick.specs.RequirementReading.{split_at_byte};
+ghost use Rattle.pyver_projects.specs.LockedFiles.{archive_version, file_name, file_path, file_version, files_after, files_by, files_from, files_in, last_section, named_file, new_file, version_from, wheel_version, without_ending};
+ghost use Rattle.pyver_projects.specs.ProjectViews.{locked_file_of};
+ghost use Rattle.toml.specs.View.{view};
 
+use crate::table::{items, text};
+use pep440_pick::same_name;
 use std::alloc::{AllocError, Global};
+use toml::Value;
 
 // A package in a lock.
 #[derive(Drop)]
@@ -70,4 +78,212 @@ pub(crate) fn copy_text(alloc: Global, text: Option<&str>) -> Result<Option<Stri
         Some(text) => Ok(Some(String::from_str(alloc, text)?)),
         None => Ok(None),
     }
+}
+
+// A package that has a name and a version.
+#[derive(Drop)]
+struct NamedPackage<'a> {
+    // The number of its line, from 1.
+    line: u64,
+    name: &'a str,
+    version: &'a str,
+}
+
+// What stands after the last `/`, or all.
+#[tactic(auto, using(crate::proofs::LockedFiles::no_section))]
+fn last_section(path: &str) -> &str
+    ensures { result.now ≡ last_section path.now }
+{
+    match path.rsplit_once('/') {
+        Some((_, section)) => section,
+        None => path,
+    }
+}
+
+// What stands before the first such character, and what after it.
+pub(crate) fn split_at_byte(text: &str, character: char) -> Option<(&str, &str)>
+    requires { character < 128 }
+    ensures { option_map (λ x. (x.0.now, x.1.now)) result ≡ split_at_byte character text.now }
+{
+    text.split_once(character)
+}
+
+// The string before the ending, if it ends so.
+#[tactic(auto, using(crate::proofs::LockedFiles::ending_is))]
+fn without_ending<'a>(text: &'a str, ending: &str) -> Option<&'a str>
+    ensures { option_map (λ t. t.now) result ≡ without_ending ending.now text.now }
+{
+    text.strip_suffix(ending)
+}
+
+// The version of a wheel, of what follows its project and a dash.
+fn wheel_version(rest: &str) -> Option<&str>
+    ensures { option_map (λ t. t.now) result ≡ wheel_version rest.now }
+{
+    let tagged = without_ending(rest, ".whl")?;
+    let (version, _) = split_at_byte(tagged, '-')?;
+    Some(version)
+}
+
+// The version of an archive of sources, of what follows its project and a dash.
+fn archive_version(rest: &str) -> Option<&str>
+    ensures { option_map (λ t. t.now) result ≡ archive_version rest.now }
+{
+    match without_ending(rest, ".tar.gz") {
+        Some(version) => Some(version),
+        None => without_ending(rest, ".zip"),
+    }
+}
+
+// The version in the name of a file of this project.
+fn file_version<'a>(name: &str, file: &'a str) -> Option<&'a str>
+    ensures { option_map (λ t. t.now) result ≡ file_version name.now file.now }
+{
+    let (project, rest) = split_at_byte(file, '-')?;
+    if !same_name(project, name) {
+        return None;
+    }
+    match wheel_version(rest) {
+        Some(version) => Some(version),
+        None => archive_version(rest),
+    }
+}
+
+fn first_of<'a>(one: Option<&'a str>, other: Option<&'a str>) -> Option<&'a str>
+    ensures { option_map (λ t. t.now) result ≡ option_or (option_map (λ t. t.now) one.entry) (option_map (λ t. t.now) other.entry) }
+{
+    match one {
+        Some(text) => Some(text),
+        None => other,
+    }
+}
+
+// Where the file is said to be.
+fn file_path(item: &Value) -> Option<&str>
+    ensures { option_map (λ t. t.now) result ≡ file_path (view item.now) }
+{
+    let place = first_of(text(item.get("url")), text(item.get("path")));
+    let named = first_of(text(item.get("name")), place);
+    first_of(text(item.get("file")), named)
+}
+
+fn file_name(item: &Value) -> Option<&str>
+    ensures { option_map (λ t. t.now) result ≡ file_name (view item.now) }
+{
+    match file_path(item) {
+        Some(path) => Some(last_section(path)),
+        None => None,
+    }
+}
+
+// Adds the file with this version, unless that is written as the last one was.
+fn push_new(
+    alloc: Global,
+    files: &mut Vec<LockedFile>,
+    named: &NamedPackage<'_>,
+    last: &str,
+    file: &str,
+    written: &str,
+) -> Result<(), AllocError>
+    ensures { IfOk result (λ _. map locked_file_of files.new.items ≡ map locked_file_of files.old.items ++ new_file named.now.line named.now.name.now named.now.version.now last.now file.now (Some written.now)) }
+{
+    if written == last {
+        return Ok(());
+    }
+    files.push(LockedFile {
+        line: named.line,
+        name: String::from_str(alloc, named.name)?,
+        version: String::from_str(alloc, named.version)?,
+        file: String::from_str(alloc, file)?,
+        written: String::from_str(alloc, written)?,
+    })?;
+    Ok(())
+}
+
+// Adds the file, if a version in its name is written otherwise than the last one, and returns what is the last one then.
+fn push_file<'a>(
+    alloc: Global,
+    files: &mut Vec<LockedFile>,
+    named: &NamedPackage<'_>,
+    last: &'a str,
+    item: &'a Value,
+) -> Result<&'a str, AllocError>
+    ensures files { IfOk result (λ _. map locked_file_of files.new.items ≡ map locked_file_of files.old.items ++ named_file named.now.line named.now.name.now named.now.version.now last.now (file_name (view item.now))) }
+    ensures last { IfOk result (λ t. t.now ≡ version_from named.now.name.now last.now (view item.now)) }
+{
+    let Some(file) = file_name(item) else {
+        return Ok(last);
+    };
+    let Some(written) = file_version(named.name, file) else {
+        return Ok(last);
+    };
+    push_new(alloc, files, named, last, file, written)?;
+    Ok(written)
+}
+
+// Adds the files that begin a run of another version than that of the named.
+fn push_files<'a>(
+    alloc: Global,
+    files: &mut Vec<LockedFile>,
+    named: &NamedPackage<'a>,
+    list: &'a [Value],
+) -> Result<(), AllocError>
+    ensures { IfOk result (λ _. map locked_file_of files.new.items ≡ map locked_file_of files.old.items ++ files_after named.now.line named.now.name.now named.now.version.now named.now.version.now (map view list.now)) }
+{
+    let mut last = named.version;
+    for item in list {
+        last = push_file(alloc, files, named, last, item)?;
+    }
+    Ok(())
+}
+
+// Adds the file, if there is one.
+fn push_sources<'a>(
+    alloc: Global,
+    files: &mut Vec<LockedFile>,
+    named: &NamedPackage<'a>,
+    item: Option<&'a Value>,
+) -> Result<(), AllocError>
+    ensures { IfOk result (λ _. map locked_file_of files.new.items ≡ map locked_file_of files.old.items ++ files_after named.now.line named.now.name.now named.now.version.now named.now.version.now (option_to_list (option_map (λ v. view v.now) item.entry))) }
+{
+    if let Some(item) = item {
+        push_file(alloc, files, named, named.version, item)?;
+    }
+    Ok(())
+}
+
+fn push_files_in(
+    alloc: Global,
+    files: &mut Vec<LockedFile>,
+    named: &NamedPackage<'_>,
+    table: &Value,
+) -> Result<(), AllocError>
+    ensures { IfOk result (λ _. map locked_file_of files.new.items ≡ map locked_file_of files.old.items ++ files_in named.now.line named.now.name.now named.now.version.now (view table.now)) }
+{
+    push_files(alloc, files, named, items(table.get("files")))?;
+    push_files(alloc, files, named, items(table.get("wheels")))?;
+    push_sources(alloc, files, named, table.get("sdist"))
+}
+
+// Adds the files of the package on this line that begin a run of another version, if it has a name and a version.
+pub(crate) fn push_locked_files(
+    alloc: Global,
+    files: &mut Vec<LockedFile>,
+    line: u64,
+    table: &Value,
+) -> Result<(), AllocError>
+    ensures { IfOk result (λ _. map locked_file_of files.new.items ≡ map locked_file_of files.old.items ++ files_from (line, view table.now)) }
+{
+    let Some(name) = text(table.get("name")) else {
+        return Ok(());
+    };
+    let Some(version) = text(table.get("version")) else {
+        return Ok(());
+    };
+    let named = NamedPackage {
+        line,
+        name,
+        version,
+    };
+    push_files_in(alloc, files, &named, table)
 }

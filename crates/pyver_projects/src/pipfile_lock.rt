@@ -10,7 +10,7 @@ ghost use Rattle.serde_json.specs.Find.{as_object, as_str, get};
 ghost use Rattle.serde_json.specs.View.{members_view, view};
 
 use crate::locked_package::{LockContents, LockedPackage, copy_text};
-use crate::quoted_lines::{QuotedLines, line_number};
+use crate::place::{QuotedLines, line_number};
 use serde_json::{Map, Value};
 use std::alloc::{AllocError, Global};
 

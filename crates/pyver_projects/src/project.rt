@@ -11,13 +11,59 @@ ghost use Rattle.toml.specs.Data.{Data, as_str};
 ghost use Rattle.toml.specs.View.{table_view, view};
 
 use crate::groups::{group_names, table_names};
-use crate::name_index::NameIndex;
-use crate::section::{ProjectString, Section};
+use crate::groups::NameIndex;
 use crate::table::{inside, is_array_or_none, is_table_or_none, items, table, text, top};
 use pep440_pick::is_name;
 use pyver_findings::normalize_name;
 use std::alloc::{AllocError, Global};
 use toml::{Table, Value};
+
+// Where a string stands in `pyproject.toml`. Names are in their normal form.
+#[derive(Drop)]
+pub(crate) enum Section {
+    // In `project.dependencies`.
+    Dependencies,
+    // In `project.optional-dependencies`, in the array of this extra.
+    Extra(Vec<u8>),
+    // In `dependency-groups`, in the array of this group.
+    Group(Vec<u8>),
+    // There, as the name of a group that is included: this group includes that one.
+    Include(Vec<u8>, Vec<u8>),
+    // As the name of a value that is invalid for this reason.
+    Invalid(&'static str),
+    // In `build-system.requires`.
+    Build,
+    // `project.requires-python`.
+    Python,
+    // `project.version`.
+    Version,
+}
+
+// A string of `pyproject.toml` that is to be a requirement, a list of specifiers or a version.
+#[derive(Drop)]
+pub(crate) struct ProjectString {
+    pub(crate) section: Section,
+    pub(crate) text: String,
+}
+
+impl Clone for Section {
+    ghost is_clone = { λ section copy. section_of copy ≡ section_of section };
+
+    fn clone(&self) -> Result<Section, AllocError> {
+        match self {
+            Section::Dependencies => Ok(Section::Dependencies),
+            Section::Extra(name) => Ok(Section::Extra(name.clone()?)),
+            Section::Group(name) => Ok(Section::Group(name.clone()?)),
+            Section::Include(group, included) => {
+                Ok(Section::Include(group.clone()?, included.clone()?))
+            }
+            Section::Invalid(reason) => Ok(Section::Invalid(*reason)),
+            Section::Build => Ok(Section::Build),
+            Section::Python => Ok(Section::Python),
+            Section::Version => Ok(Section::Version),
+        }
+    }
+}
 
 fn push_string(
     alloc: Global,

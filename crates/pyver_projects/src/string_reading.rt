@@ -1,5 +1,5 @@
 //! What the strings of `pyproject.toml` are to the check.
-ghost use Rattle.std.specs.Prelude.{◌≡◌, IfOk, IfSome, Some, map, string_bytes};
+ghost use Rattle.std.specs.Prelude.{◌≡◌, IfOk, IfSome, Some, map, string_bytes, is_none, false};
 ghost use Rattle.std.specs.List.{AllZip};
 ghost use Rattle.pep440_version.specs.Errors.{error_rejection};
 ghost use Rattle.pep440_version.specs.ErrorTexts.{error_text, rejection_text};
@@ -15,10 +15,9 @@ ghost use Rattle.pyver_projects.specs.ProjectStrings.{HasQuotedLines};
 
 use crate::groups::Groups;
 use crate::place::string_line;
-use crate::quoted_lines::QuotedLines;
-use crate::section::{ProjectString, Section};
-use crate::version_reason::version_reason;
-use pep440_rs::{Version, VersionParseError};
+use crate::place::QuotedLines;
+use crate::project::{ProjectString, Section};
+use pep440_rs::{ErrorKind, Version, VersionParseError};
 use pyver_findings::{FileLine, Finding, LineMeaning, parse_requirement, parse_specifiers};
 use std::alloc::{AllocError, Global};
 
@@ -146,4 +145,15 @@ pub(crate) fn read_strings(
         readings.push(read_string(alloc, groups, name, lines, string)?)?;
     }
     Ok(readings)
+}
+
+// The reason, unless an allocation failed.
+pub(crate) fn version_reason(alloc: Global, error: &VersionParseError) -> Result<String, AllocError>
+    ensures text { IfOk result (λ s. IfSome (error_text (error_rejection error.now)) (λ t. string_bytes s ≡ t)) }
+    ensures memory { IfOk result (λ _. is_none (error_rejection error.now) ≡ false) }
+{
+    match error.kind() {
+        ErrorKind::OutOfMemory => Err(AllocError),
+        _ => error.to_string(alloc),
+    }
 }

@@ -12,10 +12,10 @@ ghost use Rattle.pyver_projects.specs.Meanings.{IsSoundString};
 ghost use Rattle.pyver_projects.specs.Together.{FindsOfPart, FindsOfParts, all_demands, demand_in_part, has_dependencies, has_group, holds_in, is_build, is_extra, is_marked, part_conflicts, part_demands, parts, project_conflicts, same_finding, same_line, same_lines, same_part, section_part, sections, with_new};
 ghost use Rattle.pyver_findings.specs.Conflicts.{conflicts};
 
-use crate::group_walk::included_groups;
+use crate::group_order::included_groups;
 use crate::groups::inclusions;
-use crate::inclusion_index::InclusionIndex;
-use crate::section::Section;
+use crate::groups::InclusionIndex;
+use crate::project::Section;
 use crate::string_reading::StringReading;
 use pyver_findings::{
     Cause, Demand, FileLine, Finding, LineMeaning, push_conflicts, push_pair_conflicts,
