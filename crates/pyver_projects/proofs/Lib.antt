@@ -1,4 +1,3 @@
-pub mod LockedFiles
 pub mod Walks
 pub mod Holding
 pub mod GroupWalks

@@ -11,7 +11,7 @@ use Rattle.pyver_projects.specs.declared.groups.Groups.{Groups as GroupsValue}
 use Rattle.pyver_projects.specs.declared.groups.InclusionIndex.{InclusionIndex}
 use Rattle.pyver_projects.specs.declared.groups.NameIndex.{NameIndex}
 use Rattle.pyver_projects.specs.Meanings.{LockedReading}
-use Rattle.pyver_projects.specs.declared.package_index.PackageIndex.{PackageIndex}
+use Rattle.pyver_projects.specs.declared.lock_comparison.PackageIndex.{PackageIndex}
 
 -- ---- sets of names
 

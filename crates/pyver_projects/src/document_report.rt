@@ -259,8 +259,9 @@ fn read_documents<'a>(
 /// not exist or that includes them in turn, versions of a lock that are none, and a document that is not TOML, or JSON, in UTF-8. After
 /// the strings of a project its requirements that hold together and have no version in common, as `pyver_findings` reports them, each
 /// once: `project.dependencies`; these with each extra; each group with all that it includes, and with these if there is a table
-/// `tool.uv` or `tool.poetry`; and what the build requires. After the packages of a lock, for each of their requirements, whether no
-/// package has its name, unless that is setuptools, distribute, pip or wheel, and the locked versions of its name, if it contains none.
+/// `tool.uv` or `tool.poetry`; and what the build requires. After the packages of a lock their files that have another version in their
+/// names than the package (PEP 427, "File name convention"; PEP 625, "Specification"), of those that follow one another with one version
+/// the first; and for each of their requirements, whether no package has its name, unless that is setuptools, distribute, pip or wheel, and the locked versions of its name, if it contains none.
 /// Then what is wrong in each project beside each lock in its folder, or in the nearest above that has one of its kind, and beside each
 /// lock for which that is no project: for each requirement, in order, whether the lock lacks a package of its name, and the lines of the
 /// locked versions of its name with the line of the requirement, if it contains none. Then the requirements of each project that hold
@@ -270,13 +271,14 @@ fn read_documents<'a>(
 /// `project.version`, `dependency-groups` with the names of included groups, and `build-system.requires`; of a lock the names and
 /// versions of its packages, in `Pipfile.lock` of the members of `default` and of those of `develop` that are not there with the same
 /// version. Their requirements are the names in uv's `metadata.requires-dist`, each with its `specifier`, those in an array
-/// `dependencies`, and those in Poetry's table `dependencies` with their lists; one that PEP 440 does not know, as `^1.0`, is left out.
+/// `dependencies`, or its strings, as PDM writes them, and those in Poetry's table `dependencies` with their lists; one that PEP 440 does
+/// not know, as `^1.0`, is left out. Their files are `files`, `wheels` and `sdist`, each named by its `file`, `name`, `url` or `path`.
 /// Values of other types in a lock are passed over. Extras and groups come in the order of their names. A string has the number of the
 /// first line on which it stands in quotes, a package of `Pipfile.lock` the number of the first line with its name in quotes, another
 /// package, with what it requires, the number of its header. Either has 1 without one. Each string and each package counts as a line.
 ///
 /// A requirement with a marker or a URL, of a package with markers, of the build, or that is optional, is not compared. Each lock is to
-/// have packages for `project.dependencies`, `uv.lock` for extras and groups, too. Takes time for each requirement, each package, each
+/// have packages for `project.dependencies`, `poetry.lock` and `uv.lock` for extras, `uv.lock` for groups, too. Takes time for each requirement, each package, each
 /// pair of them with one name, and, if not all requirements of a project have a version in common, for each extra or group and
 /// requirement.
 ///

@@ -11,8 +11,7 @@ ghost use Rattle.toml.specs.View.{table_view};
 ghost use Rattle.std.specs.HashMap.{get_by};
 ghost use Rattle.std.specs.Option.{option_map_or};
 
-use crate::group_order::GroupOrder;
-use crate::group_order::included_groups;
+use crate::group_order::{GroupOrder, included_groups};
 use crate::project::{ProjectString, Section};
 use crate::string_reading::StringReading;
 use crate::table::{inside, table, top};

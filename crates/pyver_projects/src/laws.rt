@@ -2,7 +2,8 @@
 ghost use Rattle.pyver_projects.specs.ProjectLaws.{DocumentReportsOnce, DocumentFindingsHold, NoFindingImpliesContained, NoFindingImpliesSatisfiable};
 
 /// What is reported by itself is a string of a project that is not what it is to be there, a group that is invalid, a package whose version
-/// is none, a document that is not TOML, or JSON, in UTF-8, or a requirement whose name no package of some lock has. Lines that are
+/// is none or is not that in the name of one of its files, a document that is not TOML, or JSON, in UTF-8, or a requirement whose name no
+/// package of some lock has. Lines that are
 /// reported together belong to a requirement, of a project or of a package in the same lock, and to packages of its name, none of whose
 /// versions it contains, or to requirements of a project that hold together, have no version in common, and have one without any one of them.
 pub fn findings_hold()
@@ -12,6 +13,7 @@ pub fn findings_hold()
 /// Where nothing is reported, each requirement of a project without a marker and a URL, but of its build, contains a version of its
 /// name in each lock that counts for it and has one. Each requirement of a locked package that is read and is in PEP 440's syntax names a
 /// package of the same lock, if it is none of setuptools, distribute, pip and wheel, and contains a version of that name if there is one.
+/// Each file that begins a run of one version in the names of files has the version of its package.
 pub fn no_finding_means_contained()
     ensures { NoFindingImpliesContained }
 {}

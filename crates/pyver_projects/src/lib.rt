@@ -12,7 +12,6 @@ pub mod laws;
 mod lock_comparison;
 mod locked_package;
 mod locked_reading;
-mod package_index;
 mod package_requirements;
 mod pipfile_lock;
 mod place;

@@ -90,7 +90,7 @@ struct NamedPackage<'a> {
 }
 
 // What stands after the last `/`, or all.
-#[tactic(auto, using(crate::proofs::LockedFiles::no_section))]
+#[tactic(auto, using(crate::proofs::Walks::no_section))]
 fn last_section(path: &str) -> &str
     ensures { result.now ≡ last_section path.now }
 {
@@ -109,7 +109,7 @@ pub(crate) fn split_at_byte(text: &str, character: char) -> Option<(&str, &str)>
 }
 
 // The string before the ending, if it ends so.
-#[tactic(auto, using(crate::proofs::LockedFiles::ending_is))]
+#[tactic(auto, using(crate::proofs::Walks::ending_is))]
 fn without_ending<'a>(text: &'a str, ending: &str) -> Option<&'a str>
     ensures { option_map (λ t. t.now) result ≡ without_ending ending.now text.now }
 {

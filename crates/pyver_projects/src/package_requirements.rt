@@ -10,8 +10,7 @@ ghost use Rattle.pyver_projects.specs.ProjectViews.{requirement_of};
 ghost use Rattle.pyver_projects.specs.TomlValues.{entries, listed, members_list};
 ghost use Rattle.toml.specs.View.{table_view, view};
 
-use crate::locked_package::split_at_byte;
-use crate::locked_package::{LockedRequirement, package_text};
+use crate::locked_package::{LockedRequirement, package_text, split_at_byte};
 use crate::table::{inside, items, table, text};
 use pep440_pick::is_name;
 use std::alloc::{AllocError, Global};

@@ -10,8 +10,7 @@ ghost use Rattle.pyver_projects.specs.TomlValues.{entries, members_list};
 ghost use Rattle.toml.specs.Data.{Data, as_str};
 ghost use Rattle.toml.specs.View.{table_view, view};
 
-use crate::groups::{group_names, table_names};
-use crate::groups::NameIndex;
+use crate::groups::{NameIndex, group_names, table_names};
 use crate::table::{inside, is_array_or_none, is_table_or_none, items, table, text, top};
 use pep440_pick::is_name;
 use pyver_findings::normalize_name;

@@ -14,8 +14,7 @@ ghost use Rattle.pyver_projects.specs.ProjectViews.{project_string_of, section_o
 ghost use Rattle.pyver_projects.specs.ProjectStrings.{HasQuotedLines};
 
 use crate::groups::Groups;
-use crate::place::string_line;
-use crate::place::QuotedLines;
+use crate::place::{QuotedLines, string_line};
 use crate::project::{ProjectString, Section};
 use pep440_rs::{ErrorKind, Version, VersionParseError};
 use pyver_findings::{FileLine, Finding, LineMeaning, parse_requirement, parse_specifiers};

@@ -13,8 +13,7 @@ ghost use Rattle.pyver_projects.specs.Together.{FindsOfPart, FindsOfParts, all_d
 ghost use Rattle.pyver_findings.specs.Conflicts.{conflicts};
 
 use crate::group_order::included_groups;
-use crate::groups::inclusions;
-use crate::groups::InclusionIndex;
+use crate::groups::{InclusionIndex, inclusions};
 use crate::project::Section;
 use crate::string_reading::StringReading;
 use pyver_findings::{

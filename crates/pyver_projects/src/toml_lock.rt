@@ -5,8 +5,7 @@ ghost use Rattle.pyver_projects.specs.ProjectStrings.{header_lines};
 ghost use Rattle.pyver_projects.specs.ProjectViews.{contents_of, locked_of};
 ghost use Rattle.toml.specs.View.{table_view, view};
 
-use crate::locked_package::push_locked_files;
-use crate::locked_package::{LockContents, LockedPackage, copy_text};
+use crate::locked_package::{LockContents, LockedPackage, copy_text, push_locked_files};
 use crate::package_requirements::push_requirements;
 use crate::place::header_lines;
 use crate::table::{items, text, top};

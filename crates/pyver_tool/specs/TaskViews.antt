@@ -10,8 +10,8 @@ use Rattle.pyver_tool.specs.RequirementFiles.{unopened_file_of}
 use Rattle.pyver_tool.specs.declared.check.CheckResult.{CheckResult as CheckResultValue}
 use Rattle.pyver_findings.specs.Views.{report_of}
 use Rattle.pyver_tool.specs.Options.{row_of}
-use Rattle.pyver_tool.specs.declared.split_words.Split.{Split as WordSplit}
-use Rattle.pyver_tool.specs.declared.split_words.WordEnd.{WordEnd}
+use Rattle.pyver_tool.specs.declared.words.Split.{Split as WordSplit}
+use Rattle.pyver_tool.specs.declared.words.WordEnd.{WordEnd}
 use Rattle.pyver_commands.specs.AnswerViews.{outcome_of}
 use Rattle.pyver_commands.specs.Filters.{Filters}
 use Rattle.cli_io.specs.Runs.{AtOnce, Ends, InParts, Nothing, Outcome, OutputProgress}
@@ -26,8 +26,8 @@ use Rattle.pyver_tool.specs.declared.command.Command.TheVariants as command
 use Rattle.pyver_tool.specs.declared.words.Words.TheVariants as words
 use Rattle.pyver_tool.specs.declared.help.Topic.TheVariants as topic
 use Rattle.pyver_tool.specs.declared.misuse.Misuse.TheVariants as misuse
-use Rattle.pyver_tool.specs.declared.split_words.Split.TheVariants as split
-use Rattle.pyver_tool.specs.declared.split_words.WordEnd.TheVariants as end
+use Rattle.pyver_tool.specs.declared.words.Split.TheVariants as split
+use Rattle.pyver_tool.specs.declared.words.WordEnd.TheVariants as end
 use Rattle.pyver_tool.specs.declared.command.Work.TheVariants as work
 use Rattle.pyver_commands.specs.declared.sources.stream.RunFailure.TheVariants as run_failure
 

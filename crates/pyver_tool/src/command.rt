@@ -10,8 +10,7 @@ use crate::check::CheckOptions;
 use crate::help::{Topic, VERSION_LINE, help, usage};
 use crate::misuse::{Misuse, push_misuse};
 use crate::settings::Settings;
-use crate::split_words::{GivenOption, Split};
-use crate::words::Words;
+use crate::words::{GivenOption, Split, Words};
 use pyver_commands::{
     Answer, BumpRule, Comparison, FilterOptions, FilterRule, LinesQuestion, MatchOptions,
     NewestOptions, NewestRule, Question, Selection, ShowFormat, SortOptions, SpecifiersReading,

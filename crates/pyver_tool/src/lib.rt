@@ -1,6 +1,6 @@
 //! The program `pyver` as a function of its words, over any reader and any writers: what it prints for people and for shell scripts.
 //!
-//! In reading order: `program`, which runs what `command` finds; `words`, `split_words`, `options` and `settings`, which make a command;
+//! In reading order: `program`, which runs what `command` finds; `words`, `options` and `settings`, which make a command;
 //! `check`, the one command that is here, the `requirement_files` that it reads, and `lock_search`; `help` and `misuse`; and `laws`.
 #![tactic(auto)]
 
@@ -14,7 +14,6 @@ mod options;
 mod program;
 mod requirement_files;
 mod settings;
-mod split_words;
 mod words;
 
 pub use program::{refuse, run};

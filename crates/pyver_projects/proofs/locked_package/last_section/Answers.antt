@@ -1,4 +1,4 @@
-use Rattle.pyver_projects.proofs.LockedFiles.{section_is}
+use Rattle.pyver_projects.proofs.Walks.{section_is}
 use Rattle.pyver_projects.proofs.locked_package.last_section.Goals as goal
 
 pub returns-in-Some : goal.returns-in-Some

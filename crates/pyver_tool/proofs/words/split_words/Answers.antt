@@ -5,7 +5,7 @@ use Rattle.pyver_tool.proofs.RunEnds.{awaits_next, first_word, operand_next, ope
 use Rattle.pyver_tool.specs.Options.{rows_of}
 use Rattle.pyver_tool.specs.TaskViews.{option_with_value, named_of}
 use Rattle.pyver_tool.specs.SplitWords.{Awaits, Whole, before, is_option, split_words, word_options}
-use Rattle.pyver_tool.proofs.split_words.split_words.Goals as goal
+use Rattle.pyver_tool.proofs.words.split_words.Goals as goal
 
 pub loop-left-preserved-in-Some : goal.loop-left-preserved-in-Some
 loop-left-preserved-in-Some c =

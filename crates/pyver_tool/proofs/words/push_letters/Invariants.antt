@@ -4,7 +4,7 @@ use Rattle.std.proofs.Common.{◌≡◌, ◌++◌, length, map, string_bytes}
 use Rattle.pyver_tool.specs.Options.{rows_of}
 use Rattle.pyver_tool.specs.TaskViews.{option_with_value}
 use Rattle.pyver_tool.specs.SplitWords.{letter_options}
-use Rattle.pyver_tool.proofs.split_words.push_letters.Given as goal
+use Rattle.pyver_tool.proofs.words.push_letters.Given as goal
 
 abbrev pub invariant-loop-row : goal.invariant-loop-row
 invariant-loop-row l =

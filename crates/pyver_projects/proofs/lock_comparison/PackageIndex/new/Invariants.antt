@@ -4,7 +4,7 @@ use Rattle.std.specs.List.{filter}
 use Rattle.std.specs.Option.{option_map_or}
 use Rattle.pyver_projects.specs.Meanings.{LockedReading}
 use Rattle.pyver_projects.specs.ProjectViews.{locked_reading_of}
-use Rattle.pyver_projects.proofs.package_index.PackageIndex.new.Given as goal
+use Rattle.pyver_projects.proofs.lock_comparison.PackageIndex.new.Given as goal
 
 abbrev pub invariant-loop-locked : goal.invariant-loop-locked
 invariant-loop-locked l =

@@ -6,7 +6,7 @@ use Rattle.std.specs.Option.{option_map_or}
 use Rattle.pyver_findings.proofs.Grouping.{added}
 use Rattle.pyver_projects.specs.ProjectViews.{locked_reading_of}
 use Rattle.pyver_projects.specs.declared.locked_reading.LockedReading.{LockedReading as LockedReadingValue}
-use Rattle.pyver_projects.proofs.package_index.push_to_group.Goals as goal
+use Rattle.pyver_projects.proofs.lock_comparison.push_to_group.Goals as goal
 
 pub returns : goal.returns
 returns c =

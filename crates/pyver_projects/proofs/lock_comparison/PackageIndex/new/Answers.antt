@@ -1,7 +1,7 @@
 use Rattle.pyver_findings.proofs.Grouping.{grouped_more}
 use Rattle.pyver_projects.specs.Meanings.{LockedReading}
 use Rattle.pyver_projects.specs.ProjectViews.{locked_reading_of}
-use Rattle.pyver_projects.proofs.package_index.PackageIndex.new.Goals as goal
+use Rattle.pyver_projects.proofs.lock_comparison.PackageIndex.new.Goals as goal
 
 pub loop-locked-preserved : goal.loop-locked-preserved
 loop-locked-preserved c =

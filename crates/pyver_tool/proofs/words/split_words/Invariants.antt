@@ -3,7 +3,7 @@ use Rattle.std.specs.Option.{option_map}
 use Rattle.pyver_tool.specs.Options.{rows_of}
 use Rattle.pyver_tool.specs.TaskViews.{option_with_value, named_of}
 use Rattle.pyver_tool.specs.SplitWords.{before, split_words}
-use Rattle.pyver_tool.proofs.split_words.split_words.Given as goal
+use Rattle.pyver_tool.proofs.words.split_words.Given as goal
 
 abbrev pub invariant-loop-left : goal.invariant-loop-left
 invariant-loop-left l =

@@ -3,7 +3,7 @@ use Rattle.std.specs.Option.{option_map_or}
 use Rattle.pyver_projects.proofs.Walks.{copied}
 use Rattle.pyver_projects.specs.ProjectViews.{locked_reading_of}
 use Rattle.pyver_projects.specs.declared.locked_reading.LockedReading.{LockedReading as LockedReadingValue}
-use Rattle.pyver_projects.proofs.package_index.PackageIndex.of_name.Goals as goal
+use Rattle.pyver_projects.proofs.lock_comparison.PackageIndex.of_name.Goals as goal
 
 pub returns : goal.returns
 returns c =
