@@ -178,7 +178,7 @@ in_conflicts P files xs fs some =
     (in_right P (constraint_findings (constraints_files files)) (conflicts (flat_map demands_in xs)) some))
 
 pub conflicts_have_findings : ConflictsHaveFindings
-conflicts_have_findings files r lines a marker (xs, h, fs, cs, finds, is) (ys, k, are) inside none =
+conflicts_have_findings files r lines a marker (xs, h, fs, cs, finds, is) (ys, k, are) inside somewhere none =
     let these = under marker (filter (has_same_name a) lines) in
     let P = IsAmong (map (λ (b : Demand). b.line) these) in
     let same : lines ≡ flat_map demands_in xs = are ∙ ap (flat_map demands_in) (of_lines (all_lines files) ys xs k h) in
@@ -187,7 +187,7 @@ conflicts_have_findings files r lines a marker (xs, h, fs, cs, finds, is) (ys, k
     any_is P r.findings
     (subst (λ (q : Report). Some_is P q.findings) (sym is)
     (in_conflicts P files xs fs
-    (subst (λ (demands : List Demand). Some_is P (conflicts demands)) same (some_found (map (λ (b : Demand). b.line) these) lines a marker (ones_of these) inside (none_found these so none)))))
+    (subst (λ (demands : List Demand). Some_is P (conflicts demands)) same (some_found (map (λ (b : Demand). b.line) these) lines a marker somewhere (ones_of these) inside (none_found these so none)))))
 
 -- ---- the report
 

@@ -8,7 +8,7 @@ use Rattle.std.proofs.lemmas.List.Elements.{All-cons, All-contains_itself, All-h
 use Rattle.std.specs.List.{All, Any, Contains, filter, flat_map, list_any}
 use Rattle.pyver_findings.proofs.SmallestLists.{all_smallest, smallest_none}
 use Rattle.pyver_findings.specs.Demands.{Demand}
-use Rattle.pyver_findings.specs.Conflicts.{conflict_kind, conflicts, counts_under, first_mentions, have_none, of_all, of_name, has_same_marker, same_marker, has_same_name, smallest, under}
+use Rattle.pyver_findings.specs.Conflicts.{conflict_kind, conflicts, counts_under, first_mentions, have_none, holds_nowhere, of_all, of_marker, of_name, has_same_marker, same_marker, has_same_name, smallest, under}
 use Rattle.pyver_findings.specs.FileLines.{Conflicting, FileLine, Finding}
 use Rattle.pyver_findings.specs.FindingLaws.{IsAmong}
 
@@ -182,39 +182,40 @@ pub ones_of : (some : List Demand) → All (IsOne (map (λ (a : Demand). a.line)
 ones_of some = unmapped (map (λ (a : Demand). a.line) some) some (All-contains_itself (map (λ (a : Demand). a.line) some))
 
 -- the lines under the marker are among these
-module _ (known : List FileLine) (lines : List Demand) (marker : Option (List ℕ)) (ones : All (IsOne known) (under marker lines)) where
+module _ (known : List FileLine) (lines : List Demand) (marker : Option (List ℕ)) (somewhere : holds_nowhere marker ≡ false) (ones : All (IsOne known) (under marker lines)) where
   -- the lines without a marker have nothing in common
   by_none : have_none (under None lines) ≡ true → Some_is (IsAmong known) (of_all (under None lines))
   by_none e = all_found known (under None lines) (all_sub (IsOne known) (counts_under None) (counts_under marker) (λ x. none_counts x.marker marker) lines ones) e
 
   -- a line has the marker
   by_line : have_none (under marker lines) ≡ true → (a : Demand) → HasKey (λ (x : Demand). x.marker) a.marker lines → a.marker ≡ marker
-      → Some_is (IsAmong known) (flat_map (λ (b : Demand). of_all (under b.marker lines)) (first_mentions has_same_marker [] lines))
+      → Some_is (IsAmong known) (flat_map (λ (b : Demand). of_marker b.marker lines) (first_mentions has_same_marker [] lines))
   by_line none a has is =
-      reach (λ (x : Demand). x.marker) has_same_marker (λ x y. marker_yes x.marker y.marker) (λ x y. marker_alike x.marker y.marker) (IsAmong known) (λ (b : Demand). of_all (under b.marker lines)) a
-      (λ b e. subst (λ n. Some_is (IsAmong known) (of_all (under n lines))) (sym (e ∙ is)) (all_found known (under marker lines) ones none)) [] lines refl has
+      reach (λ (x : Demand). x.marker) has_same_marker (λ x y. marker_yes x.marker y.marker) (λ x y. marker_alike x.marker y.marker) (IsAmong known) (λ (b : Demand). of_marker b.marker lines) a
+      (λ b e. subst (λ n. Some_is (IsAmong known) (of_marker n lines)) (sym (e ∙ is))
+      (subst (λ none. Some_is (IsAmong known) (if none then [] else of_all (under marker lines))) (sym somewhere) (all_found known (under marker lines) ones none))) [] lines refl has
 
-by_marker : (known : List FileLine) (lines : List Demand) (marker : Option (List ℕ)) → All (IsOne known) (under marker lines) → have_none (under marker lines) ≡ true → have_none (under None lines) ≡ false
-    → Some_is (IsAmong known) (flat_map (λ (b : Demand). of_all (under b.marker lines)) (first_mentions has_same_marker [] lines))
-by_marker known lines None ones none e = absurd (true≢false (sym none ∙ e))
-by_marker known lines (Some m) ones none e =
+by_marker : (known : List FileLine) (lines : List Demand) (marker : Option (List ℕ)) → holds_nowhere marker ≡ false → All (IsOne known) (under marker lines) → have_none (under marker lines) ≡ true → have_none (under None lines) ≡ false
+    → Some_is (IsAmong known) (flat_map (λ (b : Demand). of_marker b.marker lines) (first_mentions has_same_marker [] lines))
+by_marker known lines None somewhere ones none e = absurd (true≢false (sym none ∙ e))
+by_marker known lines (Some m) somewhere ones none e =
     elim (marked m lines) [
-      | inl r ↦ by_line known lines (Some m) ones none r.0 r.1 r.2
+      | inl r ↦ by_line known lines (Some m) somewhere ones none r.0 r.1 r.2
       | inr same ↦ absurd (true≢false (sym none ∙ ap have_none same ∙ e))
     ]
 
-by_both : (known : List FileLine) (lines : List Demand) (marker : Option (List ℕ)) → All (IsOne known) (under marker lines) → (b : Bool) → have_none (under marker lines) ≡ true → have_none (under None lines) ≡ b
-    → Some_is (IsAmong known) (if b then of_all (under None lines) else flat_map (λ (a : Demand). of_all (under a.marker lines)) (first_mentions has_same_marker [] lines))
-by_both known lines marker ones true none e = by_none known lines marker ones e
-by_both known lines marker ones false none e = by_marker known lines marker ones none e
+by_both : (known : List FileLine) (lines : List Demand) (marker : Option (List ℕ)) → holds_nowhere marker ≡ false → All (IsOne known) (under marker lines) → (b : Bool) → have_none (under marker lines) ≡ true → have_none (under None lines) ≡ b
+    → Some_is (IsAmong known) (if b then of_all (under None lines) else flat_map (λ (a : Demand). of_marker a.marker lines) (first_mentions has_same_marker [] lines))
+by_both known lines marker somewhere ones true none e = by_none known lines marker somewhere ones e
+by_both known lines marker somewhere ones false none e = by_marker known lines marker somewhere ones none e
 
-in_name : (known : List FileLine) (lines : List Demand) (marker : Option (List ℕ)) → All (IsOne known) (under marker lines) → have_none (under marker lines) ≡ true → Some_is (IsAmong known) (of_name lines)
-in_name known lines marker ones none = by_both known lines marker ones (have_none (under None lines)) none refl
+in_name : (known : List FileLine) (lines : List Demand) (marker : Option (List ℕ)) → holds_nowhere marker ≡ false → All (IsOne known) (under marker lines) → have_none (under marker lines) ≡ true → Some_is (IsAmong known) (of_name lines)
+in_name known lines marker somewhere ones none = by_both known lines marker somewhere ones (have_none (under None lines)) none refl
 
-pub some_found : (known : List FileLine) (lines : List Demand) (a : Demand) (marker : Option (List ℕ)) → All (IsOne known) (under marker (filter (has_same_name a) lines)) → Contains lines a
+pub some_found : (known : List FileLine) (lines : List Demand) (a : Demand) (marker : Option (List ℕ)) → holds_nowhere marker ≡ false → All (IsOne known) (under marker (filter (has_same_name a) lines)) → Contains lines a
     → have_none (under marker (filter (has_same_name a) lines)) ≡ true → Some_is (IsAmong known) (conflicts lines)
-some_found known lines a marker ones (k, inside, is) none =
+some_found known lines a marker somewhere ones (k, inside, is) none =
     let P = IsAmong known in
     reach (λ (x : Demand). x.name) has_same_name name_yes name_alike P (λ (b : Demand). of_name (filter (has_same_name b) lines)) a
-    (λ b e. subst (λ n. Some_is P (of_name (filter (λ (c : Demand). bytes_eq n c.name) lines))) (sym e) (in_name known (filter (has_same_name a) lines) marker ones none)) [] lines refl
+    (λ b e. subst (λ n. Some_is P (of_name (filter (λ (c : Demand). bytes_eq n c.name) lines))) (sym e) (in_name known (filter (has_same_name a) lines) marker somewhere ones none)) [] lines refl
     (contains_key (λ (x : Demand). x.name) a lines k inside is)

@@ -7,7 +7,7 @@ use Rattle.std.proofs.lemmas.List.Folds.{list_any-append}
 use Rattle.std.proofs.lemmas.Slice.Eq.{bytes_eq-Decides}
 use Rattle.std.specs.List.{All, filter, list_any}
 use Rattle.pyver_findings.specs.Demands.{Demand, IsSound}
-use Rattle.pyver_findings.specs.Conflicts.{conflict_kind, counts_under, has_marker, has_same_marker, have_none, of_all, of_name, same_marker, smallest, under}
+use Rattle.pyver_findings.specs.Conflicts.{conflict_kind, counts_under, has_marker, has_same_marker, have_none, holds_nowhere, of_all, of_marker, of_name, same_marker, smallest, under}
 use Rattle.std.specs.Option.{option_map_or}
 use Rattle.pyver_findings.specs.FileLines.{Conflicting, Finding}
 use Rattle.pyver_findings.proofs.Found.{marker_alike, marker_yes, none_counts}
@@ -191,10 +191,20 @@ at_marker None any b lines always groups sound is some taken e =
 at_marker (Some m) any b lines always groups sound is some taken e =
     own_by any b (under None lines) (filter (has_marker m) lines) (under (Some m) lines) (groups m) (ap have_none (sym is) ∙ some) (under_marker m lines sound) (taken m refl) (e ∙ ap (λ l. have_none (l ++ groups m)) is)
 
+-- nothing is found under a marker that holds nowhere
+nowhere_by : (none any b : Bool) (found : List Finding) → (if b then found else []) ≡ (if any then [] else found)
+    → (if b then (if none then [] else found) else []) ≡ (if any then [] else (if none then [] else found))
+nowhere_by true true true found is = refl
+nowhere_by true true false found is = refl
+nowhere_by true false true found is = refl
+nowhere_by true false false found is = refl
+nowhere_by false any b found is = is
+
 -- what is found at a line is what its marker has at its first mention
 pub at_line : (a : Demand) (b : Bool) (lines always before : List Demand) (groups : List ℕ → List Demand) → All IsSound lines → always ≡ under None lines → have_none always ≡ false
     → ((q : List ℕ) → groups q ≡ (if list_any (has_marker q) before then [] else filter (has_marker q) lines)) → b ≡ have_none (always ++ option_map_or groups a.marker [])
-    → (if b then of_all (under a.marker lines) else []) ≡ made_first has_same_marker (λ (x : Demand). of_all (under x.marker lines)) before a
+    → (if b then of_marker a.marker lines else []) ≡ made_first has_same_marker (λ (x : Demand). of_marker x.marker lines) before a
 at_line a b lines always before groups sound is some taken e =
-    at_marker a.marker (list_any (has_same_marker a) before) b lines always groups sound is some
-    (λ m has. taken m ∙ ap (λ n. if list_any (λ (x : Demand). same_marker n x.marker) before then [] else filter (has_marker m) lines) (sym has)) e
+    nowhere_by (holds_nowhere a.marker) (list_any (has_same_marker a) before) b (of_all (under a.marker lines))
+    (at_marker a.marker (list_any (has_same_marker a) before) b lines always groups sound is some
+    (λ m has. taken m ∙ ap (λ n. if list_any (λ (x : Demand). same_marker n x.marker) before then [] else filter (has_marker m) lines) (sym has)) e)

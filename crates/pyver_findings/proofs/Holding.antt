@@ -14,7 +14,7 @@ use Rattle.pep440_rs.specs.LiteralMatching.{list_matches_literally}
 use Rattle.pep440_rs.specs.Specifiers.SpecifierGrammar.{IsDenotedSpecifier}
 use Rattle.pep440_version.specs.Record.{Record}
 use Rattle.pyver_findings.specs.Demands.{Demand, IsSound, is_pinned, line_demand}
-use Rattle.pyver_findings.specs.Conflicts.{conflict_kind, conflicts, counts_under, first_mentions, have_none, of_all, of_name, has_same_marker, has_same_name, same_marker, smallest, under}
+use Rattle.pyver_findings.specs.Conflicts.{conflict_kind, conflicts, counts_under, first_mentions, have_none, holds_nowhere, of_all, of_marker, of_name, has_same_marker, has_same_name, same_marker, smallest, under}
 use Rattle.pyver_findings.specs.FileLines.{Conflicting, File, FileLine, Finding, NoRequirement, all_lines}
 use Rattle.pyver_findings.specs.NamedFiles.{constraints_files}
 use Rattle.pyver_findings.specs.FindingLaws.{AreNeeded, AsksFor, CountTogether, CountsIn, CountsUnder, FindingsHold, FitsConflict, HasMarker, HoldTogether, HoldsIn, IsRight, IsRightBy, IsRightConflict, IsRightConstraint, IsRightPair, LineAllows, NamesVersion}
@@ -118,9 +118,9 @@ module _ (read : List FileLine) where
       of_result t (Ok m) is found = of_url (Some m) (ap (option_map marker) is ∙ ap Some found) (pip_parts l.text).url
       of_result t (Err f) is found = All-nil (IsAsked pip_parts read)
 
-      of_marker : (t : Option (List ℕ)) → (pip_parts l.text).marker ≡ t → All (IsAsked pip_parts read) (demands_in (with_marker l (pip_parts l.text) n t))
-      of_marker None is = of_url None (ap (option_map marker) is) (pip_parts l.text).url
-      of_marker (Some t) is = of_result t (marker t) is refl
+      at_marker : (t : Option (List ℕ)) → (pip_parts l.text).marker ≡ t → All (IsAsked pip_parts read) (demands_in (with_marker l (pip_parts l.text) n t))
+      at_marker None is = of_url None (ap (option_map marker) is) (pip_parts l.text).url
+      at_marker (Some t) is = of_result t (marker t) is refl
 
     same_reading : (x y : LineMeaning) → x ≡ y → All (IsAsked pip_parts read) (demands_in y) → All (IsAsked pip_parts read) (demands_in x)
     same_reading x y is k = subst (λ (z : LineMeaning). All (IsAsked pip_parts read) (demands_in z)) (sym is) k
@@ -134,7 +134,7 @@ module _ (read : List FileLine) where
     of_kind Variable x is = same_reading x _ is (All-nil (IsAsked pip_parts read))
     of_kind Location x is = same_reading x _ is (All-nil (IsAsked pip_parts read))
     of_kind Requirement x (inl (not_text, is)) = same_reading x _ is (All-nil (IsAsked pip_parts read))
-    of_kind Requirement x (inr (text, inl (n, d, is))) = same_reading x (requirement_meaning l (pip_parts l.text) n) is (of_marker n d (pip_parts l.text).marker refl)
+    of_kind Requirement x (inr (text, inl (n, d, is))) = same_reading x (requirement_meaning l (pip_parts l.text) n) is (at_marker n d (pip_parts l.text).marker refl)
     of_kind Requirement x (inr (text, inr (f, r, is))) = same_reading x _ is (All-nil (IsAsked pip_parts read))
 
   pub all_asked : (lines : List FileLine) (xs : List LineMeaning) → All (Contains read) lines → AllZip IsMeaning lines xs → All (IsAsked pip_parts read) (flat_map demands_in xs)
@@ -257,21 +257,25 @@ module _ (parts : List ℕ → LineParts) where
             needed parts [] some (All-nil (IsDerived parts)) (derived some these) (smallest_right lines (sound parts lines (derived lines named)) e).2,
           ))
 
-      all_right : (marker : Option (List ℕ)) (lines : List Demand) → All IsNamed lines → All (Counts marker) lines → All (IsRightConflict parts read) (of_all lines)
-      all_right marker lines named k =
+      all_right : (marker : Option (List ℕ)) (lines : List Demand) → holds_nowhere marker ≡ false → All IsNamed lines → All (Counts marker) lines → All (IsRightConflict parts read) (of_all lines)
+      all_right marker lines somewhere named k =
           let some = smallest lines in
           right_by (CountTogether parts) lines named
-          (name, marker, mapped (AsksFor parts name) IsNamed asks_for some (all_smallest IsNamed lines named), mapped (CountsUnder parts marker) (Counts marker) (λ a one. counts_line marker a one.0 (counted_marker a.marker marker one.1)) some (all_smallest (Counts marker) lines k))
+          (name, marker, somewhere, mapped (AsksFor parts name) IsNamed asks_for some (all_smallest IsNamed lines named), mapped (CountsUnder parts marker) (Counts marker) (λ a one. counts_line marker a one.0 (counted_marker a.marker marker one.1)) some (all_smallest (Counts marker) lines k))
 
-      under_right : (marker : Option (List ℕ)) (lines : List Demand) → All IsNamed lines → All (IsRightConflict parts read) (of_all (under marker lines))
-      under_right marker lines k =
+      under_right : (marker : Option (List ℕ)) (lines : List Demand) → holds_nowhere marker ≡ false → All IsNamed lines → All (IsRightConflict parts read) (of_all (under marker lines))
+      under_right marker lines somewhere k =
           let named = All-filter (counts_under marker) IsNamed lines k in
-          all_right marker (under marker lines) named (both IsNamed (λ a. counts_under marker a ≡ true) (under marker lines) named (filter_passes (counts_under marker) lines))
+          all_right marker (under marker lines) somewhere named (both IsNamed (λ a. counts_under marker a ≡ true) (under marker lines) named (filter_passes (counts_under marker) lines))
+
+      marker_right : (marker : Option (List ℕ)) (lines : List Demand) → All IsNamed lines → (b : Bool) → holds_nowhere marker ≡ b → All (IsRightConflict parts read) (if b then [] else of_all (under marker lines))
+      marker_right marker lines k true is = All-nil (IsRightConflict parts read)
+      marker_right marker lines k false is = under_right marker lines is k
 
       name_right : (lines : List Demand) → All IsNamed lines → All (IsRightConflict parts read) (of_name lines)
       name_right lines k =
-          by_empty (IsRightConflict parts read) (have_none (under None lines)) _ _ (under_right None lines k)
-          (of_each (IsRightConflict parts read) (λ (a : Demand). of_all (under a.marker lines)) (λ a. under_right a.marker lines k) (first_mentions has_same_marker [] lines))
+          by_empty (IsRightConflict parts read) (have_none (under None lines)) _ _ (under_right None lines refl k)
+          (of_each (IsRightConflict parts read) (λ (a : Demand). of_marker a.marker lines) (λ a. marker_right a.marker lines k (holds_nowhere a.marker) refl) (first_mentions has_same_marker [] lines))
 
       -- ---- two markers
 

@@ -7,6 +7,5 @@ pub mod Holding
 pub mod Found
 pub mod Complete
 pub mod PairsFound
-pub mod Folders
 pub mod JsonCodes
 pub mod StringReadings

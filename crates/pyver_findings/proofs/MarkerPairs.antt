@@ -1,13 +1,14 @@
 -- What is found of lines of one name under two markers.
-use Rattle.std.proofs.Common.{arith, ◌≡◌, ◌⊎◌, ◌+◌, ◌-◌, ◌<◌, ◌≤◌, ◌∙◌, ℕ, List, [], ◌∷◌, ◌++◌, ◌||◌, Bool, true, false, Option, Some, None, ap, append_assoc, drop, get_or, inl, inr, is_none, length, map, nat_lt, refl, subst, suc, sym, take, if◌then◌else◌}
-use Rattle.std.proofs.lemmas.Bool.{ltb-false, ltb-true, true≢false}
+use Rattle.std.proofs.Common.{arith, ◌≡◌, ◌⊎◌, ◌+◌, ◌-◌, ◌<◌, ◌≤◌, ◌∙◌, ℕ, List, [], ◌∷◌, ◌++◌, ◌||◌, Bool, true, false, Option, Some, None, Ok, Err, Result, ap, append_assoc, drop, get_or, inl, inr, is_none, length, map, nat_lt, refl, subst, suc, sym, take, if◌then◌else◌}
+use Rattle.std.proofs.lemmas.Bool.{false_from_ne_true, ltb-false, ltb-true, true≢false}
 use Rattle.std.proofs.lemmas.List.Elements.{All-filter}
 use Rattle.std.proofs.lemmas.List.{append-nil, drop_all, length-append, length-map, map-append, take_all, take_more}
 use Rattle.std.specs.List.{All, Contains, filter, list_any}
 use Rattle.pyver_findings.proofs.Steps.{rest_at}
-use Rattle.pyver_findings.specs.Conflicts.{conflict_kind, counts_under, first_mentions, has_same_marker, has_same_name, have_none, of_all, smallest}
+use Rattle.pyver_findings.specs.Conflicts.{conflict_kind, counts_under, first_mentions, has_same_marker, has_same_name, have_none, holds_nowhere, is_read_contradictory, of_all, smallest}
 use Rattle.pyver_findings.specs.Demands.{Demand, IsSound}
 use Rattle.pyver_findings.specs.FileLines.{Conflicting, Finding}
+use Rattle.pyver_findings.specs.FindingLaws.{HeldMarkersCount}
 use Rattle.pyver_findings.specs.MarkerPairs.{AreJoined, FindsDecided, FindsNothing, FindsOfEach, FindsOfFirsts, FindsOfName, FindsOfNames, FindsOfPair, FindsOfPairs, IsDenotedBySteps, IsDecision, IsRightDecision, KnowsSteps, few_first_lines, first_lines, lines_to_pair, under_either, with_first}
 use Rattle.pyver_findings.specs.Views.{AddsFindings, AddsFound, finding_of}
 use Rattle.pyver_findings.specs.declared.cause.Cause.{Cause}
@@ -15,11 +16,27 @@ use Rattle.pyver_findings.specs.declared.cause.Cause.TheVariants as cause
 use Rattle.pyver_findings.specs.declared.finding.Finding.{Finding as FindingValue}
 use Rattle.pyver_findings.specs.declared.marker_pairs.Decision.{Decision}
 use Rattle.pyver_findings.specs.declared.marker_pairs.Decision.TheVariants.{Apart, Together, Unknown}
+use Rattle.pyver_markers.proofs.Versions.{contradictory_never}
+use Rattle.pyver_markers.specs.Conditions.{is_contradictory}
 use Rattle.pyver_markers.specs.Environments.{Assignment}
 use Rattle.pyver_markers.specs.Extents.{IsExample}
 use Rattle.pyver_markers.specs.MarkerValues.{both_hold, value}
 use Rattle.pyver_requirements.specs.MarkerGrammar.{Both, DenotesMarker, Marker}
-use Rattle.pyver_requirements.specs.MarkerSteps.{Step, steps}
+use Rattle.pyver_requirements.proofs.MarkerStepReadings.{steps_are_read}
+use Rattle.pyver_requirements.specs.MarkerSteps.{Misfit, Step, marker_steps, steps}
+
+-- ---- markers that hold nowhere
+
+pub read_so : (text : List ℕ) (all : List Step) (b : Bool) → ((m : Marker) × DenotesMarker text m × (all ≡ steps m)) → b ≡ is_contradictory all → b ≡ is_read_contradictory (marker_steps text)
+read_so text all b (m, denoted, is) found = found ∙ ap is_contradictory is ∙ ap is_read_contradictory (sym (steps_are_read text m denoted))
+
+pub none_read : (f : Misfit) (found : Result (List Step) Misfit) → found ≡ Err f → false ≡ is_read_contradictory found
+none_read f found is = ap is_read_contradictory (sym is)
+
+pub held_markers_count : HeldMarkersCount
+held_markers_count e text known (m, denoted, holds) =
+    false_from_ne_true (holds_nowhere (Some text)) (λ nowhere.
+    contradictory_never m (ap is_read_contradictory (sym (steps_are_read text m denoted)) ∙ nowhere) e known holds)
 
 -- ---- two markers
 

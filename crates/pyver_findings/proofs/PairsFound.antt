@@ -8,8 +8,8 @@ use Rattle.std.specs.List.{All, Any, Contains, filter, flat_map, list_any}
 use Rattle.pyver_findings.proofs.Complete.{asked_sound, in_conflicts, none_found, of_lines}
 use Rattle.pyver_findings.proofs.Found.{HasKey, IsOne, Some_is, all_found, all_sub, any_is, contains_key, in_left, in_right, marker_yes, name_alike, name_yes, none_before, none_counts, ones_of, some_found}
 use Rattle.pyver_findings.proofs.Holding.{MarkerIn}
-use Rattle.pyver_findings.proofs.MarkerPairs.{Tells, contains_told, of_name_of, tells_left, tells_right}
-use Rattle.pyver_findings.specs.Conflicts.{conflicts, counts_under, first_mentions, has_same_marker, has_same_name, have_none, under}
+use Rattle.pyver_findings.proofs.MarkerPairs.{Tells, contains_told, held_markers_count, of_name_of, tells_left, tells_right}
+use Rattle.pyver_findings.specs.Conflicts.{conflicts, counts_under, first_mentions, has_same_marker, has_same_name, have_none, holds_nowhere, under}
 use Rattle.pyver_findings.specs.Demands.{Demand, IsSound}
 use Rattle.pyver_findings.specs.FileLines.{File, FileLine, Finding, all_lines}
 use Rattle.pyver_findings.specs.FindingLaws.{IsAmong, IsUndecided, PairsHaveFindings}
@@ -277,11 +277,14 @@ in_found a b lines r files xs fs is same some =
     inl (any_is P r.findings (subst (Some_is P) (sym is) (in_conflicts P files xs fs (subst (λ (demands : List Demand). Some_is P (conflicts demands)) same some))))
 
 -- lines under one of the markers, or under none, have no version in common
-alone_found : (a b : Demand) (lines : List Demand) (k : Option (List ℕ)) → ((x : Demand) → counts_under k x ≡ true → (counts_under a.marker x || counts_under b.marker x) ≡ true) → Contains lines a
+alone_found : (a b : Demand) (lines : List Demand) (k : Option (List ℕ)) → holds_nowhere k ≡ false → ((x : Demand) → counts_under k x ≡ true → (counts_under a.marker x || counts_under b.marker x) ≡ true) → Contains lines a
     → have_none (under k (filter (has_same_name a) lines)) ≡ true → Some_is (Among a b lines) (conflicts lines)
-alone_found a b lines k so inside none =
+alone_found a b lines k somewhere so inside none =
     let known = map (λ (c : Demand). c.line) (These a b lines) in
-    some_found known lines a k (all_sub (IsOne known) (counts_under k) (λ (x : Demand). counts_under a.marker x || counts_under b.marker x) so (filter (has_same_name a) lines) (ones_of (These a b lines))) inside none
+    some_found known lines a k somewhere (all_sub (IsOne known) (counts_under k) (λ (x : Demand). counts_under a.marker x || counts_under b.marker x) so (filter (has_same_name a) lines) (ones_of (These a b lines))) inside none
+
+held : (e : Environment) → IsEnvironment e → (m : Option (List ℕ)) → MarkerIn e m → holds_nowhere m ≡ false
+held e known m (text, is, holds) = ap holds_nowhere is ∙ held_markers_count e text known holds
 
 one_marker : (m n : Option (List ℕ)) (lines : List Demand) → m ≡ n → have_none (under_either m n lines) ≡ true → have_none (under m lines) ≡ true
 one_marker m n lines same none =
@@ -310,9 +313,9 @@ module _ (a b : Demand) (lines : List Demand) (e : Environment) (is_one : IsEnvi
       (subst (λ n. HasKey (λ (x : Demand). x.marker) n lines_of) is_t (of_its_name a b lines beside named))))
 
   by_none : (p q u : Bool) → have_none (under None (filter (has_same_name a) lines)) ≡ p → have_none (under a.marker (filter (has_same_name a) lines)) ≡ q → have_none (under b.marker (filter (has_same_name a) lines)) ≡ u → Finds
-  by_none true q u always one other = inl (alone_found a b lines None (λ x c. left_or (counts_under a.marker x) (counts_under b.marker x) (none_counts x.marker a.marker c)) inside always)
-  by_none false true u always one other = inl (alone_found a b lines a.marker (λ x c. left_or (counts_under a.marker x) (counts_under b.marker x) c) inside one)
-  by_none false false true always one other = inl (alone_found a b lines b.marker (λ x c. right_or (counts_under a.marker x) (counts_under b.marker x) c) inside other)
+  by_none true q u always one other = inl (alone_found a b lines None refl (λ x c. left_or (counts_under a.marker x) (counts_under b.marker x) (none_counts x.marker a.marker c)) inside always)
+  by_none false true u always one other = inl (alone_found a b lines a.marker (held e is_one a.marker first) (λ x c. left_or (counts_under a.marker x) (counts_under b.marker x) c) inside one)
+  by_none false false true always one other = inl (alone_found a b lines b.marker (held e is_one b.marker second) (λ x c. right_or (counts_under a.marker x) (counts_under b.marker x) c) inside other)
   by_none false false false always one other =
       elim (apart_by (bytes_eq s t) s t refl) [
         | inl same ↦ absurd (true≢false (sym (one_marker a.marker b.marker (filter (has_same_name a) lines) (is_s ∙ ap Some same ∙ sym is_t) none) ∙ one))

@@ -14,7 +14,7 @@ use Rattle.pep440_version.specs.Record.{Record}
 use Rattle.pep440_sets.proofs.CommonVersions.{common_is_denoted, common_matches, none_in_common}
 use Rattle.pep440_sets.specs.Common.{common_version}
 use Rattle.pyver_findings.specs.Demands.{Demand, IsSound}
-use Rattle.pyver_findings.specs.Conflicts.{IsNeeded, counts_under, first_mentions, has_same_marker, have_none, keep, of_all, of_name, smallest, specifiers_of, under}
+use Rattle.pyver_findings.specs.Conflicts.{IsNeeded, counts_under, first_mentions, has_same_marker, have_none, keep, of_all, of_marker, of_name, smallest, specifiers_of, under}
 use Rattle.pep440_ranges.specs.RangeSegments.{contains}
 use Rattle.pep440_rs.specs.Bounds.{Segments}
 use Rattle.pep440_sets.specs.Emptiness.{HasNoVersion}
@@ -199,7 +199,7 @@ sound_under marker lines k = All-filter (counts_under marker) IsSound lines k
 pub of_always : (lines one other : List Demand) → one ≡ under None lines → other ≡ under None lines → have_none (one ++ []) ≡ true → of_all other ≡ of_name lines
 of_always lines one other is same none =
     let always : have_none (under None lines) ≡ true = sym (ap have_none (nothing_after one ∙ is)) ∙ none in
-    ap of_all same ∙ sym (ap (λ b. if b then of_all (under None lines) else flat_map (λ (a : Demand). of_all (under a.marker lines)) (first_mentions has_same_marker [] lines)) always)
+    ap of_all same ∙ sym (ap (λ b. if b then of_all (under None lines) else flat_map (λ (a : Demand). of_marker a.marker lines) (first_mentions has_same_marker [] lines)) always)
 
 -- where the first lines have no version in common with those that are kept, the later ones are left out
 skipped : (kept first : List Demand) → All IsSound kept → All IsSound first → have_none (first ++ kept) ≡ true → (later : List Demand) → All IsSound later → keep kept (later ++ reverse first) ≡ keep kept (reverse first)

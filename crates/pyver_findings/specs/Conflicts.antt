@@ -1,6 +1,6 @@
 -- Lines that no version can satisfy together. Two lines count together where they have one name, and the same marker or not both
 -- a marker.
-use Rattle.std.specs.Prelude.{◌≡◌, ℕ, ◌&&◌, ◌||◌, List, [], ◌∷◌, ◌++◌, Bool, true, false, Option, Some, None, bytes_eq, is_none, map, reverse, if◌then◌else◌}
+use Rattle.std.specs.Prelude.{◌≡◌, ℕ, ◌&&◌, ◌||◌, List, [], ◌∷◌, ◌++◌, Bool, true, false, Option, Some, None, Result, Ok, Err, bytes_eq, is_none, map, reverse, if◌then◌else◌}
 use Rattle.std.specs.List.{All, filter, flat_map, list_any}
 use Rattle.pep440_rs.specs.Bounds.{Segments}
 use Rattle.pep440_rs.specs.Specifiers.{Spec}
@@ -10,6 +10,8 @@ use Rattle.pyver_findings.specs.Demands.{Demand, IsSound}
 use Rattle.pyver_findings.specs.FileLines.{Conflicting, Finding}
 use Rattle.pyver_findings.specs.declared.finding.Conflict.{Conflict}
 use Rattle.pyver_findings.specs.declared.finding.Conflict.TheVariants.{NoVersion, PinOutside, TwoPins}
+use Rattle.pyver_markers.specs.Conditions.{is_contradictory}
+use Rattle.pyver_requirements.specs.MarkerSteps.{Misfit, Step, marker_steps}
 
 -- ---- which lines count together
 
@@ -83,10 +85,24 @@ of_all lines = if have_none lines then Conflicting (conflict_kind (smallest line
 abbrev pub under : Option (List ℕ) → List Demand → List Demand
 under marker lines = filter (counts_under marker) lines
 
+-- the marker that is read so is contradictory
+abbrev pub is_read_contradictory : Result (List Step) Misfit → Bool
+is_read_contradictory (Ok all) = is_contradictory all
+is_read_contradictory (Err f) = false
+
+-- the marker is contradictory, so that its lines ask for nothing
+abbrev pub holds_nowhere : Option (List ℕ) → Bool
+holds_nowhere None = false
+holds_nowhere (Some text) = is_read_contradictory (marker_steps text)
+
+-- of the lines that count under the marker
+abbrev pub of_marker : Option (List ℕ) → List Demand → List Finding
+of_marker marker lines = if holds_nowhere marker then [] else of_all (under marker lines)
+
 -- of the lines of one name: those without a marker decide where they have no version in common, and otherwise those of each marker
 abbrev pub of_name : List Demand → List Finding
 of_name lines = if have_none (under None lines) then of_all (under None lines)
-    else flat_map (λ (a : Demand). of_all (under a.marker lines)) (first_mentions has_same_marker [] lines)
+    else flat_map (λ (a : Demand). of_marker a.marker lines) (first_mentions has_same_marker [] lines)
 
 -- ---- all names
 

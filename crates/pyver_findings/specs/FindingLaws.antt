@@ -1,14 +1,14 @@
 -- What holds of findings: a line that is reported by itself is no requirement or no constraint, and each that is none is reported; lines that are
 -- reported together count together and cannot be satisfied, and none of them can be left out; those that have no version in common are
 -- reported; there is one report, if nothing is undecided.
-use Rattle.std.specs.Prelude.{◌≡◌, ◌⊎◌, ⊤, ℕ, List, [], ◌∷◌, ◌++◌, IsTrue, Option, Some, None, Ok, bytes_eq, map, option_map, true}
+use Rattle.std.specs.Prelude.{◌≡◌, ◌⊎◌, ⊤, ℕ, List, [], ◌∷◌, ◌++◌, IsTrue, Option, Some, None, Ok, bytes_eq, false, map, option_map, true}
 use Rattle.std.specs.List.{All, AllZip, Any, Contains, filter, flat_map}
 use Rattle.pep440_pick.specs.Names.{normal}
 use Rattle.pep440_pick.specs.RequirementGrammar.{DerivesRequirement, Needed}
 use Rattle.pep440_rs.specs.Denoted.{IsDenoted}
 use Rattle.pep440_rs.specs.LiteralMatching.{list_matches_literally}
 use Rattle.pep440_version.specs.Record.{Record}
-use Rattle.pyver_findings.specs.Conflicts.{has_same_name, under}
+use Rattle.pyver_findings.specs.Conflicts.{has_same_name, holds_nowhere, under}
 use Rattle.pyver_findings.specs.Demands.{Demand, is_pinned}
 use Rattle.pyver_findings.specs.FileLines.{Conflicting, File, FileLine, Finding, NoRequirement, all_lines}
 use Rattle.pyver_findings.specs.NamedFiles.{constraints_files}
@@ -67,9 +67,9 @@ module _ (parts : List ℕ → LineParts) where
   abbrev pub CountsUnder : Option (List ℕ) → FileLine → Type 0
   CountsUnder m l = HasMarker (parts l.text) None ⊎ HasMarker (parts l.text) m
 
-  -- the lines ask for one name, and no two of them have different markers
+  -- the lines ask for one name, and no two of them have different markers; theirs is not contradictory
   abbrev pub CountTogether : List FileLine → Type 0
-  CountTogether together = (name : List ℕ) × (m : Option (List ℕ)) × All (AsksFor name) together × All (CountsUnder m) together
+  CountTogether together = (name : List ℕ) × (m : Option (List ℕ)) × (holds_nowhere m ≡ false) × All (AsksFor name) together × All (CountsUnder m) together
 
   -- the line names a version, by `==` or `===`
   abbrev pub NamesVersion : FileLine → Type 0
@@ -170,10 +170,15 @@ AreDemands files demands = (xs : List LineMeaning) × AllZip IsMeaning (all_line
 abbrev pub HaveNone : List Demand → Type 0
 HaveNone lines = (v : Record) → IsDenoted v → ¬ All (λ a. IsTrue (list_matches_literally a.specifiers v)) lines
 
--- where the lines of a name that count under a marker have no version in common, some of these lines are reported together
+-- a marker that holds in an environment is not contradictory
+abbrev pub HeldMarkersCount : Type 0
+HeldMarkersCount = (e : Environment) (text : List ℕ) → IsEnvironment e → HoldsIn e text → holds_nowhere (Some text) ≡ false
+
+-- where the lines of a name that count under a marker, which is not contradictory, have no version in common, some of these lines are reported
+-- together
 abbrev pub ConflictsHaveFindings : Type 0
 ConflictsHaveFindings = (files : List File) (r : Report) (lines : List Demand) (a : Demand) (m : Option (List ℕ)) → IsReport files r → AreDemands files lines → Contains lines a
-    → HaveNone (under m (filter (has_same_name a) lines)) → Any (IsAmong (map (λ (b : Demand). b.line) (under m (filter (has_same_name a) lines)))) r.findings
+    → holds_nowhere m ≡ false → HaveNone (under m (filter (has_same_name a) lines)) → Any (IsAmong (map (λ (b : Demand). b.line) (under m (filter (has_same_name a) lines)))) r.findings
 
 -- something is said to be undecided
 abbrev pub IsUndecided : Report → Type 0

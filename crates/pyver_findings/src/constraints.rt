@@ -46,7 +46,7 @@ fn is_option(text: &[u8]) -> bool
 }
 
 // The path of the file of constraints that the line names. Most lines are no options, and need not be classified for it.
-#[tactic(auto, using(crate::proofs::Folders::no_constraints))]
+#[tactic(auto, using(crate::proofs::StringReadings::no_constraints))]
 fn constraints_path_in(text: &[u8]) -> Option<&[u8]>
     ensures { option_map (λ p. p.now) result ≡ constraints_path (line_kind text.now) }
 {

@@ -3,7 +3,7 @@ ghost use Rattle.std.specs.Prelude.{◌≡◌, ◌∷◌, ◌++◌, [], IfOk, Li
 ghost use Rattle.std.specs.HashMap.{get_by};
 ghost use Rattle.std.specs.List.{All, flat_map};
 ghost use Rattle.std.specs.Option.{option_map_or};
-ghost use Rattle.pyver_findings.specs.Conflicts.{conflict_kind, first_mentions, has_marker, has_same_marker, have_none, of_all, of_name, pin_conflict, under};
+ghost use Rattle.pyver_findings.specs.Conflicts.{conflict_kind, first_mentions, has_marker, has_same_marker, have_none, of_all, of_marker, of_name, pin_conflict, under};
 ghost use Rattle.pyver_findings.specs.Demands.{IsSound};
 ghost use Rattle.pyver_findings.specs.FileLines.{Conflicting};
 ghost use Rattle.pyver_findings.specs.Views.{AddsFindings, demand_of, demands_at, file_line_of, group_at};
@@ -11,7 +11,7 @@ ghost use Rattle.pyver_findings.specs.Views.{AddsFindings, demand_of, demands_at
 use crate::demand::Demand;
 use crate::file_line::FileLine;
 use crate::finding::{Conflict, Finding};
-use crate::marker::{group_by_marker, under};
+use crate::marker::{group_by_marker, holds_nowhere, under};
 use crate::smallest::{find_smallest, have_none};
 use std::alloc::{AllocError, Global};
 use std::collections::HashMap;
@@ -92,9 +92,12 @@ fn push_of_marker(
     line: &Demand,
 ) -> Result<(), AllocError>
     requires { All IsSound (demands_at lines.now) }
-    ensures { IfOk result (λ _. AddsFindings findings.old.items findings.new.items (of_all (under (demand_of line.now).marker
-        (demands_at lines.now)))) }
+    ensures { IfOk result (λ _. AddsFindings findings.old.items findings.new.items (of_marker (demand_of line.now).marker
+        (demands_at lines.now))) }
 {
+    if holds_nowhere(alloc, &line.marker)? {
+        return Ok(());
+    }
     let together = under(alloc, &line.marker, lines)?;
     push_of_all(alloc, findings, together.as_slice())
 }
@@ -131,8 +134,8 @@ fn push_of_each_marker(
     requires sound { All IsSound (demands_at lines.now) }
     requires always { demands_at always.now ≡ under None (demands_at lines.now) }
     requires some { have_none (demands_at always.now) ≡ false }
-    ensures { IfOk result (λ _. AddsFindings findings.old.items findings.new.items (flat_map (λ a. of_all (under a.marker
-        (demands_at lines.now))) (first_mentions has_same_marker [] (demands_at lines.now)))) }
+    ensures { IfOk result (λ _. AddsFindings findings.old.items findings.new.items (flat_map (λ a. of_marker a.marker
+        (demands_at lines.now)) (first_mentions has_same_marker [] (demands_at lines.now)))) }
 {
     let mut groups = group_by_marker(alloc, lines)?;
     for line in lines {

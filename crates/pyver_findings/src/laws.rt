@@ -1,10 +1,10 @@
 //! What holds of findings, as the contract of a function that does nothing.
 ghost use Rattle.pyver_findings.specs.ReportObjects.{JsonStringsDiffer};
-ghost use Rattle.pyver_findings.specs.FindingLaws.{ConflictsHaveFindings, FindingsHold, InvalidLinesHaveFindings, MeaningsOnce, PairsHaveFindings, ReportsOnce, WrongConstraintsHaveFindings};
+ghost use Rattle.pyver_findings.specs.FindingLaws.{ConflictsHaveFindings, FindingsHold, HeldMarkersCount, InvalidLinesHaveFindings, MeaningsOnce, PairsHaveFindings, ReportsOnce, WrongConstraintsHaveFindings};
 ghost use Rattle.pyver_findings.specs.StringGrammar.{StringsHaveGrammar};
 
 /// A line that is reported by itself is a line of the files and no requirement, for the reason and at the column that are
-/// reported, or an editable or has extras and is of a file that a line names after `-c`. Lines that are reported together are lines of the files, ask for one name and have no two markers, or
+/// reported, or an editable or has extras and is of a file that a line names after `-c`. Lines that are reported together are lines of the files, ask for one name and have no two markers, and none that is contradictory, or
 /// markers that hold in one environment; no version is allowed by all, and without any one of them some version is; and one or two of them name a version if that is reported.
 pub fn findings_hold()
     ensures { FindingsHold }
@@ -17,9 +17,11 @@ pub fn invalid_lines_have_findings()
     ensures constraint { WrongConstraintsHaveFindings }
 {}
 
-/// If no version is allowed by all lines of a name that count under a marker, or under either of two markers that hold in one environment, some
-/// of these lines are reported together; or, of two markers, something is said to be undecided.
+/// If no version is allowed by all lines of a name that count under a marker that is not contradictory, or under either of two markers that hold
+/// in one environment, some of these lines are reported together; or, of two markers, something is said to be undecided. A marker that holds in
+/// an environment is not contradictory.
 pub fn conflicts_have_findings()
+    ensures held { HeldMarkersCount }
     ensures one { ConflictsHaveFindings }
     ensures two { PairsHaveFindings }
 {}
@@ -35,6 +37,7 @@ pub fn strings_have_grammar()
     ensures { StringsHaveGrammar }
 {}
 
+#[tactic(auto, using(crate::proofs::JsonCodes::strings_differ))]
 /// Different bytes are different JSON strings.
 pub fn json_strings_differ()
     ensures { JsonStringsDiffer }

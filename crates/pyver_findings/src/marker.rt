@@ -3,11 +3,14 @@ ghost use Rattle.std.specs.Prelude.{◌≡◌, ◌∷◌, ◌++◌, [], IfOk, Li
 ghost use Rattle.std.specs.HashMap.{get_by};
 ghost use Rattle.std.specs.List.{filter};
 ghost use Rattle.std.specs.Option.{option_map_or};
-ghost use Rattle.pyver_findings.specs.Conflicts.{counts_under, has_marker, same_marker, under};
+ghost use Rattle.pyver_findings.specs.Conflicts.{counts_under, has_marker, holds_nowhere, is_read_contradictory, same_marker, under};
 ghost use Rattle.pyver_findings.specs.Views.{demand_of, demands_at, group_at};
+ghost use Rattle.pyver_requirements.specs.MarkerSteps.{marker_steps};
 
 use crate::demand::Demand;
 use crate::key_groups::push_to_group;
+use pyver_markers::EnvironmentMarker;
+use pyver_requirements::MarkerError;
 use std::alloc::{AllocError, Global};
 use std::collections::HashMap;
 
@@ -75,4 +78,28 @@ pub(crate) fn group_by_marker<'a>(
         push_to_marker(alloc, &mut groups, *line)?;
     }
     Ok(groups)
+}
+
+#[tactic(auto, using(crate::proofs::MarkerPairs::read_so, crate::proofs::MarkerPairs::none_read))]
+fn is_contradictory(alloc: Global, text: &[u8]) -> Result<bool, AllocError>
+    ensures { IfOk result (λ b. b ≡ is_read_contradictory (marker_steps text.now)) }
+{
+    match EnvironmentMarker::parse(alloc, text) {
+        Ok(marker) => {
+            let found = marker.is_contradictory(alloc)?;
+            Ok(found)
+        }
+        Err(MarkerError::Invalid(_, _)) => Ok(false),
+        Err(MarkerError::OutOfMemory) => Err(AllocError),
+    }
+}
+
+// Whether the marker is contradictory, so that its lines ask for nothing.
+pub(crate) fn holds_nowhere(alloc: Global, marker: &Option<Vec<u8>>) -> Result<bool, AllocError>
+    ensures { IfOk result (λ b. b ≡ holds_nowhere (option_map (λ m. m.items) marker.now)) }
+{
+    match marker {
+        Some(text) => is_contradictory(alloc, text.as_slice()),
+        None => Ok(false),
+    }
 }

@@ -75,7 +75,8 @@ fn parse_lines(alloc: Global, lines: &[FileLine]) -> Result<Readings, AllocError
 /// What is wrong in these files, each of which is read once, in this order: first the lines that are no requirements, in
 /// order; then editables, and requirements with extras, in files that a line names after `-c`; then for each name, in the order in which names are first mentioned, lines that no version satisfies together: of these a
 /// smallest list, from which no line can be left out. Lines without a marker count with the lines of each marker; if they have no version in
-/// common, some of them are reported, and no line with a marker. Behind these follow, for each name, lines under two different markers that
+/// common, some of them are reported, and no line with a marker. Lines under a contradictory marker, as `EnvironmentMarker::is_contradictory`
+/// has it, ask for nothing. Behind these follow, for each name, lines under two different markers that
 /// no version satisfies, if both hold in one environment of one system; of three and more markers nothing is asked.
 ///
 /// A line names a version if a member of its list is `==` without a star, or `===`; a finding of two lines says whether one or both do.

@@ -1,15 +1,16 @@
 //! Boxes without environments.
 ghost use Rattle.std.specs.Prelude.{◌≡◌, IfOk, false, map, true};
+ghost use Rattle.std.specs.List.{list_all};
 ghost use Rattle.pyver_markers.specs.EnvironmentViews.{condition_of};
 ghost use Rattle.pyver_markers.specs.Boxes.{in_box, in_boxes};
-ghost use Rattle.pyver_markers.specs.Conditions.{HasNoEnvironment, IsEnvironment};
+ghost use Rattle.pyver_markers.specs.Conditions.{HasNoEnvironment, IsEnvironment, is_contradiction};
 ghost use Rattle.pyver_markers.specs.Environments.{Environment};
 
 use crate::environment_box::{Condition, EnvironmentBox};
 use crate::marker_comparison::is_version_variable;
 use crate::release_condition::excludes_releases;
 use crate::text_condition::excludes_texts;
-use crate::version_condition::excludes_versions;
+use crate::version_condition::{excludes_versions, lacks_version};
 use std::alloc::{AllocError, Global};
 
 // Variables that are strings.
@@ -69,6 +70,34 @@ pub(crate) fn are_empty(alloc: Global, boxes: &[EnvironmentBox<'_>]) -> Result<b
             return Ok(false);
         }
         rest = later;
+    }
+    Ok(true)
+}
+
+// Whether the conditions ask of a version of Python, or of its implementation, what none matches.
+fn is_contradiction(alloc: Global, conditions: &[Condition<'_>]) -> Result<bool, AllocError>
+    ensures { IfOk result (λ b. b ≡ is_contradiction (map condition_of conditions.now)) }
+{
+    if lacks_version(alloc, "python_version", conditions)? {
+        return Ok(true);
+    }
+    if lacks_version(alloc, "python_full_version", conditions)? {
+        return Ok(true);
+    }
+    let last = lacks_version(alloc, "implementation_version", conditions)?;
+    Ok(last)
+}
+
+pub(crate) fn are_contradictions(
+    alloc: Global,
+    boxes: &[EnvironmentBox<'_>],
+) -> Result<bool, AllocError>
+    ensures { IfOk result (λ b. b ≡ list_all is_contradiction boxes.now) }
+{
+    for one in boxes {
+        if !is_contradiction(alloc, one.conditions())? {
+            return Ok(false);
+        }
     }
     Ok(true)
 }

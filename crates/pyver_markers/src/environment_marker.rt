@@ -1,7 +1,7 @@
 //! Environment markers, their values, and the environments in which they hold.
 ghost use Rattle.std.specs.Prelude.{◌≡◌, [], IfErr, IfOk, IfSome, map, true};
 ghost use Rattle.pyver_markers.specs.Boxes.{HasValueInBoxes, boxes};
-ghost use Rattle.pyver_markers.specs.Conditions.{IsNever};
+ghost use Rattle.pyver_markers.specs.Conditions.{IsNever, is_contradictory};
 ghost use Rattle.pyver_markers.specs.EnvironmentViews.{assignment_of, boxes_of, environment_of, extent_of, found_environment};
 ghost use Rattle.pyver_markers.specs.Extents.{IsExample, IsExtent};
 ghost use Rattle.pyver_markers.specs.MarkerComparisons.{compare};
@@ -11,7 +11,7 @@ ghost use Rattle.pyver_requirements.specs.MarkerSteps.{marker_steps, steps};
 ghost use Rattle.pyver_requirements.specs.MarkerStepViews.{step_of};
 ghost use Rattle.pyver_requirements.specs.MarkerViews.{IsMarkerFault};
 
-use crate::emptiness::are_empty;
+use crate::emptiness::{are_contradictions, are_empty};
 use crate::environment::Variable;
 use crate::environment_box::EnvironmentBox;
 use crate::found_environment::{
@@ -181,6 +181,19 @@ impl<'a> EnvironmentMarker<'a> {
     {
         match self.to_boxes(alloc, wanted)? {
             Some(boxes) => are_empty(alloc, boxes.as_slice()),
+            None => Ok(false),
+        }
+    }
+
+    /// Whether the marker is contradictory: the comparisons that have to be true together ask of `python_version`, `python_full_version` or
+    /// `implementation_version`, on their left, what no version matches. Then it holds in no environment; `is_never` finds more such markers.
+    ///
+    /// Allocates.
+    pub fn is_contradictory(&self, alloc: Global) -> Result<bool, AllocError>
+        ensures { IfOk result (λ b. b ≡ is_contradictory self.now) }
+    {
+        match take_box_steps(alloc, true, self.steps.as_slice())? {
+            Some(boxes) => are_contradictions(alloc, boxes.as_slice()),
             None => Ok(false),
         }
     }

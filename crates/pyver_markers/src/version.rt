@@ -5,7 +5,7 @@ ghost use Rattle.std.specs.List.{list_all, list_any};
 ghost use Rattle.pep440_rs.specs.Blanks.{trim_blanks};
 ghost use Rattle.pep440_rs.specs.Denoted.{IsDenotable};
 ghost use Rattle.pep440_rs.specs.Errors.{IsLifted, specifier_rejection_of};
-ghost use Rattle.pyver_markers.specs.Conditions.{ComparesAs};
+ghost use Rattle.pyver_markers.specs.Conditions.{ComparesAs, written_specifier};
 ghost use Rattle.pyver_markers.specs.MarkerComparisons.{compare_spellings, compare_versions, compare_with, compare_written, ends_operand, matches_specifier, ascii_specifier, spelling_in, ascii_version};
 ghost use Rattle.pyver_requirements.specs.MarkerTerms.{marker_operator_text};
 
@@ -197,6 +197,7 @@ pub(crate) fn find_specifier(
     operator: MarkerOperator,
     right: &[u8],
 ) -> Result<Option<VersionSpecifier>, AllocError>
+    ensures value { IfOk result (λ found. found ≡ written_specifier (marker_operator_text operator ++ right.now)) }
     ensures denotable { IfOk result (λ found. IfSome found IsDenotable) }
     ensures compares { IfOk result (λ found. IfSome found (ComparesAs operator right.now)) }
 {

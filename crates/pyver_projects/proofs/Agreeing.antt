@@ -1,12 +1,10 @@
 -- Where nothing is found, each requirement contains a locked version of its name.
-use Rattle.std.proofs.Common.{◌≡◌, ◌∙◌, ℕ, List, [], ◌∷◌, ◌++◌, Bool, true, false, Option, Some, None, refl, sym, ap, subst, inl, inr, if◌then◌else◌}
+use Rattle.std.proofs.Common.{◌≡◌, ◌∙◌, ℕ, List, [], ◌++◌, Bool, true, false, Some, None, refl, sym, ap, subst, inl, inr, if◌then◌else◌}
 use Rattle.std.specs.List.{AllZip, flat_map, zip}
 use Rattle.std.specs.Ordering.{eq_by_cmp}
-use Rattle.pep440_pick.specs.Names.{same_name}
 use Rattle.pep440_pick.specs.RequirementGrammar.{Needed}
 use Rattle.pep440_rs.proofs.Reading.OneMeaning.{not_both_list, one_list}
 use Rattle.pep440_rs.specs.Lists.ListGrammar.{DerivesList}
-use Rattle.pep440_rs.specs.LiteralMatching.{list_matches_literally}
 use Rattle.pep440_rs.specs.Specifiers.{Spec}
 use Rattle.pep440_version.proofs.Reading.Agreement.{one_record}
 use Rattle.pep440_version.proofs.Rejections.ExactlyOne.{not_both}
@@ -14,19 +12,18 @@ use Rattle.pep440_version.specs.Grammar.{Derives}
 use Rattle.pep440_version.specs.Key.{record_cmp}
 use Rattle.pep440_version.specs.Record.{Record}
 use Rattle.pyver_findings.specs.Demands.{Demand, line_demand}
-use Rattle.pyver_findings.specs.FileLines.{Conflicting, File, FileLine, Finding}
+use Rattle.pyver_findings.specs.FileLines.{File, Finding}
 use Rattle.pyver_findings.specs.LineMeanings.{Asks, LineMeaning}
 use Rattle.pyver_findings.specs.Reports.{Report, demands_in, empty_report, invalid_in}
-use Rattle.pyver_findings.specs.declared.finding.Conflict.TheVariants.{PinOutside}
 use Rattle.toml.specs.Data.{Members}
 use Rattle.pyver_projects.proofs.Holding.{asks_always, findings_of, not_excluded, some_named}
 use Rattle.pyver_projects.proofs.Walks.{beside_it, beside_pair, left_nil, nil_at, right_nil}
 use Rattle.pyver_projects.specs.Comparing.{absent, is_installer, lacking, found_beside, found_in_pair, beside_all, is_beside, compared, compared_demand, excluded, invalid_package, is_locked, missing, own_report, unmet, with_own_reports}
 use Rattle.pyver_projects.specs.Documents.{has_group_tool, sources}
 use Rattle.pyver_projects.specs.Groups.{groups}
-use Rattle.pyver_projects.specs.Meanings.{Document, DocumentReading, IsDocumentReading, IsFileReading, IsLockReading, IsLockedReading, IsProject, IsRequirementReading, IsStringReading, IsVersionReading, LockedReading, StringReading, file_meaning, package_line, requirement_line, string_line}
+use Rattle.pyver_projects.specs.Meanings.{Document, DocumentReading, IsDocumentReading, IsFileReading, IsLockReading, IsProject, IsRequirementReading, IsStringReading, LockedReading, StringReading, file_meaning, requirement_line, string_line}
 use Rattle.pyver_projects.specs.ProjectLaws.{AllContained, AllMet, AllOfVersion, AllPresent, HasContents, HasTable, NoFindingImpliesContained}
-use Rattle.pyver_projects.specs.ProjectStrings.{LockContents, LockedFile, LockedPackage, LockedRequirement, Section}
+use Rattle.pyver_projects.specs.ProjectStrings.{LockContents, LockedFile, LockedRequirement, Section}
 use Rattle.pyver_projects.specs.declared.document_kind.DocumentKind.TheVariants.{Lock, Project}
 use Rattle.pyver_projects.specs.declared.document_kind.LockKind.{LockKind}
 

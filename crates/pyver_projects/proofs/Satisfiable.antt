@@ -9,7 +9,7 @@ use Rattle.std.specs.List.{All, Contains, filter, flat_map, list_any, zip}
 use Rattle.pyver_findings.proofs.Complete.{none_found}
 use Rattle.pyver_findings.proofs.Found.{Some_is, ones_of, some_found}
 use Rattle.pyver_findings.specs.FindingLaws.{IsAmong}
-use Rattle.pyver_findings.specs.Conflicts.{conflict_kind, conflicts, counts_under, first_mentions, has_same_marker, has_same_name, have_none, of_all, of_name, smallest, under}
+use Rattle.pyver_findings.specs.Conflicts.{conflict_kind, conflicts, counts_under, first_mentions, has_same_marker, has_same_name, have_none, holds_nowhere, of_all, of_marker, of_name, smallest, under}
 use Rattle.pyver_findings.specs.Demands.{Demand, IsSound}
 use Rattle.pyver_findings.specs.FileLines.{Conflicting, Finding}
 use Rattle.pyver_findings.specs.Reports.{Report, demands_in, empty_report}
@@ -28,7 +28,7 @@ use Rattle.pyver_projects.specs.declared.document_kind.DocumentKind.TheVariants.
 use Rattle.pyver_findings.proofs.SmallestLists.{Allows, more_none}
 use Rattle.pyver_findings.proofs.MarkerPairs.{of_name_of}
 use Rattle.pyver_findings.specs.MarkerPairs.{FindsOfEach, FindsOfFirsts, FindsOfName, FindsOfNames, few_first_lines, first_lines}
-use Rattle.pyver_findings.specs.Views.{AddsFindings, AddsFound, finding_of}
+use Rattle.pyver_findings.specs.Views.{AddsFound, finding_of}
 use Rattle.pyver_findings.specs.declared.cause.Cause.{Cause}
 use Rattle.pyver_findings.specs.declared.finding.Finding.{Finding as FindingValue}
 
@@ -36,10 +36,10 @@ use Rattle.pyver_findings.specs.declared.finding.Finding.{Finding as FindingValu
 abbrev Fits : List Demand → Option (List ℕ) → Finding → Type 0
 Fits lines m = IsAmong (map (λ (a : Demand). a.line) (under m lines))
 
-some_fits : (lines : List Demand) (a : Demand) (m : Option (List ℕ)) → Contains lines a → have_none (under m (filter (has_same_name a) lines)) ≡ true → Some_is (Fits (filter (has_same_name a) lines) m) (conflicts lines)
-some_fits lines a m inside none =
+some_fits : (lines : List Demand) (a : Demand) (m : Option (List ℕ)) → holds_nowhere m ≡ false → Contains lines a → have_none (under m (filter (has_same_name a) lines)) ≡ true → Some_is (Fits (filter (has_same_name a) lines) m) (conflicts lines)
+some_fits lines a m somewhere inside none =
     let these = under m (filter (has_same_name a) lines) in
-    some_found (map (λ (b : Demand). b.line) these) lines a m (ones_of these) inside none
+    some_found (map (λ (b : Demand). b.line) these) lines a m somewhere (ones_of these) inside none
 
 -- parts that are the same are equal
 same_is : (a b : Section) → same_part a b ≡ true → a ≡ b
@@ -106,7 +106,7 @@ none_new [] e = refl
 none_new (f ∷ fs) e = absurd (stays f [] fs e)
 
 pub no_finding_means_satisfiable : NoFindingImpliesSatisfiable
-no_finding_means_satisfiable documents r (zs, h, fs, cs, finds, is) none file t s xs a m ((k, inside, at), table) (i, within, is_s) g known empty =
+no_finding_means_satisfiable documents r (zs, h, fs, cs, finds, is) none file t s xs a m ((k, inside, at), table) (i, within, is_s) g known somewhere empty =
     let all = groups t in
     let (x, (c, in_x, is_x), rx) = beside_it IsDocumentReading documents zs (record { kind = Project; file = file }) k inside at h in
     let (ys, q, is_project) = project_read file t x table rx in
@@ -126,7 +126,7 @@ no_finding_means_satisfiable documents r (zs, h, fs, cs, finds, is) none file t 
     let last : conflicts lines ≡ [] = (λ v. conflicts (part_demands together (sym same v) (section_part (sym rz.0 v)) xs)) ∙ here_nil in
     let sound : All IsSound lines = sound_part together all.inclusions part xs (zip_each (IsStringReading all file) (Contains (sources t)) IsSoundString (λ p v known n. sound_string all file p v n) (sources t) xs (All-contains_itself (sources t)) g) in
     let these = All-filter (counts_under m) IsSound (filter (has_same_name a) lines) (All-filter (has_same_name a) IsSound lines sound) in
-    subst (Some_is (Fits (filter (has_same_name a) lines) m)) last (some_fits lines a m known (none_found (under m (filter (has_same_name a) lines)) these empty))
+    subst (Some_is (Fits (filter (has_same_name a) lines) m)) last (some_fits lines a m somewhere known (none_found (under m (filter (has_same_name a) lines)) these empty))
 
 -- nothing is made of each, so of all
 flat_nil : {X Y : Type 0} (f : X → List Y) (xs : List X) → All (λ x. f x ≡ []) xs → flat_map f xs ≡ []
@@ -186,24 +186,28 @@ module _ (P : Demand → Type 0) (same : Demand → Demand → Bool) where
 nothing_by : (lines : List Demand) (b : Bool) → have_none lines ≡ b → b ≡ false → of_all lines ≡ []
 nothing_by lines b is some = ap (λ c. if c then Conflicting (conflict_kind (smallest lines)) (map (λ (a : Demand). a.line) (smallest lines)) ∷ [] else []) (is ∙ some)
 
--- nothing is wrong with the lines of a name that have some version under each marker
-nothing_of : (lines : List Demand) → ((m : Option (List ℕ)) → have_none (under m lines) ≡ false) → of_name lines ≡ []
+nothing_under : (lines : List Demand) (b : Bool) → (b ≡ false → have_none lines ≡ false) → (if b then [] else of_all lines) ≡ []
+nothing_under lines true some = refl
+nothing_under lines false some = nothing_by lines (have_none lines) refl (some refl)
+
+-- nothing is wrong with the lines of a name that have some version under each marker, unless it is contradictory
+nothing_of : (lines : List Demand) → ((m : Option (List ℕ)) → holds_nowhere m ≡ false → have_none (under m lines) ≡ false) → of_name lines ≡ []
 nothing_of lines some =
-    let each = flat_map (λ (a : Demand). of_all (under a.marker lines)) (first_mentions has_same_marker [] lines) in
-    ap (λ b. if b then of_all (under None lines) else each) (some None)
-    ∙ flat_nil (λ (a : Demand). of_all (under a.marker lines)) (first_mentions has_same_marker [] lines)
-    (everywhere (λ (a : Demand). of_all (under a.marker lines) ≡ []) (λ a. nothing_by (under a.marker lines) (have_none (under a.marker lines)) refl (some a.marker)) (first_mentions has_same_marker [] lines))
+    let each = flat_map (λ (a : Demand). of_marker a.marker lines) (first_mentions has_same_marker [] lines) in
+    ap (λ b. if b then of_all (under None lines) else each) (some None refl)
+    ∙ flat_nil (λ (a : Demand). of_marker a.marker lines) (first_mentions has_same_marker [] lines)
+    (everywhere (λ (a : Demand). of_marker a.marker lines ≡ []) (λ a. nothing_under (under a.marker lines) (holds_nowhere a.marker) (some a.marker)) (first_mentions has_same_marker [] lines))
 
 module _ (all part : List Demand) (sound : All IsSound all) (known : All (Contains all) part) (none : conflicts all ≡ []) where
   part_sound : All IsSound part
   part_sound = All-weaker (Contains all) IsSound (λ a is. All-contains IsSound all a sound is) part known
 
-  some_of : (a : Demand) → Contains all a → (m : Option (List ℕ)) → have_none (under m (filter (has_same_name a) part)) ≡ false
-  some_of a is m =
+  some_of : (a : Demand) → Contains all a → (m : Option (List ℕ)) → holds_nowhere m ≡ false → have_none (under m (filter (has_same_name a) part)) ≡ false
+  some_of a is m somewhere =
       let p = counts_under m in
       let q = has_same_name a in
       false_by (have_none (under m (filter q part))) (λ empty.
-      subst (Some_is (Fits (filter q all) m)) none (some_fits all a m is (
+      subst (Some_is (Fits (filter q all) m)) none (some_fits all a m somewhere is (
       more_none (filter p (filter q part)) (filter p (filter q all)) (All-filter p IsSound (filter q part) (All-filter q IsSound part part_sound)) (All-filter p IsSound (filter q all) (All-filter q IsSound all sound))
       (λ v. of_part (Allows v) p q all part known) empty)))
 

@@ -1,6 +1,6 @@
 -- The kinds of documents, by their paths and by words, and what a parsed one has to check: the strings of `pyproject.toml`, and the versions of a lock.
 use Rattle.std.specs.Prelude.{Bool, List, None, Option, Some, [], bytes_eq, codes, count_by, get_or, if◌then◌else◌, is_none, is_some, length, map, nat_eq, nat_lt, option_map, ℕ, ◌&&◌, ◌++◌, ◌+◌, ◌==◌, ◌||◌, ◌∷◌}
-use Rattle.std.specs.List.{ends_with, flat_map, list_any, starts_with}
+use Rattle.std.specs.List.{ends_with, flat_map, starts_with}
 use Rattle.pep440_pick.specs.Names.{is_name, normal}
 use Rattle.toml.specs.Data.{Data, Members, as_str, get, get_member}
 use Rattle.pyver_projects.specs.LockedFiles.{files_from, last_section}

@@ -14,7 +14,7 @@ use Rattle.pep440_version.specs.Grammar.{Derives}
 use Rattle.pep440_version.specs.Key.{record_cmp}
 use Rattle.pep440_version.specs.Record.{Record}
 use Rattle.pep440_version.specs.Rejections.{Rejection, Rejects}
-use Rattle.pyver_findings.specs.Conflicts.{has_same_name, under}
+use Rattle.pyver_findings.specs.Conflicts.{has_same_name, holds_nowhere, under}
 use Rattle.pyver_findings.specs.Demands.{Demand}
 use Rattle.pyver_findings.specs.FileLines.{Conflicting, File, FileLine, Finding, NoRequirement}
 use Rattle.pyver_findings.specs.FindingLaws.{HaveNone, IsRightConflict, IsRightPair, IsUndecided}
@@ -241,11 +241,12 @@ AllOfVersion documents = (lock : File) (kind : LockKind) (l : LockContents) (f :
 abbrev pub NoFindingImpliesContained : Type 0
 NoFindingImpliesContained = (documents : List Document) (r : Report) → IsDocumentsReport documents r → r.findings ≡ [] → AllContained documents × (AllMet documents × (AllPresent documents × AllOfVersion documents))
 
--- the requirements of the part of each string of each project that have one name, and the same marker or none, have a version in common
+-- the requirements of the part of each string of each project that have one name, and the same marker or none, have a version in common, unless it
+-- is contradictory
 abbrev pub AllSatisfiable : List Document → Type 0
 AllSatisfiable documents = (file : File) (t : Members) (s : ProjectString) (xs : List StringReading) (a : Demand) (m : Option (List ℕ)) → HasProject documents file t → Contains (sources t) s
     → AllZip (IsStringReading (groups t) file) (sources t) xs → Contains (part_demands (has_group_tool t) (groups t).inclusions (section_part s.section) xs) a
-    → ¬ HaveNone (under m (filter (has_same_name a) (part_demands (has_group_tool t) (groups t).inclusions (section_part s.section) xs)))
+    → holds_nowhere m ≡ false → ¬ HaveNone (under m (filter (has_same_name a) (part_demands (has_group_tool t) (groups t).inclusions (section_part s.section) xs)))
 
 -- where nothing is found, they do
 abbrev pub NoFindingImpliesSatisfiable : Type 0

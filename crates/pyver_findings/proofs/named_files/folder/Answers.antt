@@ -1,5 +1,5 @@
 use Rattle.std.proofs.Common.{◌∙◌, sym}
-use Rattle.pyver_findings.proofs.Folders.{folder_slash, folder_other}
+use Rattle.pyver_findings.proofs.StringReadings.{folder_other, folder_slash}
 use Rattle.pyver_findings.proofs.named_files.folder.Goals as goal
 
 pub returns-then-last-eq47 : goal.returns-then-last-eq47

@@ -1,5 +1,5 @@
 use Rattle.std.proofs.Common.{◌≡◌, length}
-use Rattle.pyver_projects.specs.Documents.{last_section}
+use Rattle.pyver_projects.specs.LockedFiles.{last_section}
 use Rattle.pyver_projects.proofs.document_kind.last_section.Given as goal
 
 abbrev pub invariant-loop-rest : goal.invariant-loop-rest

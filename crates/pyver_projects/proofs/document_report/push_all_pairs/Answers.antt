@@ -1,4 +1,4 @@
-use Rattle.std.proofs.Common.{map, refl}
+use Rattle.std.proofs.Common.{refl}
 use Rattle.pyver_findings.proofs.MarkerPairs.{each_done, each_more, start}
 use Rattle.pyver_projects.proofs.Walks.{sound_at}
 use Rattle.pyver_projects.specs.Comparing.{FindsOfReading}
