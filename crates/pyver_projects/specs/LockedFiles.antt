@@ -63,7 +63,7 @@ module _ (line : ℕ) (name version : List ℕ) where
   named_file last None = []
   named_file last (Some file) = new_file last file (file_version name file)
 
-  -- the files that begin a run of another version: after one of this
+  -- the files whose version is written otherwise than that of the file before; before the first stands this one
   abbrev pub files_after : List ℕ → List Data → List LockedFile
   files_after last [] = []
   files_after last (d ∷ ds) = named_file last (file_name d) ++ files_after (version_from name last d) ds

@@ -88,7 +88,7 @@ fn push_packages(
 }
 
 // Adds what is wrong with a file, if something is.
-fn push_file(findings: &mut Vec<Finding>, file: LineMeaning) -> Result<(), AllocError>
+fn push_wrong_file(findings: &mut Vec<Finding>, file: LineMeaning) -> Result<(), AllocError>
     ensures { IfOk result (λ _. map finding_of findings.new.items ≡ map finding_of findings.old.items ++ invalid_in (line_meaning_of file)) }
 {
     if let LineMeaning::IsNone(finding) = file {
@@ -97,11 +97,11 @@ fn push_file(findings: &mut Vec<Finding>, file: LineMeaning) -> Result<(), Alloc
     Ok(())
 }
 
-fn push_files(findings: &mut Vec<Finding>, files: Vec<LineMeaning>) -> Result<(), AllocError>
+fn push_wrong_files(findings: &mut Vec<Finding>, files: Vec<LineMeaning>) -> Result<(), AllocError>
     ensures { IfOk result (λ _. map finding_of findings.new.items ≡ map finding_of findings.old.items ++ flat_map invalid_in (map line_meaning_of files.items)) }
 {
     for file in files {
-        push_file(findings, file)?;
+        push_wrong_file(findings, file)?;
     }
     Ok(())
 }
@@ -143,7 +143,7 @@ fn report_lock(alloc: Global, lock: LockReading) -> Result<Report, AllocError>
     let mut unmet = Vec::new(alloc);
     push_unmet_requirements(alloc, &mut unmet, packages.as_slice(), requirements)?;
     push_packages(&mut report.findings, packages)?;
-    push_files(&mut report.findings, files)?;
+    push_wrong_files(&mut report.findings, files)?;
     report.findings.append(&mut unmet)?;
     push_all_left_out(&mut report.left_out, requirements)?;
     Ok(report)

@@ -177,7 +177,7 @@ fn file_name(item: &Value) -> Option<&str>
 }
 
 // Adds the file with this version, unless that is written as the last one was.
-fn push_new(
+fn push_new_file(
     alloc: Global,
     files: &mut Vec<LockedFile>,
     named: &NamedPackage<'_>,
@@ -217,7 +217,7 @@ fn push_file<'a>(
     let Some(written) = file_version(named.name, file) else {
         return Ok(last);
     };
-    push_new(alloc, files, named, last, file, written)?;
+    push_new_file(alloc, files, named, last, file, written)?;
     Ok(written)
 }
 
@@ -238,7 +238,7 @@ fn push_files<'a>(
 }
 
 // Adds the file, if there is one.
-fn push_sources<'a>(
+fn push_archive<'a>(
     alloc: Global,
     files: &mut Vec<LockedFile>,
     named: &NamedPackage<'a>,
@@ -262,7 +262,7 @@ fn push_files_in(
 {
     push_files(alloc, files, named, items(table.get("files")))?;
     push_files(alloc, files, named, items(table.get("wheels")))?;
-    push_sources(alloc, files, named, table.get("sdist"))
+    push_archive(alloc, files, named, table.get("sdist"))
 }
 
 // Adds the files of the package on this line that begin a run of another version, if it has a name and a version.

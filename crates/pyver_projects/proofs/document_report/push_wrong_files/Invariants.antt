@@ -3,7 +3,7 @@ use Rattle.std.specs.List.{flat_map}
 use Rattle.std.specs.Vec.Iter.{into_iter_items}
 use Rattle.pyver_findings.specs.Reports.{invalid_in}
 use Rattle.pyver_findings.specs.Views.{finding_of, line_meaning_of}
-use Rattle.pyver_projects.proofs.document_report.push_files.Given as goal
+use Rattle.pyver_projects.proofs.document_report.push_wrong_files.Given as goal
 
 abbrev pub invariant-loop-file : goal.invariant-loop-file
 invariant-loop-file l =
