@@ -102,16 +102,6 @@ string_read bytes plain (Err fault.InvalidRight) h = h
 string_read bytes plain (Err fault.NoSet) h = h
 string_read bytes plain (Err fault.NoList) h = h
 
-pub compiled_read : (bytes : List ℕ) → HasVersionFormat bytes → (result : Result Record Fault) → HoldsOrFaults (IsNoCompiledVersion bytes) ⊥ ⊥ (DenotesVersion bytes) result → HoldsOrFaults (RejectsBytes bytes) ⊥ ⊥ (BytesDenote bytes) result
-compiled_read bytes format (Ok r) d = inr d
-compiled_read bytes format (Err fault.InvalidVersion) none = no_compiled bytes format none
-compiled_read bytes format (Err fault.InvalidList) h = h
-compiled_read bytes format (Err fault.OutOfMemory) h = h
-compiled_read bytes format (Err fault.NumberAtMax) h = h
-compiled_read bytes format (Err fault.InvalidRight) h = h
-compiled_read bytes format (Err fault.NoSet) h = h
-compiled_read bytes format (Err fault.NoList) h = h
-
 -- compiled bytes denote what they denote as a compiled form
 pub as_compiled : (bytes : List ℕ) (r : Record) → HasVersionFormat bytes → BytesDenote bytes r → DenotesVersion bytes r
 as_compiled bytes r format (inl (plain, means)) = absurd (plain format)
@@ -333,6 +323,10 @@ only_memory version list range f OutOfMemory is never = subst (Faults version li
 -- the compiled form of a string that needs no version
 pub string_compiled : (bytes form : List ℕ) → (r : Record) × Derives bytes r × DenotesVersion form r → IsCompiled bytes form
 string_compiled bytes form (r, d, denotes) = (r, inl (no_format bytes r d, (derived_utf8 bytes r d, d)), denotes)
+
+-- a copy of a compiled version
+pub copied : (bytes copy : List ℕ) → (r : Record) × DenotesVersion bytes r → copy ≡ bytes → IsCompiled bytes copy
+copied bytes copy (r, d) same = (r, inr d, subst (λ b. DenotesVersion b r) (sym same) d)
 
 -- the sort key in the compiled form of a string
 pub string_key : {K E : Type 0} (now : K → List ℕ) (bytes form : List ℕ) (result : Result K E) → (r : Record) × Derives bytes r × DenotesVersion form r

@@ -1,6 +1,7 @@
 //! What is made of one version: its normal form, compiled form, parts, sort key and word.
-ghost use Rattle.std.specs.Prelude.{IfErr, IfSome, IsSome, [], string_bytes, ◌≡◌, ◌≢◌};
-ghost use Rattle.pep440_compiled.specs.Version.{HasVersionFormat};
+ghost use Rattle.std.specs.Prelude.{IfErr, IfOk, IfSome, IsSome, [], false, string_bytes, true, ◌≡◌, ◌≢◌};
+ghost use Rattle.pep440_compiled.specs.Version.{DenotesVersion, HasVersionFormat};
+ghost use Rattle.pep440_version.specs.Record.{Record};
 ghost use Rattle.pep440_calls.specs.CallResults.{IsCompiled, IsKey, IsShortNormalForm, IsNormal, PartsResult, HasPartsOf, IsPackedWord, NeedsNoMemory, WordResult, kind_number};
 ghost use Rattle.pep440_calls.specs.CallerBytes.{RejectsBytes};
 ghost use Rattle.pep440_calls.specs.Statuses.{HoldsOrFaults, WritesBytes};
@@ -8,13 +9,13 @@ ghost use Rattle.pep440_calls.specs.declared.fault.Fault.TheVariants.{OutOfMemor
 
 use crate::buffer::{NOT_PACKED, OK, flag, put, put_and_count, put_bytes, put_slice, put_text};
 use crate::fault::Fault;
-use crate::read::read;
+use crate::read::{read, read_spelling};
 use arrayvec::ArrayVec;
 use pep440_compiled::{compile_normal, compile_version, has_version_format};
 use pep440_keys::sort_key;
 use pep440_rs::{PrereleaseKind, Version};
 use pep440_version::laws::word;
-use std::alloc::Global;
+use std::alloc::{AllocError, Global};
 
 /// Writes the normal form of the version (PEP 440, "Normalization").
 pub fn write_normal_form(alloc: Global, text: &[u8], out: &mut [u8], written: &mut usize) -> u8
@@ -45,11 +46,47 @@ pub fn write_compiled(alloc: Global, text: &[u8], out: &mut [u8], written: &mut 
     put_bytes(compile(alloc, text), out, written)
 }
 
-// The compiled form of a version.
+// Whether the bytes are a compiled version, all of them. A call of its own, since two copies would make each program that compares larger.
+#[inline(never)]
+pub(crate) fn is_compiled(bytes: &[u8]) -> bool
+    ensures form { result ≡ true → (r : Record) × DenotesVersion bytes.now r }
+    ensures none { result ≡ false → (r : Record) → DenotesVersion bytes.now r → ⊥ }
+{
+    match pep440_compiled::read_sort_key(bytes) {
+        Ok(_) => true,
+        Err(_) => false,
+    }
+}
+
+fn copy_bytes(alloc: Global, bytes: &[u8]) -> Result<Vec<u8>, AllocError>
+    ensures { IfOk result (λ copy. copy.items ≡ bytes.now) }
+{
+    let mut copy = Vec::with_capacity(alloc, bytes.len())?;
+    copy.extend_from_slice(bytes)?;
+    Ok(copy)
+}
+
+// A copy of a compiled version.
+#[tactic(auto, using(crate::proofs::Forms::copied, crate::proofs::Forms::no_compiled))]
+fn copy_form(alloc: Global, form: &[u8]) -> Result<Vec<u8>, Fault>
+    requires { HasVersionFormat form.now }
+    ensures { HoldsOrFaults (RejectsBytes form.now) ⊥ ⊥ (λ compiled. IsCompiled form.now compiled.items) result }
+{
+    if is_compiled(form) {
+        let copy = copy_bytes(alloc, form)?;
+        return Ok(copy);
+    }
+    Err(Fault::InvalidVersion)
+}
+
+// The compiled form of a version: of a string, or a copy of it.
 pub(crate) fn compile(alloc: Global, text: &[u8]) -> Result<Vec<u8>, Fault>
     ensures { HoldsOrFaults (RejectsBytes text.now) ⊥ ⊥ (λ compiled. IsCompiled text.now compiled.items) result }
 {
-    let version = read(alloc, text)?;
+    if has_version_format(text) {
+        return copy_form(alloc, text);
+    }
+    let version = read_spelling(alloc, text)?;
     Ok(compile_version(alloc, &version)?)
 }
 

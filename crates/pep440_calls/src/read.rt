@@ -1,7 +1,7 @@
 //! The version or the list that bytes denote, which are a string or a compiled form.
 ghost use Rattle.pep440_compiled.specs.Lists.{DenotesList};
-ghost use Rattle.pep440_compiled.specs.Version.{DenotesVersion};
-ghost use Rattle.pep440_calls.specs.CallerBytes.{IsNoCompiledList, IsNoCompiledVersion, BytesDenote, BytesDenoteList, ListFaults, StringDenotesList, StringDenotes, RejectsBytes, RejectsListBytes, RejectsListString, RejectsString};
+ghost use Rattle.pep440_compiled.specs.Version.{HasVersionFormat};
+ghost use Rattle.pep440_calls.specs.CallerBytes.{IsNoCompiledList, BytesDenote, BytesDenoteList, ListFaults, StringDenotesList, StringDenotes, RejectsBytes, RejectsListBytes, RejectsListString, RejectsString};
 ghost use Rattle.pep440_calls.specs.Statuses.{HoldsOr, HoldsOrFaults};
 ghost use Rattle.pep440_calls.specs.declared.fault.Fault.TheVariants.{OutOfMemory};
 
@@ -30,9 +30,11 @@ fn read_string(alloc: Global, bytes: &[u8]) -> Result<Version, Fault>
     }
 }
 
-// The version of the compiled form.
+// The version of bytes that begin as a compiled one.
+#[tactic(auto, using(crate::proofs::Forms::no_compiled))]
 fn read_compiled(alloc: Global, bytes: &[u8]) -> Result<Version, Fault>
-    ensures { HoldsOrFaults (IsNoCompiledVersion bytes.now) ⊥ ⊥ (DenotesVersion bytes.now) result }
+    requires { HasVersionFormat bytes.now }
+    ensures { HoldsOrFaults (RejectsBytes bytes.now) ⊥ ⊥ (BytesDenote bytes.now) result }
 {
     match read_version(alloc, bytes) {
         Ok(version) => Ok(version),
@@ -41,7 +43,17 @@ fn read_compiled(alloc: Global, bytes: &[u8]) -> Result<Version, Fault>
     }
 }
 
+// The version of a string. Who knows that it is one pays nothing for compiled versions, and has no code for them.
+#[tactic(auto, using(crate::proofs::Forms::string_read))]
+pub(crate) fn read_spelling(alloc: Global, text: &[u8]) -> Result<Version, Fault>
+    requires { ¬ HasVersionFormat text.now }
+    ensures { HoldsOrFaults (RejectsBytes text.now) ⊥ ⊥ (BytesDenote text.now) result }
+{
+    read_string(alloc, text)
+}
+
 // The version that the bytes denote.
+#[tactic(auto, using(crate::proofs::Forms::string_read))]
 pub(crate) fn read(alloc: Global, bytes: &[u8]) -> Result<Version, Fault>
     ensures { HoldsOrFaults (RejectsBytes bytes.now) ⊥ ⊥ (BytesDenote bytes.now) result }
 {

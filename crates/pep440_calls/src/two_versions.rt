@@ -8,9 +8,10 @@ ghost use Rattle.pep440_calls.specs.declared.fault.Fault.TheVariants.{OutOfMemor
 
 use crate::buffer::OK;
 use crate::fault::Fault;
-use crate::read::read;
+use crate::one_version::{compile, is_compiled};
+use crate::read::read_spelling;
 use arrayvec::ArrayVec;
-use pep440_compiled::{compile_normal, has_version_format, read_sort_key};
+use pep440_compiled::{compile_normal, has_version_format};
 use std::alloc::Global;
 use std::cmp::Ordering;
 
@@ -40,13 +41,6 @@ fn order_number(order: Ordering) -> i8
     }
 }
 
-// Whether the bytes are a compiled version, all of them.
-fn is_compiled(bytes: &[u8]) -> bool
-    ensures { result ≡ true → (r : Record) × DenotesVersion bytes.now r }
-{
-    read_sort_key(bytes).is_ok()
-}
-
 // Compiles a string in a normal spelling. A call of its own, since two copies would make each program that compares larger.
 #[inline(never)]
 fn compile_in_place(form: &mut ArrayVec<u8, 64>, text: &[u8]) -> bool
@@ -74,18 +68,43 @@ fn compare_in_place(left: &[u8], right: &[u8]) -> Option<Ordering>
     pep440_compiled::compare(form.as_slice(), right).ok()
 }
 
+// How versions compare by their compiled forms, which are made first: so no version is made of a compiled one.
+#[inline(never)]
+fn compare_forms(alloc: Global, left: &[u8], right: &[u8]) -> Result<Ordering, Fault>
+    ensures { ReturnsOrder left.now right.now result }
+{
+    let first = compile(alloc, left)?;
+    match compile(alloc, right) {
+        Ok(second) => {
+            let order = pep440_compiled::compare(first.as_slice(), second.as_slice());
+            Ok(order.unwrap_or(Ordering::Equal))
+        }
+        Err(Fault::OutOfMemory) => Err(Fault::OutOfMemory),
+        Err(_rejected) => Err(Fault::InvalidRight),
+    }
+}
+
+// How versions compare of which one is compiled.
+#[inline(never)]
+fn compare_mixed(alloc: Global, left: &[u8], right: &[u8]) -> Result<Ordering, Fault>
+    ensures { ReturnsOrder left.now right.now result }
+{
+    if let Some(found) = compare_in_place(left, right) {
+        return Ok(found);
+    }
+    compare_forms(alloc, left, right)
+}
+
 // How versions compare of which at least one is a string.
 #[inline(never)]
 fn compare_string(alloc: Global, left: &[u8], right: &[u8]) -> Result<Ordering, Fault>
     ensures { ReturnsOrder left.now right.now result }
 {
     if has_version_format(left) || has_version_format(right) {
-        if let Some(found) = compare_in_place(left, right) {
-            return Ok(found);
-        }
+        return compare_mixed(alloc, left, right);
     }
-    let first = read(alloc, left)?;
-    match read(alloc, right) {
+    let first = read_spelling(alloc, left)?;
+    match read_spelling(alloc, right) {
         Ok(second) => Ok(first.cmp(&second)),
         Err(Fault::OutOfMemory) => Err(Fault::OutOfMemory),
         Err(_) => Err(Fault::InvalidRight),

@@ -1,7 +1,7 @@
 -- The set of a list as bytes: what its intervals are, and that they hold the keys of the versions that match literally.
-use Rattle.std.proofs.Common.{◌≡◌, ◌∙◌, ◌==◌, ◌&&◌, ◌||◌, ℕ, zero, suc, ◌<◌, ◌≤◌, Bool, true, false, true≢false, not, if◌then◌else◌, nat_lt, take, is_none, Option, Some, None, List, [], ◌∷◌, ◌++◌, inl, inr, append_assoc, arith, length, map, refl, sym, ap, subst}
+use Rattle.std.proofs.Common.{◌≡◌, ◌≢◌, ◌∙◌, ◌==◌, ◌&&◌, ◌||◌, ℕ, zero, suc, ◌<◌, ◌≤◌, Bool, true, false, true≢false, not, if◌then◌else◌, nat_lt, take, is_none, Option, Some, None, List, [], ◌∷◌, ◌++◌, inl, inr, append_assoc, arith, length, map, refl, sym, ap, subst}
 use Rattle.std.proofs.Math.Dec.{eqb-suc-zero}
-use Rattle.std.proofs.lemmas.Bool.{lt-ltb}
+use Rattle.std.proofs.lemmas.Bool.{eqb-false, lt-ltb, ne_eqb, or_from, or_parts}
 use Rattle.std.proofs.lemmas.Bool.Decides.{nat_tests}
 use Rattle.std.proofs.lemmas.List.{append-nil}
 use Rattle.std.proofs.lemmas.List.Elements.{All-from_recursion, All-weaker, recursion_from_All}
@@ -16,7 +16,7 @@ use Rattle.std.specs.declared.ops.Bound.TheVariants.{Included, Excluded, Unbound
 use Rattle.pep440_compiled.proofs.ByteOrder.{AreBytes, other_words}
 use Rattle.pep440_compiled.proofs.Fronts.{keyed}
 use Rattle.pep440_compiled.specs.Lists.{IsParsedMember, has_set, is_bare, may_stand}
-use Rattle.pep440_compiled.specs.SetBytes.{HasBothFronts, HasFronts, IsFront, IsSized, high_bytes, low_bytes, set_bytes, sized_bytes}
+use Rattle.pep440_compiled.specs.SetBytes.{AreOthers, HasBothFronts, HasFronts, HasLongKeys, IsFront, IsLong, IsSized, high_bytes, low_bytes, set_bytes, sized_bytes}
 use Rattle.pep440_keys.proofs.Membership.{in_range}
 use Rattle.pep440_keys.specs.RangeKeys.{HasKeys, IsKeyedBound, IsKeyedSegment, high_key, is_below_key, is_within, low_key, segment_interval}
 use Rattle.pep440_keys.specs.SortKeys.{HasNoZero, IsKeyed, key_bytes}
@@ -176,6 +176,40 @@ read_next set fronts new left rest f at first both bytes e = record {
 pub all_fronts : (set : Segments) (fronts : List (ℕ × ℕ)) (left : List ℕ) → length left ≡ 0 → ReadFronts set fronts left → HasFronts fronts set
 all_fronts set fronts left none at =
     subst (HasFronts fronts) (sym (at.split ∙ ap (λ l. at.seen ++ l) (none_left left at.more none at.bytes) ∙ append-nil at.seen)) at.read
+
+-- ---- where fronts must decide
+
+pub off_front : (n a b : ℕ) → (n == a) || (n == b) ≡ false → (n ≡ a → ⊥) × (n ≡ b → ⊥)
+off_front n a b e =
+    let parts = or_parts (n == a) (n == b) e in
+    (eqb-false n a parts.0, eqb-false n b parts.1)
+
+pub at_front : (n a b : ℕ) → (n == a) || (n == b) ≡ true → (n ≢ a) × (n ≢ b) → ⊥
+at_front n a b e other = true≢false (sym e ∙ or_from (n == a) (n == b) (ne_eqb n a other.0) (ne_eqb n b other.1))
+
+pub other_first : (front : ℕ) (left rest : List (ℕ × ℕ)) (f : ℕ × ℕ) → left ≡ f ∷ rest → AreOthers front left → ((front ≢ f.0) × (front ≢ f.1)) × AreOthers front rest
+other_first front left rest f e others = subst (AreOthers front) e others
+
+long_more : (seen more : Segments) → HasLongKeys (seen ++ more) → HasLongKeys more
+long_more [] more h = h
+long_more (s ∷ seen) more h = long_more seen more h.1
+
+as_many : (fronts : List (ℕ × ℕ)) (seen : Segments) → HasFronts fronts seen → length fronts ≡ length seen
+as_many [] [] h = refl
+as_many [] (s ∷ seen) h = absurd h
+as_many (f ∷ fronts) [] h = absurd h
+as_many (f ∷ fronts) (s ∷ seen) h = ap suc (as_many fronts seen h.1)
+
+longer : (seen more : Segments) (s : Segment Record) → length seen < length (seen ++ s ∷ more)
+longer [] more s = omega arith
+longer (t ∷ seen) more s = omega (arith, longer seen more s)
+
+module _ (set : Segments) (fronts : List (ℕ × ℕ)) (left : List ℕ) (at : ReadFronts set fronts left) (first : First left at.more) where
+  pub first_long : HasLongKeys set → IsLong (low_bytes (segment_interval first.segment)) × IsLong (high_bytes (segment_interval first.segment))
+  first_long h = (subst HasLongKeys first.split (long_more at.seen at.more (subst HasLongKeys at.split h))).0
+
+  pub has_room : length set ≤ 8 → length fronts < 8
+  has_room few = omega (arith, few, ap length (at.split ∙ ap (λ l. at.seen ++ l) first.split), longer at.seen first.more first.segment, as_many fronts at.seen at.read)
 
 -- ---- the set of a list
 

@@ -1,5 +1,5 @@
 -- Sets of versions as bytes: the sort keys between which the versions of each interval lie.
-use Rattle.std.specs.Prelude.{◌≡◌, ◌⊎◌, ◌<◌, ◌≤◌, ℕ, List, [], ◌∷◌, ◌++◌, get_or, length, take, unwrap_or}
+use Rattle.std.specs.Prelude.{◌≡◌, ◌≢◌, ◌⊎◌, ◌<◌, ◌≤◌, ℕ, List, [], ◌∷◌, ◌++◌, get_or, length, take, unwrap_or}
 use Rattle.std.specs.List.{flat_map}
 use Rattle.std.specs.Slice.Scan.{big_endian}
 use Rattle.pep440_keys.specs.RangeKeys.{Interval, segment_interval}
@@ -53,3 +53,17 @@ HasFronts [] [] = Unit {0}
 HasFronts (f ∷ fronts) (s ∷ set) = HasBothFronts f s × HasFronts fronts set
 HasFronts [] (s ∷ set) = ⊥
 HasFronts (f ∷ fronts) [] = ⊥
+
+-- neither front of an interval is this one
+abbrev pub AreOthers : ℕ → List (ℕ × ℕ) → Type 0
+AreOthers front [] = Unit {0}
+AreOthers front (f ∷ fronts) = ((front ≢ f.0) × (front ≢ f.1)) × AreOthers front fronts
+
+-- no bytes, or at least eight
+abbrev pub IsLong : List ℕ → Type 0
+IsLong key = (key ≡ []) ⊎ (8 ≤ length key)
+
+-- both keys of each interval are long
+abbrev pub HasLongKeys : Segments → Type 0
+HasLongKeys [] = Unit {0}
+HasLongKeys (s ∷ set) = (IsLong (low_bytes (segment_interval s)) × IsLong (high_bytes (segment_interval s))) × HasLongKeys set

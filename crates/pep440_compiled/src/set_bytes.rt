@@ -1,7 +1,8 @@
 //! Sets as bytes: the sort keys of their intervals, written and searched.
-ghost use Rattle.std.specs.Prelude.{◌≡◌, ◌<◌, ◌++◌, ◌&&◌, ◌||◌, ◌==◌, [], List, ℕ, IfOk, IfSome, MatchOption, OnOk, Some, length, nat_lt, not, unwrap_or};
+ghost use Rattle.std.specs.Prelude.{◌≡◌, ◌<◌, ◌≤◌, ◌++◌, ◌&&◌, ◌||◌, ◌==◌, [], List, ℕ, IfOk, IfSome, IsSome, MatchOption, OnOk, Some, length, nat_lt, not, take, unwrap_or};
 ghost use Rattle.std.specs.List.{All, list_any};
-ghost use Rattle.pep440_compiled.specs.SetBytes.{HasFronts, IsFront, IsSized, interval_bytes, set_bytes, sized_bytes};
+ghost use Rattle.std.specs.Slice.Scan.{big_endian};
+ghost use Rattle.pep440_compiled.specs.SetBytes.{AreOthers, HasFronts, HasLongKeys, IsFront, IsLong, IsSized, interval_bytes, set_bytes, sized_bytes};
 ghost use Rattle.pep440_keys.specs.RangeKeys.{high_key, is_below_key, is_within, low_key, segment_interval};
 ghost use Rattle.pep440_rs.specs.Bounds.{Segments};
 ghost use Rattle.pep440_version.specs.Record.{Fits};
@@ -154,7 +155,8 @@ pub(crate) fn holds_key_soon(set: &[u8], key: &[u8]) -> Option<bool>
 
 // The first eight bytes of a key as a number; of no key the number that stands for none. `None` of a shorter key.
 fn read_front(key: &[u8], none: u64) -> Option<u64>
-    ensures { IfSome result (λ front. IsFront none front key.now) }
+    ensures front { IfSome result (λ front. IsFront none front key.now) }
+    ensures long { IsLong key.now → IsSome result }
 {
     if key.is_empty() {
         return Some(none);
@@ -168,8 +170,10 @@ fn read_front(key: &[u8], none: u64) -> Option<u64>
 // The fronts of both keys of each interval, the least number for no low key and the greatest for no high key; `None` of a set with more
 // intervals than there is room for, or with a key that is too short.
 pub(crate) fn read_fronts(set: &[u8]) -> Option<ArrayVec<(u64, u64), 8>>
-    ensures { (segments : Segments) → All IsSized segments → set.now ≡ set_bytes segments
+    ensures fronts { (segments : Segments) → All IsSized segments → set.now ≡ set_bytes segments
         → IfSome result (λ fronts. HasFronts fronts.items segments) }
+    ensures some { (segments : Segments) → All IsSized segments → set.now ≡ set_bytes segments
+        → length segments ≤ 8 → HasLongKeys segments → IsSome result }
 {
     let mut fronts = ArrayVec::new();
     let mut left = set;
@@ -195,11 +199,20 @@ fn is_between_fronts(range: (u64, u64), front: u64) -> bool
     range.0 < front && front < range.1
 }
 
+// Whether the low key or the high one begins with this.
+#[inline(always)]
+fn is_at_front(range: (u64, u64), front: u64) -> bool
+    ensures { result ≡ (front == range.0) || (front == range.1) }
+{
+    front == range.0 || front == range.1
+}
+
 // Whether the key lies in an interval of the set, if the fronts decide: where none of them is that of the key.
 #[inline(always)]
 pub(crate) fn holds_front(fronts: &[(u64, u64)], key: &[u8]) -> Option<bool>
-    ensures { (segments : Segments) → HasFronts fronts.now segments
+    ensures held { (segments : Segments) → HasFronts fronts.now segments
         → IfSome result (λ b. b ≡ list_any (λ s. is_within (segment_interval s) key.now) segments) }
+    ensures some { 8 ≤ length key.now → AreOthers (big_endian 0 (take 8 key.now)) fronts.now → IsSome result }
 {
     if key.len() < 8 {
         return None;
@@ -207,7 +220,7 @@ pub(crate) fn holds_front(fronts: &[(u64, u64)], key: &[u8]) -> Option<bool>
     let front = read_word(key);
     let mut left = fronts;
     while let Some((range, rest)) = left.split_first() {
-        if front == range.0 || front == range.1 {
+        if is_at_front(*range, front) {
             return None;
         }
         if is_between_fronts(*range, front) {

@@ -1,8 +1,8 @@
 //! Sets of versions as compiled forms: what is made of one and of two, and what they hold.
-ghost use Rattle.std.specs.Prelude.{◌≡◌, ◌↔◌, ◌∷◌, [], Ok, IfErr, IfOk, IfSome, IsTrue, MatchOption, Some, false, map, true};
+ghost use Rattle.std.specs.Prelude.{◌≡◌, ◌↔◌, ◌∷◌, [], Ok, IfErr, IfOk, IfSome, IsSome, IsTrue, MatchOption, Some, false, map, true};
 ghost use Rattle.pep440_compiled.specs.Lists.{HasSetFormat};
 ghost use Rattle.pep440_compiled.specs.SetBytes.{set_keys};
-ghost use Rattle.pep440_compiled.specs.SetForms.{DenotesSet, HasFormatOfSets, HasLoneSetFormat, HasSet, IsBytesOf, IsFrontsOf};
+ghost use Rattle.pep440_compiled.specs.SetForms.{DenotesSet, HasFewLongKeys, HasFormatOfSets, HasLoneSetFormat, HasSet, IsBytesOf, IsDecidedBy, IsFrontsOf};
 ghost use Rattle.pep440_compiled.specs.Version.{DenotesVersion, HasVersionFormat};
 ghost use Rattle.pep440_compiled.specs.declared.error.CompiledError.TheVariants as unread;
 ghost use Rattle.pep440_compiled.specs.declared.error.ContainsError.TheVariants.{NoList, NoVersion};
@@ -160,25 +160,27 @@ pub struct SetFronts {
     ranges: ArrayVec<(u64, u64), 8>,
 }
 
-/// The fronts of the set of a list, or of a set by itself; `None` of a set with many intervals, or with a short key. Of bytes that have
-/// no set, `None` or any fronts.
+/// The fronts of the set of a list, or of a set by itself; of each set with at most eight intervals whose keys have at least eight bytes,
+/// as keys have unless a release is all zeros. Of bytes that have no set, `None` or any fronts.
 ///
 /// Does not allocate.
 pub fn view_fronts(set: &[u8]) -> Option<SetFronts>
-    ensures { IfSome result (λ fronts. (s : Segments) → HasSet set.now s → IsFrontsOf fronts s) }
+    ensures fronts { IfSome result (λ fronts. (s : Segments) → HasSet set.now s → IsFrontsOf fronts s) }
+    ensures some { (s : Segments) → HasSet set.now s → HasFewLongKeys s → IsSome result }
 {
     let keys = view_set(set)?;
     let ranges = read_fronts(keys)?;
     Some(SetFronts { ranges })
 }
 
-/// As `read_membership` of the set that has these fronts, in fewer instructions, if they decide. `None` if more has to be looked at, as
-/// of bytes that denote no version.
+/// As `read_membership` of the set that has these fronts, in fewer instructions, if they decide: if the version's key begins with none of
+/// them. `None` if more has to be looked at, and of bytes that denote no version.
 ///
 /// Does not allocate.
 #[inline(always)]
 pub fn read_membership_soon(fronts: &SetFronts, version: &[u8]) -> Option<(bool, bool)>
-    ensures { IfSome result (λ found. (r : Record) × DenotesVersion version.now r × (found.1 ≡ any_prerelease r)
+    ensures some { (r : Record) → DenotesVersion version.now r → IsDecidedBy fronts.now r → IsSome result }
+    ensures found { IfSome result (λ found. (r : Record) × DenotesVersion version.now r × (found.1 ≡ any_prerelease r)
         × ((s : Segments) → IsFrontsOf fronts.now s → found.0 ≡ contains record_cmp s r)) }
 {
     let version = check_version(version)?;

@@ -9,7 +9,7 @@ returns-then-is_compiled c =
     let right = c.args.right.now in
     let is = subst (IsCompiled right) (sym c.as_slice.ensures.value) (string_compiled right c.compile_in_place.new.form.items (c.compile_in_place.ensures c.if-not-compile_in_place.false)) in
     subst (λ o. IfSome o (λ order. IsOrder left right (order_number order))) (sym c.ok.ensures.value)
-    (order_beside_string left right c.as_slice.result.now c.compare.result (c.is_compiled.ensures c.if-is_compiled.true) is c.compare.ensures.found)
+    (order_beside_string left right c.as_slice.result.now c.compare.result (c.is_compiled.ensures.form c.if-is_compiled.true) is c.compare.ensures.found)
 
 pub returns : goal.returns
 returns c =
@@ -18,4 +18,4 @@ returns c =
     let normal = c.compile_in_place-else-not-is_compiled in
     let is = subst (IsCompiled left) (sym c.as_slice-2.ensures.value) (string_compiled left normal.new.form.items (normal.ensures c.if-not-compile_in_place-2.false)) in
     subst (λ o. IfSome o (λ order. IsOrder left right (order_number order))) (sym c.ok-2.ensures.value)
-    (order_of_string left c.as_slice-2.result.now right c.compare-2.result is (c.is_compiled-2.ensures c.if-not-is_compiled.false) c.compare-2.ensures.found)
+    (order_of_string left c.as_slice-2.result.now right c.compare-2.result is (c.is_compiled-2.ensures.form c.if-not-is_compiled.false) c.compare-2.ensures.found)
