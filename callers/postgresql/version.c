@@ -150,7 +150,8 @@ static uint8_t compile_version(Bytes text, VersionBuffer *buffer, size_t *length
     return text.length > MOST_TEXT ? PEP440_NO_ROOM : pep440_compile(text.bytes, text.length, buffer->bytes, sizeof buffer->bytes, length);
 }
 
-struct varlena *read_version(Bytes text, Node *context)
+/* A function of its own, as others with room for a version. */
+static pg_noinline struct varlena *read_any_version(Bytes text, Node *context)
 {
     VersionBuffer buffer;
     size_t length;
@@ -162,6 +163,12 @@ struct varlena *read_version(Bytes text, Node *context)
                                 errdetail("It takes more than %d bytes, and no index could keep it; or its text has more than %d.", MOST_BYTES, MOST_TEXT)));
     expect_ok(status);
     return make_version((Bytes){buffer.bytes, length});
+}
+
+struct varlena *read_version(Bytes text, Node *context)
+{
+    struct varlena *release = read_release(text);
+    return release != NULL ? release : read_any_version(text, context);
 }
 
 TEXT_FUNCTIONS(version, read_version, normal_argument(fcinfo));
@@ -206,7 +213,36 @@ static int order_of_key(FunctionCallInfo fcinfo, int version_at)
     return version_at == 0 ? order : -order;
 }
 
-COMPARISONS(version_, , order_of(fcinfo));
+/* What a comparison keeps: whether its second argument is a constant, and of this one the number of its first bytes. */
+typedef struct {
+    bool is_constant;
+    uint64 first;
+} Second;
+
+static pg_noinline const Second *know_second(FunctionCallInfo fcinfo)
+{
+    Second *second = MemoryContextAllocZero(fcinfo->flinfo->fn_mcxt, sizeof *second);
+    second->is_constant = is_constant(fcinfo->flinfo, 1);
+    if (second->is_constant)
+        second->first = first_of_version(GET_STORED(1));
+    return fcinfo->flinfo->fn_extra = second;
+}
+
+/* As order_of, of a filter: where the first bytes decide, nothing is read of a constant. */
+static inline int order_of_row(FunctionCallInfo fcinfo)
+{
+    const Second *second = fcinfo->flinfo == NULL ? NULL : fcinfo->flinfo->fn_extra;
+    if (second == NULL && fcinfo->flinfo != NULL)
+        second = know_second(fcinfo);
+    if (second != NULL && second->is_constant) {
+        uint64 first = first_of_version(GET_STORED(0));
+        if (first != second->first)
+            return first < second->first ? -1 : 1;
+    }
+    return order_of(fcinfo);
+}
+
+COMPARISONS(version_, , order_of_row(fcinfo));
 COMPARISONS(version_, _key, order_of_key(fcinfo, 0));
 COMPARISONS(key_, _version, order_of_key(fcinfo, 1));
 SQL_FUNCTION(version_ne, BoolGetDatum(order_of(fcinfo) != 0));
