@@ -127,8 +127,6 @@ bool read_sized(const uint8_t **at, const uint8_t *end, Bytes *found);
 /* The value of a compiled version. */
 struct varlena *make_version(Bytes compiled);
 struct varlena *read_version(Bytes text, Node *context);
-/* The value of a version that is a release alone, as nearly all are; NULL where the library has to read the text. */
-struct varlena *read_release(Bytes text);
 /* Whether the argument is a constant of the statement. */
 bool is_constant(const FmgrInfo *function, int argument);
 

@@ -19,9 +19,6 @@ static const struct {
 
 enum { RELEASE_ALONE = 0, SHORT = 0x80, MOST_SHORT = 0x7f, MOST_FIRST = 7, MOST_ZEROS = 3, MOST_END = 3, ZEROS_SHIFT = 3, END_SHIFT = 5, ZERO = 1 };
 
-/* The most characters that read_release reads, and digits of a number. */
-enum { MOST_RELEASE = 24, MOST_DIGITS = 4 };
-
 /* Of eight bytes of a value those of the key: of the first one the lower bits. */
 static const uint64 FIRST_BYTES = PG_UINT64_MAX >> 5;
 
@@ -449,44 +446,6 @@ struct varlena *make_version(Bytes compiled)
     struct varlena *made = make_bytea((Bytes){key.bytes + 1, Max(kept - 1, 1)});
     *(uint8_t *)VARDATA(made) = (uint8_t)(SHORT | end << END_SHIFT | zeros << ZEROS_SHIFT | (kept == 1 ? 0 : key.bytes[1]));
     return made;
-}
-
-/* Reads a number without a zero in front that takes two bytes or fewer; false if there is none. */
-static inline bool read_digits(const uint8_t **at, const uint8_t *end, unsigned *number)
-{
-    const uint8_t *first = *at;
-    for (*number = 0; *at < end && (unsigned)(**at - '0') <= 9; (*at)++)
-        *number = 10 * *number + (unsigned)(**at - '0');
-    return *at != first && *at - first <= MOST_DIGITS && (*first != '0' || *at - first == 1);
-}
-
-/* What make_version would store: how many bytes each number has, with one more, and the bytes; the zeros at the end are counted. */
-struct varlena *read_release(Bytes text)
-{
-    uint8_t bytes[2 * MOST_RELEASE], *out = bytes, *kept_end = bytes;
-    const uint8_t *at = text.bytes, *end = text.bytes + text.length;
-    unsigned number, zeros = 0;
-    if (text.length > MOST_RELEASE)
-        return NULL;
-    for (;; at++) {
-        if (!read_digits(&at, end, &number))
-            return NULL;
-        *out++ = (uint8_t)(1 + (number > 0) + (number > UINT8_MAX));
-        if (number > UINT8_MAX)
-            *out++ = (uint8_t)(number >> 8);
-        if (number > 0)
-            *out++ = (uint8_t)number;
-        zeros = number > 0 ? 0 : zeros + 1;
-        kept_end = number > 0 ? out : kept_end;
-        if (at == end)
-            break;
-        if (*at != '.')
-            return NULL;
-    }
-    if (zeros > MOST_ZEROS)
-        return NULL;
-    bytes[0] = (uint8_t)(SHORT | RELEASE_ALONE << END_SHIFT | zeros << ZEROS_SHIFT | (kept_end == bytes ? 0 : bytes[0]));
-    return make_bytea((Bytes){bytes, (size_t)Max(kept_end - bytes, 1)});
 }
 
 Bytes list_of(const struct varlena *stored)

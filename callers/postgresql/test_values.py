@@ -245,26 +245,6 @@ def test_packaging(server):
     return f"{ROWS} rows, {len(in_order)} versions in order, {len(LISTS)} lists and 400 random ones as in {name}"
 
 
-NUMBERS = ["0", "0", "1", "2", "9", "10", "99", "127", "128", "255", "256", "999", "2024", "9999", "10000", "00", "01", "0255", "1x", "", " "]
-
-
-def test_releases(server):
-    """A release of plain numbers, which the extension reads by itself, is stored as what the library compiles: texts with a `v` are read by it alone."""
-    db, rng, count = database(server, "plain_releases"), random.Random(919), 2000 if SMALL else 20_000
-    db.rows("CREATE CAST (pep440 AS bytea) WITHOUT FUNCTION; CREATE TABLE plain (written text)")
-    texts = [".".join(rng.choice(NUMBERS) if rng.randrange(3) == 0 else rng.choice(NUMBERS[:13]) for _ in range(rng.choice((1, 2, 3, 3, 4, 6, 9, 13)))) for _ in range(count)]
-    db.rows("INSERT INTO plain VALUES " + ",".join(f"('{text}')" for text in texts))
-    wrong = db.value("SELECT count(*) FROM plain WHERE pep440_valid(written) <> pep440_valid('v' || written)")
-    found = db.rows("""SELECT count(*), count(*) FILTER (WHERE pep440(written)::bytea <> pep440('v' || written)::bytea OR pep440(written)::text <> pep440('v' || written)::text)
-        FROM (SELECT written FROM plain WHERE pep440_valid(written) OFFSET 0) AS valid""")
-    invalid = db.rows("SELECT written FROM plain WHERE NOT pep440_valid(written) LIMIT 200")
-    for (text,) in invalid:
-        refused(db, f"SELECT '{text}'::pep440", "22P02")
-    db.close()
-    assert wrong == "0" and found[0][1] == "0" and int(found[0][0]) > count // 4, (wrong, found)
-    return f"{found[0][0]} of {count} texts as the library has them, and {len(invalid)} invalid ones"
-
-
 def test_sizes(server):
     """What a version takes in a row and in an index."""
     db = server.connect()

@@ -150,8 +150,7 @@ static uint8_t compile_version(Bytes text, VersionBuffer *buffer, size_t *length
     return text.length > MOST_TEXT ? PEP440_NO_ROOM : pep440_compile(text.bytes, text.length, buffer->bytes, sizeof buffer->bytes, length);
 }
 
-/* A function of its own, as others with room for a version. */
-static pg_noinline struct varlena *read_any_version(Bytes text, Node *context)
+struct varlena *read_version(Bytes text, Node *context)
 {
     VersionBuffer buffer;
     size_t length;
@@ -163,12 +162,6 @@ static pg_noinline struct varlena *read_any_version(Bytes text, Node *context)
                                 errdetail("It takes more than %d bytes, and no index could keep it; or its text has more than %d.", MOST_BYTES, MOST_TEXT)));
     expect_ok(status);
     return make_version((Bytes){buffer.bytes, length});
-}
-
-struct varlena *read_version(Bytes text, Node *context)
-{
-    struct varlena *release = read_release(text);
-    return release != NULL ? release : read_any_version(text, context);
 }
 
 TEXT_FUNCTIONS(version, read_version, normal_argument(fcinfo));
@@ -232,7 +225,7 @@ static pg_noinline const Second *know_second(FunctionCallInfo fcinfo)
 static inline int order_of_row(FunctionCallInfo fcinfo)
 {
     const Second *second = fcinfo->flinfo == NULL ? NULL : fcinfo->flinfo->fn_extra;
-    if (second == NULL && fcinfo->flinfo != NULL)
+    if (second == NULL && fcinfo->flinfo != NULL && fcinfo->flinfo->fn_expr != NULL)
         second = know_second(fcinfo);
     if (second != NULL && second->is_constant) {
         uint64 first = first_of_version(GET_STORED(0));
