@@ -302,6 +302,36 @@ def test_sort(server):
     return f"100000 versions take {versions} instructions, their strings {strings}"
 
 
+# What a table of one column `it` is asked, and how much of the instructions of strings a table of versions may execute. A join of debversion is left out: a server
+# that makes it a nested loop takes minutes for it.
+FIGURES = {
+    "sort": ("SELECT count(*) FROM (SELECT it FROM figures_{0} ORDER BY it OFFSET 0) AS sorted", 1.0), "group": ("SELECT count(*) FROM (SELECT it, count(*) FROM figures_{0} GROUP BY it) AS grouped", 1.15),
+    "join": ("SELECT count(*) FROM figures_{0} JOIN joined_{0} USING (it)", 1.2), "scan of a range": ("SELECT count(*) FROM figures_{0} WHERE it >= '1' AND it < '2'", 1.1),
+}
+
+
+def test_figures(server):
+    """What sorts, groups, joins and scans of versions execute beside the strings that they were written as, and the type debversion where the server has it."""
+    if SMALL:
+        return "left out"
+    db = server.connect()
+    kinds = {"version": "version", "string": "written"}
+    if db.value("SELECT count(*) FROM pg_available_extensions WHERE name = 'debversion'") == "1":
+        db.rows("CREATE EXTENSION debversion")
+        kinds["debversion"] = "written::debversion"
+    for kind, column in kinds.items():
+        db.rows(f"CREATE TABLE figures_{kind} AS SELECT {column} AS it FROM releases WHERE id <= 4000 AND written ~ '^[0-9][0-9a-z.+]*$'; CREATE TABLE joined_{kind} AS SELECT DISTINCT it FROM figures_{kind} ORDER BY it LIMIT 20")
+    db.rows("VACUUM FREEZE ANALYZE")
+    db.close()
+    server.stop()
+    counts = {kind: {name: instructions(server, query.format(kind)) for name, (query, _) in FIGURES.items() if (kind, name) != ("debversion", "join")} for kind in kinds}
+    server.start()
+    ratios = {kind: {name: counts["version"][name] / count for name, count in those.items()} for kind, those in counts.items() if kind != "version"}
+    told = "; ".join(f"of {kind} " + ", ".join(f"{name} {ratio:.2f}" for name, ratio in those.items()) for kind, those in ratios.items())
+    assert all(ratios["string"][name] <= most for name, (_, most) in FIGURES.items()) and all(ratio <= 1 for ratio in ratios.get("debversion", {}).values()), told
+    return told
+
+
 def test_speed(server):
     if SMALL:
         return "left out"
