@@ -85,17 +85,25 @@ static inline void expect_ok(uint8_t status)
         fail(status);
 }
 
-/* What is behind the header. */
-static inline Bytes bytes_of(const struct varlena *stored)
+/* Whether the value has a short header, as nearly all versions have. */
+static inline bool has_short_header(const struct varlena *stored)
 {
-    return (Bytes){(const uint8_t *)VARDATA_ANY(stored), VARSIZE_ANY_EXHDR(stored)};
+    return VARATT_IS_1B(stored) && !VARATT_IS_1B_E(stored);
 }
 
-/* The value of a datum: nearly all versions have a short header, and lie as they are. */
+/* What is behind the header of a value that lies as it is. */
+static inline Bytes bytes_of(const struct varlena *stored)
+{
+    if (has_short_header(stored))
+        return (Bytes){(const uint8_t *)VARDATA_1B(stored), VARSIZE_1B(stored) - VARHDRSZ_SHORT};
+    return (Bytes){(const uint8_t *)VARDATA(stored), VARSIZE(stored) - VARHDRSZ};
+}
+
+/* The value of a datum. */
 static inline struct varlena *stored_of(Datum datum)
 {
     struct varlena *stored = (struct varlena *)DatumGetPointer(datum);
-    return VARATT_IS_1B(stored) && !VARATT_IS_1B_E(stored) ? stored : PG_DETOAST_DATUM_PACKED(datum);
+    return has_short_header(stored) ? stored : PG_DETOAST_DATUM_PACKED(datum);
 }
 
 /* What a version is; the buffer keeps the compiled bytes of one that is stored without them. */
@@ -119,6 +127,8 @@ bool read_sized(const uint8_t **at, const uint8_t *end, Bytes *found);
 /* The value of a compiled version. */
 struct varlena *make_version(Bytes compiled);
 struct varlena *read_version(Bytes text, Node *context);
+/* Whether the argument is a constant of the statement. */
+bool is_constant(const FmgrInfo *function, int argument);
 
 /* The compiled bytes of a list of the type; if the text is none, the error that says why, as of a Reader, and false. */
 bool read_list(Bytes text, const char *type, Node *context, Bytes *compiled);

@@ -251,8 +251,7 @@ typedef struct {
     Firsts *firsts;
 } Kept;
 
-/* Whether the argument is a constant of the statement. */
-static bool is_constant(const FmgrInfo *function, int argument)
+bool is_constant(const FmgrInfo *function, int argument)
 {
     const Node *call = function->fn_expr;
     const List *arguments = call == NULL ? NIL : IsA(call, OpExpr) ? ((const OpExpr *)call)->args : IsA(call, FuncExpr) ? ((const FuncExpr *)call)->args : NIL;

@@ -86,13 +86,17 @@ void _PG_init(void)
     }
 }
 
-/* Writes a number and a dot, and what follows is overwritten: up to two characters. */
+/* These write a number and a dot, and what follows is overwritten: up to two characters. */
+static inline char *put_byte(char *out, uint8_t number)
+{
+    memcpy(out, printed_bytes[number].text, sizeof printed_bytes->text);
+    return out + printed_bytes[number].length;
+}
+
 static inline char *put_number(char *out, uint64 number)
 {
-    if (number <= UINT8_MAX) {
-        memcpy(out, printed_bytes[number].text, sizeof printed_bytes->text);
-        return out + printed_bytes[number].length;
-    }
+    if (number <= UINT8_MAX)
+        return put_byte(out, (uint8_t)number);
     out += pg_ulltoa_n(number, out);
     *out++ = '.';
     return out;
@@ -137,10 +141,7 @@ enum { DEV_STAGE = 1, ALPHA_STAGE = 2, RC_STAGE = 4, FINAL_STAGE = 5, HAS_POST =
 enum { STAGES_ALONE = 1 << DEV_STAGE | 1 << FINAL_STAGE, NO_POST = 1 << 0, NO_DEV = 1 << 1 };
 static const uint8_t PAIRS[] = {[DEV_STAGE] = 1 << 0, [ALPHA_STAGE] = 0xf, [3] = 0xf, [RC_STAGE] = 0xf, [FINAL_STAGE] = 0xf - (1 << 0)};
 
-/* Three parts beyond the end of a key have no more bytes. */
-enum { MOST_BEYOND = 32 };
-
-/* What follows a release in a key: stage, post-release and dev release, and then the local part. */
+/* What follows a release in a key: stage, post-release and dev release, and then the local part, without the 0 behind it. */
 typedef struct {
     Part stage;
     Part post;
@@ -149,67 +150,64 @@ typedef struct {
     const uint8_t *end;
 } Suffix;
 
-/* Room for its bytes; behind their end are zeros, so that parts need not look for it. */
-typedef struct {
-    uint8_t bytes[MOST_SHORT + sizeof ENDS->bytes + MOST_BEYOND];
-} SuffixBuffer;
-
-static inline Part read_part(const uint8_t **at, int alone)
+static inline Part read_part(const uint8_t **at, const uint8_t *end, int alone)
 {
+    if (*at >= end)
+        return (Part){NO_PART, 0};
     int rank = **at >> 4, bytes = *(*at)++ & 0xf;
     uint64 number = 0;
-    if (bytes == 1 && **at != 0)
+    if (bytes == 1 && *at < end && **at != 0)
         number = *(*at)++;
-    else if (bytes != 0 && !read_number(at, *at + sizeof number, bytes, &number))
+    else if (bytes != 0 && !read_number(at, end, bytes, &number))
         rank = NO_PART;
     return (Part){bytes != 0 && (alone >> rank & 1) != 0 ? NO_PART : rank, number};
 }
 
-/* Reads what follows the 0 behind a release, with the end that is not stored; false if it is of no version. */
-static inline bool read_suffix(Bytes value, const uint8_t *at, SuffixBuffer *buffer, Suffix *suffix)
+/* Reads what follows the 0 behind a release: so many parts as the end, which is not stored, has none of, and behind all three the local part. False if it is of
+   no version, or if the end has the last byte of a number. */
+static inline bool read_suffix(Bytes value, const uint8_t *at, Suffix *suffix)
 {
-    size_t rest = (size_t)(value.bytes + value.length - at);
-    uint8_t *end = (uint8_t *)memcpy(buffer->bytes, at, rest) + rest;
-    memcpy(end, ENDS[end_of(value)].bytes, sizeof ENDS->bytes);
-    end += ENDS[end_of(value)].length;
-    memset(end, 0, MOST_BEYOND);
-    at = buffer->bytes;
-    suffix->stage = read_part(&at, STAGES_ALONE);
-    suffix->post = read_part(&at, NO_POST);
-    suffix->dev = read_part(&at, NO_DEV);
+    const uint8_t *end = value.bytes + value.length;
+    int parts = end_of(value);
+    suffix->stage = read_part(&at, end, STAGES_ALONE);
+    suffix->post = parts > 1 ? read_part(&at, end, NO_POST) : (Part){0, 0};
+    suffix->dev = parts > 2 ? read_part(&at, end, NO_DEV) : (Part){1, 0};
     suffix->local = at;
     suffix->end = end;
     int stage = suffix->stage.rank, post = suffix->post.rank, dev = suffix->dev.rank;
-    return at < end && stage <= FINAL_STAGE && (post | dev) <= 1 && (PAIRS[stage] >> (2 * post + dev) & 1) != 0;
+    return (at == end || parts > 2) && stage <= FINAL_STAGE && (post | dev) <= 1 && (PAIRS[stage] >> (2 * post + dev) & 1) != 0;
 }
 
 /* Writes the numbers of the release, of which the last is above 0, with a dot behind each. Returns where the suffix begins, or the end of a release alone;
    NULL where the value is of no version. */
-static inline const uint8_t *put_release(Bytes value, bool is_alone, char **out)
+static pg_attribute_always_inline const uint8_t *put_release(Bytes value, bool is_alone, int zeros, char **written)
 {
     const uint8_t *at = value.bytes + 1, *end = value.bytes + value.length;
-    int length = value.bytes[0] & MOST_FIRST;
+    char *out = *written;
     uint64 number = 0;
+    int length = value.bytes[0] & MOST_FIRST;
     if (length == 0)
-        return is_alone && at != end ? NULL : at;
-    for (; length > 0; length = *at++) {
+        return zeros == 0 || (is_alone && at != end) ? NULL : at;
+    do {
         if (length == 2 && at < end && *at != 0)
-            number = *at++;
+            out = put_byte(out, (uint8_t)(number = *at++));
         else if (!read_number(&at, end, length - 1, &number))
             return NULL;
-        *out = put_number(*out, number);
+        else
+            out = put_number(out, number);
         if (at == end)
-            return is_alone && number != 0 ? at : NULL;
-    }
-    return is_alone || number == 0 ? NULL : at;
+            break;
+        length = *at++;
+    } while (length > 0);
+    *written = out;
+    return number != 0 && is_alone == (length > 0) ? at : NULL;
 }
 
-/* A function of its own, since one with room for a suffix takes longer to begin and to end. */
+/* A function of its own, since a longer one takes longer to begin and to end. */
 static pg_noinline VersionKind kind_of_suffix(Bytes value, const uint8_t *at)
 {
-    SuffixBuffer buffer;
     Suffix suffix;
-    if (!read_suffix(value, at, &buffer, &suffix))
+    if (!read_suffix(value, at, &suffix))
         return UNKNOWN_KIND;
     return suffix.dev.rank == HAS_DEV ? PRERELEASE_KIND : FINAL_KIND;
 }
@@ -249,20 +247,18 @@ static char *put_local(char *out, const uint8_t *at, const uint8_t *end)
                 return NULL;
             *out++ = (char)*at;
         }
-        if (kind == STRING_SEGMENT ? !has_letter || at++ >= end : !read_number(&at, end, kind - NUMBER_BASE, &number))
+        if (kind == STRING_SEGMENT ? !has_letter || at++ == end : !read_number(&at, end, kind - NUMBER_BASE, &number))
             return NULL;
         if (kind != STRING_SEGMENT)
             out = put_number(out, number) - 1;
     }
-    return at + 1 == end ? out : NULL;
+    return at == end ? out : NULL;
 }
 
-/* As kind_of_suffix. */
-static pg_noinline char *put_suffix(char *out, Bytes value, const uint8_t *at)
+static pg_attribute_always_inline char *put_suffix(char *out, Bytes value, const uint8_t *at)
 {
-    SuffixBuffer buffer;
     Suffix suffix;
-    if (!read_suffix(value, at, &buffer, &suffix))
+    if (!read_suffix(value, at, &suffix))
         return NULL;
     int stage = suffix.stage.rank;
     if (stage > DEV_STAGE && stage < FINAL_STAGE)
@@ -275,18 +271,15 @@ static pg_noinline char *put_suffix(char *out, Bytes value, const uint8_t *at)
 }
 
 /* The normal form of a version that is stored without what most have in common; NULL where the library has to write it. */
-static inline char *short_text(const struct varlena *stored)
+static pg_attribute_always_inline char *short_text(Bytes value, bool is_alone)
 {
-    Bytes value = bytes_of(stored);
-    if (!is_short(value))
-        return NULL;
+    int zeros = value.bytes[0] & MOST_ZEROS << ZEROS_SHIFT;
     char *text = palloc(4 * (value.length + sizeof ENDS->bytes) + 2 * MOST_ZEROS + sizeof "rc.post.dev"), *out = text;
-    bool is_alone = end_of(value) == RELEASE_ALONE;
-    const uint8_t *at = put_release(value, is_alone, &out);
-    for (int zeros = value.bytes[0] & MOST_ZEROS << ZEROS_SHIFT; zeros > 0; zeros -= 1 << ZEROS_SHIFT)
-        *out++ = '0', *out++ = '.';
-    if (at == NULL || out == text)
+    const uint8_t *at = put_release(value, is_alone, zeros, &out);
+    if (at == NULL)
         return NULL;
+    for (; zeros > 0; zeros -= 1 << ZEROS_SHIFT)
+        *out++ = '0', *out++ = '.';
     out--;
     if (!is_alone)
         out = put_suffix(out, value, at);
@@ -326,11 +319,36 @@ static pg_noinline char *normal_text_of(const struct varlena *stored)
     return normal_text(pep440_normalize, version_of(stored, &buffer).bytes);
 }
 
+/* As kind_of_suffix. */
+static pg_noinline char *release_text(Bytes value, const struct varlena *stored)
+{
+    char *text = short_text(value, true);
+    return text != NULL ? text : normal_text_of(stored);
+}
+
+static pg_noinline char *text_with_suffix(Bytes value, const struct varlena *stored)
+{
+    char *text = short_text(value, false);
+    return text != NULL ? text : normal_text_of(stored);
+}
+
+static inline char *text_of(const struct varlena *stored)
+{
+    Bytes value = bytes_of(stored);
+    if (!is_short(value))
+        return normal_text_of(stored);
+    return end_of(value) == RELEASE_ALONE ? release_text(value, stored) : text_with_suffix(value, stored);
+}
+
+static pg_noinline char *text_of_unpacked(Datum datum)
+{
+    return text_of(PG_DETOAST_DATUM_PACKED(datum));
+}
+
 char *normal_argument(FunctionCallInfo fcinfo)
 {
-    const struct varlena *stored = GET_STORED(0);
-    char *text = short_text(stored);
-    return text != NULL ? text : normal_text_of(stored);
+    const struct varlena *stored = (const struct varlena *)PG_GETARG_POINTER(0);
+    return has_short_header(stored) ? text_of(stored) : text_of_unpacked(PG_GETARG_DATUM(0));
 }
 
 uint64 first_of_key(Bytes key)

@@ -206,7 +206,36 @@ static int order_of_key(FunctionCallInfo fcinfo, int version_at)
     return version_at == 0 ? order : -order;
 }
 
-COMPARISONS(version_, , order_of(fcinfo));
+/* What a comparison keeps: whether its second argument is a constant, and of this one the number of its first bytes. */
+typedef struct {
+    bool is_constant;
+    uint64 first;
+} Second;
+
+static pg_noinline const Second *know_second(FunctionCallInfo fcinfo)
+{
+    Second *second = MemoryContextAllocZero(fcinfo->flinfo->fn_mcxt, sizeof *second);
+    second->is_constant = is_constant(fcinfo->flinfo, 1);
+    if (second->is_constant)
+        second->first = first_of_version(GET_STORED(1));
+    return fcinfo->flinfo->fn_extra = second;
+}
+
+/* As order_of, of a filter: where the first bytes decide, nothing is read of a constant. */
+static inline int order_of_row(FunctionCallInfo fcinfo)
+{
+    const Second *second = fcinfo->flinfo == NULL ? NULL : fcinfo->flinfo->fn_extra;
+    if (second == NULL && fcinfo->flinfo != NULL && fcinfo->flinfo->fn_expr != NULL)
+        second = know_second(fcinfo);
+    if (second != NULL && second->is_constant) {
+        uint64 first = first_of_version(GET_STORED(0));
+        if (first != second->first)
+            return first < second->first ? -1 : 1;
+    }
+    return order_of(fcinfo);
+}
+
+COMPARISONS(version_, , order_of_row(fcinfo));
 COMPARISONS(version_, _key, order_of_key(fcinfo, 0));
 COMPARISONS(key_, _version, order_of_key(fcinfo, 1));
 SQL_FUNCTION(version_ne, BoolGetDatum(order_of(fcinfo) != 0));
