@@ -1,7 +1,6 @@
 -- Where nothing is found, each requirement contains a locked version of its name.
 use Rattle.std.proofs.Common.{◌≡◌, ◌∙◌, ℕ, List, [], ◌++◌, Bool, true, false, Some, None, refl, sym, ap, subst, inl, inr, if◌then◌else◌}
 use Rattle.std.specs.List.{AllZip, flat_map, zip}
-use Rattle.std.specs.Ordering.{eq_by_cmp}
 use Rattle.pep440_pick.specs.RequirementGrammar.{Needed}
 use Rattle.pep440_rs.proofs.Reading.OneMeaning.{not_both_list, one_list}
 use Rattle.pep440_rs.specs.Lists.ListGrammar.{DerivesList}
@@ -9,7 +8,6 @@ use Rattle.pep440_rs.specs.Specifiers.{Spec}
 use Rattle.pep440_version.proofs.Reading.Agreement.{one_record}
 use Rattle.pep440_version.proofs.Rejections.ExactlyOne.{not_both}
 use Rattle.pep440_version.specs.Grammar.{Derives}
-use Rattle.pep440_version.specs.Key.{record_cmp}
 use Rattle.pep440_version.specs.Record.{Record}
 use Rattle.pyver_findings.specs.Demands.{Demand, line_demand}
 use Rattle.pyver_findings.specs.FileLines.{File, Finding}
@@ -21,7 +19,7 @@ use Rattle.pyver_projects.proofs.Walks.{beside_it, beside_pair, left_nil, nil_at
 use Rattle.pyver_projects.specs.Comparing.{absent, is_installer, lacking, found_beside, found_in_pair, beside_all, is_beside, compared, compared_demand, excluded, invalid_package, is_locked, missing, own_report, unmet, with_own_reports}
 use Rattle.pyver_projects.specs.Documents.{has_group_tool, sources}
 use Rattle.pyver_projects.specs.Groups.{groups}
-use Rattle.pyver_projects.specs.Meanings.{Document, DocumentReading, IsDocumentReading, IsFileReading, IsLockReading, IsProject, IsRequirementReading, IsStringReading, LockedReading, StringReading, file_meaning, requirement_line, string_line}
+use Rattle.pyver_projects.specs.Meanings.{Document, DocumentReading, IsDocumentReading, IsFileReading, IsLockReading, IsProject, IsRequirementReading, IsStringReading, LockedReading, StringReading, file_meaning, is_of_version, requirement_line, string_line}
 use Rattle.pyver_projects.specs.ProjectLaws.{AllContained, AllMet, AllOfVersion, AllPresent, HasContents, HasTable, NoFindingImpliesContained}
 use Rattle.pyver_projects.specs.ProjectStrings.{LockContents, LockedFile, LockedRequirement, Section}
 use Rattle.pyver_projects.specs.declared.document_kind.DocumentKind.TheVariants.{Lock, Project}
@@ -111,12 +109,12 @@ all_present documents zs h own lock kind l q list ((m, below, there), other) (i,
     some_named lock.name l.packages (requirement_line lock.name q) n ys packages (not_lacking (is_installer asked.name) (absent ys asked) named (left_nil (lacking ys asked) (excluded asked ys) (left_nil (lacking ys asked ++ excluded asked ys) [] met)))
 
 -- nothing is found of a file, whose name has a version, as its package has
-same_as_package : (file : List ℕ) (f : LockedFile) (m : LineMeaning) (r q : Record) (b : Bool) → Derives f.version r → Derives f.written q → IsFileReading file f m → invalid_in m ≡ [] → eq_by_cmp record_cmp r q ≡ b → b ≡ true
+same_as_package : (file : List ℕ) (f : LockedFile) (m : LineMeaning) (r q : Record) (b : Bool) → Derives f.version r → Derives f.written q → IsFileReading file f m → invalid_in m ≡ [] → is_of_version r q ≡ b → b ≡ true
 same_as_package file f m r q true d e is none same = refl
 same_as_package file f m r q false d e (inr (inl (k, rejects), is)) none same = absurd (not_both f.version r k d rejects)
 same_as_package file f m r q false d e (inr (inr (k, rejects), is)) none same = absurd (not_both f.written q k e rejects)
 same_as_package file f m r q false d e (inl (s, p, g, h, is)) none same =
-    let other : m ≡ file_meaning file f false = is ∙ (λ i. file_meaning file f (eq_by_cmp record_cmp (one_record f.version s r g d i) (one_record f.written p q h e i))) ∙ ap (file_meaning file f) same in
+    let other : m ≡ file_meaning file f false = is ∙ (λ i. file_meaning file f (is_of_version (one_record f.version s r g d i) (one_record f.written p q h e i))) ∙ ap (file_meaning file f) same in
     let some : invalid_in (file_meaning file f false) ≡ [] = ap invalid_in (sym other) ∙ none in
     cc some
 
@@ -127,7 +125,7 @@ all_of_version documents zs h own lock kind l f r q ((m, below, there), other) (
     let nothing : flat_map invalid_package ys ++ (flat_map invalid_in fs ++ flat_map (unmet ys) ms) ≡ [] = ap (λ (e : DocumentReading). (own_report e).findings) (sym is_lock) ∙ nil_at (λ x. (own_report x).findings) zs y b in_y is_y own in
     let (z, (c, in_z, is_z), rz) = beside_it (IsFileReading lock.name) l.files fs f i within here files in
     let none : invalid_in z ≡ [] = nil_at invalid_in fs z c in_z is_z (left_nil (flat_map invalid_in fs) (flat_map (unmet ys) ms) (right_nil (flat_map invalid_package ys) (flat_map invalid_in fs ++ flat_map (unmet ys) ms) nothing)) in
-    same_as_package lock.name f z r q (eq_by_cmp record_cmp r q) d e rz none refl
+    same_as_package lock.name f z r q (is_of_version r q) d e rz none refl
 
 pub no_finding_means_contained : NoFindingImpliesContained
 no_finding_means_contained documents r (zs, h, fs, cs, finds, is) none =

@@ -6,7 +6,6 @@ use Rattle.std.proofs.lemmas.List.Folds.{list_any_at}
 use Rattle.std.proofs.lemmas.List.{append-nil, append_assoc}
 use Rattle.std.proofs.lemmas.List.Elements.{All-append, All-cons, All-contains_itself, All-head, All-nil, All-tail, All-weaker}
 use Rattle.std.specs.List.{All, AllZip, Contains, flat_map, list_any, zip}
-use Rattle.std.specs.Ordering.{eq_by_cmp}
 use Rattle.std.specs.Str.{IsUtf8}
 use Rattle.pep440_pick.specs.Names.{normal, same_name}
 use Rattle.pep440_pick.specs.RequirementGrammar.{DerivesRequirement, Needed}
@@ -15,7 +14,6 @@ use Rattle.pep440_version.proofs.Reading.Agreement.{one_record}
 use Rattle.pep440_version.proofs.Rejections.ExactlyOne.{not_both}
 use Rattle.pep440_version.specs.ErrorTexts.{rejection_text}
 use Rattle.pep440_version.specs.Grammar.{Derives}
-use Rattle.pep440_version.specs.Key.{record_cmp}
 use Rattle.pep440_version.specs.Record.{Record}
 use Rattle.pyver_findings.specs.Demands.{Demand, IsSound, line_demand}
 use Rattle.pyver_findings.specs.FileLines.{Conflicting, File, FileLine, Finding, NoRequirement}
@@ -30,7 +28,7 @@ use Rattle.pyver_projects.proofs.Walks.{all_flat, beside_it, beside_some, left_f
 use Rattle.pyver_projects.specs.Comparing.{FindsOfReading, absent, beside_all, compared, compared_demand, documents_report, excluded, found_beside, found_in_pair, has_name, invalid_package, invalid_string, is_allowed, is_beside, is_installer, is_locked, is_needed, lacking, named_line, outside, own_report, unmet, with_own_reports}
 use Rattle.pyver_projects.specs.Documents.{has_group_tool, locked, sources}
 use Rattle.pyver_projects.specs.Groups.{Groups, Inclusion, groups, inclusions, no_group}
-use Rattle.pyver_projects.specs.Meanings.{Document, DocumentReading, IsBroken, IsBrokenReading, IsDocumentReading, IsFileReading, IsLock, IsLockedReading, IsProject, IsRequirementReading, IsSectionMeaning, IsSoundDocument, IsSoundString, IsStringReading, IsVersionReading, LockedReading, StringReading, file_meaning, package_line, requirement_line, string_line}
+use Rattle.pyver_projects.specs.Meanings.{Document, DocumentReading, IsBroken, IsBrokenReading, IsDocumentReading, IsFileReading, IsLock, IsLockedReading, IsProject, IsRequirementReading, IsSectionMeaning, IsSoundDocument, IsSoundString, IsStringReading, IsVersionReading, LockedReading, StringReading, file_meaning, is_of_version, package_line, requirement_line, string_line}
 use Rattle.pyver_projects.specs.ProjectLaws.{AlwaysAsks, DocumentFindingsHold, HasLock, HasPackage, HasProject, IsDocumentFinding, IsLineOfName, IsOutside, IsReadable, IsReadableAs, LocksVersion, SomeContained, line_in_part, part_lines}
 use Rattle.pyver_projects.specs.ProjectStrings.{Build, Dependencies, Extra, Group, Include, Invalid, LockContents, LockedFile, LockedPackage, LockedRequirement, ProjectString, Python, Section, Version}
 use Rattle.pyver_projects.specs.declared.document_kind.DocumentKind.{DocumentKind}
@@ -434,9 +432,9 @@ module _ (documents : List Document) where
   -- a file of a package
   of_file : (lock : File) (kind : LockKind) (l : LockContents) → HasLock documents kind lock l → (p : LockedFile) → Contains l.files p → (m : LineMeaning) → IsFileReading lock.name p m → All Right (invalid_in m)
   of_file lock kind l known p at m (inr (none, is)) = subst (λ (x : LineMeaning). All Right (invalid_in x)) (sym is) (All-nil Right)
-  of_file lock kind l known p at m (inl (r, q, d, e, is)) = subst (λ (x : LineMeaning). All Right (invalid_in x)) (sym is) (by_order (eq_by_cmp record_cmp r q) refl)
+  of_file lock kind l known p at m (inl (r, q, d, e, is)) = subst (λ (x : LineMeaning). All Right (invalid_in x)) (sym is) (by_order (is_of_version r q) refl)
     where
-      by_order : (b : Bool) → eq_by_cmp record_cmp r q ≡ b → All Right (invalid_in (file_meaning lock.name p b))
+      by_order : (b : Bool) → is_of_version r q ≡ b → All Right (invalid_in (file_meaning lock.name p b))
       by_order true same = All-nil Right
       by_order false differ =
           All-cons Right _ [] (inr (inr (inr (inr (inr (inr (inr (inr (record {

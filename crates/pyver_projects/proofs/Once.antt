@@ -2,7 +2,6 @@
 use Rattle.std.proofs.Common.{Bool, ◌≡◌, ◌∙◌, ℕ, ◌+◌, List, [], ◌++◌, Option, Some, None, length, sym, ap, subst, inl, inr}
 use Rattle.std.proofs.lemmas.List.Elements.{All-contains_itself}
 use Rattle.std.specs.List.{Contains}
-use Rattle.std.specs.Ordering.{eq_by_cmp}
 use Rattle.pep440_pick.specs.Names.{normal}
 use Rattle.pep440_rs.proofs.Reading.OneMeaning.{not_both_list, one_list, one_list_refusal}
 use Rattle.pep440_rs.specs.ErrorTexts.{specifier_rejection_text}
@@ -10,7 +9,6 @@ use Rattle.pep440_rs.specs.Lists.ListGrammar.{PieceRejection}
 use Rattle.pep440_rs.specs.Specifiers.{Spec}
 use Rattle.pep440_version.proofs.Reading.Agreement.{one_record}
 use Rattle.pep440_version.proofs.Rejections.ExactlyOne.{not_both, one_refusal}
-use Rattle.pep440_version.specs.Key.{record_cmp}
 use Rattle.pep440_version.specs.ErrorTexts.{rejection_text}
 use Rattle.pep440_version.specs.Record.{Record}
 use Rattle.pep440_version.specs.Rejections.{Rejection}
@@ -25,7 +23,7 @@ use Rattle.pyver_projects.proofs.Walks.{zip_once}
 use Rattle.pyver_projects.specs.Comparing.{FindsOfReading, documents_report, with_found}
 use Rattle.pyver_projects.specs.Documents.{has_group_tool, sources}
 use Rattle.pyver_projects.specs.Groups.{Groups, groups, inclusions}
-use Rattle.pyver_projects.specs.Meanings.{DocumentReading, IsBroken, IsDocumentReading, IsFileReading, IsLock, IsLockReading, IsLockedReading, IsProject, IsProjectReading, IsRequirementReading, IsSectionMeaning, IsStringReading, IsVersionReading, LockedReading, StringReading, file_meaning, requirement_line, string_line}
+use Rattle.pyver_projects.specs.Meanings.{DocumentReading, IsBroken, IsDocumentReading, IsFileReading, IsLock, IsLockReading, IsLockedReading, IsProject, IsProjectReading, IsRequirementReading, IsSectionMeaning, IsStringReading, IsVersionReading, LockedReading, StringReading, file_meaning, is_of_version, requirement_line, string_line}
 use Rattle.pyver_projects.specs.ProjectLaws.{DocumentReportsOnce, IsReadable, IsReadableAs}
 use Rattle.pyver_projects.specs.ProjectStrings.{Build, Dependencies, Extra, Group, Include, Invalid, LockContents, LockedFile, LockedRequirement, Section, Python, ProjectString, Version}
 use Rattle.pyver_projects.specs.declared.document_kind.DocumentKind.{DocumentKind}
@@ -82,7 +80,7 @@ one_requirement file q x y (inr (f, r, a)) (inr (g, s, b)) = a ∙ sym b
 
 one_file : (file : List ℕ) (f : LockedFile) (x y : LineMeaning) → IsFileReading file f x → IsFileReading file f y → x ≡ y
 one_file file f x y (inl (r, q, d, e, a)) (inl (s, p, g, h, b)) =
-    a ∙ (λ i. file_meaning file f (eq_by_cmp record_cmp (one_record f.version r s d g i) (one_record f.written q p e h i))) ∙ sym b
+    a ∙ (λ i. file_meaning file f (is_of_version (one_record f.version r s d g i) (one_record f.written q p e h i))) ∙ sym b
 one_file file f x y (inl (r, q, d, e, a)) (inr (inl (j, k), b)) = absurd (not_both f.version r j d k)
 one_file file f x y (inl (r, q, d, e, a)) (inr (inr (j, k), b)) = absurd (not_both f.written q j e k)
 one_file file f x y (inr (inl (j, k), a)) (inl (r, q, d, e, b)) = absurd (not_both f.version r j d k)

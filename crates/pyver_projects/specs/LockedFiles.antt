@@ -1,10 +1,11 @@
 -- The versions in the names of the files of locked packages: of wheels (PEP 427, "File name convention"), and of archives of sources (PEP 625, "Specification").
-use Rattle.std.specs.Prelude.{ℕ, List, [], ◌∷◌, ◌++◌, ◌-◌, Bool, Option, Some, None, bytes_eq, codes, if◌then◌else◌, length, nat_eq, option_and_then, option_map, option_to_list, take, unwrap_or, ◌==◌}
+use Rattle.std.specs.Prelude.{ℕ, List, [], ◌∷◌, ◌++◌, ◌-◌, ◌&&◌, ◌||◌, Bool, true, false, Option, Some, None, bytes_eq, codes, if◌then◌else◌, is_some, length, nat_eq, not, option_and_then, option_map, option_to_list, take, unwrap_or, ◌==◌}
 use Rattle.std.specs.List.{ends_with, list_any}
-use Rattle.std.specs.Option.{option_or}
+use Rattle.std.specs.Option.{option_map_or, option_or}
 use Rattle.pep440_pick.specs.Names.{same_name}
 use Rattle.pep440_pick.specs.RequirementReading.{split_at_byte}
 use Rattle.toml.specs.Data.{Data, get}
+use Rattle.pyver_projects.specs.PackageRequirements.{lacks}
 use Rattle.pyver_projects.specs.ProjectStrings.{LockedFile}
 use Rattle.pyver_projects.specs.TomlValues.{listed, text_in}
 
@@ -79,5 +80,15 @@ files_by line (Some name) (Some version) d = files_in line name version d
 files_by line (Some name) None d = []
 files_by line None version d = []
 
+-- the source of a package is an index, as uv and Poetry write it; one without a source is from PyPI
+abbrev pub is_index : Option Data → Bool
+is_index None = true
+is_index (Some source) = is_some (get (codes "registry") source) || option_map_or (λ t. bytes_eq t (codes "legacy")) (text_in (get (codes "type") source)) false
+
+-- the package is from an index, whose files have names by the standards; those at a URL or a path need not
+abbrev pub is_indexed : Data → Bool
+is_indexed d = lacks (codes "url") d && (lacks (codes "path") d && is_index (get (codes "source") d))
+
+-- the files of the package on this line, if it is from an index
 abbrev pub files_from : ℕ × Data → List LockedFile
-files_from e = files_by e.0 (text_in (get (codes "name") e.1)) (text_in (get (codes "version") e.1)) e.1
+files_from e = if not (is_indexed e.1) then [] else files_by e.0 (text_in (get (codes "name") e.1)) (text_in (get (codes "version") e.1)) e.1

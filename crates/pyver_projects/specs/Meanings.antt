@@ -1,14 +1,14 @@
 -- What a string of `pyproject.toml`, a locked package and a document are to the check.
 use Rattle.std.specs.Prelude.{◌≡◌, ◌⊎◌, ℕ, ◌+◌, List, [], ◌++◌, Bool, true, false, Option, Some, None, codes, length, ⊤}
 use Rattle.std.specs.List.{AllZip, All}
-use Rattle.std.specs.Ordering.{eq_by_cmp}
 use Rattle.std.specs.Str.{IsUtf8}
 use Rattle.pep440_pick.specs.Names.{normal}
 use Rattle.pep440_rs.specs.Lists.ListGrammar.{DerivesList, PieceRejection, RejectsList}
+use Rattle.pep440_rs.specs.LiteralMatching.{matches_literally}
 use Rattle.pep440_rs.specs.Specifiers.{Spec}
+use Rattle.pep440_rs.specs.declared.specifier.operator.Operator.TheVariants.{Equal}
 use Rattle.pep440_version.specs.ErrorTexts.{rejection_text}
 use Rattle.pep440_version.specs.Grammar.{Derives}
-use Rattle.pep440_version.specs.Key.{record_cmp}
 use Rattle.pep440_version.specs.Record.{Record}
 use Rattle.pep440_version.specs.Rejections.{Rejection, Rejects}
 use Rattle.pyver_findings.specs.Demands.{line_demand, IsSound}
@@ -99,13 +99,17 @@ abbrev pub file_meaning : List ℕ → LockedFile → Bool → LineMeaning
 file_meaning file f true = AsksNothing
 file_meaning file f false = IsNone (NoRequirement (file_package_line file f) (codes "its file " ++ (f.file ++ codes " has another version")) (length f.name + 1))
 
+-- `==` with the version of a package matches that of its file, so that one without a local part has files with each (PEP 440, "Version matching")
+abbrev pub is_of_version : Record → Record → Bool
+is_of_version version written = matches_literally Equal version written
+
 -- the string is no version
 abbrev pub IsNoVersion : List ℕ → Type 0
 IsNoVersion text = (f : Rejection) × Rejects text f
 
 -- what it is: compared with its package, if both are versions
 abbrev pub IsFileReading : List ℕ → LockedFile → LineMeaning → Type 0
-IsFileReading file f x = ((r q : Record) × Derives f.version r × Derives f.written q × (x ≡ file_meaning file f (eq_by_cmp record_cmp r q)))
+IsFileReading file f x = ((r q : Record) × Derives f.version r × Derives f.written q × (x ≡ file_meaning file f (is_of_version r q)))
     ⊎ ((IsNoVersion f.version ⊎ IsNoVersion f.written) × (x ≡ AsksNothing))
 
 -- ---- documents

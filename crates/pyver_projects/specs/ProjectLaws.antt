@@ -2,7 +2,6 @@
 -- name; there is one report.
 use Rattle.std.specs.Prelude.{◌≡◌, ◌⊎◌, ℕ, ◌+◌, List, [], ◌∷◌, Bool, false, true, IsTrue, if◌then◌else◌, Option, None, Some, codes, length}
 use Rattle.std.specs.List.{All, AllZip, Contains, filter, flat_map}
-use Rattle.std.specs.Ordering.{eq_by_cmp}
 use Rattle.std.specs.Str.{IsUtf8}
 use Rattle.pep440_pick.specs.Names.{normal, same_name}
 use Rattle.pep440_pick.specs.RequirementGrammar.{DerivesRequirement, Needed}
@@ -11,7 +10,6 @@ use Rattle.pep440_rs.specs.LiteralMatching.{list_matches_literally}
 use Rattle.pep440_rs.specs.Specifiers.{Spec}
 use Rattle.pep440_version.specs.ErrorTexts.{rejection_text}
 use Rattle.pep440_version.specs.Grammar.{Derives}
-use Rattle.pep440_version.specs.Key.{record_cmp}
 use Rattle.pep440_version.specs.Record.{Record}
 use Rattle.pep440_version.specs.Rejections.{Rejection, Rejects}
 use Rattle.pyver_findings.specs.Conflicts.{has_same_name, holds_nowhere, under}
@@ -27,7 +25,7 @@ use Rattle.toml.specs.Parse.{parse_document}
 use Rattle.pyver_projects.specs.Comparing.{IsDocumentsReport, is_beside, is_installer, is_locked, is_needed}
 use Rattle.pyver_projects.specs.Documents.{has_group_tool, locked, sources}
 use Rattle.pyver_projects.specs.Groups.{groups}
-use Rattle.pyver_projects.specs.Meanings.{Document, IsSectionMeaning, IsStringReading, StringReading, file_meaning, package_line, requirement_line, string_line}
+use Rattle.pyver_projects.specs.Meanings.{Document, IsSectionMeaning, IsStringReading, StringReading, file_meaning, is_of_version, package_line, requirement_line, string_line}
 use Rattle.pyver_projects.specs.ProjectStrings.{LockContents, LockedFile, LockedPackage, LockedRequirement, ProjectString, Section}
 use Rattle.pyver_projects.specs.Together.{has_group, holds_in, part_demands, section_part}
 use Rattle.pyver_projects.specs.declared.document_kind.DocumentKind.{DocumentKind}
@@ -143,7 +141,7 @@ pub record IsOtherFile (documents : List Document) (f : Finding) : Type 0 where
   pub other : Record
   pub derives : Derives locked.version version
   pub written : Derives locked.written other
-  pub differ : eq_by_cmp record_cmp version other ≡ false
+  pub differ : is_of_version version other ≡ false
   pub is : IsNone f ≡ file_meaning lock.name locked false
 
 -- the project needs a package, and some lock has none of its name
@@ -235,7 +233,7 @@ AllPresent documents = (lock : File) (kind : LockKind) (l : LockContents) (q : L
 -- each file of a package of a lock whose name has a version has that of the package
 abbrev pub AllOfVersion : List Document → Type 0
 AllOfVersion documents = (lock : File) (kind : LockKind) (l : LockContents) (f : LockedFile) (r q : Record) → HasLock documents kind lock l → Contains l.files f → Derives f.version r → Derives f.written q
-    → eq_by_cmp record_cmp r q ≡ true
+    → is_of_version r q ≡ true
 
 -- where nothing is found, they do
 abbrev pub NoFindingImpliesContained : Type 0

@@ -259,9 +259,9 @@ fn read_documents<'a>(
 /// not exist or that includes them in turn, versions of a lock that are none, and a document that is not TOML, or JSON, in UTF-8. After
 /// the strings of a project its requirements that hold together and have no version in common, as `pyver_findings` reports them, each
 /// once: `project.dependencies`; these with each extra; each group with all that it includes, and with these if there is a table
-/// `tool.uv` or `tool.poetry`; and what the build requires. After the packages of a lock their files that have another version in their
-/// names than the package (PEP 427, "File name convention"; PEP 625, "Specification"), of those that follow one another with one version
-/// the first; and for each of their requirements, whether no package has its name, unless that is setuptools, distribute, pip or wheel, and the locked versions of its name, if it contains none.
+/// `tool.uv` or `tool.poetry`; and what the build requires. After the packages of a lock the files of those from an index in whose
+/// names is a version (PEP 427, "File name convention"; PEP 625, "Specification") that `==` with the package's does not match, of those that
+/// follow one another with one version the first; and for each requirement of a package, whether no package has its name, unless that is setuptools, distribute, pip or wheel, and the locked versions of its name, if it contains none.
 /// Then what is wrong in each project beside each lock in its folder, or in the nearest above that has one of its kind, and beside each
 /// lock for which that is no project: for each requirement, in order, whether the lock lacks a package of its name, and the lines of the
 /// locked versions of its name with the line of the requirement, if it contains none. Then the requirements of each project that hold

@@ -13,7 +13,7 @@ pub fn findings_hold()
 /// Where nothing is reported, each requirement of a project without a marker and a URL, but of its build, contains a version of its
 /// name in each lock that counts for it and has one. Each requirement of a locked package that is read and is in PEP 440's syntax names a
 /// package of the same lock, if it is none of setuptools, distribute, pip and wheel, and contains a version of that name if there is one.
-/// Each file that begins a run of one version in the names of files has the version of its package.
+/// Each file of a locked package from an index, in whose name a version is read, has one that `==` with the package's version matches.
 pub fn no_finding_means_contained()
     ensures { NoFindingImpliesContained }
 {}

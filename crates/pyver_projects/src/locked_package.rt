@@ -1,12 +1,13 @@
 //! Packages in locks and what they require, as it is written.
-ghost use Rattle.std.specs.Prelude.{◌≡◌, IfOk, option_map, string_bytes, ◌<◌, ◌++◌, map, option_to_list};
+ghost use Rattle.std.specs.Prelude.{◌≡◌, IfOk, option_map, string_bytes, ◌<◌, ◌++◌, map, option_to_list, bytes_eq, codes, false};
 ghost use Rattle.pyver_projects.specs.PackageRequirements.{package_text};
-ghost use Rattle.std.specs.Option.{option_or};
+ghost use Rattle.std.specs.Option.{option_map_or, option_or};
 ghost use Rattle.pep440_pick.specs.RequirementReading.{split_at_byte};
-ghost use Rattle.pyver_projects.specs.LockedFiles.{archive_version, file_name, file_path, file_version, files_after, files_by, files_from, files_in, last_section, named_file, new_file, version_from, wheel_version, without_ending};
+ghost use Rattle.pyver_projects.specs.LockedFiles.{archive_version, file_name, file_path, file_version, files_after, files_by, files_from, files_in, is_index, is_indexed, last_section, named_file, new_file, version_from, wheel_version, without_ending};
 ghost use Rattle.pyver_projects.specs.ProjectViews.{locked_file_of};
 ghost use Rattle.toml.specs.View.{view};
 
+use crate::package_requirements::lacks;
 use crate::table::{items, text};
 use pep440_pick::same_name;
 use std::alloc::{AllocError, Global};
@@ -162,8 +163,8 @@ fn first_of<'a>(one: Option<&'a str>, other: Option<&'a str>) -> Option<&'a str>
 fn file_path(item: &Value) -> Option<&str>
     ensures { option_map (λ t. t.now) result ≡ file_path (view item.now) }
 {
-    let place = first_of(text(item.get("url")), text(item.get("path")));
-    let named = first_of(text(item.get("name")), place);
+    let location = first_of(text(item.get("url")), text(item.get("path")));
+    let named = first_of(text(item.get("name")), location);
     first_of(text(item.get("file")), named)
 }
 
@@ -265,7 +266,33 @@ fn push_files_in(
     push_archive(alloc, files, named, table.get("sdist"))
 }
 
-// Adds the files of the package on this line that begin a run of another version, if it has a name and a version.
+fn is_legacy(kind: Option<&str>) -> bool
+    ensures { result ≡ option_map_or (λ t. bytes_eq t (codes "legacy")) (option_map (λ t. t.now) kind.entry) false }
+{
+    match kind {
+        Some(kind) => kind == "legacy",
+        None => false,
+    }
+}
+
+// The source of a package is an index, as uv and Poetry write it.
+fn is_index(source: Option<&Value>) -> bool
+    ensures { result ≡ is_index (option_map (λ v. view v.now) source.entry) }
+{
+    match source {
+        Some(source) => source.get("registry").is_some() || is_legacy(text(source.get("type"))),
+        None => true,
+    }
+}
+
+// The package is from an index, and not at a URL or a path.
+fn is_indexed(table: &Value) -> bool
+    ensures { result ≡ is_indexed (view table.now) }
+{
+    lacks(table, "url") && lacks(table, "path") && is_index(table.get("source"))
+}
+
+// Adds the files of the package on this line that begin a run of another version, if it is from an index and has a name and a version.
 pub(crate) fn push_locked_files(
     alloc: Global,
     files: &mut Vec<LockedFile>,
@@ -274,6 +301,9 @@ pub(crate) fn push_locked_files(
 ) -> Result<(), AllocError>
     ensures { IfOk result (λ _. map locked_file_of files.new.items ≡ map locked_file_of files.old.items ++ files_from (line, view table.now)) }
 {
+    if !is_indexed(table) {
+        return Ok(());
+    }
     let Some(name) = text(table.get("name")) else {
         return Ok(());
     };

@@ -21,7 +21,9 @@ ghost use Rattle.pyver_projects.specs.PackageRequirements.{requirement_text};
 use crate::locked_package::{LockedFile, LockedPackage, LockedRequirement, package_text};
 use crate::string_reading::version_reason;
 use pep440_pick::Requirement;
-use pep440_rs::{Version, VersionParseError, VersionSpecifiers, VersionSpecifiersParseError};
+use pep440_rs::{
+    Version, VersionParseError, VersionSpecifier, VersionSpecifiers, VersionSpecifiersParseError,
+};
 use pyver_findings::{Cause, Demand, FileLine, Finding, LineMeaning, normalize_name};
 use std::alloc::{AllocError, Global};
 
@@ -191,7 +193,8 @@ fn read_file(alloc: Global, name: &[u8], locked: &LockedFile) -> Result<LineMean
     let Some(written) = parse_locked_version(alloc, locked.written.as_str())? else {
         return Ok(LineMeaning::AsksNothing);
     };
-    if version == written {
+    let specifier = VersionSpecifier::equals_version(version);
+    if specifier.matches_literally(alloc, &written)? {
         Ok(LineMeaning::AsksNothing)
     } else {
         reject_file(alloc, name, locked)

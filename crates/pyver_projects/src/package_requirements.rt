@@ -16,7 +16,7 @@ use pep440_pick::is_name;
 use std::alloc::{AllocError, Global};
 use toml::{Table, Value};
 
-fn lacks(value: &Value, key: &str) -> bool
+pub(crate) fn lacks(value: &Value, key: &str) -> bool
     ensures { result ≡ lacks key.now (view value.now) }
 {
     value.get(key).is_none()
