@@ -86,7 +86,7 @@ fn compare_forms(alloc: Global, left: &[u8], right: &[u8]) -> Result<Ordering, F
 
 // How versions compare of which one is compiled.
 #[inline(never)]
-fn compare_mixed(alloc: Global, left: &[u8], right: &[u8]) -> Result<Ordering, Fault>
+fn compare_form_with_string(alloc: Global, left: &[u8], right: &[u8]) -> Result<Ordering, Fault>
     ensures { ReturnsOrder left.now right.now result }
 {
     if let Some(found) = compare_in_place(left, right) {
@@ -101,7 +101,7 @@ fn compare_string(alloc: Global, left: &[u8], right: &[u8]) -> Result<Ordering, 
     ensures { ReturnsOrder left.now right.now result }
 {
     if has_version_format(left) || has_version_format(right) {
-        return compare_mixed(alloc, left, right);
+        return compare_form_with_string(alloc, left, right);
     }
     let first = read_spelling(alloc, left)?;
     match read_spelling(alloc, right) {

@@ -152,7 +152,7 @@ fn asked_specifier(
     }
 }
 
-fn push_asked(
+fn push_specifier(
     alloc: Global,
     specifiers: &mut Vec<VersionSpecifier>,
     name: &str,
@@ -175,7 +175,7 @@ fn asked_specifiers(
 {
     let mut specifiers = Vec::new(alloc);
     for condition in conditions {
-        push_asked(alloc, &mut specifiers, name, condition)?;
+        push_specifier(alloc, &mut specifiers, name, condition)?;
     }
     Ok(specifiers)
 }

@@ -166,7 +166,7 @@ fn value_in<'a>(row: OptionRow, word: &'a str) -> Option<Option<&'a str>>
 }
 
 // The option that the word names, and the value in it, if it has one.
-fn find_named<'a>(rows: &[OptionRow], word: &'a str) -> Option<(OptionRow, Option<&'a str>)>
+fn find_long_option<'a>(rows: &[OptionRow], word: &'a str) -> Option<(OptionRow, Option<&'a str>)>
     ensures { option_map (λ x. (row_of (λ s. s.now) (λ t. t.now) x.0, option_copied x.1)) result ≡ named (rows_of (λ s. s.now) (λ t. t.now) rows.now) word.now }
 {
     for row in rows {
@@ -207,7 +207,7 @@ fn push_letters(
 }
 
 // Pushes the option that the word names, if its value is in the word or it takes none.
-fn push_named(
+fn push_long_option(
     alloc: Global,
     options: &mut Vec<GivenOption>,
     rows: &[OptionRow],
@@ -216,7 +216,7 @@ fn push_named(
     ensures options { IfOk result (λ _. map (option_with_value (λ s. s.now) (λ t. t.now) string_bytes) options.new.items ≡ map (option_with_value (λ s. s.now) (λ t. t.now) string_bytes) options.old.items ++ (named_options (rows_of (λ s. s.now) (λ t. t.now) rows.now) word.now).0) }
     ensures end { IfOk result (λ end. end_of end ≡ (named_options (rows_of (λ s. s.now) (λ t. t.now) rows.now) word.now).1) }
 {
-    match find_named(rows, word) {
+    match find_long_option(rows, word) {
         None => Ok(WordEnd::Unknown),
         Some((row, None)) => {
             if !row.2.is_empty() {
@@ -246,7 +246,7 @@ fn push_word(
     ensures end { IfOk result (λ end. end_of end ≡ (word_options (rows_of (λ s. s.now) (λ t. t.now) rows.now) word.now).1) }
 {
     if value_behind("--", word).is_some() {
-        return push_named(alloc, options, rows, word);
+        return push_long_option(alloc, options, rows, word);
     }
     match value_behind("-", word) {
         Some(letters) => push_letters(alloc, options, rows, letters),
