@@ -16,7 +16,7 @@ use Rattle.pep440_sets.specs.Sets.{list_set}
 use Rattle.pep440_version.specs.Key.{record_cmp}
 use Rattle.pep440_version.specs.Key.KeyLaws.{record_total}
 use Rattle.pep440_calls.proofs.Once.{one_bytes_list, never_both, one_version}
-use Rattle.pep440_calls.specs.CallResults.{AllowFaults, Allows, AsksSet, DenotesVersionsOf, HasListSet, HasOwnSet, IsCompiledList, IsFormOf, IsTakenAsSet, RejectsSet, Selects, form_bytes, takes}
+use Rattle.pep440_calls.specs.CallResults.{AllowFaults, Allows, AsksSet, DenotesVersionsOf, HasListSet, HasOwnSet, IsCompiled, IsCompiledList, IsFormOf, IsTakenAsSet, RejectsSet, Selects, form_bytes, takes}
 use Rattle.pep440_calls.specs.Statuses.{fault_of_read, Faults, HoldsOr}
 use Rattle.pep440_calls.specs.declared.fault.Fault.{Fault}
 use Rattle.pep440_calls.specs.declared.set_calls.SetForm.{SetForm}
@@ -174,6 +174,13 @@ marked_in_set set version list r held early mark format means d e found is =
     let whole = as_set_list set list format means in
     let same : held ≡ list_matches_literally list r = found (list_set list) (inr (list, whole, refl)) ∙ set_matches list r whole.members.members whole.given d.parsed in
     inl (r, inr d, is ∙ (λ i. if same i then (if e i then 3 else 1) else 0))
+
+-- a string has the mark of its compiled form
+pub marked_of_form : (list : List Spec) (text form : List ℕ) (mark : ℕ) → IsCompiled text form → IsMark list form mark → IsMark list text mark
+marked_of_form list text form mark (r, means, d) (inl (q, also, is)) =
+    let same : q ≡ r = one_version form q r also (inr d) in
+    inl (r, means, is ∙ (λ i. if list_matches_literally list (same i) then (if any_prerelease (same i) then 3 else 1) else 0))
+marked_of_form list text form mark (r, means, d) (inr (why, is)) = absurd (never_both form r (inr d) why)
 
 -- a form that has no set is rejected
 pub no_set : (set : List ℕ) → HasFormatOfSets set → ((s : Segments) → HasSet set s → ⊥) → RejectsSet set

@@ -1,4 +1,5 @@
 pub mod Placed
+pub mod KeyOrder
 pub mod Once
 pub mod Forms
 pub mod Allowed

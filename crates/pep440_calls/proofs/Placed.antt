@@ -27,6 +27,7 @@ use Rattle.pep440_rs.specs.LiteralMatching.{list_matches_literally}
 use Rattle.pep440_rs.specs.Matching.{any_prerelease}
 use Rattle.pep440_rs.specs.Specifiers.{Spec}
 use Rattle.pep440_calls.proofs.Once.{never_both, one_version}
+use Rattle.pep440_calls.proofs.Forms.{means_parsed}
 use Rattle.std.proofs.lemmas.List.Concat.{flat_map-append}
 use Rattle.std.specs.declared.ops.Bound.{Bound}
 use Rattle.pep440_rs.specs.Bounds.{Segments}
@@ -74,54 +75,6 @@ refused_first {A} Means Refused texts i x found inside why all = (
     map_take (suc i) [] = refl
     map_take (suc i) (t ∷ texts) = ap (λ l. t.now ∷ l) (map_take i texts)
 
--- one more version with its place
-placed_push : {A : Type 0} (n : ℕ) (xs : List A) (y : A) → enumerate_from n (xs ++ y ∷ []) ≡ enumerate_from n xs ++ (n + length xs, y) ∷ []
-placed_push n [] y = ap (λ (k : ℕ). (k, y) ∷ []) (omega arith)
-placed_push {A} n (x ∷ xs) y = ap (λ (l : List (ℕ × A)). (n, x) ∷ l) (placed_push (n + 1) xs y ∙ ap (λ (k : ℕ). enumerate_from (n + 1) xs ++ (k, y) ∷ []) (omega arith))
-
--- each of two lists has as many as the other
-all_length : (Means : List ℕ → Record → Type 0) (texts : List (List ℕ)) (versions : List Record) → AllZip Means texts versions → length texts ≡ length versions
-all_length Means [] [] h = refl
-all_length Means [] (v ∷ versions) h = absurd h
-all_length Means (t ∷ texts) [] h = absurd h
-all_length Means (t ∷ texts) (v ∷ versions) h = let e = all_length Means texts versions h.1 in omega (arith, e)
-
--- versions with their places, of texts that mean them so
-abbrev pub PlacedBy : (List ℕ → Record → Type 0) → List (List ℕ) → List (ℕ × Record) → Type 0
-PlacedBy Means texts given = (versions : List Record) × AllZip Means texts versions × (given ≡ enumerate_from 0 versions)
-
-pub placed_more : (Means : List ℕ → Record → Type 0) (texts : List (Bor (List ℕ))) (i : ℕ) (x : Bor (List ℕ)) (pairs new : List (ℕ × Record)) (v : Record) → i < length texts → Means (get_or texts i x).now v
-    → new ≡ pairs ++ (i, v) ∷ [] → PlacedBy Means (map (λ t. t.now) (take i texts)) pairs → PlacedBy Means (map (λ t. t.now) (take (i + 1) texts)) new
-placed_more Means texts i x pairs new v inside means more (versions, all, placed) =
-    let long : length versions ≡ i =
-    sym (all_length Means (map (λ (t : Bor (List ℕ)). t.now) (take i texts)) versions all) ∙ length-map (take i texts) (λ (t : Bor (List ℕ)). t.now) ∙ length-take-le i texts (omega (arith, inside)) in (
-      versions ++ v ∷ [],
-      each_more Means texts i (get_or texts i x) versions (versions ++ v ∷ []) v inside (get_or_default texts i x (get_or texts i x) inside) means refl all,
-      more ∙ ap (λ (l : List (ℕ × Record)). l ++ (i, v) ∷ []) placed ∙ ap (λ (k : ℕ). enumerate_from 0 versions ++ (k, v) ∷ []) (omega (arith, long)) ∙ sym (placed_push 0 versions v),
-    )
-
--- sort keys with their places, of texts that denote their versions
-abbrev pub KeyedBy : List (List ℕ) → List (ℕ × List ℕ) → Type 0
-KeyedBy texts keyed = (versions : List Record) × AllZip BytesDenote texts versions × All IsParsed versions × (keyed ≡ enumerate_from 0 (map key_bytes versions))
-
-abbrev pub seen : List (ℕ × Bor (List ℕ)) → List (ℕ × List ℕ)
-seen = map (λ (p : ℕ × Bor (List ℕ)). (p.0, p.1.now))
-
-pub keyed_more : (texts : List (Bor (List ℕ))) (i : ℕ) (x : Bor (List ℕ)) (pairs new : List (ℕ × Bor (List ℕ))) (key : Bor (List ℕ)) (v : Record) → i < length texts → BytesDenote (get_or texts i x).now v
-    → IsParsed v → key.now ≡ key_bytes v → new ≡ pairs ++ (i, key) ∷ [] → KeyedBy (map (λ t. t.now) (take i texts)) (seen pairs) → KeyedBy (map (λ t. t.now) (take (i + 1) texts)) (seen new)
-keyed_more texts i x pairs new key v inside means parsed is more (versions, all, are, placed) =
-    let long : length (map key_bytes versions) ≡ i =
-    length-map versions key_bytes ∙ sym (all_length BytesDenote (map (λ (t : Bor (List ℕ)). t.now) (take i texts)) versions all) ∙ length-map (take i texts) (λ (t : Bor (List ℕ)). t.now) ∙ length-take-le i texts (omega (arith, inside)) in (
-      versions ++ v ∷ [],
-      each_more BytesDenote texts i (get_or texts i x) versions (versions ++ v ∷ []) v inside (get_or_default texts i x (get_or texts i x) inside) means refl all,
-      All-push IsParsed versions v are parsed,
-      ap seen more ∙ map-append (λ (p : ℕ × Bor (List ℕ)). (p.0, p.1.now)) pairs ((i, key) ∷ [])
-          ∙ (λ j. placed j ++ (i, is j) ∷ [])
-          ∙ ap (λ (k : ℕ). enumerate_from 0 (map key_bytes versions) ++ (k, key_bytes v) ∷ []) (omega (arith, long))
-          ∙ sym (placed_push 0 (map key_bytes versions) (key_bytes v))
-          ∙ ap (enumerate_from 0) (sym (map-append key_bytes versions (v ∷ []))),
-    )
-
 -- the text at a place that is refused is the first, where those before it mean versions
 pub stops_at : (texts : List (Bor (List ℕ))) (i : ℕ) (x : Bor (List ℕ)) (f : Fault) (s : BatchError) (versions : List Record) → i < length texts → s ≡ batch_error_at i f
     → Faults (RejectsBytes (get_or texts i x).now) ⊥ ⊥ f → AllZip BytesDenote (map (λ t. t.now) (take i texts)) versions → BatchFaults (map (λ t. t.now) texts) s
@@ -139,15 +92,6 @@ pub marked_more : (Marks : List ℕ → ℕ → Type 0) (texts : List (Bor (List
     → AllZip Marks (map (λ t. t.now) (take i texts)) marks → AllZip Marks (map (λ t. t.now) (take (i + 1) texts)) new
 marked_more Marks texts i x marks new m inside is more all =
     each_more Marks texts i (get_or texts i x) marks new m inside (get_or_default texts i x (get_or texts i x) inside) is more all
-
-abbrev pub placed_cmp : ℕ × Record → ℕ × Record → Ordering
-placed_cmp = on (λ (p : ℕ × Record). p.1) record_cmp
-
--- the places of what a sort made, where memory was found for them
-pub arranged_if : {V E : Type 0} (view : V → List ℕ) (given sorted : List (ℕ × Record)) (result : Result V E) → IsPermutation given sorted → IsSorted placed_cmp sorted → IsStable placed_cmp given sorted
-    → (seen : List (ℕ × Record)) → seen ≡ sorted → IfOk result (λ found. view found ≡ map (λ (p : ℕ × Record). p.0) seen) → IfOk result (λ found. ArrangesPositions given (view found))
-arranged_if view given sorted (Ok found) same rises stable seen is told = (sorted, record { same = same; rises = rises; stable = stable }, rw is at told)
-arranged_if view given sorted (Err e) same rises stable seen is told = tt
 
 -- ---- sort keys
 
@@ -251,151 +195,11 @@ pub segments_more : (range left rest : Segments) (low high : Bound Record) (b e 
 segments_more range left rest low high b e n g next pushes (done, joins, seen) =
     (done ++ (low, high) ∷ [], pushes done joins, append_assoc done ((low, high) ∷ []) rest ∙ ap (λ (l : Segments). done ++ l) (sym next) ∙ seen)
 
--- ---- compiled versions in the order of their sort keys are in the order of the versions
-
--- ---- what a filter keeps
-
-filter_mapped : {E G : Type 0} (g : E → G) (p : G → Bool) (xs : List E) → filter p (map g xs) ≡ map g (filter (λ e. p (g e)) xs)
-filter_mapped g p [] = refl
-filter_mapped {E} {G} g p (x ∷ xs) = go (p (g x)) (filter p (map g xs)) (filter (λ e. p (g e)) xs) (filter_mapped g p xs)
+pub joined_parsed : (texts : List (List ℕ)) (versions : List Record) → AllZip BytesDenote texts versions → All IsParsed versions
+joined_parsed texts versions all = All-from_recursion IsParsed versions (go texts versions all)
   where
-    go : (b : Bool) (l : List G) (m : List E) → l ≡ map g m → cond b (g x ∷ l) l ≡ map g (cond b (x ∷ m) m)
-    go true l m e = ap (λ k. g x ∷ k) e
-    go false l m e = e
-
-filter_same : {E : Type 0} (p q : E → Bool) (xs : List E) → AllByRecursion (λ e. p e ≡ q e) xs → filter p xs ≡ filter q xs
-filter_same p q [] all = refl
-filter_same p q (x ∷ xs) all = let more = filter_same p q xs all.1 in λ i. cond (all.0 i) (x ∷ more i) (more i)
-
-filter_none : {E : Type 0} (p : E → Bool) (xs : List E) → AllByRecursion (λ e. p e ≡ false) xs → filter p xs ≡ []
-filter_none p [] all = refl
-filter_none p (x ∷ xs) all = ap (λ b. cond b (x ∷ filter p xs) (filter p xs)) all.0 ∙ filter_none p xs all.1
-
--- ---- what ties
-
-tied : (o p : Ordering) → p ≡ ordering_reverse o → not (is_lt o) && not (is_lt p) ≡ true → o ≡ Equal
-tied Less p r e = cc e
-tied Equal p r e = refl
-tied Greater p r e = let less : not (is_lt p) ≡ false = ap (λ q. not (is_lt q)) r in cc (e, less)
-
-module _ {E G : Type 0} (g : E → G) (below : E → E → Bool) (order : G → G → Ordering) (total : IsTotalOrder order) (P : E → Type 0) (same : (x y : E) → P x → P y → below x y ≡ is_lt (order (g x) (g y))) where
-  abbrev lt : G → G → Bool
-  lt x y = is_lt (order x y)
-
-  rises_mapped : (xs : List E) → All P xs → IsSortedBy below xs → IsSortedBy lt (map g xs)
-  rises_mapped [] all up k d le inside = absurd (omega (arith, inside))
-  rises_mapped (x ∷ xs) all up k d le inside =
-      let long : length (map g (x ∷ xs)) ≡ length (x ∷ xs) = length-map (x ∷ xs) g in
-      let next : k + 1 < length (x ∷ xs) = omega (arith, inside, long) in
-      let this : k < length (x ∷ xs) = omega (arith, inside, long) in
-      (λ i. lt (get_or-map g (x ∷ xs) (k + 1) x d next i) (get_or-map g (x ∷ xs) k x d this i))
-      ∙ sym (same (get_or (x ∷ xs) (k + 1) x) (get_or (x ∷ xs) k x) (all (k + 1) x next) (all k x this))
-      ∙ up k x le next
-
-  ties_same : (x y z : G) → order x y ≡ Equal → ties lt x z ≡ ties lt y z
-  ties_same x y z e =
-      let front = total.congr x y z e in
-      let back : order z x ≡ order z y = total.antisymm z x ∙ ap ordering_reverse front ∙ sym (total.antisymm z y) in
-      λ i. not (is_lt (front i)) && not (is_lt (back i))
-
-  ties_below : (e f : E) → P e → P f → ties lt (g e) (g f) ≡ ties below e f
-  ties_below e f p q = sym (λ i. not (same e f p q i) && not (same f e q p i))
-
-  -- some element ties with it, or none
-  find_tie : (x : G) (xs : List E) → AllByRecursion P xs → ((e : E) × P e × (ties lt x (g e) ≡ true)) ⊎ AllByRecursion (λ e. ties lt x (g e) ≡ false) xs
-  find_tie x [] all = inr tt
-  find_tie x (e ∷ xs) all = go (ties lt x (g e)) refl (find_tie x xs all.1)
-    where
-      go : (b : Bool) → ties lt x (g e) ≡ b → ((f : E) × P f × (ties lt x (g f) ≡ true)) ⊎ AllByRecursion (λ f. ties lt x (g f) ≡ false) xs
-          → ((f : E) × P f × (ties lt x (g f) ≡ true)) ⊎ AllByRecursion (λ f. ties lt x (g f) ≡ false) (e ∷ xs)
-      go true is rest = inl (e, all.0, is)
-      go false is (inl found) = inl found
-      go false is (inr none) = inr (is, none)
-
-  module _ (xs ys : List E) (all : All P xs) (moved : IsPermutation xs ys) (stable : IsStableBy below xs ys) where
-    all_after : All P ys
-    all_after = All-permutation P xs ys moved all
-
-    keeps : (x : G) → ((e : E) × P e × (ties lt x (g e) ≡ true)) ⊎ AllByRecursion (λ e. ties lt x (g e) ≡ false) xs → filter (λ e. ties lt x (g e)) ys ≡ filter (λ e. ties lt x (g e)) xs
-    keeps x (inl (e, p, is)) =
-        let equal : order x (g e) ≡ Equal = tied (order x (g e)) (order (g e) x) (total.antisymm (g e) x) is in
-        let agree : (f : E) → P f → ties lt x (g f) ≡ ties below e f = λ f q. ties_same x (g e) (g f) equal ∙ ties_below e f p q in
-        filter_same (λ f. ties lt x (g f)) (ties below e) ys (recursion_from_All (λ f. ties lt x (g f) ≡ ties below e f) ys (λ k d inside. agree _ (all_after k d inside)))
-        ∙ stable e
-        ∙ sym (filter_same (λ f. ties lt x (g f)) (ties below e) xs (recursion_from_All (λ f. ties lt x (g f) ≡ ties below e f) xs (λ k d inside. agree _ (all k d inside))))
-    keeps x (inr none) =
-        let after = All-permutation (λ f. ties lt x (g f) ≡ false) xs ys moved (All-from_recursion (λ f. ties lt x (g f) ≡ false) xs none) in
-        filter_none (λ f. ties lt x (g f)) ys (recursion_from_All (λ f. ties lt x (g f) ≡ false) ys after) ∙ sym (filter_none (λ f. ties lt x (g f)) xs none)
-
-    stable_mapped : IsStableBy lt (map g xs) (map g ys)
-    stable_mapped x = filter_mapped g (ties lt x) ys ∙ ap (map g) (keeps x (find_tie x xs (recursion_from_All P xs all))) ∙ sym (filter_mapped g (ties lt x) xs)
-
--- ---- positions and keys
-
-abbrev pub Keyed : Type 0
-Keyed = ℕ × Bor (List ℕ)
-
-abbrev pub key_cmp : Keyed → Keyed → Ordering
-key_cmp a b = slice_cmp nat_cmp a.1.now b.1.now
-
-seam : {A : Type 0} (front : List A) (x : A) (rest : List A) (d : A) → get_or (front ++ x ∷ rest) (length front) d ≡ x
-seam [] x rest d = refl
-seam (y ∷ front) x rest d = seam front x rest d
-
-module _ (versions : List Record) where
-  abbrev unversioned : Record
-  unversioned = from_parts 0 [] None None None []
-
-  abbrev version_at : ℕ → Record
-  version_at position = get_or versions position unversioned
-
-  abbrev with_version : Keyed → ℕ × Record
-  with_version p = (p.0, version_at p.0)
-
-  abbrev HasKey : Keyed → Type 0
-  HasKey p = (p.1.now ≡ key_bytes (version_at p.0)) × IsParsed (version_at p.0)
-
-  laid : (n : ℕ) (front rest : List Record) (xs : List Keyed) → length front ≡ n → versions ≡ front ++ rest → AllByRecursion IsParsed rest → seen xs ≡ enumerate_from n (map key_bytes rest)
-      → (map with_version xs ≡ enumerate_from n rest) × AllByRecursion HasKey xs
-  laid n front [] [] long whole parsed e = (refl, tt)
-  laid n front [] (x ∷ xs) long whole parsed e = absurd (omega (arith, ap length e))
-  laid n front (v ∷ rest) [] long whole parsed e = absurd (omega (arith, ap length e))
-  laid n front (v ∷ rest) (x ∷ xs) long whole parsed e =
-      let head : (x.0, x.1.now) ≡ (n, key_bytes v) = ap (λ l. get_or l 0 (x.0, x.1.now)) e in
-      let at : x.0 ≡ n = ap (λ (p : ℕ × List ℕ). p.0) head in
-      let key : x.1.now ≡ key_bytes v = ap (λ (p : ℕ × List ℕ). p.1) head in
-      let here : version_at x.0 ≡ v = (λ i. get_or (whole i) ((at ∙ sym long) i) unversioned) ∙ seam front v rest unversioned in
-      let longer : length (front ++ v ∷ []) ≡ n + 1 = omega (arith, long, length-append front (v ∷ [])) in
-      let more = laid (n + 1) (front ++ v ∷ []) rest xs longer (whole ∙ sym (append_assoc front (v ∷ []) rest)) parsed.1 (ap (drop 1) e) in
-      (λ i. (at i, here i) ∷ more.0 i, ((key ∙ ap key_bytes (sym here), subst IsParsed (sym here) parsed.0), more.1))
-
-  same_order : (x y : Keyed) → HasKey x → HasKey y → is_lt (key_cmp x y) ≡ is_lt (on (λ (p : ℕ × Record). p.1) record_cmp (with_version x) (with_version y))
-  same_order x y h k = ap is_lt ((λ i. slice_cmp nat_cmp (h.0 i) (k.0 i)) ∙ keys_in_order (version_at x.0) (version_at y.0) (keyed (version_at x.0) h.1) (keyed (version_at y.0) k.1))
-
-  places_same : (xs : List Keyed) → map (λ (p : Keyed). p.0) xs ≡ map (λ (p : ℕ × Record). p.0) (map with_version xs)
-  places_same [] = refl
-  places_same (x ∷ xs) = ap (λ l. x.0 ∷ l) (places_same xs)
-
-  pub keys_arranged : (xs ys : List Keyed) (places : List ℕ) → All IsParsed versions → seen xs ≡ enumerate_from 0 (map key_bytes versions) → IsPermutation xs ys → IsSorted key_cmp ys → IsStable key_cmp xs ys
-      → places ≡ map (λ (p : Keyed). p.0) ys → ArrangesPositions (enumerate_from 0 versions) places
-  keys_arranged xs ys places parsed e moved rises stable is =
-      let order = on (λ (p : ℕ × Record). p.1) record_cmp in
-      let total = on_total (λ (p : ℕ × Record). p.1) record_total in
-      let below : Keyed → Keyed → Bool = λ x y. is_lt (key_cmp x y) in
-      let lay = laid 0 [] versions xs refl refl (recursion_from_All IsParsed versions parsed) e in
-      let all = All-from_recursion HasKey xs lay.1 in (
-        map with_version ys,
-        record {
-          same = subst (λ l. IsPermutation l (map with_version ys)) lay.0 (IsPermutation-map with_version xs ys moved);
-          rises = rises_mapped with_version below order total HasKey same_order ys (All-permutation HasKey xs ys moved all) rises;
-          stable = subst (λ l. IsStable order l (map with_version ys)) lay.0 (stable_mapped with_version below order total HasKey same_order xs ys all moved stable);
-        },
-        is ∙ places_same ys,
-      )
-
-  -- the places, where memory was found for them
-  pub keys_arranged_if : {V E : Type 0} (view : V → List ℕ) (xs ys : List Keyed) (result : Result V E) → All IsParsed versions → seen xs ≡ enumerate_from 0 (map key_bytes versions) → IsPermutation xs ys
-      → IsSorted key_cmp ys → IsStable key_cmp xs ys → (slice : List Keyed) → slice ≡ ys → IfOk result (λ found. view found ≡ map (λ (p : Keyed). p.0) slice)
-      → IfOk result (λ found. ArrangesPositions (enumerate_from 0 versions) (view found))
-  keys_arranged_if view xs ys (Ok found) parsed e moved rises stable slice is told = keys_arranged xs ys (view found) parsed e moved rises stable (told ∙ ap (map (λ (p : Keyed). p.0)) is)
-  keys_arranged_if view xs ys (Err f) parsed e moved rises stable slice is told = tt
+    go : (texts : List (List ℕ)) (versions : List Record) → AllZip BytesDenote texts versions → AllByRecursion IsParsed versions
+    go [] [] h = tt
+    go [] (v ∷ versions) h = absurd h
+    go (t ∷ texts) [] h = absurd h
+    go (t ∷ texts) (v ∷ versions) h = (means_parsed t v h.0, go texts versions h.1)

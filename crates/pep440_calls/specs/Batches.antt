@@ -1,7 +1,10 @@
 -- What each call on many strings returns. Positions count from 0.
 use Rattle.std.specs.List.{All, AllZip, enumerate_from}
-use Rattle.std.specs.Ordering.{on}
-use Rattle.std.specs.Prelude.{◌≡◌, ◌⊎◌, ℕ, List, length, map, if◌then◌else◌, Result, Ok, Err, IsSomeAnd, slice_get, take, IsTrue, Option, Some, None}
+use Rattle.std.specs.Cmp.Lexicographic.{slice_cmp}
+use Rattle.std.specs.Ordering.{nat_cmp, on, ordering_then}
+use Rattle.std.specs.Prelude.{◌≡◌, ◌⊎◌, ◌<◌, ◌+◌, ℕ, zero, suc, List, [], ◌∷◌, drop, get_or, length, map, if◌then◌else◌, Result, Ok, Err, IsSomeAnd, slice_get, take, IsTrue, Option, Some, None}
+use Rattle.std.specs.Slice.Scan.{big_endian}
+use Rattle.std.specs.declared.cmp.Ordering.{Ordering}
 use Rattle.pep440_keys.specs.SortKeys.{key_bytes}
 use Rattle.pep440_rs.specs.Arrangement.{ArrangesBy}
 use Rattle.pep440_rs.specs.LiteralMatching.{list_matches_literally}
@@ -12,6 +15,7 @@ use Rattle.pep440_version.specs.Record.{Record}
 use Rattle.pep440_calls.specs.Statuses.{FailsBy, Joins, WritesAtStart, WritesBoth}
 use Rattle.pep440_calls.specs.CallerBytes.{BytesDenote, BytesDenoteList, ListFaults, RejectsBytes}
 use Rattle.pep440_calls.specs.declared.batch.BatchError.{BatchError}
+use Rattle.pep440_calls.specs.declared.batch.Entry.{Entry}
 use Rattle.pep440_calls.specs.declared.fault.Fault.{Fault}
 use Rattle.std.specs.Option.{option_map}
 use Rattle.pep440_pick.specs.Greatest.{Greatest}
@@ -93,14 +97,43 @@ batch_error_at position fault.NoSet = stop.InvalidAt position
 batch_error_at position fault.NoList = stop.InvalidAt position
 batch_error_at position fault.OutOfMemory = stop.OutOfMemory
 
--- the versions that the strings denote, with their positions
-abbrev pub DenotesPositioned : List (List ℕ) → List (ℕ × Record) → Type 0
-DenotesPositioned texts given = (versions : List Record) × AllZip BytesDenote texts versions × (given ≡ enumerate_from 0 versions)
-
 -- the position that was rejected is reported, and the status
 abbrev pub ReportsBatchError : BatchError → ℕ → ℕ → ℕ → Type 0
 ReportsBatchError (stop.InvalidAt position) old new status = (new ≡ position) × (status ≡ 1)
 ReportsBatchError stop.OutOfMemory old new status = (new ≡ old) × (status ≡ 3)
+
+-- ---- the order of sort keys: by their first bytes, as two numbers, and then by all
+
+-- the first so many bytes, with zeros for those that lack
+abbrev pub padded : ℕ → List ℕ → List ℕ
+padded zero bytes = []
+padded (suc count) [] = 0 ∷ padded count []
+padded (suc count) (b ∷ bytes) = b ∷ padded count bytes
+
+-- the first eight bytes of the key as a number, the four after these, and its position
+pub record IsEntryOf (at : ℕ) (key : List ℕ) (entry : Entry) : Type 0 where
+  pub front : entry.front ≡ big_endian 0 (padded 8 key)
+  pub next : entry.next ≡ big_endian 0 (padded 4 (drop 8 key))
+  pub position : entry.position ≡ at
+  pub bytes : (k : ℕ) → get_or key k 0 < 256
+
+-- the entries of the keys in their order, from this position on
+abbrev pub HasEntries : ℕ → List (List ℕ) → List Entry → Type 0
+HasEntries position [] [] = Unit {0}
+HasEntries position (key ∷ keys) (entry ∷ entries) = IsEntryOf position key entry × HasEntries (position + 1) keys entries
+HasEntries position [] (entry ∷ entries) = ⊥
+HasEntries position (key ∷ keys) [] = ⊥
+
+-- no bytes at a position past the end
+abbrev pub key_at : List (List ℕ) → ℕ → List ℕ
+key_at keys position = get_or keys position []
+
+abbrev pub position_cmp : List (List ℕ) → ℕ → ℕ → Ordering
+position_cmp keys a b = slice_cmp nat_cmp (key_at keys a) (key_at keys b)
+
+-- by the numbers, and then by the keys
+abbrev pub entry_cmp : List (List ℕ) → Entry → Entry → Ordering
+entry_cmp keys a b = ordering_then (nat_cmp a.front b.front) (ordering_then (nat_cmp a.next b.next) (position_cmp keys a.position b.position))
 
 -- ---- the newest version of a batch that a list matches literally; strings that denote no version are passed over
 

@@ -1,18 +1,16 @@
 //! Many strings in one call.
-ghost use Rattle.std.specs.Cmp.Lexicographic.{slice_cmp};
 ghost use Rattle.std.specs.List.{All, AllZip, enumerate_from};
-ghost use Rattle.std.specs.Ordering.{nat_cmp};
-ghost use Rattle.std.specs.Prelude.{IfOk, IfSome, List, [], if◌then◌else◌, length, map, ℕ, ◌++◌, ◌∷◌, ◌≡◌};
+ghost use Rattle.std.specs.Prelude.{IfOk, IfSome, List, [], if◌then◌else◌, length, map, ℕ, ◌++◌, ◌∷◌, ◌≡◌, ◌≤◌, drop, get_or, take};
+ghost use Rattle.std.specs.Slice.Scan.{big_endian};
 ghost use Rattle.pep440_compiled.specs.Lists.{HasSetFormat};
 ghost use Rattle.pep440_compiled.specs.SetForms.{HasSet, IsFrontsOf};
 ghost use Rattle.pep440_compiled.specs.Version.{HasVersionFormat};
 ghost use Rattle.pep440_rs.specs.Bounds.{Segments};
 ghost use Rattle.pep440_rs.specs.Specifiers.{Spec};
 ghost use Rattle.pep440_keys.specs.SortKeys.{key_bytes};
-ghost use Rattle.pep440_version.specs.Key.{record_cmp};
 ghost use Rattle.pep440_version.specs.Record.{Record};
 ghost use Rattle.pep440_version.specs.RoundTrip.{IsParsed};
-ghost use Rattle.pep440_calls.specs.Batches.{ArrangesPositions, FilterMarks, HoldsOrBatchFaults, IsMark, KeysResult, Marks, JoinsKeys, DenotesPositioned, SortResult, Sorts, ReportsBatchError, batch_error_at};
+ghost use Rattle.pep440_calls.specs.Batches.{ArrangesPositions, HasEntries, IsEntryOf, entry_cmp, key_at, padded, position_cmp, FilterMarks, HoldsOrBatchFaults, IsMark, KeysResult, Marks, JoinsKeys, SortResult, Sorts, ReportsBatchError, batch_error_at};
 ghost use Rattle.pep440_calls.specs.CallResults.{IsKey};
 ghost use Rattle.pep440_calls.specs.CallerBytes.{BytesDenote, BytesDenoteList, ListFaults, RejectsBytes};
 ghost use Rattle.pep440_calls.specs.Statuses.{HoldsOr, HoldsOrFaults};
@@ -25,10 +23,10 @@ use crate::one_version::{find_key, find_string_key};
 use crate::read::{read, to_list};
 use arrayvec::ArrayVec;
 use pep440_compiled::{
-    ContainsError, SetFronts, compare_sort_keys, has_set_format, has_version_format,
-    read_membership, read_membership_soon, view_fronts,
+    ContainsError, SetFronts, compare_sort_keys, compile_normal, has_set_format,
+    has_version_format, read_membership, read_membership_soon, view_fronts,
 };
-use pep440_rs::{Version, VersionSpecifiers};
+use pep440_rs::VersionSpecifiers;
 use std::alloc::{AllocError, AllocFailed, Global};
 use std::cmp::Ordering;
 
@@ -151,6 +149,34 @@ fn compiled_mark(form: &[u8], fronts: &Option<SetFronts>, version: &[u8]) -> u8
     any_compiled_mark(form, version)
 }
 
+// What the set of a compiled list says of a string in a normal spelling, which is compiled first; `None` of another string. A call of its
+// own, so that compiled versions pay nothing for it.
+#[inline(never)]
+fn string_mark(form: &[u8], fronts: &Option<SetFronts>, text: &[u8]) -> Option<u8>
+    requires form { HasSetFormat form.now }
+    requires fronts { IfSome fronts.now (λ f. (s : Segments) → HasSet form.now s → IsFrontsOf f s) }
+    ensures { (list : List Spec) → BytesDenoteList form.now list → IfSome result (IsMark list text.now) }
+{
+    let mut compiled = ArrayVec::new();
+    if !compile_normal(&mut compiled, text) {
+        return None;
+    }
+    Some(compiled_mark(form, fronts, compiled.as_slice()))
+}
+
+// What the set of a compiled list says of a compiled version or a string; `None` as above.
+#[inline(always)]
+fn form_mark(form: &[u8], fronts: &Option<SetFronts>, text: &[u8]) -> Option<u8>
+    requires form { HasSetFormat form.now }
+    requires fronts { IfSome fronts.now (λ f. (s : Segments) → HasSet form.now s → IsFrontsOf f s) }
+    ensures { (list : List Spec) → BytesDenoteList form.now list → IfSome result (IsMark list text.now) }
+{
+    if has_version_format(text) {
+        return Some(compiled_mark(form, fronts, text));
+    }
+    string_mark(form, fronts, text)
+}
+
 // What the list, which the bytes before it denote, says of the string.
 #[inline(always)]
 fn mark(
@@ -164,8 +190,10 @@ fn mark(
     requires fronts { IfSome fronts.now (λ f. (s : Segments) → HasSet form.now s → IsFrontsOf f s) }
     ensures { IfOk result (IsMark list.now text.now) }
 {
-    if has_set_format(form) && has_version_format(text) {
-        return Ok(compiled_mark(form, fronts, text));
+    if has_set_format(form) {
+        if let Some(mark) = form_mark(form, fronts, text) {
+            return Ok(mark);
+        }
     }
     mark_string(alloc, list, text)
 }
@@ -208,97 +236,161 @@ pub fn write_positions(alloc: Global, texts: &[&[u8]], places: &mut [usize], at:
     }
 }
 
-// The versions that the strings denote, with their positions.
-fn read_all(alloc: Global, texts: &[&[u8]]) -> Result<Vec<(usize, Version)>, BatchError>
-    ensures { HoldsOrBatchFaults (map (λ t. t.now) texts.now) (λ pairs. DenotesPositioned (map (λ t. t.now) texts.now) pairs.items) result }
+// A sort key by its first twelve bytes, with zeros for those that it lacks, and its position.
+#[derive(Clone, Copy)]
+struct Entry {
+    front: u64,
+    next: u32,
+    position: usize,
+}
+
+// The byte at a position; 0 past the end.
+#[inline(always)]
+fn byte_at(key: &[u8], position: usize) -> u8
+    ensures { result ≡ get_or key.now position 0 }
 {
-    let mut pairs = Vec::with_capacity(alloc, texts.len())?;
-    for (position, text) in texts.iter().enumerate() {
-        match read(alloc, text) {
-            Ok(version) => pairs.push((position, version))?,
-            Err(fault) => return Err(BatchError::from_fault(position, fault)),
-        }
+    match key.get(position) {
+        Some(byte) => *byte,
+        None => 0,
     }
-    Ok(pairs)
 }
 
-// The sort keys of compiled versions, as they lie in the bytes, with their positions; `None` if a string is among them.
-fn find_keys<'a>(
-    alloc: Global,
-    texts: &[&'a [u8]],
-) -> Result<Option<Vec<(usize, &'a [u8])>>, BatchError>
-    ensures { HoldsOrBatchFaults (map (λ t. t.now) texts.now) (λ found. IfSome found (λ pairs. (versions : List Record)
-        × AllZip BytesDenote (map (λ t. t.now) texts.now) versions × All IsParsed versions
-        × (map (λ p. (p.0, p.1.now)) pairs.items ≡ enumerate_from 0 (map key_bytes versions)))) result }
+// The first eight bytes as a number, which is read in one piece.
+#[inline(always)]
+fn read_word(key: &[u8]) -> u64
+    requires { 8 ≤ length key.now }
+    ensures { result ≡ big_endian 0 (take 8 key.now) }
 {
-    let mut pairs = Vec::with_capacity(alloc, texts.len())?;
-    for (position, text) in texts.iter().enumerate() {
-        if !has_version_format(text) {
-            return Ok(None);
-        }
-        match find_key(text) {
-            Ok(key) => pairs.push((position, key))?,
-            Err(fault) => return Err(BatchError::from_fault(position, fault)),
-        }
+    u64::from_be_bytes([
+        key[0], key[1], key[2], key[3], key[4], key[5], key[6], key[7],
+    ])
+}
+
+// The first eight bytes of a key that may have fewer.
+#[tactic(auto, using(crate::proofs::KeyOrder::eight_read))]
+fn pad_word(key: &[u8]) -> u64
+    ensures { result ≡ big_endian 0 (padded 8 key.now) }
+{
+    u64::from_be_bytes([
+        byte_at(key, 0),
+        byte_at(key, 1),
+        byte_at(key, 2),
+        byte_at(key, 3),
+        byte_at(key, 4),
+        byte_at(key, 5),
+        byte_at(key, 6),
+        byte_at(key, 7),
+    ])
+}
+
+// The first eight bytes.
+#[tactic(auto, using(crate::proofs::KeyOrder::padded_whole))]
+#[inline(always)]
+fn read_front(key: &[u8]) -> u64
+    ensures { result ≡ big_endian 0 (padded 8 key.now) }
+{
+    if key.len() < 8 {
+        return pad_word(key);
     }
-    Ok(Some(pairs))
+    read_word(key)
 }
 
-// By sort key alone.
-fn cmp_keys(a: &(usize, &[u8]), b: &(usize, &[u8])) -> Ordering
-    ensures { result ≡ slice_cmp nat_cmp a.now.1.now b.now.1.now }
+// The four bytes after the first eight.
+#[tactic(auto, using(crate::proofs::KeyOrder::four_read))]
+#[inline(always)]
+fn read_next(key: &[u8]) -> u32
+    ensures { result ≡ big_endian 0 (padded 4 (drop 8 key.now)) }
 {
-    compare_sort_keys(a.1, b.1)
+    u32::from_be_bytes([
+        byte_at(key, 8),
+        byte_at(key, 9),
+        byte_at(key, 10),
+        byte_at(key, 11),
+    ])
 }
 
-// By version alone.
-fn cmp_versions(a: &(usize, Version), b: &(usize, Version)) -> Ordering
-    ensures { result ≡ record_cmp a.now.1 b.now.1 }
+#[inline(always)]
+fn read_entry(position: usize, key: &[u8]) -> Entry
+    ensures { IsEntryOf position key.now result }
 {
-    a.1.cmp(&b.1)
+    Entry {
+        front: read_front(key),
+        next: read_next(key),
+        position,
+    }
 }
 
-// The positions, without what stands at them.
-fn collect_positions<T>(alloc: Global, pairs: &[(usize, T)]) -> Result<Vec<usize>, AllocError>
-    ensures { IfOk result (λ found. found.items ≡ map (λ p. p.0) pairs.now) }
+// The key at a position; no bytes at one past the end.
+fn key_at<'a>(keys: &[&'a [u8]], position: usize) -> &'a [u8]
+    ensures { result.now ≡ key_at (map (λ k. k.now) keys.now) position }
 {
-    let mut found = Vec::with_capacity(alloc, pairs.len())?;
-    for pair in pairs {
-        found.push(pair.0)?;
+    match keys.get(position) {
+        Some(key) => key,
+        None => &[],
+    }
+}
+
+// By all bytes of the keys. A call of its own, so that keys which differ early pay nothing for it.
+#[inline(never)]
+fn cmp_positions(keys: &[&[u8]], a: usize, b: usize) -> Ordering
+    ensures { result ≡ position_cmp (map (λ k. k.now) keys.now) a b }
+{
+    compare_sort_keys(key_at(keys, a), key_at(keys, b))
+}
+
+#[inline(always)]
+fn cmp_entries(keys: &[&[u8]], a: &Entry, b: &Entry) -> Ordering
+    ensures { result ≡ entry_cmp (map (λ k. k.now) keys.now) a.now b.now }
+{
+    if a.front != b.front {
+        return a.front.cmp(&b.front);
+    }
+    if a.next != b.next {
+        return a.next.cmp(&b.next);
+    }
+    cmp_positions(keys, a.position, b.position)
+}
+
+// The entries of the keys, in the order given.
+#[tactic(auto, using(crate::proofs::KeyOrder::entries_more))]
+fn collect_entries(alloc: Global, keys: &[&[u8]]) -> Result<Vec<Entry>, AllocError>
+    ensures { IfOk result (λ entries. HasEntries 0 (map (λ k. k.now) keys.now) entries.items) }
+{
+    let mut entries = Vec::with_capacity(alloc, keys.len())?;
+    for (position, key) in keys.iter().enumerate() {
+        entries.push(read_entry(position, key))?;
+    }
+    Ok(entries)
+}
+
+// The positions of the entries.
+fn collect_positions(alloc: Global, entries: &[Entry]) -> Result<Vec<usize>, AllocError>
+    ensures { IfOk result (λ found. found.items ≡ map (λ e. e.position) entries.now) }
+{
+    let mut found = Vec::with_capacity(alloc, entries.len())?;
+    for entry in entries {
+        found.push(entry.position)?;
     }
     Ok(found)
 }
 
-// The positions of the versions in order, equal ones in the order given.
-fn sort_pairs(alloc: Global, pairs: Vec<(usize, Version)>) -> Result<Vec<usize>, AllocError>
-    ensures { IfOk result (λ found. ArrangesPositions pairs.items found.items) }
-{
-    let mut sorted = pairs;
-    sorted.sort_by(|a, b| cmp_versions(a, b))?;
-    collect_positions(alloc, sorted.as_slice())
-}
-
-// The positions of the sort keys in order, equal ones in the order given.
-fn sort_by_keys(alloc: Global, pairs: Vec<(usize, &[u8])>) -> Result<Vec<usize>, AllocError>
-    ensures { (versions : List Record) → All IsParsed versions
-        → map (λ p. (p.0, p.1.now)) pairs.entry.items ≡ enumerate_from 0 (map key_bytes versions)
+// The positions of the sort keys of versions in their order, equal ones in the order given.
+fn sort_positions(alloc: Global, keys: &[&[u8]]) -> Result<Vec<usize>, AllocError>
+    ensures { (versions : List Record) → All IsParsed versions → map (λ k. k.now) keys.now ≡ map key_bytes versions
         → IfOk result (λ found. ArrangesPositions (enumerate_from 0 versions) found.items) }
 {
-    let mut sorted = pairs;
-    sorted.sort_by(|a, b| cmp_keys(a, b))?;
-    collect_positions(alloc, sorted.as_slice())
+    let mut entries = collect_entries(alloc, keys)?;
+    entries.sort_by(|a, b| cmp_entries(keys, a, b))?;
+    collect_positions(alloc, entries.as_slice())
 }
 
-// The positions of the strings in the order of their versions; of compiled versions alone, by their sort keys.
+// The positions of the strings in the order of their versions: of their sort keys, which are made first.
 fn sort(alloc: Global, texts: &[&[u8]]) -> Result<Vec<usize>, BatchError>
     ensures { HoldsOrBatchFaults (map (λ t. t.now) texts.now) (λ found. Sorts (map (λ t. t.now) texts.now) found.items) result }
 {
-    let keyed = find_keys(alloc, texts)?;
-    if let Some(pairs) = keyed {
-        return Ok(sort_by_keys(alloc, pairs)?);
-    }
-    let pairs = read_all(alloc, texts)?;
-    Ok(sort_pairs(alloc, pairs)?)
+    let joined = sort_keys(alloc, texts)?;
+    let keys = joined.split(alloc)?;
+    Ok(sort_positions(alloc, keys.as_slice())?)
 }
 
 /// Writes the sort keys of the strings, one after the other, and the end of each. `at` as above.

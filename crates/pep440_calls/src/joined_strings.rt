@@ -1,5 +1,5 @@
 //! Strings one after the other, and the end of each.
-ghost use Rattle.std.specs.Prelude.{IfOk, [], length, ◌++◌, ◌∷◌, ◌≡◌};
+ghost use Rattle.std.specs.Prelude.{IfOk, List, [], length, map, ℕ, ◌++◌, ◌∷◌, ◌≡◌};
 ghost use Rattle.pep440_keys.specs.SortKeys.{key_bytes};
 ghost use Rattle.pep440_calls.specs.Statuses.{Joins};
 
@@ -44,5 +44,24 @@ impl JoinedStrings {
         push_sort_key(&mut self.bytes, version)?;
         self.ends.push(self.bytes.len())?;
         Ok(())
+    }
+    // The strings, as they lie.
+    pub(crate) fn split(&self, alloc: Global) -> Result<Vec<&[u8]>, AllocError>
+        requires { (strings : List (List ℕ)) × Joins strings self.now.bytes.items self.now.ends.items }
+        ensures { (strings : List (List ℕ)) → Joins strings self.now.bytes.items self.now.ends.items
+            → IfOk result (λ found. map (λ s. s.now) found.items ≡ strings) }
+    {
+        let mut found = Vec::with_capacity(alloc, self.ends.len())?;
+        let mut left = self.bytes.as_slice();
+        let mut ends = self.ends.as_slice();
+        let mut start = 0;
+        while let Some((end, later)) = ends.split_first() {
+            let (string, rest) = left.split_at(*end - start);
+            found.push(string)?;
+            left = rest;
+            ends = later;
+            start = *end;
+        }
+        Ok(found)
     }
 }
