@@ -1,9 +1,8 @@
 -- What conditions on versions say of a variable.
-use Rattle.std.proofs.Common.{◌≡◌, ◌⊎◌, ◌∙◌, ◌++◌, ◌-◌, ◌≤◌, ◌&&◌, ◌||◌, ℕ, List, [], ◌∷◌, Bool, true, false, not, Option, Some, None, Result, Ok, Err, ap, bytes_eq, codes, drop, get_or, inl, inr, is_none, length, refl, subst, sym, take}
+use Rattle.std.proofs.Common.{◌≡◌, ◌∙◌, ◌++◌, ◌-◌, ◌≤◌, ◌&&◌, ◌||◌, ℕ, List, [], ◌∷◌, Bool, true, false, not, Option, Some, None, Result, Ok, Err, ap, codes, drop, get_or, inl, inr, is_none, length, refl, subst, sym, take}
 use Rattle.std.proofs.lemmas.Bool.{and_from, and_parts, false_from_ne_true, true≢false}
 use Rattle.std.proofs.lemmas.List.Elements.{All-append, All-cons, All-nil}
 use Rattle.std.proofs.lemmas.List.Folds.{list_all-append}
-use Rattle.std.proofs.lemmas.Slice.Eq.{bytes_eq-Decides}
 use Rattle.std.specs.Char.{is_ascii}
 use Rattle.std.specs.List.{All, list_all}
 use Rattle.std.specs.Option.{option_map_or}
@@ -28,12 +27,12 @@ use Rattle.pep440_version.specs.Whole.{read_version}
 use Rattle.pyver_requirements.specs.MarkerGrammar.{Marker}
 use Rattle.pyver_requirements.specs.MarkerSteps.{steps}
 use Rattle.pyver_requirements.specs.MarkerTerms.{marker_operator_text}
-use Rattle.pyver_requirements.specs.MarkerTokens.{Constant, Invalid, Side, Variable}
 use Rattle.pyver_requirements.specs.declared.marker_operator.MarkerOperator.{MarkerOperator}
 use Rattle.pyver_markers.proofs.BoxLaws.{first_and_rest, hold_in_boxes, never}
 use Rattle.pyver_markers.proofs.Steps.{last_is_boxes}
+use Rattle.pyver_markers.proofs.Texts.{chosen_some, either_is, right_asks, without_text}
 use Rattle.pyver_markers.specs.Boxes.{Box, Condition, agrees, boxes, in_box, in_boxes, is_met, meets}
-use Rattle.pyver_markers.specs.Conditions.{ComparesAs, HasNoEnvironment, HasVersion, HoldsMatchesOf, HoldsMet, HoldsVersionsOf, IsEnvironment, IsNever, Narrows, asked_specifier, asked_specifiers, is_contradiction, is_contradictory, lacks_version, right_of, written_specifier}
+use Rattle.pyver_markers.specs.Conditions.{ComparesAs, HasNoEnvironment, HasVersion, HoldsMatchesOf, HoldsMet, HoldsVersionsOf, IsEnvironment, IsNever, Narrows, asked_specifier, asked_specifiers, is_contradiction, is_contradictory, lacks_any_text, lacks_any_version, lacks_version, right_of, written_specifier}
 use Rattle.pyver_markers.specs.Environments.{Environment, Text}
 use Rattle.pyver_markers.specs.MarkerComparisons.{ascii_specifier, ascii_version, compare, compare_left, compare_spelled, compare_strings, compare_texts, compare_versions, compare_with, compare_written, if_read, is_name_variable, is_version_variable, matches_specifier, spelling_in}
 
@@ -137,30 +136,9 @@ none_met name all set holds none e h =
 
 -- ---- contradictions
 
-chosen : {A : Type 0} (b : Bool) (o : Option A) (x : A) → (if b then o else None) ≡ Some x → (b ≡ true) × (o ≡ Some x)
-chosen true o x is = (refl, is)
-chosen false o x is = cc is
-
 is_nothing : {A : Type 0} (o : Option A) → is_none o ≡ true → o ≡ None
 is_nothing None e = refl
 is_nothing (Some x) e = absurd (true≢false (sym e))
-
-same_left : (name left text t : List ℕ) (o : MarkerOperator) → (if bytes_eq left name then Some text else None) ≡ Some t → (e : Environment)
-    → compare_left left o text (e left) ≡ compare_left name o t (e name)
-same_left name left text t o is e =
-    let (named, found) = chosen (bytes_eq left name) (Some text) t is in
-    let same : left ≡ name = (bytes_eq-Decides left name).0 named in
-    let also : text ≡ t = cc found in
-    (λ j. compare_left (same j) o (also j) (e (same j)))
-
--- such a comparison is one with the string on the right
-right_asks : (name : List ℕ) (left right : Side) (o : MarkerOperator) (t : List ℕ) → right_of name left right ≡ Some t → (e : Environment)
-    → compare e left o right ≡ compare_left name o t (e name)
-right_asks name (Variable left) (Constant text) o t is e = same_left name left text t o is e
-right_asks name (Variable left) (Variable text) o t is e = same_left name left text t o is e
-right_asks name (Variable left) (Invalid f) o t is e = cc is
-right_asks name (Constant left) right o t is e = cc is
-right_asks name (Invalid f) right o t is e = cc is
 
 module _ (e : Environment) (name x : List ℕ) (v : Record) (is_version : is_version_variable name ≡ true) (has : e name ≡ Some (Text x)) (reads : ascii_version x ≡ Some v) where
   -- the specifier is one that a string denotes, and the version matches it
@@ -171,7 +149,7 @@ module _ (e : Environment) (name x : List ℕ) (v : Record) (is_version : is_ver
       → ((d : Environment) → compare d c.left c.operator c.right ≡ compare_left name c.operator right (d name)) → written_specifier (marker_operator_text c.operator ++ right) ≡ Some s → Fits s
   right_fits c right s wanted met asks is =
       let written = marker_operator_text c.operator ++ right in
-      let (none, ascii) = chosen (is_none (spelling_in written)) (ascii_specifier written) s is in
+      let (none, ascii) = chosen_some (is_none (spelling_in written)) (ascii_specifier written) s is in
       let read : read_specifier written ≡ Ok s = read_some (read_specifier written) s (if_some (list_all is_ascii written) (if_read (read_specifier written)) s ascii) in
       let as_spec : ComparesAs c.operator right s = compares c.operator right written (Some s) refl (is_nothing (spelling_in written) none) (sym ascii) in
       let matched = matches_literally s.operator s.version v in
@@ -181,7 +159,7 @@ module _ (e : Environment) (name x : List ℕ) (v : Record) (is_version : is_ver
   asked_fits : (c : Condition) (s : Spec) → meets e c ≡ true → asked_specifier name c ≡ Some s → Fits s
   asked_fits c s met is =
       let asked = λ (right : List ℕ). written_specifier (marker_operator_text c.operator ++ right) in
-      let (wanted, found) = chosen c.wanted (option_map_or asked (right_of name c.left c.right) None) s is in
+      let (wanted, found) = chosen_some c.wanted (option_map_or asked (right_of name c.left c.right) None) s is in
       by_right (right_of name c.left c.right) refl wanted found
     where
       by_right : (r : Option (List ℕ)) → right_of name c.left c.right ≡ r → c.wanted ≡ true
@@ -213,13 +191,8 @@ without_version name box is_version none e (x, v, has, reads) =
     let (denotable, matched) = all_fit e name x v is_version has reads box inside in
     none_in_common (asked_specifiers name box) denotable (is_nothing (common_version (asked_specifiers name box)) none) v (is_denoted x v reads) matched)
 
-either_is : (a b : Bool) → (a || b) ≡ true → (a ≡ true) ⊎ (b ≡ true)
-either_is true b e = inl refl
-either_is false b e = inr e
-
--- no environment is in a contradiction
-contradicted : (box : Box) → is_contradiction box ≡ true → HasNoEnvironment box
-contradicted box is e known =
+without_any_version : (box : Box) → lacks_any_version box ≡ true → HasNoEnvironment box
+without_any_version box is e known =
     let full = codes "python_full_version" in
     let implementation = codes "implementation_version" in
     let (text, v, has, reads, plain) = known.python.short in
@@ -230,6 +203,13 @@ contradicted box is e known =
         | inr none ↦ without_version implementation box refl none e known.implementation_version
       ]
     ]
+
+-- no environment is in a contradiction
+contradicted : (box : Box) → is_contradiction box ≡ true → HasNoEnvironment box
+contradicted box is = elim (either_is (lacks_any_text box) (lacks_any_version box) is) [
+  | inl none ↦ without_text box none
+  | inr none ↦ without_any_version box none
+]
 
 all_contradicted : (all : List Box) → list_all is_contradiction all ≡ true → (e : Environment) → IsEnvironment e → in_boxes e all ≡ false
 all_contradicted [] is e known = refl

@@ -1,7 +1,7 @@
 -- What conditions say of one variable, and boxes in which no environment is.
 use Rattle.std.specs.Prelude.{◌≡◌, ◌≢◌, ℕ, List, [], ◌∷◌, ◌++◌, Bool, true, false, not, Option, Some, None, ◌||◌, bytes_eq, codes, is_none, is_some, option_to_list, if◌then◌else◌}
 use Rattle.std.specs.List.{flat_map, list_all}
-use Rattle.std.specs.Option.{option_map_or}
+use Rattle.std.specs.Option.{option_map_or, option_or}
 use Rattle.pep440_pick.specs.Names.{normal}
 use Rattle.pep440_ranges.specs.RangeSegments.{contains}
 use Rattle.pep440_rs.specs.Bounds.{Segments}
@@ -19,7 +19,7 @@ use Rattle.pyver_requirements.specs.MarkerTokens.{Constant, Side, Variable}
 use Rattle.pyver_requirements.specs.declared.marker_operator.MarkerOperator.{MarkerOperator}
 use Rattle.pyver_requirements.specs.declared.marker_operator.MarkerOperator.TheVariants as operator
 use Rattle.pyver_markers.specs.Boxes.{Box, Condition, comparison_boxes, in_box, join_boxes, meets}
-use Rattle.pyver_markers.specs.Environments.{Environment, Setting, Text}
+use Rattle.pyver_markers.specs.Environments.{Environment, Setting, Text, assigned}
 use Rattle.pyver_markers.specs.MarkerComparisons.{ascii_specifier, ascii_version, compare, compare_left, compare_right, compare_texts, compare_versions, is_name_variable, matches_specifier, spelling_in}
 use Rattle.pyver_markers.specs.MarkerValues.{after_steps, last_value, value}
 use Rattle.pyver_markers.specs.declared.text_condition.Operand.{Operand}
@@ -89,6 +89,11 @@ abbrev pub IsOperand : List ℕ → Condition → Operand → Type 0
 IsOperand name c (Right text) = (e : Environment) → compare e c.left c.operator c.right ≡ compare_left name c.operator text.now (e name)
 IsOperand name c (Left text) = (e : Environment) → compare e c.left c.operator c.right ≡ compare_right text.now c.operator name (e name)
 
+-- the string
+abbrev pub operand_text : Operand → List ℕ
+operand_text (Right text) = text.now
+operand_text (Left text) = text.now
+
 -- what the comparison with the operand gives where the variable is this string
 abbrev pub compare_operand : List ℕ → List ℕ → MarkerOperator → Operand → Option Bool
 compare_operand name text o (Right right) = compare_texts name text o right.now
@@ -105,18 +110,6 @@ wants_equal _ wanted = false
 -- what comparisons that are not of versions see of a string
 abbrev pub comparable : List ℕ → List ℕ → List ℕ
 comparable name text = if is_name_variable name then normal text else text
-
--- only where the variable is this string, or one that compares as it, the condition can be met
-abbrev pub FixesText : List ℕ → Condition → List ℕ → Type 0
-FixesText name c text = (e : Environment) → meets e c ≡ true → (x : List ℕ) × (e name ≡ Some (Text x)) × (comparable name x ≡ comparable name text)
-
--- where the variable is this string, or one that compares as it, the condition is not met
-abbrev pub FailsAt : List ℕ → List ℕ → Condition → Type 0
-FailsAt name text c = (e : Environment) (x : List ℕ) → e name ≡ Some (Text x) → comparable name x ≡ comparable name text → meets e c ≡ false
-
--- the same of all conditions of a box
-abbrev pub AnyFailsAt : List ℕ → List ℕ → Box → Type 0
-AnyFailsAt name text box = (e : Environment) (x : List ℕ) → e name ≡ Some (Text x) → comparable name x ≡ comparable name text → in_box e box ≡ false
 
 -- ---- versions
 
@@ -181,10 +174,46 @@ asked_specifiers name box = flat_map (λ (c : Condition). option_to_list (asked_
 abbrev pub lacks_version : List ℕ → Box → Bool
 lacks_version name box = is_none (common_version (asked_specifiers name box))
 
--- the conditions ask of a version of Python, or of its implementation, what none matches
-abbrev pub is_contradiction : Box → Bool
-is_contradiction box = lacks_version (codes "python_version") box
+-- the string beside the variable
+abbrev pub beside_variable : List ℕ → Side → Side → Option (List ℕ)
+beside_variable name (Constant text) (Variable right) = if bytes_eq right name then Some text else None
+beside_variable name left right = right_of name left right
+
+-- the string that the variable is to be equal to
+abbrev pub asked_text : List ℕ → Condition → Option (List ℕ)
+asked_text name c = if wants_equal c.operator c.wanted then beside_variable name c.left c.right else None
+
+-- the first such string
+abbrev pub first_asked : List ℕ → Box → Option (List ℕ)
+first_asked name [] = None
+first_asked name (c ∷ box) = option_or (asked_text name c) (first_asked name box)
+
+-- the condition is one of another variable, or is met where the variable is this string
+abbrev pub is_met_at : List ℕ → List ℕ → Condition → Bool
+is_met_at name text c = is_none (beside_variable name c.left c.right) || meets (assigned (record { name = name; text = text } ∷ [])) c
+
+-- the variable is to be equal to a string that does not meet all conditions
+abbrev pub lacks_text : List ℕ → Box → Bool
+lacks_text name box = option_map_or (λ text. not (list_all (is_met_at name text) box)) (first_asked name box) false
+
+-- so is one of the platform
+abbrev pub lacks_platform_text : Box → Bool
+lacks_platform_text box = lacks_text (codes "os_name") box || (lacks_text (codes "sys_platform") box || (lacks_text (codes "platform_system") box
+    || (lacks_text (codes "platform_version") box || lacks_text (codes "platform_machine") box)))
+
+-- so is one of all variables that are strings
+abbrev pub lacks_any_text : Box → Bool
+lacks_any_text box = lacks_platform_text box || (lacks_text (codes "platform_python_implementation") box
+    || (lacks_text (codes "implementation_name") box || lacks_text (codes "extra") box))
+
+-- no version of Python, or of its implementation, matches what is asked of it
+abbrev pub lacks_any_version : Box → Bool
+lacks_any_version box = lacks_version (codes "python_version") box
     || (lacks_version (codes "python_full_version") box || lacks_version (codes "implementation_version") box)
+
+-- no string, or no version, meets what the conditions ask of a variable
+abbrev pub is_contradiction : Box → Bool
+is_contradiction box = lacks_any_text box || lacks_any_version box
 
 -- the marker of these steps is contradictory: all boxes in which it holds are contradictions
 abbrev pub is_contradictory : List Step → Bool

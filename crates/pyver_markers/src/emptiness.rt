@@ -2,39 +2,51 @@
 ghost use Rattle.std.specs.Prelude.{◌≡◌, IfOk, false, map, true};
 ghost use Rattle.std.specs.List.{list_all};
 ghost use Rattle.pyver_markers.specs.EnvironmentViews.{condition_of};
-ghost use Rattle.pyver_markers.specs.Boxes.{in_box, in_boxes};
-ghost use Rattle.pyver_markers.specs.Conditions.{HasNoEnvironment, IsEnvironment, is_contradiction};
+ghost use Rattle.pyver_markers.specs.Boxes.{in_boxes};
+ghost use Rattle.pyver_markers.specs.Conditions.{HasNoEnvironment, IsEnvironment, is_contradiction, lacks_any_text, lacks_any_version, lacks_platform_text};
 ghost use Rattle.pyver_markers.specs.Environments.{Environment};
 
 use crate::environment_box::{Condition, EnvironmentBox};
-use crate::marker_comparison::is_version_variable;
 use crate::release_condition::excludes_releases;
-use crate::text_condition::excludes_texts;
+use crate::text_condition::lacks_text;
 use crate::version_condition::{excludes_versions, lacks_version};
 use std::alloc::{AllocError, Global};
 
-// Variables that are strings.
-const TEXTS: [&str; 8] = [
-    "os_name",
-    "sys_platform",
-    "platform_system",
-    "platform_version",
-    "platform_machine",
-    "platform_python_implementation",
-    "implementation_name",
-    "extra",
-];
-
-fn excludes_any_text(alloc: Global, conditions: &[Condition<'_>]) -> Result<bool, AllocError>
-    ensures { IfOk result (λ b. b ≡ true → (e : Environment) → in_box e (map condition_of conditions.now) ≡ false) }
+// Whether a variable of the platform is to be equal to a string that does not meet all conditions.
+fn lacks_platform_text(alloc: Global, conditions: &[Condition<'_>]) -> Result<bool, AllocError>
+    ensures { IfOk result (λ b. b ≡ lacks_platform_text (map condition_of conditions.now)) }
 {
-    for name in TEXTS {
-        let name = name.as_bytes();
-        if !is_version_variable(name) && excludes_texts(alloc, name, conditions)? {
-            return Ok(true);
-        }
+    if lacks_text(alloc, "os_name", conditions)? {
+        return Ok(true);
     }
-    Ok(false)
+    if lacks_text(alloc, "sys_platform", conditions)? {
+        return Ok(true);
+    }
+    if lacks_text(alloc, "platform_system", conditions)? {
+        return Ok(true);
+    }
+    if lacks_text(alloc, "platform_version", conditions)? {
+        return Ok(true);
+    }
+    let last = lacks_text(alloc, "platform_machine", conditions)?;
+    Ok(last)
+}
+
+// Whether a variable that is a string is to be equal to one that does not meet all conditions.
+fn lacks_any_text(alloc: Global, conditions: &[Condition<'_>]) -> Result<bool, AllocError>
+    ensures { IfOk result (λ b. b ≡ lacks_any_text (map condition_of conditions.now)) }
+{
+    if lacks_platform_text(alloc, conditions)? {
+        return Ok(true);
+    }
+    if lacks_text(alloc, "platform_python_implementation", conditions)? {
+        return Ok(true);
+    }
+    if lacks_text(alloc, "implementation_name", conditions)? {
+        return Ok(true);
+    }
+    let last = lacks_text(alloc, "extra", conditions)?;
+    Ok(last)
 }
 
 fn excludes_any_version(alloc: Global, conditions: &[Condition<'_>]) -> Result<bool, AllocError>
@@ -50,11 +62,12 @@ fn excludes_any_version(alloc: Global, conditions: &[Condition<'_>]) -> Result<b
     Ok(last)
 }
 
+#[tactic(auto, using(crate::proofs::Texts::without_text))]
 // Whether it is known that no environment is in the box.
 pub(crate) fn excludes_all(alloc: Global, conditions: &[Condition<'_>]) -> Result<bool, AllocError>
     ensures { IfOk result (λ b. b ≡ true → HasNoEnvironment (map condition_of conditions.now)) }
 {
-    if excludes_any_text(alloc, conditions)? {
+    if lacks_any_text(alloc, conditions)? {
         return Ok(true);
     }
     excludes_any_version(alloc, conditions)
@@ -74,9 +87,9 @@ pub(crate) fn are_empty(alloc: Global, boxes: &[EnvironmentBox<'_>]) -> Result<b
     Ok(true)
 }
 
-// Whether the conditions ask of a version of Python, or of its implementation, what none matches.
-fn is_contradiction(alloc: Global, conditions: &[Condition<'_>]) -> Result<bool, AllocError>
-    ensures { IfOk result (λ b. b ≡ is_contradiction (map condition_of conditions.now)) }
+// Whether the conditions ask of a version of Python, or of that of its implementation, what none matches.
+fn lacks_any_version(alloc: Global, conditions: &[Condition<'_>]) -> Result<bool, AllocError>
+    ensures { IfOk result (λ b. b ≡ lacks_any_version (map condition_of conditions.now)) }
 {
     if lacks_version(alloc, "python_version", conditions)? {
         return Ok(true);
@@ -86,6 +99,16 @@ fn is_contradiction(alloc: Global, conditions: &[Condition<'_>]) -> Result<bool,
     }
     let last = lacks_version(alloc, "implementation_version", conditions)?;
     Ok(last)
+}
+
+// Whether the conditions ask of a variable what no string, or no version, meets.
+fn is_contradiction(alloc: Global, conditions: &[Condition<'_>]) -> Result<bool, AllocError>
+    ensures { IfOk result (λ b. b ≡ is_contradiction (map condition_of conditions.now)) }
+{
+    if lacks_any_text(alloc, conditions)? {
+        return Ok(true);
+    }
+    lacks_any_version(alloc, conditions)
 }
 
 pub(crate) fn are_contradictions(

@@ -186,7 +186,8 @@ impl<'a> EnvironmentMarker<'a> {
     }
 
     /// Whether the marker is contradictory: the comparisons that have to be true together ask of `python_version`, `python_full_version` or
-    /// `implementation_version`, on their left, what no version matches. Then it holds in no environment; `is_never` finds more such markers.
+    /// `implementation_version`, on their left, what no version matches, or of a variable that is a string to be equal to one that does not meet
+    /// all of them. Then it holds in no environment; `is_never` finds more such markers.
     ///
     /// Allocates.
     pub fn is_contradictory(&self, alloc: Global) -> Result<bool, AllocError>

@@ -1,10 +1,10 @@
 //! What conditions compare a variable with, and what they ask of a string.
-ghost use Rattle.std.specs.Prelude.{◌≡◌, IfOk, IfSome, false, map, true};
+ghost use Rattle.std.specs.Prelude.{◌≡◌, IfOk, IfSome, map, option_map};
+ghost use Rattle.std.specs.List.{list_all};
 ghost use Rattle.pyver_markers.specs.EnvironmentViews.{condition_of};
-ghost use Rattle.pyver_markers.specs.Boxes.{in_box, is_met};
-ghost use Rattle.pyver_markers.specs.Conditions.{AnyFailsAt, compare_operand, FailsAt, FixesText, IsOperand, wants_equal};
-ghost use Rattle.pyver_markers.specs.Environments.{Environment};
-ghost use Rattle.pyver_markers.specs.MarkerComparisons.{is_version_variable};
+ghost use Rattle.pyver_markers.specs.Boxes.{is_met};
+ghost use Rattle.pyver_markers.specs.Conditions.{IsOperand, asked_text, beside_variable, compare_operand, first_asked, is_met_at, lacks_text, operand_text, wants_equal};
+ghost use Rattle.pyver_requirements.specs.MarkerViews.{side_of};
 
 use crate::environment_box::Condition;
 use crate::marker_comparison::compare_texts;
@@ -20,7 +20,8 @@ pub(crate) enum Operand<'a> {
 
 // What the condition compares the variable of this name with.
 pub(crate) fn find_operand<'a>(name: &[u8], condition: &Condition<'a>) -> Option<Operand<'a>>
-    ensures { IfSome result (IsOperand name.now (condition_of condition.now)) }
+    ensures found { IfSome result (IsOperand name.now (condition_of condition.now)) }
+    ensures value { option_map operand_text result ≡ beside_variable name.now (side_of condition.now.left) (side_of condition.now.right) }
 {
     match (condition.left, condition.right) {
         (Side::Variable(left), Side::Constant(text) | Side::Variable(text)) => {
@@ -54,10 +55,9 @@ fn wants_equal(operator: MarkerOperator, wanted: bool) -> bool
     }
 }
 
-// The only string that the variable can be where the condition is met.
-fn find_only_text<'a>(name: &[u8], condition: &Condition<'a>) -> Option<&'a [u8]>
-    requires { is_version_variable name.now ≡ false }
-    ensures { IfSome result (λ text. FixesText name.now (condition_of condition.now) text.now) }
+// The string that the variable is to be equal to.
+fn find_asked_text<'a>(name: &[u8], condition: &Condition<'a>) -> Option<&'a [u8]>
+    ensures { option_map (λ text. text.now) result ≡ asked_text name.now (condition_of condition.now) }
 {
     if !wants_equal(condition.operator, condition.wanted) {
         return None;
@@ -66,6 +66,18 @@ fn find_only_text<'a>(name: &[u8], condition: &Condition<'a>) -> Option<&'a [u8]
         Operand::Right(text) => Some(text),
         Operand::Left(text) => Some(text),
     }
+}
+
+// The first such string.
+fn find_first_asked<'a>(name: &[u8], conditions: &[Condition<'a>]) -> Option<&'a [u8]>
+    ensures { option_map (λ text. text.now) result ≡ first_asked name.now (map condition_of conditions.now) }
+{
+    for condition in conditions {
+        if let Some(text) = find_asked_text(name, condition) {
+            return Some(text);
+        }
+    }
+    None
 }
 
 // An undefined value is not wanted.
@@ -94,14 +106,14 @@ fn compare_operand(
     }
 }
 
-// Whether the condition is met where the variable is this string, or asks of another variable.
+// Whether the condition is one of another variable, or is met where the variable is this string.
 pub(crate) fn is_met_at(
     alloc: Global,
     name: &[u8],
     text: &[u8],
     condition: &Condition<'_>,
 ) -> Result<bool, AllocError>
-    ensures { IfOk result (λ b. is_version_variable name.now ≡ false → b ≡ false → FailsAt name.now text.now (condition_of condition.now)) }
+    ensures { IfOk result (λ b. b ≡ is_met_at name.now text.now (condition_of condition.now)) }
 {
     let Some(operand) = find_operand(name, condition) else {
         return Ok(true);
@@ -110,41 +122,33 @@ pub(crate) fn is_met_at(
     Ok(is_met(condition.wanted, value))
 }
 
-// Whether some condition is not met where the variable is this string.
-fn any_fails_at(
+fn are_met_at(
     alloc: Global,
     name: &[u8],
     text: &[u8],
     conditions: &[Condition<'_>],
 ) -> Result<bool, AllocError>
-    requires { is_version_variable name.now ≡ false }
-    ensures { IfOk result (λ b. b ≡ true → AnyFailsAt name.now text.now (map condition_of conditions.now)) }
+    ensures { IfOk result (λ b. b ≡ list_all (is_met_at name.now text.now) (map condition_of conditions.now)) }
 {
-    let mut rest = conditions;
-    while let [condition, later @ ..] = rest {
+    for condition in conditions {
         if !is_met_at(alloc, name, text, condition)? {
-            return Ok(true);
+            return Ok(false);
         }
-        rest = later;
     }
-    Ok(false)
+    Ok(true)
 }
 
-// Whether the conditions ask that the variable be a string, and some is not met where it is.
-pub(crate) fn excludes_texts(
+// Whether the variable is to be equal to a string that does not meet all conditions.
+pub(crate) fn lacks_text(
     alloc: Global,
-    name: &[u8],
+    name: &str,
     conditions: &[Condition<'_>],
 ) -> Result<bool, AllocError>
-    requires { is_version_variable name.now ≡ false }
-    ensures { IfOk result (λ b. b ≡ true → (e : Environment) → in_box e (map condition_of conditions.now) ≡ false) }
+    ensures { IfOk result (λ b. b ≡ lacks_text name.now (map condition_of conditions.now)) }
 {
-    let mut rest = conditions;
-    while let [condition, later @ ..] = rest {
-        if let Some(text) = find_only_text(name, condition) {
-            return any_fails_at(alloc, name, text, conditions);
-        }
-        rest = later;
+    let name = name.as_bytes();
+    match find_first_asked(name, conditions) {
+        Some(text) => Ok(!are_met_at(alloc, name, text, conditions)?),
+        None => Ok(false),
     }
-    Ok(false)
 }

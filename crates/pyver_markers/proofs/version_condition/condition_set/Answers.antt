@@ -8,7 +8,7 @@ use Rattle.pyver_markers.proofs.version_condition.condition_set.Goals as goal
 pub returns-then-condition : goal.returns-then-condition
 returns-then-condition c =
     holds_met c.args.name.now c.in-Some-Right.right.now (condition_of c.args.condition.now) c.in-Some.specifier c.in-Some-2.set c.requires
-    (subst (IsOperand c.args.name.now (condition_of c.args.condition.now)) c.in-Some-Right.field-0-is c.in-Some-Right.ensures)
+    (subst (IsOperand c.args.name.now (condition_of c.args.condition.now)) c.in-Some-Right.field-0-is c.in-Some-Right.ensures.found)
     (subst (λ o. IfSome o (ComparesAs c.args.condition.now.operator c.in-Some-Right.right.now)) c.in-Some.is c.in_ok-specifier.ensures.compares)
     (subst (λ o. IfSome o (HoldsMatchesOf c.in-Some.specifier)) c.in-Some-2.is c.in_ok-set.ensures)
     c.if-condition.true
@@ -16,7 +16,7 @@ returns-then-condition c =
 pub returns : goal.returns
 returns c =
     holds_unmet c.args.name.now c.in-Some-Right.right.now (condition_of c.args.condition.now) c.in-Some.specifier c.in-Some-2.set c.in_ok-complement.field-0 c.requires
-    (subst (IsOperand c.args.name.now (condition_of c.args.condition.now)) c.in-Some-Right.field-0-is c.in-Some-Right.ensures)
+    (subst (IsOperand c.args.name.now (condition_of c.args.condition.now)) c.in-Some-Right.field-0-is c.in-Some-Right.ensures.found)
     (subst (λ o. IfSome o (ComparesAs c.args.condition.now.operator c.in-Some-Right.right.now)) c.in-Some.is c.in_ok-specifier.ensures.compares)
     (subst (λ o. IfSome o (HoldsMatchesOf c.in-Some.specifier)) c.in-Some-2.is c.in_ok-set.ensures)
     c.if-condition.false c.in_ok-complement.ensures
