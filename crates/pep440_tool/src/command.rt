@@ -29,7 +29,7 @@ pub enum Command<'a> {
 }
 
 // The command with this name, and the words after it.
-fn parse_named<'a>(command: &str, words: &'a [String]) -> Command<'a>
+fn parse_by_name<'a>(command: &str, words: &'a [String]) -> Command<'a>
     ensures { request result ≡ request_by_name command.now (map string_bytes words.now) }
 {
     match command {
@@ -73,7 +73,7 @@ impl<'a> Command<'a> {
         ensures { request result ≡ request_of_words (map string_bytes words.now) }
     {
         match words {
-            [name, rest @ ..] => parse_named(name.as_str(), rest),
+            [name, rest @ ..] => parse_by_name(name.as_str(), rest),
             [] => Command::Usage,
         }
     }

@@ -78,7 +78,7 @@ fn has_double_quote(text: &[u8]) -> bool
     text.iter().any(|byte| *byte == b'"')
 }
 
-fn push_quoted(output: &mut Vec<u8>, text: &[u8]) -> Result<(), AllocError>
+fn push_quoted_text(output: &mut Vec<u8>, text: &[u8]) -> Result<(), AllocError>
     ensures { IfOk result (λ _. output.new.items ≡ output.old.items ++ quoted_text text.now) }
 {
     let quote = if has_double_quote(text) { b'\'' } else { b'"' };
@@ -93,7 +93,7 @@ fn push_assignment(output: &mut Vec<u8>, variable: &FoundVariable<'_>) -> Result
 {
     output.extend_from_slice(variable.name)?;
     output.extend_from_slice(b" == ")?;
-    push_quoted(output, variable.text.as_slice())
+    push_quoted_text(output, variable.text.as_slice())
 }
 
 // The variables behind the first one.
@@ -138,7 +138,7 @@ fn print_environment(alloc: Global, variables: &[FoundVariable<'_>]) -> Result<A
     Ok(answer)
 }
 
-fn report_undecided(alloc: Global) -> Result<Answer, AllocError>
+fn report_no_decision(alloc: Global) -> Result<Answer, AllocError>
     ensures { IfOk result (λ a. outcome_of a ≡ extent_outcome Undecided) }
 {
     let mut answer = Answer::silent(alloc, 2);
@@ -156,7 +156,7 @@ fn print_extent(alloc: Global, extent: &MarkerExtent<'_>) -> Result<Answer, Allo
         MarkerExtent::Nowhere => print_word(alloc, "nowhere\n", 1),
         MarkerExtent::Always => print_word(alloc, "always\n", 0),
         MarkerExtent::Somewhere(variables) => print_environment(alloc, variables.as_slice()),
-        MarkerExtent::Undecided => report_undecided(alloc),
+        MarkerExtent::Undecided => report_no_decision(alloc),
     }
 }
 

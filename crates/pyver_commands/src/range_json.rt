@@ -3,7 +3,7 @@ ghost use Rattle.std.specs.Prelude.{◌≡◌, ◌++◌, IfOk};
 ghost use Rattle.std.specs.List.{flat_map};
 ghost use Rattle.pyver_commands.specs.CommonRanges.{json_bound, json_high, json_low, json_segment, json_segments, json_truth, next_segment};
 
-use crate::version_json::{push_quoted, push_text};
+use crate::version_json::{push_in_quotes, push_text};
 use pep440_rs::{Ranges, Segments, Version};
 use pep440_sets::{BoundaryText, is_closed_end, is_closed_start};
 use std::alloc::{AllocError, Global};
@@ -14,7 +14,7 @@ fn push_bound(alloc: Global, bytes: &mut Vec<u8>, bound: &Bound<Version>) -> Res
 {
     match bound {
         Bound::Included(_) | Bound::Excluded(_) => {
-            push_quoted(bytes, BoundaryText(bound).to_string(alloc)?.as_str())
+            push_in_quotes(bytes, BoundaryText(bound).to_string(alloc)?.as_str())
         }
         Bound::Unbounded => push_text(bytes, "null"),
     }

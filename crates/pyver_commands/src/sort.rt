@@ -61,7 +61,7 @@ fn is_repeat(before: Option<&Version>, version: &Version) -> bool
 }
 
 // The lines as they were written, one of equal ones where that is asked for.
-fn kept_texts<'a>(
+fn collect_texts<'a>(
     alloc: Global,
     unique: bool,
     lines: &[VersionLine<'a>],
@@ -80,7 +80,7 @@ fn kept_texts<'a>(
     Ok(texts)
 }
 
-fn last_texts<'t, 'a>(last: Option<u64>, texts: &'t [&'a [u8]]) -> &'t [&'a [u8]]
+fn take_last_texts<'t, 'a>(last: Option<u64>, texts: &'t [&'a [u8]]) -> &'t [&'a [u8]]
     ensures { result.now ≡ option_map_or (λ count. drop (length texts.now - count) texts.now) last texts.now }
 {
     match last {
@@ -109,10 +109,10 @@ pub(crate) fn sort_versions(
     ensures { IfOk result (λ a. SortsParts options (input_parts_of lines.entry) (outcome_of a)) }
 {
     let sorted = sort_lines(options.reversed, lines.versions)?;
-    let mut texts = kept_texts(alloc, options.unique, sorted.as_slice())?;
+    let mut texts = collect_texts(alloc, options.unique, sorted.as_slice())?;
     texts.extend_from_slice(lines.invalid.as_slice())?;
     let mut output = lines.header;
-    push_lines(&mut output, last_texts(options.last, texts.as_slice()))?;
+    push_lines(&mut output, take_last_texts(options.last, texts.as_slice()))?;
     Ok(Answer {
         output,
         errors: lines.errors,

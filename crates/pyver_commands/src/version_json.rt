@@ -18,7 +18,7 @@ pub(crate) fn push_text(bytes: &mut Vec<u8>, text: &str) -> Result<(), AllocErro
     bytes.extend_from_slice(text.as_bytes())
 }
 
-pub(crate) fn push_quoted(bytes: &mut Vec<u8>, text: &str) -> Result<(), AllocError>
+pub(crate) fn push_in_quotes(bytes: &mut Vec<u8>, text: &str) -> Result<(), AllocError>
     ensures { IfOk result (λ _. bytes.new.items ≡ bytes.old.items ++ in_quotes text.now) }
 {
     bytes.push(b'"')?;
@@ -34,7 +34,7 @@ fn push_number(alloc: Global, bytes: &mut Vec<u8>, number: u64) -> Result<(), Al
     if number <= GREATEST {
         push_text(bytes, text.as_str())
     } else {
-        push_quoted(bytes, text.as_str())
+        push_in_quotes(bytes, text.as_str())
     }
 }
 
@@ -91,7 +91,7 @@ fn push_prerelease(alloc: Global, bytes: &mut Vec<u8>, pre: Prerelease) -> Resul
     ensures { IfOk result (λ _. bytes.new.items ≡ bytes.old.items ++ json_prerelease pre) }
 {
     push_text(bytes, "[")?;
-    push_quoted(bytes, kind_text(pre.kind))?;
+    push_in_quotes(bytes, kind_text(pre.kind))?;
     push_next_number(alloc, bytes, pre.number)?;
     push_text(bytes, "]")
 }
@@ -109,7 +109,7 @@ fn push_local(alloc: Global, bytes: &mut Vec<u8>, version: &Version) -> Result<(
     ensures { IfOk result (λ _. bytes.new.items ≡ bytes.old.items ++ json_local version.now.local) }
 {
     if version.is_local() {
-        push_quoted(bytes, local_text(alloc, version)?.as_str())
+        push_in_quotes(bytes, local_text(alloc, version)?.as_str())
     } else {
         push_text(bytes, "null")
     }
@@ -152,7 +152,7 @@ fn push_text_member(bytes: &mut Vec<u8>, name: &str, text: &str) -> Result<(), A
     ensures { IfOk result (λ _. bytes.new.items ≡ bytes.old.items ++ (next_name name.now ++ in_quotes text.now)) }
 {
     push_name(bytes, name)?;
-    push_quoted(bytes, text)
+    push_in_quotes(bytes, text)
 }
 
 fn push_first_numbers(
@@ -212,7 +212,7 @@ pub(crate) fn push_object(
     ensures { IfOk result (λ _. bytes.new.items ≡ bytes.old.items ++ json_object version.now) }
 {
     push_text(bytes, "{\"version\":")?;
-    push_quoted(bytes, version.to_string(alloc)?.as_str())?;
+    push_in_quotes(bytes, version.to_string(alloc)?.as_str())?;
     push_members(alloc, bytes, version)?;
     push_text(bytes, "}")?;
     Ok(())

@@ -1,5 +1,5 @@
 -- What is found of lines of one name under two markers.
-use Rattle.std.proofs.Common.{arith, ◌≡◌, ◌⊎◌, ◌+◌, ◌-◌, ◌<◌, ◌≤◌, ◌∙◌, ℕ, List, [], ◌∷◌, ◌++◌, ◌||◌, Bool, true, false, Option, Some, None, Ok, Err, Result, ap, append_assoc, drop, get_or, inl, inr, is_none, length, map, nat_lt, refl, subst, suc, sym, take, if◌then◌else◌}
+use Rattle.std.proofs.Common.{arith, ◌≡◌, ◌⊎◌, ◌+◌, ◌-◌, ◌<◌, ◌≤◌, ◌∙◌, ℕ, List, [], ◌∷◌, ◌++◌, ◌||◌, Bool, true, false, Option, Some, None, Err, Result, ap, append_assoc, drop, get_or, inl, inr, is_none, length, map, nat_lt, refl, subst, suc, sym, take, if◌then◌else◌}
 use Rattle.std.proofs.lemmas.Bool.{false_from_ne_true, ltb-false, ltb-true, true≢false}
 use Rattle.std.proofs.lemmas.List.Elements.{All-filter}
 use Rattle.std.proofs.lemmas.List.{append-nil, drop_all, length-append, length-map, map-append, take_all, take_more}

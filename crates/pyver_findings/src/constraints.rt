@@ -100,7 +100,7 @@ fn is_one_of(names: &[Vec<u8>], name: &[u8]) -> bool
 }
 
 // The lines of the files with one of these names.
-fn lines_of_named(
+fn lines_of_named_files(
     alloc: Global,
     files: &[SourceFile],
     names: &[Vec<u8>],
@@ -265,6 +265,6 @@ pub(crate) fn push_constraint_findings(
         (constraint_findings (constraints_files (map file_of files.now)))) }
 {
     let names = constraints_names(alloc, lines)?;
-    let lines = lines_of_named(alloc, files, names.as_slice())?;
+    let lines = lines_of_named_files(alloc, files, names.as_slice())?;
     push_faults_of_lines(alloc, findings, lines.as_slice())
 }

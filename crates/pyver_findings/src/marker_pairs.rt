@@ -373,7 +373,7 @@ fn few_first_lines<'a>(
 }
 
 // Those whose lines have a version in common with the lines without a marker.
-fn open_lines<'a>(
+fn find_open_lines<'a>(
     alloc: Global,
     lines: &[&Demand],
     firsts: &[&'a Demand],
@@ -405,7 +405,7 @@ fn lines_to_pair<'a>(
     if have_none(alloc, always.as_slice(), &[])? {
         return Ok(Vec::new(alloc));
     }
-    open_lines(alloc, lines, firsts)
+    find_open_lines(alloc, lines, firsts)
 }
 
 // What is wrong with lines of one name under two markers.

@@ -143,7 +143,7 @@ fn push_path(
     Ok(())
 }
 
-fn push_named(
+fn push_named_file(
     alloc: Global,
     names: &mut Vec<NamedFile>,
     file: &[u8],
@@ -171,7 +171,7 @@ fn push_of_lines(
         ++ flat_map (named_in file.now) (map logical_line_of lines.now)) }
 {
     for line in lines {
-        push_named(alloc, names, file, line)?;
+        push_named_file(alloc, names, file, line)?;
     }
     Ok(())
 }

@@ -136,7 +136,7 @@ fn push_quoted_lines(
     Ok(())
 }
 
-fn first_lines(lines: &[FileLine]) -> &[FileLine]
+fn take_first_lines(lines: &[FileLine]) -> &[FileLine]
     ensures { result.now ≡ take 20 lines.now }
 {
     if lines.len() > 20 {
@@ -166,7 +166,7 @@ fn push_first_lines(
 ) -> Result<(), AllocError>
     ensures { IfOk result (λ _. bytes.new.items ≡ bytes.old.items ++ quoted_lines (map file_line_of lines.now)) }
 {
-    push_quoted_lines(alloc, bytes, first_lines(lines))?;
+    push_quoted_lines(alloc, bytes, take_first_lines(lines))?;
     push_more(alloc, bytes, lines.len().saturating_sub(20))
 }
 
@@ -345,7 +345,7 @@ fn push_ignore_count(alloc: Global, bytes: &mut Vec<u8>, count: usize) -> Result
     push_count(alloc, bytes, "pyver: findings ignored: ", count)
 }
 
-fn push_counted(
+fn push_number_of(
     alloc: Global,
     bytes: &mut Vec<u8>,
     count: usize,
@@ -368,9 +368,9 @@ fn push_problems(
     ensures { IfOk result (λ _. bytes.new.items ≡ bytes.old.items ++ problems_text found files) }
 {
     push_text(bytes, "pyver: ")?;
-    push_counted(alloc, bytes, found, "problem")?;
+    push_number_of(alloc, bytes, found, "problem")?;
     push_text(bytes, " in ")?;
-    push_counted(alloc, bytes, files, "file")?;
+    push_number_of(alloc, bytes, files, "file")?;
     push_text(bytes, "\n")
 }
 

@@ -70,7 +70,11 @@ fn push_position(
     push_text(bytes, ": ")
 }
 
-fn push_unopened(alloc: Global, bytes: &mut Vec<u8>, file: &UnopenedFile) -> Result<(), AllocError>
+fn push_unopened_message(
+    alloc: Global,
+    bytes: &mut Vec<u8>,
+    file: &UnopenedFile,
+) -> Result<(), AllocError>
     ensures { IfOk result (λ _. bytes.new.items ≡ bytes.old.items ++ unopened_text (unopened_file_of file.now)) }
 {
     push_text(bytes, "pyver: ")?;
@@ -81,7 +85,7 @@ fn push_unopened(alloc: Global, bytes: &mut Vec<u8>, file: &UnopenedFile) -> Res
     push_text(bytes, "\n")
 }
 
-fn push_all_unopened(
+fn push_unopened_messages(
     alloc: Global,
     bytes: &mut Vec<u8>,
     unopened: &[UnopenedFile],
@@ -89,7 +93,7 @@ fn push_all_unopened(
     ensures { IfOk result (λ _. bytes.new.items ≡ bytes.old.items ++ flat_map unopened_text (map unopened_file_of unopened.now)) }
 {
     for file in unopened {
-        push_unopened(alloc, bytes, file)?;
+        push_unopened_message(alloc, bytes, file)?;
     }
     Ok(())
 }
@@ -272,7 +276,7 @@ impl CheckResult {
         ensures { IfOk result (λ errors. errors.items ≡ flat_map unopened_text (check_result_of self.now).unopened ++ summary options (map string_bytes words.now) (check_result_of self.now).report) }
     {
         let mut errors = Vec::new(alloc);
-        push_all_unopened(alloc, &mut errors, self.unopened.as_slice())?;
+        push_unopened_messages(alloc, &mut errors, self.unopened.as_slice())?;
         push_summary(alloc, &mut errors, options, words, &self.report)?;
         Ok(errors)
     }

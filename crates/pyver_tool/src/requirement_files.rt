@@ -187,7 +187,11 @@ impl RequirementFiles {
     }
 
     // One more that was not opened.
-    fn push_unopened(&mut self, named: NamedFile, failure: OpenFailure) -> Result<(), AllocError>
+    fn push_unopened_file(
+        &mut self,
+        named: NamedFile,
+        failure: OpenFailure,
+    ) -> Result<(), AllocError>
         ensures { IfOk result (λ _. GainsUnopened self.old self.new (named_file_of named) failure) }
     {
         self.unopened.push(UnopenedFile { named, failure })?;
@@ -211,7 +215,7 @@ impl RequirementFiles {
     {
         match self.read_next(alloc, kind, named.name.as_slice(), files, input)? {
             None => Ok(()),
-            Some(failure) => Ok(self.push_unopened(named, failure)?),
+            Some(failure) => Ok(self.push_unopened_file(named, failure)?),
         }
     }
 
@@ -262,7 +266,7 @@ impl RequirementFiles {
             Some(failure) => {
                 let name = Vec::from_slice(alloc, name)?;
                 let position = None;
-                self.push_unopened(NamedFile { name, position }, failure)?;
+                self.push_unopened_file(NamedFile { name, position }, failure)?;
                 Ok(true)
             }
         }

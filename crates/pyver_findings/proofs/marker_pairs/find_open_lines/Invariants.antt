@@ -1,7 +1,7 @@
 use Rattle.std.proofs.Common.{◌≡◌, ◌++◌, drop, map}
 use Rattle.pyver_findings.specs.MarkerPairs.{open_lines}
 use Rattle.pyver_findings.specs.Views.{demand_of}
-use Rattle.pyver_findings.proofs.marker_pairs.open_lines.Given as goal
+use Rattle.pyver_findings.proofs.marker_pairs.find_open_lines.Given as goal
 
 abbrev pub invariant-loop-first : goal.invariant-loop-first
 invariant-loop-first l =
