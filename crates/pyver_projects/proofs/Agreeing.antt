@@ -1,6 +1,7 @@
--- Where nothing is found, each requirement contains a locked version of its name.
-use Rattle.std.proofs.Common.{◌≡◌, ◌∙◌, ℕ, List, [], ◌++◌, Bool, true, false, Some, None, refl, sym, ap, subst, inl, inr, if◌then◌else◌}
-use Rattle.std.specs.List.{AllZip, flat_map, zip}
+-- Where nothing is found, each requirement contains a locked version of its name, and requirements that hold together have a version in common: all of
+-- them, and so those of each part; and what is found under two markers.
+use Rattle.std.proofs.Common.{◌≡◌, ◌∙◌, ℕ, List, [], ◌++◌, Bool, true, false, Some, None, refl, sym, ap, subst, inl, inr, if◌then◌else◌, bytes_eq, map, not, ◌∷◌, ◌||◌, Option, arith, cond, get_or, is_none, is_some, length, nat_lt, suc, zero, ◌<◌}
+use Rattle.std.specs.List.{All, AllZip, Contains, flat_map, list_any, zip, filter}
 use Rattle.pep440_pick.specs.RequirementGrammar.{Needed}
 use Rattle.pep440_rs.proofs.Reading.OneMeaning.{not_both_list, one_list}
 use Rattle.pep440_rs.specs.Lists.ListGrammar.{DerivesList}
@@ -9,30 +10,49 @@ use Rattle.pep440_version.proofs.Reading.Agreement.{one_record}
 use Rattle.pep440_version.proofs.Rejections.ExactlyOne.{not_both}
 use Rattle.pep440_version.specs.Grammar.{Derives}
 use Rattle.pep440_version.specs.Record.{Record}
-use Rattle.pyver_findings.specs.Demands.{Demand, line_demand}
-use Rattle.pyver_findings.specs.FileLines.{File, Finding}
+use Rattle.pyver_findings.specs.Demands.{Demand, line_demand, IsSound}
+use Rattle.pyver_findings.specs.FileLines.{File, Finding, Conflicting}
 use Rattle.pyver_findings.specs.LineMeanings.{Asks, LineMeaning}
 use Rattle.pyver_findings.specs.Reports.{Report, demands_in, empty_report, invalid_in}
 use Rattle.toml.specs.Data.{Members}
-use Rattle.pyver_projects.proofs.Holding.{asks_always, findings_of, not_excluded, some_named}
-use Rattle.pyver_projects.proofs.Walks.{beside_it, beside_pair, left_nil, nil_at, right_nil}
-use Rattle.pyver_projects.specs.Comparing.{absent, is_installer, lacking, found_beside, found_in_pair, beside_all, is_beside, compared, compared_demand, excluded, invalid_package, is_locked, missing, own_report, unmet, with_own_reports}
-use Rattle.pyver_projects.specs.Documents.{has_group_tool, sources}
-use Rattle.pyver_projects.specs.Groups.{groups}
-use Rattle.pyver_projects.specs.Meanings.{Document, DocumentReading, IsDocumentReading, IsFileReading, IsLockReading, IsProject, IsRequirementReading, IsStringReading, LockedReading, StringReading, file_meaning, is_of_version, requirement_line, string_line}
-use Rattle.pyver_projects.specs.ProjectLaws.{AllContained, AllMet, AllOfVersion, AllPresent, HasContents, HasTable, NoFindingImpliesContained}
-use Rattle.pyver_projects.specs.ProjectStrings.{LockContents, LockedFile, LockedRequirement, Section}
+use Rattle.pyver_projects.proofs.Holding.{asks_always, findings_of, not_excluded, some_named, each_flat, sections_same, sound_part, sound_string}
+use Rattle.pyver_projects.proofs.Walks.{beside_it, beside_pair, left_nil, nil_at, right_nil, zip_each, all_flat, zip_once}
+use Rattle.std.proofs.lemmas.Bool.{true≢false}
+use Rattle.std.proofs.lemmas.Grind.{flat_map-append}
+use Rattle.std.proofs.lemmas.List.Folds.{list_any-append, list_any_at}
+use Rattle.std.proofs.lemmas.List.Elements.{All-contains_itself, All-head, All-tail, All-cons, All-contains, All-filter, All-nil, All-weaker}
+use Rattle.pep440_pick.specs.Names.{normal}
+use Rattle.pyver_projects.specs.Comparing.{absent, is_excused, is_installer, is_project_reading, lacking, names_read, found_beside, found_in_pair, beside_all, is_beside, compared, compared_demand, excluded, invalid_package, is_locked, missing, own_report, unmet, with_own_reports, invalid_string}
+use Rattle.pyver_projects.specs.Documents.{has_group_tool, project_names, sources}
+use Rattle.pyver_projects.specs.Groups.{groups, Inclusion, inclusions}
+use Rattle.pyver_projects.specs.Meanings.{Document, DocumentReading, IsDocumentReading, IsFileReading, IsLockReading, IsProject, IsRequirementReading, IsStringReading, LockedReading, StringReading, fault_meaning, file_meaning, is_of_version, requirement_line, string_line, IsSoundString}
+use Rattle.pyver_projects.specs.ProjectLaws.{AllAlone, AllContained, AllMet, AllOfVersion, AllPresent, HasContents, HasProject, HasTable, NoFindingImpliesContained, NoFindingImpliesSatisfiable}
+use Rattle.pyver_projects.specs.ProjectStrings.{LockContents, LockFault, LockedFile, LockedRequirement, Section, Build, Dependencies, Extra, Group}
+use Rattle.pyver_projects.specs.declared.document_kind.DocumentKind.{DocumentKind}
 use Rattle.pyver_projects.specs.declared.document_kind.DocumentKind.TheVariants.{Lock, Project}
 use Rattle.pyver_projects.specs.declared.document_kind.LockKind.{LockKind}
+use Rattle.std.proofs.lemmas.Slice.Eq.{bytes_eq-Decides}
+use Rattle.pyver_findings.proofs.Complete.{none_found}
+use Rattle.pyver_findings.proofs.Found.{Some_is, ones_of, some_found}
+use Rattle.pyver_findings.specs.FindingLaws.{IsAmong}
+use Rattle.pyver_findings.specs.Conflicts.{conflict_kind, conflicts, counts_under, first_mentions, has_same_marker, has_same_name, have_none, holds_nowhere, of_all, of_marker, of_name, smallest, under}
+use Rattle.pyver_projects.proofs.Once.{one_string}
+use Rattle.pyver_projects.specs.Together.{FindsOfPart, FindsOfParts, all_demands, demand_in_part, has_group, holds_in, is_marked, part_conflicts, part_demands, parts, project_conflicts, same_finding, same_part, section_part, sections, with_new}
+use Rattle.pyver_findings.proofs.SmallestLists.{Allows, more_none}
+use Rattle.pyver_findings.proofs.MarkerPairs.{of_name_of}
+use Rattle.pyver_findings.specs.MarkerPairs.{FindsOfEach, FindsOfFirsts, FindsOfName, FindsOfNames, few_first_lines, first_lines}
+use Rattle.pyver_findings.specs.Views.{AddsFound, finding_of}
+use Rattle.pyver_findings.specs.declared.cause.Cause.{Cause}
+use Rattle.pyver_findings.specs.declared.finding.Finding.{Finding as FindingValue}
 
 -- a project with this table was read
-pub project_read : (file : File) (t : Members) (x : DocumentReading) → HasTable file t → IsDocumentReading (record { kind = Project; file = file }) x → (xs : List StringReading) × AllZip (IsStringReading (groups t) file) (sources t) xs × (x ≡ IsProject (has_group_tool t) xs)
+pub project_read : (file : File) (t : Members) (x : DocumentReading) → HasTable file t → IsDocumentReading (record { kind = Project; file = file }) x → (xs : List StringReading) × AllZip (IsStringReading (groups t) file) (sources t) xs × (x ≡ IsProject (has_group_tool t) (project_names t) xs)
 project_read file t x (text, e) (inl (none, broken)) = absurd (none text)
 project_read file t x (text, e) (inr (again, inr (none, broken))) = let same : Some t ≡ None = sym e ∙ none in cc same
 project_read file t x (text, e) (inr (again, inl (u, f, (xs, h, is)))) =
     let same : Some u ≡ Some t = sym f ∙ e in
     let table : u ≡ t = cc same in
-    (xs, subst (λ (m : Members). AllZip (IsStringReading (groups m) file) (sources m) xs) table h, is ∙ ap (λ (m : Members). IsProject (has_group_tool m) xs) table)
+    (xs, subst (λ (m : Members). AllZip (IsStringReading (groups m) file) (sources m) xs) table h, is ∙ ap (λ (m : Members). IsProject (has_group_tool m) (project_names m) xs) table)
 
 -- a lock with this was read
 lock_read : (file : File) (kind : LockKind) (l : LockContents) (x : DocumentReading) → HasContents kind file l → IsDocumentReading (record { kind = Lock kind; file = file }) x → IsLockReading file.name l x
@@ -44,12 +64,12 @@ lock_read file kind l x (text, e) (inr (again, inl (m, f, is))) =
     subst (λ (c : LockContents). IsLockReading file.name c x) equal is
 
 -- nothing is found of a string, which always asks for this
-not_compared : (kind : LockKind) (ys : List LockedReading) (a : Demand) (section : Section) (x : StringReading) → x.section ≡ section → x.meaning ≡ Asks a → is_locked section ≡ true → compared kind ys x ≡ [] → compared_demand kind ys section a ≡ []
-not_compared kind ys a section x same is counts e =
-    let here : (if is_locked section then flat_map (compared_demand kind ys section) (demands_in (Asks a)) else []) ≡ [] =
-    (λ j. if is_locked (sym same j) then flat_map (compared_demand kind ys (sym same j)) (demands_in (sym is j)) else []) ∙ e in
-    let counted : flat_map (compared_demand kind ys section) (demands_in (Asks a)) ≡ [] = ap (λ (b : Bool). if b then flat_map (compared_demand kind ys section) (demands_in (Asks a)) else []) (sym counts) ∙ here in
-    left_nil (compared_demand kind ys section a) [] counted
+not_compared : (kind : LockKind) (parts : List (List ℕ)) (ys : List LockedReading) (a : Demand) (section : Section) (x : StringReading) → x.section ≡ section → x.meaning ≡ Asks a → is_locked section ≡ true → compared kind parts ys x ≡ [] → compared_demand kind parts ys section a ≡ []
+not_compared kind parts ys a section x same is counts e =
+    let here : (if is_locked section then flat_map (compared_demand kind parts ys section) (demands_in (Asks a)) else []) ≡ [] =
+    (λ j. if is_locked (sym same j) then flat_map (compared_demand kind parts ys (sym same j)) (demands_in (sym is j)) else []) ∙ e in
+    let counted : flat_map (compared_demand kind parts ys section) (demands_in (Asks a)) ≡ [] = ap (λ (b : Bool). if b then flat_map (compared_demand kind parts ys section) (demands_in (Asks a)) else []) (sym counts) ∙ here in
+    left_nil (compared_demand kind parts ys section a) [] counted
 
 counted : (b : Bool) (found : List Finding) → b ≡ true → (if b then found else []) ≡ [] → found ≡ []
 counted true found is none = none
@@ -67,12 +87,12 @@ all_contained documents zs h found file lock kind l s p n v (t, ((k, inside, at)
     let nothing : found_beside (Lock kind) x y ≡ [] =
     counted (is_beside documents project locked) (found_beside (Lock kind) x y) beside
     (nil_at (found_in_pair documents (project, x)) pairs (locked, y) b in_y is_y (nil_at (beside_all documents pairs) pairs (project, x) a in_x is_x found)) in
-    let compares : flat_map (compared kind ys) xs ≡ [] = (λ e. found_beside (Lock kind) (sym is_project e) (sym is_lock e)) ∙ nothing in
+    let compares : flat_map (compared kind l.parts ys) xs ≡ [] = (λ e. found_beside (Lock kind) (sym is_project e) (sym is_lock e)) ∙ nothing in
     let (z, (c, in_z, is_z), rz) = beside_it (IsStringReading (groups t) file) (sources t) xs s i within here g in
     let meaning = asks_always (string_line file s) n asks.0 asks.1 asks.2 asks.3 (groups t) s.text s.section z.meaning counts rz.1 in
     let asked = line_demand (string_line file s) None n in
-    let both : missing kind ys s.section asked ++ excluded asked ys ≡ [] = not_compared kind ys asked s.section z rz.0 meaning counts (nil_at (compared kind ys) xs z c in_z is_z compares) in
-    not_excluded lock.name l.packages (string_line file s) n ys q p j under this v locks (right_nil (missing kind ys s.section asked) (excluded asked ys) both)
+    let both : missing kind l.parts ys s.section asked ++ excluded asked ys ≡ [] = not_compared kind l.parts ys asked s.section z rz.0 meaning counts (nil_at (compared kind l.parts ys) xs z c in_z is_z compares) in
+    not_excluded lock.name l.packages (string_line file s) n ys q p j under this v locks (right_nil (missing kind l.parts ys s.section asked) (excluded asked ys) both)
 
 -- a requirement asks for its list
 asks_for : (file : List ℕ) (q : LockedRequirement) (list : List Spec) (m : LineMeaning) → DerivesList q.list list → IsRequirementReading file q m → m ≡ Asks (line_demand (requirement_line file q) None (record { name = q.name; extras = []; specifiers = list }))
@@ -80,33 +100,69 @@ asks_for file q list m d (inl (other, e, is)) =
     is ∙ ap (λ (l : List Spec). Asks (line_demand (requirement_line file q) None (record { name = q.name; extras = []; specifiers = l }))) (one_list q.list other list e d)
 asks_for file q list m d (inr (f, r, is)) = absurd (not_both_list q.list list f d r)
 
-all_met : (documents : List Document) (zs : List DocumentReading) → AllZip IsDocumentReading documents zs → flat_map (λ x. (own_report x).findings) zs ≡ [] → AllMet documents
+all_met : (documents : List Document) (zs : List DocumentReading) → AllZip IsDocumentReading documents zs → flat_map (λ x. (own_report (is_excused zs) x).findings) zs ≡ [] → AllMet documents
 all_met documents zs h own lock kind l q p list v ((m, below, there), other) (i, within, here) (j, under, this) d locks =
     let (y, (b, in_y, is_y), ry) = beside_it IsDocumentReading documents zs (record { kind = Lock kind; file = lock }) m below there h in
     let (ys, ms, fs, packages, requirements, files, is_lock) = lock_read lock kind l y other ry in
-    let nothing : flat_map invalid_package ys ++ (flat_map invalid_in fs ++ flat_map (unmet ys) ms) ≡ [] = ap (λ (e : DocumentReading). (own_report e).findings) (sym is_lock) ∙ nil_at (λ x. (own_report x).findings) zs y b in_y is_y own in
+    let faults = fs ++ map (fault_meaning lock.name) l.faults in
+    let nothing : flat_map invalid_package ys ++ (flat_map invalid_in faults ++ flat_map (unmet (is_excused zs) ys) ms) ≡ [] = ap (λ (e : DocumentReading). (own_report (is_excused zs) e).findings) (sym is_lock) ∙ nil_at (λ x. (own_report (is_excused zs) x).findings) zs y b in_y is_y own in
     let (z, (c, in_z, is_z), rz) = beside_it (IsRequirementReading lock.name) l.requirements ms q i within here requirements in
     let n : Needed = record { name = q.name; extras = []; specifiers = list } in
     let asked = line_demand (requirement_line lock.name q) None n in
-    let met : unmet ys (Asks asked) ≡ [] =
-    ap (unmet ys) (sym (asks_for lock.name q list z d rz)) ∙ nil_at (unmet ys) ms z c in_z is_z (right_nil (flat_map invalid_in fs) (flat_map (unmet ys) ms) (right_nil (flat_map invalid_package ys) (flat_map invalid_in fs ++ flat_map (unmet ys) ms) nothing)) in
-    not_excluded lock.name l.packages (requirement_line lock.name q) n ys packages p j under this v locks (right_nil (lacking ys asked) (excluded asked ys) (left_nil (lacking ys asked ++ excluded asked ys) [] met))
+    let met : unmet (is_excused zs) ys (Asks asked) ≡ [] =
+    ap (unmet (is_excused zs) ys) (sym (asks_for lock.name q list z d rz)) ∙ nil_at (unmet (is_excused zs) ys) ms z c in_z is_z (right_nil (flat_map invalid_in faults) (flat_map (unmet (is_excused zs) ys) ms) (right_nil (flat_map invalid_package ys) (flat_map invalid_in faults ++ flat_map (unmet (is_excused zs) ys) ms) nothing)) in
+    not_excluded lock.name l.packages (requirement_line lock.name q) n ys packages p j under this v locks (right_nil (lacking (is_excused zs) ys asked) (excluded asked ys) (left_nil (lacking (is_excused zs) ys asked ++ excluded asked ys) [] met))
 
-not_lacking : (b : Bool) (fs : List Finding) → (b ≡ true → ⊥) → (if b then [] else fs) ≡ [] → fs ≡ []
-not_lacking true fs unlike e = absurd (unlike refl)
+not_lacking : (b : Bool) (fs : List Finding) → b ≡ false → (if b then [] else fs) ≡ [] → fs ≡ []
+not_lacking true fs unlike e = absurd (true≢false unlike)
 not_lacking false fs unlike e = e
 
-all_present : (documents : List Document) (zs : List DocumentReading) → AllZip IsDocumentReading documents zs → flat_map (λ x. (own_report x).findings) zs ≡ [] → AllPresent documents
-all_present documents zs h own lock kind l q list ((m, below, there), other) (i, within, here) d named =
+-- none of the documents that were read is a project of this name
+module _ (documents : List Document) (name : List ℕ) (others : (other : File) (u : Members) → HasProject documents other u → list_any (bytes_eq name) (project_names u) ≡ false) where
+  abbrev OtherNames : DocumentReading → Type 0
+  OtherNames x = list_any (bytes_eq name) (names_read x) ≡ false
+
+  not_named : (kind : DocumentKind) (file : File) (x : DocumentReading) → Contains documents (record { kind = kind; file = file }) → IsDocumentReading (record { kind = kind; file = file }) x → OtherNames x
+  not_named kind file x known (inl (none, (line, reason, column, place, is))) = ap (λ (y : DocumentReading). list_any (bytes_eq name) (names_read y)) is
+  not_named Project file x known (inr (text, inl (t, e, (xs, h, is)))) = ap (λ (y : DocumentReading). list_any (bytes_eq name) (names_read y)) is ∙ others file t (known, (text, e))
+  not_named Project file x known (inr (text, inr (none, (line, reason, column, place, is)))) = ap (λ (y : DocumentReading). list_any (bytes_eq name) (names_read y)) is
+  not_named (Lock kind) file x known (inr (text, inl (l, e, (ys, ms, fs, g, h, k, is)))) = ap (λ (y : DocumentReading). list_any (bytes_eq name) (names_read y)) is
+  not_named (Lock kind) file x known (inr (text, inr (none, (line, reason, column, place, is)))) = ap (λ (y : DocumentReading). list_any (bytes_eq name) (names_read y)) is
+
+  none_named_so : (zs : List DocumentReading) → All OtherNames zs → list_any (bytes_eq name) (flat_map names_read zs) ≡ false
+  none_named_so [] k = refl
+  none_named_so (z ∷ zs) k =
+      list_any-append (bytes_eq name) (names_read z) (flat_map names_read zs)
+      ∙ (λ j. All-head OtherNames z zs k j || none_named_so zs (All-tail OtherNames z zs k) j)
+
+  not_excused : (zs : List DocumentReading) → AllZip IsDocumentReading documents zs → (file : File) (t : Members) → HasProject documents file t → is_installer name ≡ false → is_excused zs name ≡ false
+  not_excused zs h file t ((k, inside, at), table) unlike =
+      let (x, (j, in_x, is_x), r) = beside_it IsDocumentReading documents zs (record { kind = Project; file = file }) k inside at h in
+      let (xs, g, is) = project_read file t x table r in
+      let there : list_any is_project_reading zs ≡ true = list_any_at is_project_reading zs j x in_x (ap is_project_reading (is_x ∙ is)) in
+      let named : list_any (bytes_eq name) (flat_map names_read zs) ≡ false =
+      none_named_so zs (zip_each IsDocumentReading (Contains documents) OtherNames (λ d y known s. not_named d.kind d.file y known s) documents zs (All-contains_itself documents) h) in
+      λ i. unlike i || (not (there i) || named i)
+
+all_present : (documents : List Document) (zs : List DocumentReading) → AllZip IsDocumentReading documents zs → flat_map (λ x. (own_report (is_excused zs) x).findings) zs ≡ [] → AllPresent documents
+all_present documents zs h own lock file kind l t q list ((m, below, there), other) (i, within, here) d project others unlike =
     let (y, (b, in_y, is_y), ry) = beside_it IsDocumentReading documents zs (record { kind = Lock kind; file = lock }) m below there h in
     let (ys, ms, fs, packages, requirements, files, is_lock) = lock_read lock kind l y other ry in
-    let nothing : flat_map invalid_package ys ++ (flat_map invalid_in fs ++ flat_map (unmet ys) ms) ≡ [] = ap (λ (e : DocumentReading). (own_report e).findings) (sym is_lock) ∙ nil_at (λ x. (own_report x).findings) zs y b in_y is_y own in
+    let faults = fs ++ map (fault_meaning lock.name) l.faults in
+    let nothing : flat_map invalid_package ys ++ (flat_map invalid_in faults ++ flat_map (unmet (is_excused zs) ys) ms) ≡ [] = ap (λ (e : DocumentReading). (own_report (is_excused zs) e).findings) (sym is_lock) ∙ nil_at (λ x. (own_report (is_excused zs) x).findings) zs y b in_y is_y own in
     let (z, (c, in_z, is_z), rz) = beside_it (IsRequirementReading lock.name) l.requirements ms q i within here requirements in
     let n : Needed = record { name = q.name; extras = []; specifiers = list } in
     let asked = line_demand (requirement_line lock.name q) None n in
-    let met : unmet ys (Asks asked) ≡ [] =
-    ap (unmet ys) (sym (asks_for lock.name q list z d rz)) ∙ nil_at (unmet ys) ms z c in_z is_z (right_nil (flat_map invalid_in fs) (flat_map (unmet ys) ms) (right_nil (flat_map invalid_package ys) (flat_map invalid_in fs ++ flat_map (unmet ys) ms) nothing)) in
-    some_named lock.name l.packages (requirement_line lock.name q) n ys packages (not_lacking (is_installer asked.name) (absent ys asked) named (left_nil (lacking ys asked) (excluded asked ys) (left_nil (lacking ys asked ++ excluded asked ys) [] met)))
+    let met : unmet (is_excused zs) ys (Asks asked) ≡ [] =
+    ap (unmet (is_excused zs) ys) (sym (asks_for lock.name q list z d rz)) ∙ nil_at (unmet (is_excused zs) ys) ms z c in_z is_z (right_nil (flat_map invalid_in faults) (flat_map (unmet (is_excused zs) ys) ms) (right_nil (flat_map invalid_package ys) (flat_map invalid_in faults ++ flat_map (unmet (is_excused zs) ys) ms) nothing)) in
+    some_named lock.name l.packages (requirement_line lock.name q) n ys packages (not_lacking (is_excused zs asked.name) (absent ys asked) (not_excused documents (normal q.name) others zs h file t project unlike) (left_nil (lacking (is_excused zs) ys asked) (excluded asked ys) (left_nil (lacking (is_excused zs) ys asked ++ excluded asked ys) [] met)))
+
+-- where nothing is found of both, nothing is of each
+front_nil : (fs gs : List LineMeaning) → flat_map invalid_in (fs ++ gs) ≡ [] → flat_map invalid_in fs ≡ []
+front_nil fs gs none = left_nil (flat_map invalid_in fs) (flat_map invalid_in gs) (sym (flat_map-append invalid_in fs gs) ∙ none)
+
+back_nil : (fs gs : List LineMeaning) → flat_map invalid_in (fs ++ gs) ≡ [] → flat_map invalid_in gs ≡ []
+back_nil fs gs none = right_nil (flat_map invalid_in fs) (flat_map invalid_in gs) (sym (flat_map-append invalid_in fs gs) ∙ none)
 
 -- nothing is found of a file, whose name has a version, as its package has
 same_as_package : (file : List ℕ) (f : LockedFile) (m : LineMeaning) (r q : Record) (b : Bool) → Derives f.version r → Derives f.written q → IsFileReading file f m → invalid_in m ≡ [] → is_of_version r q ≡ b → b ≡ true
@@ -118,18 +174,300 @@ same_as_package file f m r q false d e (inl (s, p, g, h, is)) none same =
     let some : invalid_in (file_meaning file f false) ≡ [] = ap invalid_in (sym other) ∙ none in
     cc some
 
-all_of_version : (documents : List Document) (zs : List DocumentReading) → AllZip IsDocumentReading documents zs → flat_map (λ x. (own_report x).findings) zs ≡ [] → AllOfVersion documents
+all_of_version : (documents : List Document) (zs : List DocumentReading) → AllZip IsDocumentReading documents zs → flat_map (λ x. (own_report (is_excused zs) x).findings) zs ≡ [] → AllOfVersion documents
 all_of_version documents zs h own lock kind l f r q ((m, below, there), other) (i, within, here) d e =
     let (y, (b, in_y, is_y), ry) = beside_it IsDocumentReading documents zs (record { kind = Lock kind; file = lock }) m below there h in
     let (ys, ms, fs, packages, requirements, files, is_lock) = lock_read lock kind l y other ry in
-    let nothing : flat_map invalid_package ys ++ (flat_map invalid_in fs ++ flat_map (unmet ys) ms) ≡ [] = ap (λ (e : DocumentReading). (own_report e).findings) (sym is_lock) ∙ nil_at (λ x. (own_report x).findings) zs y b in_y is_y own in
+    let faults = fs ++ map (fault_meaning lock.name) l.faults in
+    let nothing : flat_map invalid_package ys ++ (flat_map invalid_in faults ++ flat_map (unmet (is_excused zs) ys) ms) ≡ [] = ap (λ (e : DocumentReading). (own_report (is_excused zs) e).findings) (sym is_lock) ∙ nil_at (λ x. (own_report (is_excused zs) x).findings) zs y b in_y is_y own in
     let (z, (c, in_z, is_z), rz) = beside_it (IsFileReading lock.name) l.files fs f i within here files in
-    let none : invalid_in z ≡ [] = nil_at invalid_in fs z c in_z is_z (left_nil (flat_map invalid_in fs) (flat_map (unmet ys) ms) (right_nil (flat_map invalid_package ys) (flat_map invalid_in fs ++ flat_map (unmet ys) ms) nothing)) in
+    let none : invalid_in z ≡ [] = nil_at invalid_in fs z c in_z is_z (front_nil fs (map (fault_meaning lock.name) l.faults) (left_nil (flat_map invalid_in faults) (flat_map (unmet (is_excused zs) ys) ms) (right_nil (flat_map invalid_package ys) (flat_map invalid_in faults ++ flat_map (unmet (is_excused zs) ys) ms) nothing))) in
     same_as_package lock.name f z r q (is_of_version r q) d e rz none refl
+
+-- nothing is found of packages beside one another
+no_fault : (file : List ℕ) (fs : List LockFault) → flat_map invalid_in (map (fault_meaning file) fs) ≡ [] → fs ≡ []
+no_fault file [] none = refl
+no_fault file (f ∷ fs) none = cc none
+
+all_alone : (documents : List Document) (zs : List DocumentReading) → AllZip IsDocumentReading documents zs → flat_map (λ x. (own_report (is_excused zs) x).findings) zs ≡ [] → AllAlone documents
+all_alone documents zs h own lock kind l ((m, below, there), other) =
+    let (y, (b, in_y, is_y), ry) = beside_it IsDocumentReading documents zs (record { kind = Lock kind; file = lock }) m below there h in
+    let (ys, ms, fs, packages, requirements, files, is_lock) = lock_read lock kind l y other ry in
+    let faults = fs ++ map (fault_meaning lock.name) l.faults in
+    let nothing : flat_map invalid_package ys ++ (flat_map invalid_in faults ++ flat_map (unmet (is_excused zs) ys) ms) ≡ [] = ap (λ (e : DocumentReading). (own_report (is_excused zs) e).findings) (sym is_lock) ∙ nil_at (λ x. (own_report (is_excused zs) x).findings) zs y b in_y is_y own in
+    no_fault lock.name l.faults (back_nil fs (map (fault_meaning lock.name) l.faults) (left_nil (flat_map invalid_in faults) (flat_map (unmet (is_excused zs) ys) ms) (right_nil (flat_map invalid_package ys) (flat_map invalid_in faults ++ flat_map (unmet (is_excused zs) ys) ms) nothing)))
 
 pub no_finding_means_contained : NoFindingImpliesContained
 no_finding_means_contained documents r (zs, h, fs, cs, finds, is) none =
     let compared = flat_map (beside_all documents (zip documents zs)) (zip documents zs) in
-    let found : (with_own_reports empty_report zs).findings ++ compared ≡ [] = left_nil ((with_own_reports empty_report zs).findings ++ compared) fs (sym (ap (λ (e : Report). e.findings) is) ∙ none) in
-    let own : flat_map (λ x. (own_report x).findings) zs ≡ [] = sym (findings_of documents empty_report zs) ∙ left_nil (with_own_reports empty_report zs).findings compared found in
-    (all_contained documents zs h (right_nil (with_own_reports empty_report zs).findings compared found), (all_met documents zs h own, (all_present documents zs h own, all_of_version documents zs h own)))
+    let found : (with_own_reports (is_excused zs) empty_report zs).findings ++ compared ≡ [] = left_nil ((with_own_reports (is_excused zs) empty_report zs).findings ++ compared) fs (sym (ap (λ (e : Report). e.findings) is) ∙ none) in
+    let own : flat_map (λ x. (own_report (is_excused zs) x).findings) zs ≡ [] = sym (findings_of documents (is_excused zs) empty_report zs) ∙ left_nil (with_own_reports (is_excused zs) empty_report zs).findings compared found in
+    (all_contained documents zs h (right_nil (with_own_reports (is_excused zs) empty_report zs).findings compared found), (all_met documents zs h own, (all_present documents zs h own, (all_of_version documents zs h own, all_alone documents zs h own))))
+
+-- a finding of some of the lines under the marker
+abbrev Fits : List Demand → Option (List ℕ) → Finding → Type 0
+Fits lines m = IsAmong (map (λ (a : Demand). a.line) (under m lines))
+
+some_fits : (lines : List Demand) (a : Demand) (m : Option (List ℕ)) → holds_nowhere m ≡ false → Contains lines a → have_none (under m (filter (has_same_name a) lines)) ≡ true → Some_is (Fits (filter (has_same_name a) lines) m) (conflicts lines)
+some_fits lines a m somewhere inside none =
+    let these = under m (filter (has_same_name a) lines) in
+    some_found (map (λ (b : Demand). b.line) these) lines a m somewhere (ones_of these) inside none
+
+-- parts that are the same are equal
+same_is : (a b : Section) → same_part a b ≡ true → a ≡ b
+same_is Dependencies Dependencies e = refl
+same_is (Extra a) (Extra b) e = ap Extra ((bytes_eq-Decides a b).0 e)
+same_is (Group a) (Group b) e = ap Group ((bytes_eq-Decides a b).0 e)
+same_is Build Build e = refl
+same_is a b e = cc e
+
+-- ---- parts, each once
+
+module _ (f : Section → List Finding) where
+  found_by : (part q : Section) (parts : List Section) (b : Bool) → same_part part q ≡ b → (b || list_any (same_part part) parts) ≡ true → f q ++ flat_map f parts ≡ [] → (list_any (same_part part) parts ≡ true → f part ≡ []) → f part ≡ []
+  found_by part q parts true is e none later = ap f (same_is part q is) ∙ left_nil (f q) (flat_map f parts) none
+  found_by part q parts false is e none later = later e
+
+  -- nothing is found of a part that is there
+  found_nil : (part : Section) (parts : List Section) → list_any (same_part part) parts ≡ true → flat_map f parts ≡ [] → f part ≡ []
+  found_nil part [] e none = absurd (true≢false (sym e))
+  found_nil part (q ∷ parts) e none = found_by part q parts (same_part part q) refl e none (λ there. found_nil part parts there (right_nil (f q) (flat_map f parts) none))
+
+  last_nil : (part : Section) (parts : List Section) → flat_map f (parts ++ part ∷ []) ≡ [] → (flat_map f parts ≡ []) × (f part ≡ [])
+  last_nil part parts none =
+      let both : flat_map f parts ++ (f part ++ []) ≡ [] = sym (flat_map-append f parts (part ∷ [])) ∙ none in
+      (left_nil (flat_map f parts) (f part ++ []) both, left_nil (f part) [] (right_nil (flat_map f parts) (f part ++ []) both))
+
+  before_nil : (part : Section) (parts : List Section) (b : Bool) → flat_map f (if b then parts else parts ++ part ∷ []) ≡ [] → flat_map f parts ≡ []
+  before_nil part parts true none = none
+  before_nil part parts false none = (last_nil part parts none).0
+
+  this_nil : (part : Section) (parts : List Section) (b : Bool) → list_any (same_part part) parts ≡ b → flat_map f (if b then parts else parts ++ part ∷ []) ≡ [] → f part ≡ []
+  this_nil part parts true e none = found_nil part parts e none
+  this_nil part parts false e none = (last_nil part parts none).1
+
+  -- nothing is found of the parts before
+  stays_nil : (parts more : List Section) → flat_map f (with_new same_part parts more) ≡ [] → flat_map f parts ≡ []
+  stays_nil parts [] none = none
+  stays_nil parts (part ∷ more) none =
+      before_nil part parts (list_any (same_part part) parts) (stays_nil (if list_any (same_part part) parts then parts else parts ++ part ∷ []) more none)
+
+  -- nor of the part of each string
+  part_nil : (parts : List Section) (xs : List StringReading) (x : StringReading) (k : ℕ) → k < length xs → get_or xs k x ≡ x → flat_map f (with_new same_part parts (map section_part (sections xs))) ≡ [] → f (section_part x.section) ≡ []
+  part_nil parts [] x k inside at none = absurd (omega (arith, inside))
+  part_nil parts (y ∷ ys) x zero inside at none =
+      let part = section_part y.section in
+      ap (λ (z : StringReading). f (section_part z.section)) (sym at)
+      ∙ this_nil part parts (list_any (same_part part) parts) refl (stays_nil (if list_any (same_part part) parts then parts else parts ++ part ∷ []) (map section_part (sections ys)) none)
+  part_nil parts (y ∷ ys) x (suc k) inside at none =
+      part_nil (if list_any (same_part (section_part y.section)) parts then parts else parts ++ section_part y.section ∷ []) ys x k (omega (arith, inside)) at none
+
+-- ---- findings, each once
+
+in_front : (f g : Finding) (found : List Finding) (b : Bool) → (if b then f ∷ found else (f ∷ found) ++ g ∷ []) ≡ f ∷ (if b then found else found ++ g ∷ [])
+in_front f g found true = refl
+in_front f g found false = refl
+
+stays : (f : Finding) (found fs : List Finding) → with_new same_finding (f ∷ found) fs ≡ [] → ⊥
+stays f found [] e = cc e
+stays f found (g ∷ fs) e =
+    stays f (if list_any (same_finding g) (f ∷ found) then found else found ++ g ∷ []) fs (ap (λ (new : List Finding). with_new same_finding new fs) (sym (in_front f g found (list_any (same_finding g) (f ∷ found)))) ∙ e)
+
+none_new : (fs : List Finding) → with_new same_finding [] fs ≡ [] → fs ≡ []
+none_new [] e = refl
+none_new (f ∷ fs) e = absurd (stays f [] fs e)
+
+pub no_finding_means_satisfiable : NoFindingImpliesSatisfiable
+no_finding_means_satisfiable documents r (zs, h, fs, cs, finds, is) none file t s xs a m ((k, inside, at), table) (i, within, is_s) g known somewhere empty =
+    let all = groups t in
+    let (x, (c, in_x, is_x), rx) = beside_it IsDocumentReading documents zs (record { kind = Project; file = file }) k inside at h in
+    let (ys, q, is_project) = project_read file t x table rx in
+    let one : ys ≡ xs = zip_once (IsStringReading all file) (Contains (sources t)) (λ p v w known n o. one_string all file p v w n o) (sources t) ys xs (All-contains_itself (sources t)) q g in
+    let compared = flat_map (beside_all documents (zip documents zs)) (zip documents zs) in
+    let found : (with_own_reports (is_excused zs) empty_report zs).findings ++ compared ≡ [] = left_nil ((with_own_reports (is_excused zs) empty_report zs).findings ++ compared) fs (sym (ap (λ (e : Report). e.findings) is) ∙ none) in
+    let own : flat_map (λ x. (own_report (is_excused zs) x).findings) zs ≡ [] = sym (findings_of documents (is_excused zs) empty_report zs) ∙ left_nil (with_own_reports (is_excused zs) empty_report zs).findings compared found in
+    let together = has_group_tool t in
+    let nothing : flat_map invalid_string xs ++ project_conflicts together xs ≡ [] =
+    ap (λ (e : List StringReading). (own_report (is_excused zs) (IsProject together (project_names t) e)).findings) (sym one) ∙ ap (λ (e : DocumentReading). (own_report (is_excused zs) e).findings) (sym is_project) ∙ nil_at (λ x. (own_report (is_excused zs) x).findings) zs x c in_x is_x own in
+    let conflicts_nil : flat_map (part_conflicts together xs) (parts xs) ≡ [] = none_new (flat_map (part_conflicts together xs) (parts xs)) (right_nil (flat_map invalid_string xs) (project_conflicts together xs) nothing) in
+    let (z, (j, in_z, is_z), rz) = beside_it (IsStringReading all file) (sources t) xs s i within is_s g in
+    let part = section_part s.section in
+    let here_nil : part_conflicts together xs (section_part z.section) ≡ [] = part_nil (part_conflicts together xs) [] xs z j in_z is_z conflicts_nil in
+    let same : inclusions (sections xs) ≡ all.inclusions = ap inclusions (sections_same all file (sources t) xs g) in
+    let lines = part_demands together all.inclusions part xs in
+    let last : conflicts lines ≡ [] = (λ v. conflicts (part_demands together (sym same v) (section_part (sym rz.0 v)) xs)) ∙ here_nil in
+    let sound : All IsSound lines = sound_part together all.inclusions part xs (zip_each (IsStringReading all file) (Contains (sources t)) IsSoundString (λ p v known n. sound_string all file p v n) (sources t) xs (All-contains_itself (sources t)) g) in
+    let these = All-filter (counts_under m) IsSound (filter (has_same_name a) lines) (All-filter (has_same_name a) IsSound lines sound) in
+    subst (Some_is (Fits (filter (has_same_name a) lines) m)) last (some_fits lines a m somewhere known (none_found (under m (filter (has_same_name a) lines)) these empty))
+
+-- nothing is made of each, so of all
+flat_nil : {X Y : Type 0} (f : X → List Y) (xs : List X) → All (λ x. f x ≡ []) xs → flat_map f xs ≡ []
+flat_nil f [] k = refl
+flat_nil f (x ∷ xs) k = (λ j. All-head (λ y. f y ≡ []) x xs k j ++ flat_nil f xs (All-tail (λ y. f y ≡ []) x xs k) j)
+
+everywhere : {X : Type 0} (P : X → Type 0) → ((x : X) → P x) → (xs : List X) → All P xs
+everywhere P so [] = All-nil P
+everywhere P so (x ∷ xs) = All-cons P x xs (so x) (everywhere P so xs)
+
+false_by : (b : Bool) → (b ≡ true → ⊥) → b ≡ false
+false_by true never = absurd (never refl)
+false_by false never = refl
+
+-- ---- filters
+
+module _ {X : Type 0} (Q : X → Type 0) (p : X → Bool) where
+  -- it holds of the element, if that passes the test
+  abbrev pub HoldsIf : X → Type 0
+  HoldsIf x = p x ≡ true → Q x
+
+  whole_by : (b : Bool) (x : X) (xs : List X) → p x ≡ b → (All Q (filter p xs) → All HoldsIf xs) → All Q (cond b (x ∷ filter p xs) (filter p xs)) → All HoldsIf (x ∷ xs)
+  whole_by true x xs e next k = All-cons HoldsIf x xs (λ passes. All-head Q x (filter p xs) k) (next (All-tail Q x (filter p xs) k))
+  whole_by false x xs e next k = All-cons HoldsIf x xs (λ passes. absurd (true≢false (sym passes ∙ e))) (next k)
+
+  whole : (xs : List X) → All Q (filter p xs) → All HoldsIf xs
+  whole [] k = All-nil HoldsIf
+  whole (x ∷ xs) k = whole_by (p x) x xs refl (whole xs) k
+
+  chosen_by : (b : Bool) (x : X) (xs : List X) → p x ≡ b → All Q (filter p xs) → All HoldsIf (x ∷ xs) → All Q (cond b (x ∷ filter p xs) (filter p xs))
+  chosen_by true x xs e rest k = All-cons Q x (filter p xs) (All-head HoldsIf x xs k e) rest
+  chosen_by false x xs e rest k = rest
+
+  chosen : (xs : List X) → All HoldsIf xs → All Q (filter p xs)
+  chosen [] k = All-nil Q
+  chosen (x ∷ xs) k = chosen_by (p x) x xs refl (chosen xs (All-tail HoldsIf x xs k)) k
+
+-- what holds of the elements of a list that pass two tests holds of those of its part
+of_part : {X : Type 0} (Q : X → Type 0) (p q : X → Bool) (all part : List X) → All (Contains all) part → All Q (filter p (filter q all)) → All Q (filter p (filter q part))
+of_part Q p q all part known k =
+    let each : All (HoldsIf (HoldsIf Q p) q) all = whole (HoldsIf Q p) q all (whole Q p (filter q all) k) in
+    let here : All (HoldsIf (HoldsIf Q p) q) part = All-weaker (Contains all) (HoldsIf (HoldsIf Q p) q) (λ x is. All-contains (HoldsIf (HoldsIf Q p) q) all x each is) part known in
+    chosen Q p (filter q part) (chosen (HoldsIf Q p) q part here)
+
+-- ---- lines that count together
+
+module _ (P : Demand → Type 0) (same : Demand → Demand → Bool) where
+  mention_by : (b : Bool) (a : Demand) (rest : List Demand) → P a → All P rest → All P ((if b then [] else a ∷ []) ++ rest)
+  mention_by true a rest k m = m
+  mention_by false a rest k m = All-cons P a rest k m
+
+  mentions : (before lines : List Demand) → All P lines → All P (first_mentions same before lines)
+  mentions before [] k = All-nil P
+  mentions before (a ∷ lines) k =
+      mention_by (list_any (same a) before) a (first_mentions same (before ++ a ∷ []) lines) (All-head P a lines k) (mentions (before ++ a ∷ []) lines (All-tail P a lines k))
+
+nothing_by : (lines : List Demand) (b : Bool) → have_none lines ≡ b → b ≡ false → of_all lines ≡ []
+nothing_by lines b is some = ap (λ c. if c then Conflicting (conflict_kind (smallest lines)) (map (λ (a : Demand). a.line) (smallest lines)) ∷ [] else []) (is ∙ some)
+
+nothing_under : (lines : List Demand) (b : Bool) → (b ≡ false → have_none lines ≡ false) → (if b then [] else of_all lines) ≡ []
+nothing_under lines true some = refl
+nothing_under lines false some = nothing_by lines (have_none lines) refl (some refl)
+
+-- nothing is wrong with the lines of a name that have some version under each marker, unless it is contradictory
+nothing_of : (lines : List Demand) → ((m : Option (List ℕ)) → holds_nowhere m ≡ false → have_none (under m lines) ≡ false) → of_name lines ≡ []
+nothing_of lines some =
+    let each = flat_map (λ (a : Demand). of_marker a.marker lines) (first_mentions has_same_marker [] lines) in
+    ap (λ b. if b then of_all (under None lines) else each) (some None refl)
+    ∙ flat_nil (λ (a : Demand). of_marker a.marker lines) (first_mentions has_same_marker [] lines)
+    (everywhere (λ (a : Demand). of_marker a.marker lines ≡ []) (λ a. nothing_under (under a.marker lines) (holds_nowhere a.marker) (some a.marker)) (first_mentions has_same_marker [] lines))
+
+module _ (all part : List Demand) (sound : All IsSound all) (known : All (Contains all) part) (none : conflicts all ≡ []) where
+  part_sound : All IsSound part
+  part_sound = All-weaker (Contains all) IsSound (λ a is. All-contains IsSound all a sound is) part known
+
+  some_of : (a : Demand) → Contains all a → (m : Option (List ℕ)) → holds_nowhere m ≡ false → have_none (under m (filter (has_same_name a) part)) ≡ false
+  some_of a is m somewhere =
+      let p = counts_under m in
+      let q = has_same_name a in
+      false_by (have_none (under m (filter q part))) (λ empty.
+      subst (Some_is (Fits (filter q all) m)) none (some_fits all a m somewhere is (
+      more_none (filter p (filter q part)) (filter p (filter q all)) (All-filter p IsSound (filter q part) (All-filter q IsSound part part_sound)) (All-filter p IsSound (filter q all) (All-filter q IsSound all sound))
+      (λ v. of_part (Allows v) p q all part known) empty)))
+
+  -- nothing is wrong with some of the lines, where nothing is wrong with all
+  pub nothing_in_part : conflicts part ≡ []
+  nothing_in_part =
+      let made = λ (a : Demand). of_name (filter (has_same_name a) part) in
+      flat_nil made (first_mentions has_same_name [] part)
+      (mentions (λ a. made a ≡ []) has_same_name [] part (All-weaker (Contains all) (λ a. made a ≡ []) (λ a is. nothing_of (filter (has_same_name a) part) (some_of a is)) part known))
+
+-- ---- parts of a project
+
+in_part_by : (all demands : List Demand) (b : Bool) → All (Contains all) demands → All (Contains all) (if b then demands else [])
+in_part_by all demands true k = k
+in_part_by all demands false k = All-nil (Contains all)
+
+-- the requirements of a part are some of all
+pub part_known : (together : Bool) (is : List Inclusion) (part : Section) (xs : List StringReading) → All (Contains (all_demands xs)) (part_demands together is part xs)
+part_known together is part xs =
+    let all = all_demands xs in
+    all_flat (Contains all) (demand_in_part together (has_group is part) part) xs
+    (All-weaker (λ x. All (Contains all) (demands_in x.meaning)) (λ x. All (Contains all) (demand_in_part together (has_group is part) part x))
+    (λ x k. in_part_by all (demands_in x.meaning) (holds_in together (has_group is part) part x.section) k) xs
+    (each_flat (Contains all) (λ (x : StringReading). demands_in x.meaning) xs (All-contains_itself all)))
+
+pub none_in_parts : (together : Bool) (xs : List StringReading) → All IsSound (all_demands xs) → conflicts (all_demands xs) ≡ [] → project_conflicts together xs ≡ []
+none_in_parts together xs sound none =
+    ap (with_new same_finding [])
+    (flat_nil (part_conflicts together xs) (parts xs)
+    (everywhere (λ part. part_conflicts together xs part ≡ []) (λ part. nothing_in_part (all_demands xs) (part_demands together (inclusions (sections xs)) part xs) sound (part_known together (inclusions (sections xs)) part xs) none) (parts xs)))
+
+-- the lists of all strings are sound
+pub sound_all : (xs : List StringReading) → All IsSoundString xs → All IsSound (all_demands xs)
+sound_all xs k = all_flat IsSound (λ (x : StringReading). demands_in x.meaning) xs k
+
+-- ---- no markers
+
+abbrev Unmarked : Demand → Type 0
+Unmarked a = is_some a.marker ≡ false
+
+left_false : (a b : Bool) → (a || b) ≡ false → a ≡ false
+left_false true b e = e
+left_false false b e = refl
+
+right_false : (a b : Bool) → (a || b) ≡ false → b ≡ false
+right_false true b e = absurd (true≢false e)
+right_false false b e = e
+
+all_unmarked : (lines : List Demand) → list_any is_marked lines ≡ false → All Unmarked lines
+all_unmarked [] none = All-nil Unmarked
+all_unmarked (a ∷ rest) none =
+    All-cons Unmarked a rest (left_false (is_marked a) (list_any is_marked rest) none) (all_unmarked rest (right_false (is_marked a) (list_any is_marked rest) none))
+
+skipped : (m : Option (List ℕ)) (a : Demand) → is_some m ≡ false → (if is_none m || false then [] else a ∷ []) ≡ []
+skipped None a e = refl
+skipped (Some m) a e = absurd (true≢false e)
+
+no_firsts : (lines : List Demand) → All Unmarked lines → first_lines [] lines ≡ []
+no_firsts [] k = refl
+no_firsts (a ∷ rest) k = ap (λ l. first_lines l rest) (skipped a.marker a (All-head Unmarked a rest k)) ∙ no_firsts rest (All-tail Unmarked a rest k)
+
+nothing_each : {X : Type 0} (P : X → List Finding → List Cause → Type 0) → ((x : X) → P x [] []) → (xs : List X) → FindsOfEach P xs [] []
+nothing_each P none [] = (refl, refl)
+nothing_each P none (x ∷ xs) = ([], [], [], [], none x, nothing_each P none xs, refl, refl)
+
+no_name : (lines : List Demand) → All Unmarked lines → FindsOfName lines [] []
+no_name lines k =
+    let few : Some [] ≡ few_first_lines lines = ap (λ l. if nat_lt 32 (length l) then None else Some l) (sym (no_firsts lines k)) in
+    subst (λ (f : Option (List Demand)). FindsOfFirsts lines f [] []) few (refl, refl)
+
+no_names : (lines : List Demand) → All Unmarked lines → FindsOfNames lines [] []
+no_names lines k = nothing_each (of_name_of lines) (λ a. no_name (filter (has_same_name a) lines) (All-filter (has_same_name a) Unmarked lines k)) (first_mentions has_same_name [] lines)
+
+-- nothing is found where no requirement has a marker
+pub no_parts : (together : Bool) (xs : List StringReading) → list_any is_marked (all_demands xs) ≡ false → FindsOfParts together xs [] []
+no_parts together xs none =
+    let all = all_demands xs in
+    let unmarked = all_unmarked all none in (
+      [],
+      nothing_each (FindsOfPart together xs)
+          (λ part. no_names (part_demands together (inclusions (sections xs)) part xs)
+          (All-weaker (Contains all) Unmarked (λ a is. All-contains Unmarked all a unmarked is) (part_demands together (inclusions (sections xs)) part xs) (part_known together (inclusions (sections xs)) part xs)))
+          (parts xs),
+      refl,
+    )
+
+-- ---- findings, each once
+
+pub parts_found : (together : Bool) (xs : List StringReading) (pairs once : List FindingValue) (before after : List Cause) → map finding_of once ≡ with_new same_finding [] (map finding_of pairs) → AddsFound (FindsOfEach (FindsOfPart together xs) (parts xs)) [] pairs before after
+    → AddsFound (FindsOfParts together xs) [] once before after
+parts_found together xs pairs once before after is (fs, cs, finds, adds, also) = (with_new same_finding [] fs, cs, (fs, finds, refl), is ∙ ap (with_new same_finding []) adds, also)

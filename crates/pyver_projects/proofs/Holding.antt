@@ -4,7 +4,7 @@ use Rattle.std.proofs.Common.{Bool, Err, get_or, List, None, Ok, Option, Result,
 use Rattle.std.proofs.lemmas.Bool.{true≢false}
 use Rattle.std.proofs.lemmas.List.Folds.{list_any_at}
 use Rattle.std.proofs.lemmas.List.{append-nil, append_assoc}
-use Rattle.std.proofs.lemmas.List.Elements.{All-append, All-cons, All-contains_itself, All-head, All-nil, All-tail, All-weaker}
+use Rattle.std.proofs.lemmas.List.Elements.{All-append, All-cons, All-contains_itself, All-head, All-map, All-nil, All-tail, All-weaker}
 use Rattle.std.specs.List.{All, AllZip, Contains, flat_map, list_any, zip}
 use Rattle.std.specs.Str.{IsUtf8}
 use Rattle.pep440_pick.specs.Names.{normal, same_name}
@@ -25,12 +25,12 @@ use Rattle.toml.specs.Data.{Members}
 use Rattle.toml.specs.Parse.{parse_document}
 use Rattle.pyver_projects.specs.Together.{FindsOfPart, FindsOfParts, demand_in_part, has_group, holds_in, part_conflicts, part_demands, parts, project_conflicts, same_finding, sections, with_new}
 use Rattle.pyver_projects.proofs.Walks.{all_flat, beside_it, beside_some, left_false, nil_at, pairs_each, right_false, zip_each}
-use Rattle.pyver_projects.specs.Comparing.{FindsOfReading, absent, beside_all, compared, compared_demand, documents_report, excluded, found_beside, found_in_pair, has_name, invalid_package, invalid_string, is_allowed, is_beside, is_installer, is_locked, is_needed, lacking, named_line, outside, own_report, unmet, with_own_reports}
-use Rattle.pyver_projects.specs.Documents.{has_group_tool, locked, sources}
+use Rattle.pyver_projects.specs.Comparing.{FindsOfReading, absent, beside_all, compared, compared_demand, documents_report, excluded, found_beside, found_in_pair, has_name, invalid_package, invalid_string, is_allowed, is_beside, is_excused, is_locked, is_needed, lacking, named_line, outside, own_report, unmet, with_own_reports}
+use Rattle.pyver_projects.specs.Documents.{has_group_tool, locked, project_names, sources}
 use Rattle.pyver_projects.specs.Groups.{Groups, Inclusion, groups, inclusions, no_group}
-use Rattle.pyver_projects.specs.Meanings.{Document, DocumentReading, IsBroken, IsBrokenReading, IsDocumentReading, IsFileReading, IsLock, IsLockedReading, IsProject, IsRequirementReading, IsSectionMeaning, IsSoundDocument, IsSoundString, IsStringReading, IsVersionReading, LockedReading, StringReading, file_meaning, is_of_version, package_line, requirement_line, string_line}
+use Rattle.pyver_projects.specs.Meanings.{Document, DocumentReading, IsBroken, IsBrokenReading, IsDocumentReading, IsFileReading, IsLock, IsLockedReading, IsProject, IsRequirementReading, IsSectionMeaning, IsSoundDocument, IsSoundString, IsStringReading, IsVersionReading, LockedReading, StringReading, fault_meaning, file_meaning, is_of_version, package_line, requirement_line, string_line}
 use Rattle.pyver_projects.specs.ProjectLaws.{AlwaysAsks, DocumentFindingsHold, HasLock, HasPackage, HasProject, IsDocumentFinding, IsLineOfName, IsOutside, IsReadable, IsReadableAs, LocksVersion, SomeContained, line_in_part, part_lines}
-use Rattle.pyver_projects.specs.ProjectStrings.{Build, Dependencies, Extra, Group, Include, Invalid, LockContents, LockedFile, LockedPackage, LockedRequirement, ProjectString, Python, Section, Version}
+use Rattle.pyver_projects.specs.ProjectStrings.{Build, Dependencies, Extra, Group, Include, Invalid, LockContents, LockFault, LockedFile, LockedPackage, LockedRequirement, ProjectString, Python, Section, Version}
 use Rattle.pyver_projects.specs.declared.document_kind.DocumentKind.{DocumentKind}
 use Rattle.pyver_projects.specs.declared.document_kind.DocumentKind.TheVariants.{Lock, Project}
 use Rattle.pyver_projects.specs.declared.document_kind.LockKind.{LockKind}
@@ -389,9 +389,9 @@ module _ (documents : List Document) where
 
   -- ---- documents by themselves
 
-  unread : (d : Document) (x : DocumentReading) → Contains documents d → (IsReadable d → ⊥) → IsBrokenReading d.file x → All Right (own_report x).findings
-  unread d x known none (line, reason, column, place, is) =
-      subst (λ (y : DocumentReading). All Right (own_report y).findings) (sym is)
+  unread : (excused : List ℕ → Bool) (d : Document) (x : DocumentReading) → Contains documents d → (IsReadable d → ⊥) → IsBrokenReading d.file x → All Right (own_report excused x).findings
+  unread excused d x known none (line, reason, column, place, is) =
+      subst (λ (y : DocumentReading). All Right (own_report excused y).findings) (sym is)
       (All-cons Right (NoRequirement line reason column) [] (inr (inr (inl (record { document = d; line = line; reason = reason; column = column; has = known; none = none; place = place; is = refl })))) (All-nil Right))
 
   of_string : (file : File) (t : Members) (s : ProjectString) (m : LineMeaning) → HasProject documents file t → Contains (sources t) s → IsSectionMeaning (groups t) s.section (string_line file s) s.text m → All Right (invalid_in m)
@@ -437,7 +437,7 @@ module _ (documents : List Document) where
       by_order : (b : Bool) → is_of_version r q ≡ b → All Right (invalid_in (file_meaning lock.name p b))
       by_order true same = All-nil Right
       by_order false differ =
-          All-cons Right _ [] (inr (inr (inr (inr (inr (inr (inr (inr (record {
+          All-cons Right _ [] (inr (inr (inr (inr (inr (inr (inr (inr (inl (record {
             lock = lock;
             kind = kind;
             contents = l;
@@ -450,19 +450,24 @@ module _ (documents : List Document) where
             written = e;
             differ = differ;
             is = refl;
-          }))))))))) (All-nil Right)
+          })))))))))) (All-nil Right)
+
+  -- a package beside others
+  of_fault : (lock : File) (kind : LockKind) (l : LockContents) → HasLock documents kind lock l → (q : LockFault) → Contains l.faults q → All Right (invalid_in (fault_meaning lock.name q))
+  of_fault lock kind l known q at =
+      All-cons Right _ [] (inr (inr (inr (inr (inr (inr (inr (inr (inr (record { lock = lock; kind = kind; contents = l; fault = q; known = known; within = at; is = refl })))))))))) (All-nil Right)
 
   -- a requirement of a package
   of_requirement : (lock : File) (kind : LockKind) (l : LockContents) → HasLock documents kind lock l → (q : LockedRequirement) → Contains l.requirements q → (ys : List LockedReading) → AllZip (IsLockedReading lock.name) l.packages ys
-      → (m : LineMeaning) → IsRequirementReading lock.name q m → All Right (unmet ys m)
-  of_requirement lock kind l known q at ys h m (inr (f, r, is)) = subst (λ (x : LineMeaning). All Right (unmet ys x)) (sym is) (All-nil Right)
-  of_requirement lock kind l known q at ys h m (inl (list, read, is)) =
+      → (excused : List ℕ → Bool) (m : LineMeaning) → IsRequirementReading lock.name q m → All Right (unmet excused ys m)
+  of_requirement lock kind l known q at ys h excused m (inr (f, r, is)) = subst (λ (x : LineMeaning). All Right (unmet excused ys x)) (sym is) (All-nil Right)
+  of_requirement lock kind l known q at ys h excused m (inl (list, read, is)) =
       let n : Needed = record { name = q.name; extras = []; specifiers = list } in
       let line = requirement_line lock.name q in
       let asked = line_demand line None n in
-      subst (λ (x : LineMeaning). All Right (unmet ys x)) (sym is)
-      (All-append Right (lacking ys asked ++ excluded asked ys) []
-      (All-append Right (lacking ys asked) (excluded asked ys) (unless_right (is_installer asked.name) (absent ys asked) (absent_right lock kind l known q at ys h n (list_any (has_name asked) ys) refl refl))
+      subst (λ (x : LineMeaning). All Right (unmet excused ys x)) (sym is)
+      (All-append Right (lacking excused ys asked ++ excluded asked ys) []
+      (All-append Right (lacking excused ys asked) (excluded asked ys) (unless_right (excused asked.name) (absent ys asked) (absent_right lock kind l known q at ys h n (list_any (has_name asked) ys) refl refl))
       (All-weaker (IsOutsideHere lock.name l.packages line n) Right
       (λ f out. inr (inr (inr (inr (inr (inr (inl (record { lock = lock; kind = kind; contents = l; requirement = q; list = list; known = known; within = at; read = read; outside = out })))))))) (excluded asked ys)
       (excluded_right lock.name l.packages line n ys h))) (All-nil Right))
@@ -477,26 +482,31 @@ module _ (documents : List Document) where
   no_contents : (kind : LockKind) (file : File) → locked kind file.text ≡ None → IsReadableAs (Lock kind) file → ⊥
   no_contents kind file none (l, (text, e)) = let same : None ≡ Some l = sym none ∙ e in cc same
 
-  of_document : (kind : DocumentKind) (file : File) (x : DocumentReading) → Contains documents (record { kind = kind; file = file }) → IsDocumentReading (record { kind = kind; file = file }) x → All Right (own_report x).findings
-  of_document kind file x known (inl (none, broken)) = unread (record { kind = kind; file = file }) x known (no_utf8 kind file none) broken
-  of_document Project file x known (inr (text, inr (none, broken))) = unread (record { kind = Project; file = file }) x known (no_toml file none) broken
-  of_document (Lock kind) file x known (inr (text, inr (none, broken))) = unread (record { kind = Lock kind; file = file }) x known (no_contents kind file none) broken
-  of_document Project file x known (inr (text, inl (t, e, (xs, h, is)))) =
-      subst (λ (y : DocumentReading). All Right (own_report y).findings) (sym is)
+  of_document : (excused : List ℕ → Bool) (kind : DocumentKind) (file : File) (x : DocumentReading) → Contains documents (record { kind = kind; file = file }) → IsDocumentReading (record { kind = kind; file = file }) x
+      → All Right (own_report excused x).findings
+  of_document excused kind file x known (inl (none, broken)) = unread excused (record { kind = kind; file = file }) x known (no_utf8 kind file none) broken
+  of_document excused Project file x known (inr (text, inr (none, broken))) = unread excused (record { kind = Project; file = file }) x known (no_toml file none) broken
+  of_document excused (Lock kind) file x known (inr (text, inr (none, broken))) = unread excused (record { kind = Lock kind; file = file }) x known (no_contents kind file none) broken
+  of_document excused Project file x known (inr (text, inl (t, e, (xs, h, is)))) =
+      subst (λ (y : DocumentReading). All Right (own_report excused y).findings) (sym is)
       (All-append Right (flat_map invalid_string xs) (project_conflicts (has_group_tool t) xs)
       (all_flat Right invalid_string xs
       (zip_each (IsStringReading (groups t) file) (Contains (sources t)) (λ z. All Right (invalid_string z)) (λ s z at r. of_string file t s z.meaning (known, (text, e)) at r.1) (sources t) xs (All-contains_itself (sources t)) h))
       (conflicts_hold Right file t (λ part f right. inr (inr (inr (inr (inr (inl (record { file = file; table = t; part = part; has = (known, (text, e)); right = inl right }))))))) xs h))
-  of_document (Lock kind) file x known (inr (text, inl (l, e, (ys, ms, fs, g, h, k, is)))) =
-      subst (λ (y : DocumentReading). All Right (own_report y).findings) (sym is)
-      (All-append Right (flat_map invalid_package ys) (flat_map invalid_in fs ++ flat_map (unmet ys) ms)
+  of_document excused (Lock kind) file x known (inr (text, inl (l, e, (ys, ms, fs, g, h, k, is)))) =
+      let faults = fs ++ map (fault_meaning file.name) l.faults in
+      subst (λ (y : DocumentReading). All Right (own_report excused y).findings) (sym is)
+      (All-append Right (flat_map invalid_package ys) (flat_map invalid_in faults ++ flat_map (unmet excused ys) ms)
       (all_flat Right invalid_package ys
       (zip_each (IsLockedReading file.name) (Contains l.packages) (λ z. All Right (invalid_package z)) (λ p z at r. of_package file p p.version z (kind, l, (known, (text, e)), at) refl r) l.packages ys (All-contains_itself l.packages) g))
-      (All-append Right (flat_map invalid_in fs) (flat_map (unmet ys) ms)
-      (all_flat Right invalid_in fs
-      (zip_each (IsFileReading file.name) (Contains l.files) (λ m. All Right (invalid_in m)) (λ p m at r. of_file file kind l (known, (text, e)) p at m r) l.files fs (All-contains_itself l.files) k))
-      (all_flat Right (unmet ys) ms
-      (zip_each (IsRequirementReading file.name) (Contains l.requirements) (λ m. All Right (unmet ys m)) (λ q m at r. of_requirement file kind l (known, (text, e)) q at ys g m r) l.requirements ms (All-contains_itself l.requirements) h))))
+      (All-append Right (flat_map invalid_in faults) (flat_map (unmet excused ys) ms)
+      (all_flat Right invalid_in faults
+      (All-append (λ m. All Right (invalid_in m)) fs (map (fault_meaning file.name) l.faults)
+      (zip_each (IsFileReading file.name) (Contains l.files) (λ m. All Right (invalid_in m)) (λ p m at r. of_file file kind l (known, (text, e)) p at m r) l.files fs (All-contains_itself l.files) k)
+      (All-map (λ m. All Right (invalid_in m)) (fault_meaning file.name) l.faults
+      (All-weaker (Contains l.faults) (λ q. All Right (invalid_in (fault_meaning file.name q))) (λ q at. of_fault file kind l (known, (text, e)) q at) l.faults (All-contains_itself l.faults)))))
+      (all_flat Right (unmet excused ys) ms
+      (zip_each (IsRequirementReading file.name) (Contains l.requirements) (λ m. All Right (unmet excused ys m)) (λ q m at r. of_requirement file kind l (known, (text, e)) q at ys g excused m r) l.requirements ms (All-contains_itself l.requirements) h))))
 
   -- ---- a project beside a lock
 
@@ -511,7 +521,7 @@ module _ (documents : List Document) where
         excludes f out = inr (inr (inr (inr (inl (record { file = file; string = s; lock = lock; kind = kind; contents = u; needed = n; has = (t, known, at); asks = asks; known = other; outside = out })))))
 
         module _ (ys : List LockedReading) (h : AllZip (IsLockedReading lock.name) u.packages ys) where
-          missing_right : (b c : Bool) → is_needed kind s.section ≡ b → list_any (has_name asked) ys ≡ c
+          missing_right : (b c : Bool) → is_needed kind u.parts s.section ≡ b → list_any (has_name asked) ys ≡ c
               → All Right (if b then (if c then [] else NoRequirement (string_line file s) (codes "the lock has no package of this name") 0 ∷ []) else [])
           missing_right false c needs e = All-nil Right
           missing_right true true needs e = All-nil Right
@@ -532,36 +542,36 @@ module _ (documents : List Document) where
                 is = refl;
               }))))) (All-nil Right)
 
-          always_right : All Right (compared_demand kind ys s.section asked)
+          always_right : All Right (compared_demand kind u.parts ys s.section asked)
           always_right =
-              All-append Right _ (excluded asked ys) (missing_right (is_needed kind s.section) (list_any (has_name asked) ys) refl refl)
+              All-append Right _ (excluded asked ys) (missing_right (is_needed kind u.parts s.section) (list_any (has_name asked) ys) refl refl)
               (All-weaker (IsOutsideHere lock.name u.packages (string_line file s) n) Right excludes (excluded asked ys) (excluded_right lock.name u.packages (string_line file s) n ys h))
 
       module _ (ys : List LockedReading) (h : AllZip (IsLockedReading lock.name) u.packages ys) where
-        by_marker : (a : Demand) (k : AsksFor (string_line file s) (line_parts s.text) a) (marker : Option (List ℕ)) → (marker ≡ None → (line_parts s.text).marker ≡ None) → All Right (compared_demand kind ys s.section (line_demand (string_line file s) marker k.needed))
+        by_marker : (a : Demand) (k : AsksFor (string_line file s) (line_parts s.text) a) (marker : Option (List ℕ)) → (marker ≡ None → (line_parts s.text).marker ≡ None) → All Right (compared_demand kind u.parts ys s.section (line_demand (string_line file s) marker k.needed))
         by_marker a k None unmarked = always_right k.needed (k.text, k.derives, unmarked refl, k.url) ys h
         by_marker a k (Some m) unmarked = All-nil Right
 
-        of_asked : (a : Demand) → AsksFor (string_line file s) (line_parts s.text) a → All Right (compared_demand kind ys s.section a)
-        of_asked a k = subst (λ (b : Demand). All Right (compared_demand kind ys s.section b)) (sym k.is) (by_marker a k k.marker k.always)
+        of_asked : (a : Demand) → AsksFor (string_line file s) (line_parts s.text) a → All Right (compared_demand kind u.parts ys s.section a)
+        of_asked a k = subst (λ (b : Demand). All Right (compared_demand kind u.parts ys s.section b)) (sym k.is) (by_marker a k k.marker k.always)
 
-        of_meaning : (m : LineMeaning) → IsSectionMeaning (groups t) s.section (string_line file s) s.text m → All Right (flat_map (compared_demand kind ys s.section) (demands_in m))
-        of_meaning (Asks a) is = All-append Right (compared_demand kind ys s.section a) [] (of_asked a (of_section (groups t) (string_line file s) s.text a s.section is)) (All-nil Right)
+        of_meaning : (m : LineMeaning) → IsSectionMeaning (groups t) s.section (string_line file s) s.text m → All Right (flat_map (compared_demand kind u.parts ys s.section) (demands_in m))
+        of_meaning (Asks a) is = All-append Right (compared_demand kind u.parts ys s.section a) [] (of_asked a (of_section (groups t) (string_line file s) s.text a s.section is)) (All-nil Right)
         of_meaning (IsNone f) is = All-nil Right
         of_meaning (LeftOut c) is = All-nil Right
         of_meaning AsksNothing is = All-nil Right
 
-        by_section : (b : Bool) (m : LineMeaning) → IsSectionMeaning (groups t) s.section (string_line file s) s.text m → All Right (if b then flat_map (compared_demand kind ys s.section) (demands_in m) else [])
+        by_section : (b : Bool) (m : LineMeaning) → IsSectionMeaning (groups t) s.section (string_line file s) s.text m → All Right (if b then flat_map (compared_demand kind u.parts ys s.section) (demands_in m) else [])
         by_section true m is = of_meaning m is
         by_section false m is = All-nil Right
 
-        compared_right : (x : StringReading) → IsStringReading (groups t) file s x → All Right (compared kind ys x)
+        compared_right : (x : StringReading) → IsStringReading (groups t) file s x → All Right (compared kind u.parts ys x)
         compared_right x (same, is) =
-            subst (λ section. All Right (if is_locked section then flat_map (compared_demand kind ys section) (demands_in x.meaning) else [])) (sym same) (by_section (is_locked s.section) x.meaning is)
+            subst (λ section. All Right (if is_locked section then flat_map (compared_demand kind u.parts ys section) (demands_in x.meaning) else [])) (sym same) (by_section (is_locked s.section) x.meaning is)
 
-    pub pair_right : (xs : List StringReading) (ys : List LockedReading) → AllZip (IsStringReading (groups t) file) (sources t) xs → AllZip (IsLockedReading lock.name) u.packages ys → All Right (flat_map (compared kind ys) xs)
+    pub pair_right : (xs : List StringReading) (ys : List LockedReading) → AllZip (IsStringReading (groups t) file) (sources t) xs → AllZip (IsLockedReading lock.name) u.packages ys → All Right (flat_map (compared kind u.parts ys) xs)
     pair_right xs ys g h =
-        all_flat Right (compared kind ys) xs (zip_each (IsStringReading (groups t) file) (Contains (sources t)) (λ x. All Right (compared kind ys x)) (λ s x at r. compared_right s at ys h x r) (sources t) xs (All-contains_itself (sources t)) g)
+        all_flat Right (compared kind u.parts ys) xs (zip_each (IsStringReading (groups t) file) (Contains (sources t)) (λ x. All Right (compared kind u.parts ys x)) (λ s x at r. compared_right s at ys h x r) (sources t) xs (All-contains_itself (sources t)) g)
 
   -- ---- a document beside another
 
@@ -569,45 +579,46 @@ module _ (documents : List Document) where
   nothing_broken Project f y = All-nil Right
   nothing_broken (Lock kind) f y = All-nil Right
 
-  nothing_beside : (kind : DocumentKind) (together : Bool) (xs : List StringReading) (f : Finding) → All Right (found_beside kind (IsProject together xs) (IsBroken f))
-  nothing_beside Project together xs f = All-nil Right
-  nothing_beside (Lock kind) together xs f = All-nil Right
+  nothing_beside : (kind : DocumentKind) (together : Bool) (names : List (List ℕ)) (xs : List StringReading) (f : Finding) → All Right (found_beside kind (IsProject together names xs) (IsBroken f))
+  nothing_beside Project together names xs f = All-nil Right
+  nothing_beside (Lock kind) together names xs f = All-nil Right
 
-  nothing_of_lock : (kind : DocumentKind) (ys : List LockedReading) (ms fs : List LineMeaning) (y : DocumentReading) → All Right (found_beside kind (IsLock ys ms fs) y)
-  nothing_of_lock Project ys ms fs y = All-nil Right
-  nothing_of_lock (Lock kind) ys ms fs y = All-nil Right
+  nothing_of_lock : (kind : DocumentKind) (parts : List (List ℕ)) (ys : List LockedReading) (ms fs : List LineMeaning) (y : DocumentReading) → All Right (found_beside kind (IsLock parts ys ms fs) y)
+  nothing_of_lock Project parts ys ms fs y = All-nil Right
+  nothing_of_lock (Lock kind) parts ys ms fs y = All-nil Right
 
   broken_right : (kind : DocumentKind) (file : File) (x y : DocumentReading) → IsBrokenReading file x → All Right (found_beside kind x y)
   broken_right kind file x y (line, reason, column, place, is) = subst (λ (z : DocumentReading). All Right (found_beside kind z y)) (sym is) (nothing_broken kind (NoRequirement line reason column) y)
 
   module _ (file : File) (t : Members) (known : HasProject documents file t) (xs : List StringReading) (g : AllZip (IsStringReading (groups t) file) (sources t) xs) where
-    beside_broken : (kind : DocumentKind) (other : File) (y : DocumentReading) → IsBrokenReading other y → All Right (found_beside kind (IsProject (has_group_tool t) xs) y)
+    beside_broken : (kind : DocumentKind) (other : File) (y : DocumentReading) → IsBrokenReading other y → All Right (found_beside kind (IsProject (has_group_tool t) (project_names t) xs) y)
     beside_broken kind other y (line, reason, column, place, is) =
-        subst (λ (z : DocumentReading). All Right (found_beside kind (IsProject (has_group_tool t) xs) z)) (sym is) (nothing_beside kind (has_group_tool t) xs (NoRequirement line reason column))
+        subst (λ (z : DocumentReading). All Right (found_beside kind (IsProject (has_group_tool t) (project_names t) xs) z)) (sym is) (nothing_beside kind (has_group_tool t) (project_names t) xs (NoRequirement line reason column))
 
     beside_project : (kind : DocumentKind) (other : File) (y : DocumentReading) → Contains documents (record { kind = kind; file = other }) → IsDocumentReading (record { kind = kind; file = other }) y
-        → All Right (found_beside kind (IsProject (has_group_tool t) xs) y)
+        → All Right (found_beside kind (IsProject (has_group_tool t) (project_names t) xs) y)
     beside_project kind other y at (inl (none, broken)) = beside_broken kind other y broken
     beside_project Project other y at (inr (text, inr (none, broken))) = beside_broken Project other y broken
     beside_project (Lock kind) other y at (inr (text, inr (none, broken))) = beside_broken (Lock kind) other y broken
-    beside_project Project other y at (inr (text, inl (u, e, (zs, h, is)))) = subst (λ (z : DocumentReading). All Right (found_beside Project (IsProject (has_group_tool t) xs) z)) (sym is) (All-nil Right)
+    beside_project Project other y at (inr (text, inl (u, e, (zs, h, is)))) = subst (λ (z : DocumentReading). All Right (found_beside Project (IsProject (has_group_tool t) (project_names t) xs) z)) (sym is) (All-nil Right)
     beside_project (Lock kind) other y at (inr (text, inl (u, e, (ys, ms, fs, h, required, files, is)))) =
-        subst (λ (z : DocumentReading). All Right (found_beside (Lock kind) (IsProject (has_group_tool t) xs) z)) (sym is) (pair_right file other kind t u known (at, (text, e)) xs ys g h)
+        subst (λ (z : DocumentReading). All Right (found_beside (Lock kind) (IsProject (has_group_tool t) (project_names t) xs) z)) (sym is) (pair_right file other kind t u known (at, (text, e)) xs ys g h)
 
   beside_right : (kind : DocumentKind) (file : File) (other : Document) (x y : DocumentReading) → Contains documents (record { kind = kind; file = file }) → Contains documents other → IsDocumentReading (record { kind = kind; file = file }) x
       → IsDocumentReading other y → All Right (found_beside other.kind x y)
   beside_right kind file other x y known at (inl (none, broken)) r = broken_right other.kind file x y broken
   beside_right Project file other x y known at (inr (text, inr (none, broken))) r = broken_right other.kind file x y broken
   beside_right (Lock kind) file other x y known at (inr (text, inr (none, broken))) r = broken_right other.kind file x y broken
-  beside_right (Lock kind) file other x y known at (inr (text, inl (t, e, (ys, ms, fs, g, h, k, is)))) r = subst (λ (z : DocumentReading). All Right (found_beside other.kind z y)) (sym is) (nothing_of_lock other.kind ys ms fs y)
+  beside_right (Lock kind) file other x y known at (inr (text, inl (t, e, (ys, ms, fs, g, h, k, is)))) r = subst (λ (z : DocumentReading). All Right (found_beside other.kind z y)) (sym is) (nothing_of_lock other.kind t.parts ys ms (fs ++ map (fault_meaning file.name) t.faults) y)
   beside_right Project file other x y known at (inr (text, inl (t, e, (xs, h, is)))) r =
       subst (λ (z : DocumentReading). All Right (found_beside other.kind z y)) (sym is) (beside_project file t (known, (text, e)) xs h other.kind other.file y at r)
 
   -- ---- all documents
 
-  pub findings_of : (a : Report) (xs : List DocumentReading) → (with_own_reports a xs).findings ≡ a.findings ++ flat_map (λ x. (own_report x).findings) xs
-  findings_of a [] = sym (append-nil a.findings)
-  findings_of a (x ∷ xs) = findings_of (joined_report a (own_report x)) xs ∙ append_assoc a.findings (own_report x).findings (flat_map (λ y. (own_report y).findings) xs)
+  pub findings_of : (excused : List ℕ → Bool) (a : Report) (xs : List DocumentReading) → (with_own_reports excused a xs).findings ≡ a.findings ++ flat_map (λ x. (own_report excused x).findings) xs
+  findings_of excused a [] = sym (append-nil a.findings)
+  findings_of excused a (x ∷ xs) =
+      findings_of excused (joined_report a (own_report excused x)) xs ∙ append_assoc a.findings (own_report excused x).findings (flat_map (λ y. (own_report excused y).findings) xs)
 
   counted_right : (b : Bool) (fs : List Finding) → All Right fs → All Right (if b then fs else [])
   counted_right true fs k = k
@@ -616,10 +627,10 @@ module _ (documents : List Document) where
   pub all_right : (xs : List DocumentReading) → AllZip IsDocumentReading documents xs → All Right (documents_report documents xs).findings
   all_right xs h =
       let pairs = zip documents xs in
-      All-append Right (with_own_reports empty_report xs).findings (flat_map (beside_all documents pairs) pairs)
-      (subst (λ fs. All Right fs) (sym (findings_of empty_report xs))
-      (all_flat Right (λ x. (own_report x).findings) xs
-      (zip_each IsDocumentReading (Contains documents) (λ x. All Right (own_report x).findings) (λ d x known r. of_document d.kind d.file x known r) documents xs (All-contains_itself documents) h)))
+      All-append Right (with_own_reports (is_excused xs) empty_report xs).findings (flat_map (beside_all documents pairs) pairs)
+      (subst (λ fs. All Right fs) (sym (findings_of (is_excused xs) empty_report xs))
+      (all_flat Right (λ x. (own_report (is_excused xs) x).findings) xs
+      (zip_each IsDocumentReading (Contains documents) (λ x. All Right (own_report (is_excused xs) x).findings) (λ d x known r. of_document (is_excused xs) d.kind d.file x known r) documents xs (All-contains_itself documents) h)))
       (all_flat Right (beside_all documents pairs) pairs
       (pairs_each IsDocumentReading (Contains documents) (λ a. All Right (beside_all documents pairs a))
       (λ d x known r. all_flat Right (found_in_pair documents (d, x)) pairs

@@ -1,5 +1,5 @@
 -- Documents that are TOML or JSON in UTF-8 have at most one report.
-use Rattle.std.proofs.Common.{Bool, ◌≡◌, ◌∙◌, ℕ, ◌+◌, List, [], ◌++◌, Option, Some, None, length, sym, ap, subst, inl, inr}
+use Rattle.std.proofs.Common.{Bool, ◌≡◌, ◌∙◌, ℕ, ◌+◌, List, [], ◌++◌, Option, Some, None, length, map, sym, ap, subst, inl, inr}
 use Rattle.std.proofs.lemmas.List.Elements.{All-contains_itself}
 use Rattle.std.specs.List.{Contains}
 use Rattle.pep440_pick.specs.Names.{normal}
@@ -21,9 +21,9 @@ use Rattle.pyver_requirements.specs.LineParts.{line_parts}
 use Rattle.toml.specs.Data.{Members}
 use Rattle.pyver_projects.proofs.Walks.{zip_once}
 use Rattle.pyver_projects.specs.Comparing.{FindsOfReading, documents_report, with_found}
-use Rattle.pyver_projects.specs.Documents.{has_group_tool, sources}
+use Rattle.pyver_projects.specs.Documents.{has_group_tool, project_names, sources}
 use Rattle.pyver_projects.specs.Groups.{Groups, groups, inclusions}
-use Rattle.pyver_projects.specs.Meanings.{DocumentReading, IsBroken, IsDocumentReading, IsFileReading, IsLock, IsLockReading, IsLockedReading, IsProject, IsProjectReading, IsRequirementReading, IsSectionMeaning, IsStringReading, IsVersionReading, LockedReading, StringReading, file_meaning, is_of_version, requirement_line, string_line}
+use Rattle.pyver_projects.specs.Meanings.{DocumentReading, IsBroken, IsDocumentReading, IsFileReading, IsLock, IsLockReading, IsLockedReading, IsProject, IsProjectReading, IsRequirementReading, IsSectionMeaning, IsStringReading, IsVersionReading, LockedReading, StringReading, fault_meaning, file_meaning, is_of_version, requirement_line, string_line}
 use Rattle.pyver_projects.specs.ProjectLaws.{DocumentReportsOnce, IsReadable, IsReadableAs}
 use Rattle.pyver_projects.specs.ProjectStrings.{Build, Dependencies, Extra, Group, Include, Invalid, LockContents, LockedFile, LockedRequirement, Section, Python, ProjectString, Version}
 use Rattle.pyver_projects.specs.declared.document_kind.DocumentKind.{DocumentKind}
@@ -68,7 +68,7 @@ one_version line name (Some text) x y (inr (f, r, a)) (inr (g, s, b)) =
 
 one_project : (file : File) (t : Members) (x y : DocumentReading) → IsProjectReading file t x → IsProjectReading file t y → x ≡ y
 one_project file t x y (xs, g, a) (ys, h, b) =
-    a ∙ ap (λ (zs : List StringReading). IsProject (has_group_tool t) zs)
+    a ∙ ap (λ (zs : List StringReading). IsProject (has_group_tool t) (project_names t) zs)
     (zip_once (IsStringReading (groups t) file) (Contains (sources t)) (λ s v w known p q. one_string (groups t) file s v w p q) (sources t) xs ys (All-contains_itself (sources t)) g h) ∙ sym b
 
 one_requirement : (file : List ℕ) (q : LockedRequirement) (x y : LineMeaning) → IsRequirementReading file q x → IsRequirementReading file q y → x ≡ y
@@ -92,7 +92,7 @@ one_lock file l x y (ys, ms, fs, g, h, i, a) (zs, ns, gs, j, k, m, b) =
     let packages = zip_once (IsLockedReading file) (Contains l.packages) (λ p v w known q r. one_version _ p.name p.version v w q r) l.packages ys zs (All-contains_itself l.packages) g j in
     let requirements = zip_once (IsRequirementReading file) (Contains l.requirements) (λ p v w known q r. one_requirement file p v w q r) l.requirements ms ns (All-contains_itself l.requirements) h k in
     let files = zip_once (IsFileReading file) (Contains l.files) (λ p v w known q r. one_file file p v w q r) l.files fs gs (All-contains_itself l.files) i m in
-    a ∙ (λ n. IsLock (packages n) (requirements n) (files n)) ∙ sym b
+    a ∙ (λ n. IsLock l.parts (packages n) (requirements n) (files n ++ map (fault_meaning file) l.faults)) ∙ sym b
 
 one_document : (kind : DocumentKind) (file : File) (x y : DocumentReading) → IsReadableAs kind file → IsDocumentReading (record { kind = kind; file = file }) x → IsDocumentReading (record { kind = kind; file = file }) y → x ≡ y
 one_document Project file x y (t, (text, e)) (inl (none, a)) b = absurd (none text)
@@ -118,14 +118,14 @@ part_told : (together : Bool) (xs : List StringReading) (part : Section) (fs : L
 part_told together xs part fs cs finds = names_tell (part_demands together (inclusions (sections xs)) part xs) fs cs finds
 
 reading_told : (x : DocumentReading) (fs : List Finding) (cs : List Cause) → FindsOfReading x fs cs → IsTold cs
-reading_told (IsProject together xs) fs cs (found, finds, is) = each_told (FindsOfPart together xs) (part_told together xs) (parts xs) found cs finds
-reading_told (IsLock ys ms files) fs cs (is, also) = inl also
+reading_told (IsProject together names xs) fs cs (found, finds, is) = each_told (FindsOfPart together xs) (part_told together xs) (parts xs) found cs finds
+reading_told (IsLock parts ys ms files) fs cs (is, also) = inl also
 reading_told (IsBroken f) fs cs (is, also) = inl also
 
 reading_once : (x : DocumentReading) → IsOnce (FindsOfReading x)
-reading_once (IsProject together xs) fs gs (found, finds, is) (others, also, so) =
+reading_once (IsProject together names xs) fs gs (found, finds, is) (others, also, so) =
     is ∙ ap (with_new same_finding []) (each_once (FindsOfPart together xs) (λ part. names_once (part_demands together (inclusions (sections xs)) part xs)) (parts xs) found others finds also) ∙ sym so
-reading_once (IsLock ys ms files) fs gs (is, _) (so, _) = is ∙ sym so
+reading_once (IsLock parts ys ms files) fs gs (is, _) (so, _) = is ∙ sym so
 reading_once (IsBroken f) fs gs (is, _) (so, _) = is ∙ sym so
 
 in_report : (a r : Report) (fs : List Finding) (cs : List Cause) → r ≡ with_found a fs cs → Contains (a.left_out ++ cs) cause.Undecided → IsUndecided r

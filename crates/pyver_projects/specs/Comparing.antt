@@ -78,66 +78,93 @@ absent ys a = if list_any (has_name a) ys then [] else NoRequirement a.line (cod
 abbrev pub is_installer : List ℕ → Bool
 is_installer name = bytes_eq name (codes "setuptools") || (bytes_eq name (codes "distribute") || (bytes_eq name (codes "pip") || bytes_eq name (codes "wheel")))
 
--- the lock lacks what a package requires
-abbrev pub lacking : List LockedReading → Demand → List Finding
-lacking ys a = if is_installer a.name then [] else absent ys a
+abbrev pub is_project_reading : DocumentReading → Bool
+is_project_reading (IsProject together names xs) = true
+is_project_reading (IsLock parts ys ms fs) = false
+is_project_reading (IsBroken f) = false
 
--- what the requirement of a package lacks and excludes in its own lock
-abbrev pub unmet : List LockedReading → LineMeaning → List Finding
-unmet ys m = flat_map (λ a. lacking ys a ++ excluded a ys) (demands_in m)
+-- the names of a project
+abbrev pub names_read : DocumentReading → List (List ℕ)
+names_read (IsProject together names xs) = names
+names_read (IsLock parts ys ms fs) = []
+names_read (IsBroken f) = []
 
--- the report of a document by itself: the strings or the packages count as lines
-abbrev pub own_report : DocumentReading → Report
-own_report (IsProject together xs) = record { findings = flat_map invalid_string xs ++ project_conflicts together xs; ignored = []; lines = length xs; files = 1; left_out = flat_map left_out_string xs }
-own_report (IsLock ys ms fs) = record { findings = flat_map invalid_package ys ++ (flat_map invalid_in fs ++ flat_map (unmet ys) ms); ignored = []; lines = length ys; files = 1; left_out = flat_map left_out_in ms }
-own_report (IsBroken f) = record { findings = f ∷ []; ignored = []; lines = 0; files = 1; left_out = [] }
+-- no lock is to have a package of this name, though a package requires it: an installer, one of the projects, which neither Poetry nor PDM
+-- locks, and any where no project is known
+abbrev pub is_excused : List DocumentReading → List ℕ → Bool
+is_excused xs name = is_installer name || (not (list_any is_project_reading xs) || list_any (bytes_eq name) (flat_map names_read xs))
 
--- a report, and after it those of documents
-abbrev pub with_own_reports : Report → List DocumentReading → Report
-with_own_reports a [] = a
-with_own_reports a (x ∷ xs) = with_own_reports (joined_report a (own_report x)) xs
+module _ (excused : List ℕ → Bool) where
+  -- the lock lacks what a package requires
+  abbrev pub lacking : List LockedReading → Demand → List Finding
+  lacking ys a = if excused a.name then [] else absent ys a
+
+  -- what the requirement of a package lacks and excludes in its own lock
+  abbrev pub unmet : List LockedReading → LineMeaning → List Finding
+  unmet ys m = flat_map (λ a. lacking ys a ++ excluded a ys) (demands_in m)
+
+  -- the report of a document by itself: the strings or the packages count as lines
+  abbrev pub own_report : DocumentReading → Report
+  own_report (IsProject together names xs) = record { findings = flat_map invalid_string xs ++ project_conflicts together xs; ignored = []; lines = length xs; files = 1; left_out = flat_map left_out_string xs }
+  own_report (IsLock parts ys ms fs) = record { findings = flat_map invalid_package ys ++ (flat_map invalid_in fs ++ flat_map (unmet ys) ms); ignored = []; lines = length ys; files = 1; left_out = flat_map left_out_in ms }
+  own_report (IsBroken f) = record { findings = f ∷ []; ignored = []; lines = 0; files = 1; left_out = [] }
+
+  -- a report, and after it those of documents
+  abbrev pub with_own_reports : Report → List DocumentReading → Report
+  with_own_reports a [] = a
+  with_own_reports a (x ∷ xs) = with_own_reports (joined_report a (own_report x)) xs
 
 -- ---- a project beside a lock
 
--- the lock has what the groups need, as that of uv
+-- the lock has what all groups need, as that of uv
 abbrev pub locks_groups : LockKind → Bool
 locks_groups Uv = true
 locks_groups _ = false
 
--- the lock has what the extras need, as those of uv and Poetry
+-- the lock has what all extras need, as those of uv and Poetry
 abbrev pub locks_extras : LockKind → Bool
 locks_extras Poetry = true
 locks_extras kind = locks_groups kind
 
--- a lock has the dependencies of the project,
-abbrev pub is_needed : LockKind → Section → Bool
-is_needed kind Dependencies = true
-is_needed kind (Extra name) = locks_extras kind
-is_needed kind (Group name) = locks_groups kind
-is_needed kind _ = false
+-- the lock has the dependencies, as each but that of PDM, which names its groups and may lack `default`
+abbrev pub locks_dependencies : LockKind → Bool
+locks_dependencies Pdm = false
+locks_dependencies _ = true
 
--- and may have what its extras and groups need, but not what builds it
+-- the group is one of these
+abbrev pub is_listed_part : List (List ℕ) → List ℕ → Bool
+is_listed_part parts name = list_any (bytes_eq name) parts
+
+-- a lock with these groups has what this part of the project needs
+abbrev pub is_needed : LockKind → List (List ℕ) → Section → Bool
+is_needed kind parts Dependencies = locks_dependencies kind || is_listed_part parts (codes "default")
+is_needed kind parts (Extra name) = locks_extras kind || is_listed_part parts name
+is_needed kind parts (Group name) = locks_groups kind || is_listed_part parts name
+is_needed kind parts _ = false
+
+-- a lock may have what the part needs, but not what builds the project
 abbrev pub is_locked : Section → Bool
 is_locked Dependencies = true
 is_locked (Extra name) = true
 is_locked (Group name) = true
 is_locked _ = false
 
--- a lock has the package, if it needs it
-abbrev pub missing : LockKind → List LockedReading → Section → Demand → List Finding
-missing kind ys section a = if is_needed kind section then absent ys a else []
+module _ (kind : LockKind) (parts : List (List ℕ)) where
+  -- a lock has the package, if it needs it
+  abbrev pub missing : List LockedReading → Section → Demand → List Finding
+  missing ys section a = if is_needed kind parts section then absent ys a else []
 
--- a requirement beside the lock, which counts if it has no marker
-abbrev pub compared_demand : LockKind → List LockedReading → Section → Demand → List Finding
-compared_demand kind ys section a = if is_none a.marker then missing kind ys section a ++ excluded a ys else []
+  -- a requirement beside the lock, which counts if it has no marker
+  abbrev pub compared_demand : List LockedReading → Section → Demand → List Finding
+  compared_demand ys section a = if is_none a.marker then missing ys section a ++ excluded a ys else []
 
--- a string beside the lock
-abbrev pub compared : LockKind → List LockedReading → StringReading → List Finding
-compared kind ys x = if is_locked x.section then flat_map (compared_demand kind ys x.section) (demands_in x.meaning) else []
+  -- a string beside the lock
+  abbrev pub compared : List LockedReading → StringReading → List Finding
+  compared ys x = if is_locked x.section then flat_map (compared_demand ys x.section) (demands_in x.meaning) else []
 
 -- the first document beside the second, of this kind, if that is a project and this a lock
 abbrev pub found_beside : DocumentKind → DocumentReading → DocumentReading → List Finding
-found_beside (Lock kind) (IsProject together xs) (IsLock ys ms fs) = flat_map (compared kind ys) xs
+found_beside (Lock kind) (IsProject together names xs) (IsLock parts ys ms fs) = flat_map (compared kind parts ys) xs
 found_beside kind x y = []
 
 -- ---- which lock is compared with which project
@@ -191,12 +218,12 @@ with_findings a found = record { findings = a.findings ++ found; ignored = a.ign
 
 -- the report of documents that were read: of each by itself, in order, and then of each project beside each lock that counts for it
 abbrev pub documents_report : List Document → List DocumentReading → Report
-documents_report documents xs = with_findings (with_own_reports empty_report xs) (flat_map (beside_all documents (zip documents xs)) (zip documents xs))
+documents_report documents xs = with_findings (with_own_reports (is_excused xs) empty_report xs) (flat_map (beside_all documents (zip documents xs)) (zip documents xs))
 
 -- of a project the requirements that hold together under two markers
 abbrev pub FindsOfReading : DocumentReading → List Finding → List Cause → Type 0
-FindsOfReading (IsProject together xs) fs cs = FindsOfParts together xs fs cs
-FindsOfReading (IsLock ys ms files) fs cs = FindsNothing fs cs
+FindsOfReading (IsProject together names xs) fs cs = FindsOfParts together xs fs cs
+FindsOfReading (IsLock parts ys ms files) fs cs = FindsNothing fs cs
 FindsOfReading (IsBroken f) fs cs = FindsNothing fs cs
 
 -- a report with more findings and causes

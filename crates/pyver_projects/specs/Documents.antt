@@ -1,12 +1,12 @@
 -- The kinds of documents, by their paths and by words, and what a parsed one has to check: the strings of `pyproject.toml`, and the versions of a lock.
-use Rattle.std.specs.Prelude.{Bool, List, None, Option, Some, [], bytes_eq, codes, count_by, get_or, if◌then◌else◌, is_none, is_some, length, map, nat_eq, nat_lt, option_map, ℕ, ◌&&◌, ◌++◌, ◌+◌, ◌==◌, ◌||◌, ◌∷◌}
+use Rattle.std.specs.Prelude.{Bool, List, None, Option, Some, [], bytes_eq, codes, count_by, get_or, if◌then◌else◌, is_none, is_some, length, map, nat_eq, nat_lt, option_map, option_to_list, ℕ, ◌&&◌, ◌++◌, ◌+◌, ◌==◌, ◌||◌, ◌∷◌}
 use Rattle.std.specs.List.{ends_with, flat_map, starts_with}
+use Rattle.std.specs.Option.{option_or}
 use Rattle.pep440_pick.specs.Names.{is_name, normal}
 use Rattle.toml.specs.Data.{Data, Members, as_str, get, get_member}
-use Rattle.pyver_projects.specs.LockedFiles.{files_from, last_section}
+use Rattle.pyver_projects.specs.LockedFiles.{files_from, last_section, counted_names, has_markers, package_faults, package_name_in}
 use Rattle.pyver_projects.specs.PackageRequirements.{requirements_from}
-use Rattle.pyver_projects.specs.ProjectStrings.{Build, Dependencies, Extra, Group, Include, Invalid, LockContents, LockedPackage, ProjectString, Python, Section, Version, header_lines}
-use Rattle.pyver_projects.specs.TomlValues.{entries, inside, is_array_or_none, is_table_or_none, listed, text_in}
+use Rattle.pyver_projects.specs.ProjectStrings.{Build, Dependencies, Extra, Group, Include, Invalid, LockContents, LockedPackage, ProjectString, Python, Section, Version, header_lines, entries, inside, is_array_or_none, is_table_or_none, listed, text_in}
 use Rattle.pyver_projects.specs.PipfileLocks.{member_packages}
 use Rattle.pyver_findings.specs.NamedFiles.{folder}
 use Rattle.pyver_projects.specs.declared.document_kind.DocumentKind.{DocumentKind}
@@ -139,6 +139,14 @@ sources document = table_faults document
     ++ (flat_map (group_sources (group_names document)) (groups_table document)
     ++ array_sources (codes "requires") Build (inside (codes "requires") (get_member (codes "build-system") document)))))
 
+-- the name of the project as it is written, by PEP 621 or as Poetry has it
+abbrev pub written_name : Members → Option (List ℕ)
+written_name document = option_or (text_in (inside (codes "name") (get_member (codes "project") document))) (text_in (inside (codes "name") (inside (codes "poetry") (get_member (codes "tool") document))))
+
+-- its normal form, if it has a name
+abbrev pub project_names : Members → List (List ℕ)
+project_names document = option_to_list (option_map normal (written_name document))
+
 -- the document has this table of a tool
 abbrev pub has_tool : List ℕ → Members → Bool
 has_tool name document = is_some (inside name (get_member (codes "tool") document))
@@ -162,13 +170,44 @@ package_in line (Some name) version = record { line = line; name = name; version
 abbrev pub package_from : ℕ × Data → List LockedPackage
 package_from e = package_in e.0 (text_in (get (codes "name") e.1)) (text_in (get (codes "version") e.1))
 
--- what the tables of packages have
-abbrev pub table_contents : List (ℕ × Data) → LockContents
-table_contents tables = record { packages = flat_map package_from tables; requirements = flat_map requirements_from tables; files = flat_map files_from tables }
+-- the normal forms of the names in an array
+abbrev pub names_listed : Option Data → List (List ℕ)
+names_listed value = flat_map (λ (d : Data). package_name_in (Some d)) (listed value)
 
--- what a lock has in the array of tables at this key, with these lines of headers
-abbrev pub contents : List ℕ → List ℕ → Members → LockContents
-contents lines key document = table_contents (numbered_tables lines 0 (listed (get_member key document)))
+-- those, or `default`, if there is no value
+abbrev pub listed_or_default : Option Data → List (List ℕ)
+listed_or_default None = codes "default" ∷ []
+listed_or_default (Some groups) = names_listed (Some groups)
+
+-- the groups that a lock names beside its packages: that of PDM, where `default` are the dependencies of the project, and each extra is one
+abbrev pub lock_parts : LockKind → Members → List (List ℕ)
+lock_parts Pdm document = listed_or_default (inside (codes "groups") (get_member (codes "metadata") document))
+lock_parts kind document = []
+
+-- the groups that a package names: one of Poetry, from format 2.1 on
+abbrev pub package_parts : LockKind → ℕ × Data → List (List ℕ)
+package_parts Poetry e = names_listed (get (codes "groups") e.1)
+package_parts kind e = []
+
+-- what the tables of packages of a lock of this kind have, each with its line, beside these groups, that have markers or not, and are looked
+-- at beside those with these names
+abbrev pub table_contents : LockKind → List (List ℕ) → Bool → List (List ℕ) → List (ℕ × Data) → LockContents
+table_contents kind parts marked names tables = record {
+  parts = parts ++ flat_map (package_parts kind) tables;
+  packages = flat_map package_from tables;
+  requirements = flat_map requirements_from tables;
+  files = flat_map files_from tables;
+  faults = flat_map (package_faults kind marked names) tables;
+}
+
+-- what a lock of this kind has in these packages, with these lines of headers
+abbrev pub packages_contents : LockKind → List ℕ → Members → List Data → LockContents
+packages_contents kind lines document packages =
+    table_contents kind (lock_parts kind document) (has_markers kind document) (flat_map (counted_names kind) packages) (numbered_tables lines 0 packages)
+
+-- in those in the array of tables at this key
+abbrev pub contents : LockKind → List ℕ → List ℕ → Members → LockContents
+contents kind lines key document = packages_contents kind lines document (listed (get_member key document))
 
 -- the path is this name, or ends with it after a `/`
 abbrev pub ends_path : List ℕ → List ℕ → List ℕ → Bool
@@ -210,18 +249,18 @@ kind_of_word word =
     else None
 
 -- what a TOML lock with this text has, if it is TOML: packages at the key, each under the header
-abbrev pub toml_contents : List ℕ → List ℕ → List ℕ → Option LockContents
-toml_contents key header text = option_map (contents (header_lines header text) key) (parse_document text)
+abbrev pub toml_contents : LockKind → List ℕ → List ℕ → List ℕ → Option LockContents
+toml_contents kind key header text = option_map (contents kind (header_lines header text) key) (parse_document text)
 
 -- what `Pipfile.lock` has: only packages
 abbrev pub pipfile_contents : List ℕ → JsonData → LockContents
-pipfile_contents text document = record { packages = member_packages text document; requirements = []; files = [] }
+pipfile_contents text document = record { parts = []; packages = member_packages text document; requirements = []; files = []; faults = [] }
 
 -- what a lock with this text has, if it is TOML, or JSON, of a known format
 abbrev pub locked : LockKind → List ℕ → Option LockContents
-locked Pylock text = toml_contents (codes "packages") (codes "[[packages]]") text
-locked Uv text = toml_contents (codes "package") (codes "[[package]]") text
-locked Pdm text = toml_contents (codes "package") (codes "[[package]]") text
-locked Poetry text = toml_contents (codes "package") (codes "[[package]]") text
+locked Pylock text = toml_contents Pylock (codes "packages") (codes "[[packages]]") text
+locked Uv text = toml_contents Uv (codes "package") (codes "[[package]]") text
+locked Pdm text = toml_contents Pdm (codes "package") (codes "[[package]]") text
+locked Poetry text = toml_contents Poetry (codes "package") (codes "[[package]]") text
 locked Pipfile text = option_map (pipfile_contents text) (read text)
 locked Unknown text = None

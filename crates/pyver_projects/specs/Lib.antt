@@ -1,5 +1,4 @@
 pub mod ProjectStrings
-pub mod TomlValues
 pub mod PipfileLocks
 pub mod PackageRequirements
 pub mod LockedFiles
@@ -7,7 +6,6 @@ pub mod Documents
 pub mod Groups
 pub mod Meanings
 pub mod ProjectViews
-pub mod NameMaps
 pub mod Together
 pub mod Comparing
 pub mod ProjectLaws

@@ -1,13 +1,16 @@
--- The versions in the names of the files of locked packages: of wheels (PEP 427, "File name convention"), and of archives of sources (PEP 625, "Specification").
-use Rattle.std.specs.Prelude.{ℕ, List, [], ◌∷◌, ◌++◌, ◌-◌, ◌&&◌, ◌||◌, Bool, true, false, Option, Some, None, bytes_eq, codes, if◌then◌else◌, is_some, length, nat_eq, not, option_and_then, option_map, option_to_list, take, unwrap_or, ◌==◌}
-use Rattle.std.specs.List.{ends_with, list_any}
+-- Locked packages beside their files and beside one another: the versions in the names of files, of wheels (PEP 427, "File name convention") and of
+-- archives of sources (PEP 625, "Specification"); and packages of one name. By PEP 751 ("Specification") at most one of these is installed, so
+-- that their markers differ, as in Poetry's and PDM's locks; uv names a package by its source, too, if another one has its name.
+use Rattle.std.specs.Prelude.{ℕ, List, [], ◌∷◌, ◌++◌, ◌-◌, ◌&&◌, ◌||◌, Bool, true, false, Option, Some, None, bytes_eq, codes, if◌then◌else◌, is_some, length, nat_eq, not, option_and_then, option_map, option_to_list, take, unwrap_or, ◌==◌, count_by, nat_lt}
+use Rattle.std.specs.List.{ends_with, list_any, flat_map}
 use Rattle.std.specs.Option.{option_map_or, option_or}
-use Rattle.pep440_pick.specs.Names.{same_name}
+use Rattle.pep440_pick.specs.Names.{same_name, normal}
 use Rattle.pep440_pick.specs.RequirementReading.{split_at_byte}
-use Rattle.toml.specs.Data.{Data, get}
-use Rattle.pyver_projects.specs.PackageRequirements.{lacks}
-use Rattle.pyver_projects.specs.ProjectStrings.{LockedFile}
-use Rattle.pyver_projects.specs.TomlValues.{listed, text_in}
+use Rattle.toml.specs.Data.{Data, get, Members, get_member}
+use Rattle.pyver_projects.specs.PackageRequirements.{lacks, package_text}
+use Rattle.pyver_projects.specs.ProjectStrings.{LockedFile, LockFault, listed, text_in, inside}
+use Rattle.pyver_projects.specs.declared.document_kind.LockKind.{LockKind}
+use Rattle.pyver_projects.specs.declared.document_kind.LockKind.TheVariants.{Pdm, Pipfile, Poetry, Pylock, Unknown, Uv}
 
 -- ---- the name of a file
 
@@ -92,3 +95,100 @@ is_indexed d = lacks (codes "url") d && (lacks (codes "path") d && is_index (get
 -- the files of the package on this line, if it is from an index
 abbrev pub files_from : ℕ × Data → List LockedFile
 files_from e = if not (is_indexed e.1) then [] else files_by e.0 (text_in (get (codes "name") e.1)) (text_in (get (codes "version") e.1)) e.1
+
+-- the normal form of the name, if it is a string
+abbrev pub package_name_in : Option Data → List (List ℕ)
+package_name_in value = option_to_list (option_map normal (text_in value))
+
+abbrev pub package_name : Data → List (List ℕ)
+package_name d = package_name_in (get (codes "name") d)
+
+-- ---- packages with one marker
+
+-- the marker of a package, empty without one; none if it is no string, as where Poetry has one for each group
+abbrev pub marker_text : Data → Option (List ℕ)
+marker_text d = if lacks (codes "marker") d && lacks (codes "markers") d then Some [] else option_or (text_in (get (codes "marker") d)) (text_in (get (codes "markers") d))
+
+-- a name in its normal form beside a marker
+abbrev pub marked_name : List ℕ → List ℕ → List ℕ
+marked_name name marker = normal name ++ (59 ∷ marker)
+
+-- the name and the marker of a package that has both. PDM has a package once more for its extras
+abbrev pub marked_names_in : Option (List ℕ) → Option (List ℕ) → List (List ℕ)
+marked_names_in (Some name) (Some marker) = marked_name name marker ∷ []
+marked_names_in (Some name) None = []
+marked_names_in None marker = []
+
+abbrev pub is_for_extras : Data → Bool
+is_for_extras d = nat_lt 0 (length (listed (get (codes "extras") d)))
+
+abbrev pub marked_names : Data → List (List ℕ)
+marked_names d = if is_for_extras d then [] else marked_names_in (text_in (get (codes "name") d)) (marker_text d)
+
+-- that another package has the name and the marker of the package on this line
+abbrev pub twin_fault : ℕ → List ℕ → Option (List ℕ) → LockFault
+twin_fault line name version = record { line = line; text = package_text name version; reason = codes "another package has this name and no other marker" }
+
+-- a package of this name on this line, if two of these are its name and its marker
+abbrev pub twin_in : List (List ℕ) → ℕ → List ℕ → Option (List ℕ) → List ℕ → List LockFault
+twin_in names line name version marked =
+    if nat_lt 1 (count_by (bytes_eq marked) names) then twin_fault line name version ∷ [] else []
+
+abbrev pub twin_by : List (List ℕ) → ℕ → Option (List ℕ) → Option (List ℕ) → Option (List ℕ) → List LockFault
+twin_by names line (Some name) version (Some marker) = twin_in names line name version (marked_name name marker)
+twin_by names line (Some name) version None = []
+twin_by names line None version marker = []
+
+abbrev pub twins : List (List ℕ) → ℕ × Data → List LockFault
+twins names e = if is_for_extras e.1 then [] else twin_by names e.0 (text_in (get (codes "name") e.1)) (text_in (get (codes "version") e.1)) (marker_text e.1)
+
+-- ---- dependencies without sources
+
+-- more than one of these is the name
+abbrev pub is_shared : List (List ℕ) → List ℕ → Bool
+is_shared names name = nat_lt 1 (count_by (bytes_eq (normal name)) names)
+
+-- that the package of this text on this line requires a name that more than one has
+abbrev pub ambiguous_fault : ℕ → List ℕ → List ℕ → LockFault
+ambiguous_fault line requirer name = record { line = line; text = requirer ++ (codes " requires " ++ name); reason = codes "more than one package has this name" }
+
+module _ (names : List (List ℕ)) (line : ℕ) (requirer : List ℕ) where
+  abbrev pub ambiguous_name : Option (List ℕ) → List LockFault
+  ambiguous_name None = []
+  ambiguous_name (Some name) = if is_shared names name then ambiguous_fault line requirer name ∷ [] else []
+
+  -- an item of `dependencies`, which says neither a version nor a source if only one package has the name
+  abbrev pub ambiguous_item : Data → List LockFault
+  ambiguous_item d = if lacks (codes "source") d then ambiguous_name (text_in (get (codes "name") d)) else []
+
+abbrev pub ambiguous_by : List (List ℕ) → ℕ → Option (List ℕ) → Data → List LockFault
+ambiguous_by names line None d = []
+ambiguous_by names line (Some name) d = flat_map (ambiguous_item names line (package_text name (text_in (get (codes "version") d)))) (listed (get (codes "dependencies") d))
+
+-- the dependencies of the package on this line, beside those with these names
+abbrev pub ambiguous : List (List ℕ) → ℕ × Data → List LockFault
+ambiguous names e = ambiguous_by names e.0 (text_in (get (codes "name") e.1)) e.1
+
+-- ---- locks
+
+-- in its format, packages of one name have markers that differ. Poetry writes them from format 2.1 on; PDM may leave them out if it locks for
+-- more than one target
+abbrev pub has_markers : LockKind → Members → Bool
+has_markers Pylock document = true
+has_markers Poetry document = option_map_or (bytes_eq (codes "2.1")) (text_in (inside (codes "lock-version") (get_member (codes "metadata") document))) false
+has_markers Pdm document = nat_lt (length (listed (inside (codes "targets") (get_member (codes "metadata") document)))) 2
+has_markers Uv document = false
+has_markers Pipfile document = false
+has_markers Unknown document = false
+
+abbrev pub is_uv : LockKind → Bool
+is_uv Uv = true
+is_uv _ = false
+
+-- the name of a package, for which others of the name are looked at, in `uv.lock`, else with its marker
+abbrev pub counted_names : LockKind → Data → List (List ℕ)
+counted_names kind d = if is_uv kind then package_name d else marked_names d
+
+-- what is wrong with a package of a lock of this kind, that has markers or not, beside those with these names
+abbrev pub package_faults : LockKind → Bool → List (List ℕ) → ℕ × Data → List LockFault
+package_faults kind marked names e = if is_uv kind then ambiguous names e else if marked then twins names e else []

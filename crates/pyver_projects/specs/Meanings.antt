@@ -1,5 +1,5 @@
 -- What a string of `pyproject.toml`, a locked package and a document are to the check.
-use Rattle.std.specs.Prelude.{◌≡◌, ◌⊎◌, ℕ, ◌+◌, List, [], ◌++◌, Bool, true, false, Option, Some, None, codes, length, ⊤}
+use Rattle.std.specs.Prelude.{◌≡◌, ◌⊎◌, ℕ, ◌+◌, List, [], ◌++◌, Bool, true, false, Option, Some, None, codes, length, map, ⊤}
 use Rattle.std.specs.List.{AllZip, All}
 use Rattle.std.specs.Str.{IsUtf8}
 use Rattle.pep440_pick.specs.Names.{normal}
@@ -18,10 +18,10 @@ use Rattle.pyver_findings.specs.declared.cause.Cause.TheVariants as cause
 use Rattle.pyver_requirements.specs.LineParts.{line_parts}
 use Rattle.toml.specs.Data.{Members}
 use Rattle.toml.specs.Parse.{parse_document}
-use Rattle.pyver_projects.specs.Documents.{has_group_tool, locked, sources}
+use Rattle.pyver_projects.specs.Documents.{has_group_tool, locked, project_names, sources}
 use Rattle.pyver_projects.specs.Groups.{Groups, groups, include_meaning, no_group}
 use Rattle.pyver_projects.specs.PackageRequirements.{package_text, requirement_text}
-use Rattle.pyver_projects.specs.ProjectStrings.{Build, Dependencies, Extra, Group, Include, Invalid, LockContents, LockedFile, LockedPackage, LockedRequirement, ProjectString, Python, Section, Version, first_line, number_or_one}
+use Rattle.pyver_projects.specs.ProjectStrings.{Build, Dependencies, Extra, Group, Include, Invalid, LockContents, LockFault, LockedFile, LockedPackage, LockedRequirement, ProjectString, Python, Section, Version, first_line, number_or_one}
 use Rattle.pyver_projects.specs.declared.document_kind.DocumentKind.{DocumentKind}
 use Rattle.pyver_projects.specs.declared.document_kind.DocumentKind.TheVariants.{Lock, Project}
 use Rattle.pyver_findings.specs.Reports.{demands_in}
@@ -112,27 +112,36 @@ abbrev pub IsFileReading : List ℕ → LockedFile → LineMeaning → Type 0
 IsFileReading file f x = ((r q : Record) × Derives f.version r × Derives f.written q × (x ≡ file_meaning file f (is_of_version r q)))
     ⊎ ((IsNoVersion f.version ⊎ IsNoVersion f.written) × (x ≡ AsksNothing))
 
+-- ---- faults of locked packages
+
+abbrev pub fault_line : List ℕ → LockFault → FileLine
+fault_line file f = record { file = file; number = f.line; text = f.text; comment = [] }
+
+-- that the lock with this name has it
+abbrev pub fault_meaning : List ℕ → LockFault → LineMeaning
+fault_meaning file f = IsNone (NoRequirement (fault_line file f) f.reason 0)
+
 -- ---- documents
 
 pub record Document : Type 0 where
   pub kind : DocumentKind
   pub file : File
 
--- a document that was read: of a project whether its groups hold together with its dependencies, and its strings; the packages of a lock,
--- what they require and their files; or why it was not read
+-- a document that was read: of a project whether its groups hold together with its dependencies, its names, and its strings; the groups and packages of a lock,
+-- what they require, and what is wrong with their files and beside one another; or why it was not read
 pub data DocumentReading : Type 0 where
-  IsProject : Bool → List StringReading → DocumentReading
-  IsLock : List LockedReading → (requirements files : List LineMeaning) → DocumentReading
+  IsProject : Bool → (names : List (List ℕ)) → List StringReading → DocumentReading
+  IsLock : (parts : List (List ℕ)) → List LockedReading → (requirements faults : List LineMeaning) → DocumentReading
   IsBroken : Finding → DocumentReading
 
 -- what a project with this table is
 abbrev pub IsProjectReading : File → Members → DocumentReading → Type 0
-IsProjectReading file t x = (xs : List StringReading) × AllZip (IsStringReading (groups t) file) (sources t) xs × (x ≡ IsProject (has_group_tool t) xs)
+IsProjectReading file t x = (xs : List StringReading) × AllZip (IsStringReading (groups t) file) (sources t) xs × (x ≡ IsProject (has_group_tool t) (project_names t) xs)
 
 -- what a lock is that has this
 abbrev pub IsLockReading : List ℕ → LockContents → DocumentReading → Type 0
 IsLockReading file l x = (ys : List LockedReading) × (ms fs : List LineMeaning) × AllZip (IsLockedReading file) l.packages ys × AllZip (IsRequirementReading file) l.requirements ms
-    × AllZip (IsFileReading file) l.files fs × (x ≡ IsLock ys ms fs)
+    × AllZip (IsFileReading file) l.files fs × (x ≡ IsLock l.parts ys ms (fs ++ map (fault_meaning file) l.faults))
 
 -- the document is not read, for some reason at some position of it
 abbrev pub IsBrokenReading : File → DocumentReading → Type 0
@@ -157,6 +166,6 @@ IsSoundString x = All IsSound (demands_in x.meaning)
 
 -- and the lists of a project
 abbrev pub IsSoundDocument : DocumentReading → Type 0
-IsSoundDocument (IsProject together xs) = All IsSoundString xs
-IsSoundDocument (IsLock ys ms fs) = ⊤
+IsSoundDocument (IsProject together names xs) = All IsSoundString xs
+IsSoundDocument (IsLock parts ys ms fs) = ⊤
 IsSoundDocument (IsBroken f) = ⊤

@@ -8,8 +8,7 @@ use Rattle.pep440_pick.specs.RequirementReading.{split_at_byte}
 use Rattle.pep440_rs.specs.Blanks.{opens}
 use Rattle.pep440_version.specs.Reading.{lead, past}
 use Rattle.toml.specs.Data.{Data, as_str, get}
-use Rattle.pyver_projects.specs.ProjectStrings.{LockedRequirement}
-use Rattle.pyver_projects.specs.TomlValues.{entries, inside, listed, text_in}
+use Rattle.pyver_projects.specs.ProjectStrings.{LockedRequirement, entries, inside, listed, text_in}
 
 -- the name and the version of a package
 abbrev pub package_text : List ℕ → Option (List ℕ) → List ℕ

@@ -1,7 +1,7 @@
 -- What holds of reports of documents: each finding is right; where there is none, each requirement contains a locked version of its
 -- name; there is one report.
-use Rattle.std.specs.Prelude.{◌≡◌, ◌⊎◌, ℕ, ◌+◌, List, [], ◌∷◌, Bool, false, true, IsTrue, if◌then◌else◌, Option, None, Some, codes, length}
-use Rattle.std.specs.List.{All, AllZip, Contains, filter, flat_map}
+use Rattle.std.specs.Prelude.{◌≡◌, ◌⊎◌, ℕ, ◌+◌, List, [], ◌∷◌, Bool, false, true, IsTrue, if◌then◌else◌, Option, None, Some, bytes_eq, codes, length}
+use Rattle.std.specs.List.{All, AllZip, Contains, filter, flat_map, list_any}
 use Rattle.std.specs.Str.{IsUtf8}
 use Rattle.pep440_pick.specs.Names.{normal, same_name}
 use Rattle.pep440_pick.specs.RequirementGrammar.{DerivesRequirement, Needed}
@@ -23,10 +23,10 @@ use Rattle.pyver_requirements.specs.LineParts.{line_parts}
 use Rattle.toml.specs.Data.{Members}
 use Rattle.toml.specs.Parse.{parse_document}
 use Rattle.pyver_projects.specs.Comparing.{IsDocumentsReport, is_beside, is_installer, is_locked, is_needed}
-use Rattle.pyver_projects.specs.Documents.{has_group_tool, locked, sources}
+use Rattle.pyver_projects.specs.Documents.{has_group_tool, locked, project_names, sources}
 use Rattle.pyver_projects.specs.Groups.{groups}
-use Rattle.pyver_projects.specs.Meanings.{Document, IsSectionMeaning, IsStringReading, StringReading, file_meaning, is_of_version, package_line, requirement_line, string_line}
-use Rattle.pyver_projects.specs.ProjectStrings.{LockContents, LockedFile, LockedPackage, LockedRequirement, ProjectString, Section}
+use Rattle.pyver_projects.specs.Meanings.{Document, IsSectionMeaning, IsStringReading, StringReading, fault_meaning, file_meaning, is_of_version, package_line, requirement_line, string_line}
+use Rattle.pyver_projects.specs.ProjectStrings.{LockContents, LockFault, LockedFile, LockedPackage, LockedRequirement, ProjectString, Section}
 use Rattle.pyver_projects.specs.Together.{has_group, holds_in, part_demands, section_part}
 use Rattle.pyver_projects.specs.declared.document_kind.DocumentKind.{DocumentKind}
 use Rattle.pyver_projects.specs.declared.document_kind.DocumentKind.TheVariants.{Lock, Project}
@@ -144,6 +144,16 @@ pub record IsOtherFile (documents : List Document) (f : Finding) : Type 0 where
   pub differ : is_of_version version other ≡ false
   pub is : IsNone f ≡ file_meaning lock.name locked false
 
+-- a package of a lock has what is wrong with it beside others
+pub record IsLockFault (documents : List Document) (f : Finding) : Type 0 where
+  pub lock : File
+  pub kind : LockKind
+  pub contents : LockContents
+  pub fault : LockFault
+  pub known : HasLock documents kind lock contents
+  pub within : Contains contents.faults fault
+  pub is : IsNone f ≡ fault_meaning lock.name fault
+
 -- the project needs a package, and some lock has none of its name
 pub record IsMissing (documents : List Document) (f : Finding) : Type 0 where
   pub file : File
@@ -153,7 +163,7 @@ pub record IsMissing (documents : List Document) (f : Finding) : Type 0 where
   pub contents : LockContents
   pub needed : Needed
   pub has : HasString documents file string
-  pub counts : is_needed kind string.section ≡ true
+  pub counts : is_needed kind contents.parts string.section ≡ true
   pub asks : AlwaysAsks string needed
   pub known : HasLock documents kind lock contents
   pub none : All (λ (p : LockedPackage). same_name needed.name p.name ≡ false) contents.packages
@@ -206,7 +216,7 @@ pub record IsAbsent (documents : List Document) (f : Finding) : Type 0 where
 -- the finding is right
 abbrev pub IsDocumentFinding : List Document → Finding → Type 0
 IsDocumentFinding documents f = IsInvalidString documents f
-    ⊎ (IsInvalidPackage documents f ⊎ (IsUnread documents f ⊎ (IsMissing documents f ⊎ (IsExcluded documents f ⊎ (IsConflict documents f ⊎ (IsUnmet documents f ⊎ (IsAbsent documents f ⊎ IsOtherFile documents f)))))))
+    ⊎ (IsInvalidPackage documents f ⊎ (IsUnread documents f ⊎ (IsMissing documents f ⊎ (IsExcluded documents f ⊎ (IsConflict documents f ⊎ (IsUnmet documents f ⊎ (IsAbsent documents f ⊎ (IsOtherFile documents f ⊎ IsLockFault documents f))))))))
 
 -- each finding is right
 abbrev pub DocumentFindingsHold : Type 0
@@ -225,19 +235,27 @@ abbrev pub AllMet : List Document → Type 0
 AllMet documents = (lock : File) (kind : LockKind) (l : LockContents) (q : LockedRequirement) (p : LockedPackage) (list : List Spec) (v : Record) → HasLock documents kind lock l
     → Contains l.requirements q → Contains l.packages p → DerivesList q.list list → LocksVersion q.name p v → SomeContained l.packages q.name list
 
--- some package has the name that a package requires in the same lock, but for installers
+-- a project that is no project of this name
+abbrev pub IsOtherProject : List ℕ → Members → Type 0
+IsOtherProject name t = list_any (bytes_eq (normal name)) (project_names t) ≡ false
+
+-- some package has the name that a package requires in the same lock, where there is a project and none of that name, but for installers
 abbrev pub AllPresent : List Document → Type 0
-AllPresent documents = (lock : File) (kind : LockKind) (l : LockContents) (q : LockedRequirement) (list : List Spec) → HasLock documents kind lock l → Contains l.requirements q → DerivesList q.list list
-    → ¬ IsTrue (is_installer (normal q.name)) → (p : LockedPackage) × Contains l.packages p × IsTrue (same_name q.name p.name)
+AllPresent documents = (lock file : File) (kind : LockKind) (l : LockContents) (t : Members) (q : LockedRequirement) (list : List Spec) → HasLock documents kind lock l → Contains l.requirements q → DerivesList q.list list
+    → HasProject documents file t → ((other : File) (u : Members) → HasProject documents other u → IsOtherProject q.name u) → is_installer (normal q.name) ≡ false → (p : LockedPackage) × Contains l.packages p × IsTrue (same_name q.name p.name)
 
 -- each file of a package of a lock whose name has a version has that of the package
 abbrev pub AllOfVersion : List Document → Type 0
 AllOfVersion documents = (lock : File) (kind : LockKind) (l : LockContents) (f : LockedFile) (r q : Record) → HasLock documents kind lock l → Contains l.files f → Derives f.version r → Derives f.written q
     → is_of_version r q ≡ true
 
+-- nothing is wrong with the packages of a lock beside one another
+abbrev pub AllAlone : List Document → Type 0
+AllAlone documents = (lock : File) (kind : LockKind) (l : LockContents) → HasLock documents kind lock l → l.faults ≡ []
+
 -- where nothing is found, they do
 abbrev pub NoFindingImpliesContained : Type 0
-NoFindingImpliesContained = (documents : List Document) (r : Report) → IsDocumentsReport documents r → r.findings ≡ [] → AllContained documents × (AllMet documents × (AllPresent documents × AllOfVersion documents))
+NoFindingImpliesContained = (documents : List Document) (r : Report) → IsDocumentsReport documents r → r.findings ≡ [] → AllContained documents × (AllMet documents × (AllPresent documents × (AllOfVersion documents × AllAlone documents)))
 
 -- the requirements of the part of each string of each project that have one name, and the same marker or none, have a version in common, unless it
 -- is contradictory

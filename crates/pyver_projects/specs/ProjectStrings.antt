@@ -1,10 +1,56 @@
--- What documents have: strings that are to be requirements, lists of specifiers or versions, and locked packages; and where they stand.
-use Rattle.std.specs.Prelude.{Bool, List, None, Option, Some, [], bytes_eq, count_by, if◌then◌else◌, length, nat_eq, nat_lt, not, take, true, ℕ, ◌&&◌, ◌++◌, ◌+◌, ◌==◌, ◌||◌, ◌∷◌, ◌≡◌}
+-- What documents have: values of TOML that are tables, arrays or strings; strings that are to be requirements, lists of specifiers or versions,
+-- and locked packages; and where they stand.
+use Rattle.std.specs.Prelude.{Bool, List, None, Option, Some, [], bytes_eq, count_by, if◌then◌else◌, length, nat_eq, nat_lt, not, take, true, ℕ, ◌&&◌, ◌++◌, ◌+◌, ◌==◌, ◌||◌, ◌∷◌, ◌≡◌, is_some, option_and_then}
 use Rattle.std.specs.List.{prefix_len, starts_with}
 use Rattle.std.specs.BTreeMap.{get_by}
 use Rattle.std.specs.Cmp.Lexicographic.{slice_cmp}
 use Rattle.std.specs.Ordering.{nat_cmp}
 use Rattle.pyver_projects.specs.declared.place.QuotedLines.{QuotedLines}
+use Rattle.toml.specs.Data.{Data, Items, Members, as_array, as_str, as_table, get, item, member, no_items, no_members}
+
+abbrev pub items_list : Items → List Data
+items_list no_items = []
+items_list (item d ds) = d ∷ items_list ds
+
+abbrev pub members_list : Members → List (List ℕ × Data)
+members_list no_members = []
+members_list (member k d ms) = (k, d) ∷ members_list ms
+
+-- the value at a key, if there is a table that has it
+abbrev pub inside : List ℕ → Option Data → Option Data
+inside key value = option_and_then (get key) value
+
+abbrev pub items_or_none : Option Items → List Data
+items_or_none None = []
+items_or_none (Some ds) = items_list ds
+
+-- the items, if there is an array
+abbrev pub listed : Option Data → List Data
+listed value = items_or_none (option_and_then as_array value)
+
+abbrev pub members_or_none : Option Members → List (List ℕ × Data)
+members_or_none None = []
+members_or_none (Some ms) = members_list ms
+
+-- the members, if there is a table
+abbrev pub entries : Option Data → List (List ℕ × Data)
+entries value = members_or_none (option_and_then as_table value)
+
+-- the string, if there is one
+abbrev pub text_in : Option Data → Option (List ℕ)
+text_in value = option_and_then as_str value
+
+abbrev pub is_some_or : {X : Type 0} → (Data → Option X) → Option Data → Bool
+is_some_or read None = true
+is_some_or read (Some d) = is_some (read d)
+
+-- the value is an array, if there is one
+abbrev pub is_array_or_none : Option Data → Bool
+is_array_or_none value = is_some_or as_array value
+
+-- the value is a table, if there is one
+abbrev pub is_table_or_none : Option Data → Bool
+is_table_or_none value = is_some_or as_table value
 
 -- where a string stands in `pyproject.toml`: extras and groups by the normal forms of their names, and for the name of a group that another
 -- includes both; or, for the name of a group that is invalid, why it is
@@ -45,11 +91,19 @@ pub record LockedFile : Type 0 where
   pub file : List ℕ
   pub written : List ℕ
 
--- what is read of a lock
+-- what is wrong with a locked package beside others: the number of its line, what is shown of it, and why
+pub record LockFault : Type 0 where
+  pub line : ℕ
+  pub text : List ℕ
+  pub reason : List ℕ
+
+-- what is read of a lock; its parts are the normal names of the groups that it has
 pub record LockContents : Type 0 where
+  pub parts : List (List ℕ)
   pub packages : List LockedPackage
   pub requirements : List LockedRequirement
   pub files : List LockedFile
+  pub faults : List LockFault
 
 -- a quote of TOML or JSON: `"` or `'`
 abbrev pub is_string_quote : ℕ → Bool

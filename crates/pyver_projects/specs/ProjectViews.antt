@@ -1,15 +1,17 @@
--- What the crate's own types hold, apart from where they lie in memory.
-use Rattle.std.specs.Prelude.{map, option_map, string_bytes}
+-- What the crate's own types hold, apart from where they lie in memory; and what maps with names hold: sets of names, repeated names, inclusions
+-- by the groups that have them, places of groups, packages by names, and names of projects.
+use Rattle.std.specs.Prelude.{map, option_map, option_to_list, string_bytes, Bool, List, None, Option, Some, [], bytes_eq, count_by, if◌then◌else◌, is_some, nat_eq, nat_lt, not, ℕ, ◌||◌, ◌≡◌}
 use Rattle.pyver_findings.specs.Views.{file_line_of, file_of, finding_of, line_meaning_of}
-use Rattle.pyver_projects.specs.Groups.{Inclusion}
+use Rattle.pyver_projects.specs.Groups.{Inclusion, Groups}
 use Rattle.pyver_projects.specs.Meanings.{Document, DocumentReading, IsBroken, IsLock, IsProject, LockedReading, StringReading}
-use Rattle.pyver_projects.specs.ProjectStrings.{Build, Dependencies, Extra, Group, Include, Invalid, LockContents, LockedFile, LockedPackage, LockedRequirement, Section, Python, ProjectString, Version}
+use Rattle.pyver_projects.specs.ProjectStrings.{Build, Dependencies, Extra, Group, Include, Invalid, LockContents, LockFault, LockedFile, LockedPackage, LockedRequirement, Section, Python, ProjectString, Version}
 use Rattle.pyver_projects.specs.declared.document_kind.Document.{Document as DocumentValue}
 use Rattle.pyver_projects.specs.declared.document_reading.DocumentReading.{DocumentReading as DocumentReadingValue}
 use Rattle.pyver_projects.specs.declared.document_reading.ReadDocument.{ReadDocument as ReadDocumentValue}
 use Rattle.pyver_projects.specs.declared.document_reading.DocumentReading.TheVariants as reading
 use Rattle.pyver_projects.specs.declared.groups.Inclusion.{Inclusion as InclusionValue}
 use Rattle.pyver_projects.specs.declared.locked_package.LockContents.{LockContents as ContentsValue}
+use Rattle.pyver_projects.specs.declared.locked_package.LockFault.{LockFault as FaultValue}
 use Rattle.pyver_projects.specs.declared.locked_package.LockedFile.{LockedFile as FileValue}
 use Rattle.pyver_projects.specs.declared.locked_package.LockedPackage.{LockedPackage as LockedValue}
 use Rattle.pyver_projects.specs.declared.locked_package.LockedRequirement.{LockedRequirement as RequirementValue}
@@ -17,7 +19,18 @@ use Rattle.pyver_projects.specs.declared.locked_reading.LockedReading.{LockedRea
 use Rattle.pyver_projects.specs.declared.project.ProjectString.{ProjectString as SourceValue}
 use Rattle.pyver_projects.specs.declared.project.Section.{Section as SectionValue}
 use Rattle.pyver_projects.specs.declared.project.Section.TheVariants as section
-use Rattle.pyver_projects.specs.declared.string_reading.StringReading.{StringReading as StringReadingValue}
+use Rattle.pyver_projects.specs.declared.document_reading.StringReading.{StringReading as StringReadingValue}
+use Rattle.std.specs.Borrow.{Bor}
+use Rattle.std.specs.HashMap.{HashMap, get_by}
+use Rattle.std.specs.List.{filter, list_all, list_any}
+use Rattle.std.specs.Option.{option_map_or, unwrap_or}
+use Rattle.pyver_projects.specs.declared.groups.GroupOrder.{GroupOrder}
+use Rattle.pyver_projects.specs.declared.groups.Groups.{Groups as GroupsValue}
+use Rattle.pyver_projects.specs.declared.groups.InclusionIndex.{InclusionIndex}
+use Rattle.pyver_projects.specs.declared.groups.NameIndex.{NameIndex}
+use Rattle.pyver_projects.specs.Comparing.{is_installer}
+use Rattle.pyver_projects.specs.declared.lock_comparison.KnownProjects.{KnownProjects}
+use Rattle.pyver_projects.specs.declared.lock_comparison.PackageIndex.{PackageIndex}
 
 abbrev pub section_of : SectionValue → Section
 section_of section.Dependencies = Dependencies
@@ -44,8 +57,11 @@ requirement_of q = record { line = q.line; requirer = q.requirer.items; name = s
 abbrev pub locked_file_of : FileValue → LockedFile
 locked_file_of f = record { line = f.line; name = string_bytes f.name; version = string_bytes f.version; file = string_bytes f.file; written = string_bytes f.written }
 
+abbrev pub fault_of : FaultValue → LockFault
+fault_of f = record { line = f.line; text = f.text.items; reason = f.reason.now }
+
 abbrev pub contents_of : ContentsValue → LockContents
-contents_of l = record { packages = map locked_of l.packages.items; requirements = map requirement_of l.requirements.items; files = map locked_file_of l.files.items }
+contents_of l = record { parts = map (λ n. n.items) l.parts.items; packages = map locked_of l.packages.items; requirements = map requirement_of l.requirements.items; files = map locked_file_of l.files.items; faults = map fault_of l.faults.items }
 
 abbrev pub string_reading_of : StringReadingValue → StringReading
 string_reading_of x = record { section = section_of x.section; meaning = line_meaning_of x.meaning }
@@ -57,8 +73,8 @@ abbrev pub document_of : DocumentValue → Document
 document_of d = record { kind = d.kind; file = file_of d.file }
 
 abbrev pub document_reading_of : DocumentReadingValue → DocumentReading
-document_reading_of (reading.Project p) = IsProject p.together (map string_reading_of p.strings.items)
-document_reading_of (reading.Lock l) = IsLock (map locked_reading_of l.packages.items) (map line_meaning_of l.requirements.items) (map line_meaning_of l.files.items)
+document_reading_of (reading.Project p) = IsProject p.together (option_to_list (option_map (λ n. n.items) p.name)) (map string_reading_of p.strings.items)
+document_reading_of (reading.Lock l) = IsLock (map (λ n. n.items) l.parts.items) (map locked_reading_of l.packages.items) (map line_meaning_of l.requirements.items) (map line_meaning_of l.faults.items)
 document_reading_of (reading.Broken f) = IsBroken (finding_of f)
 
 -- what a document was read as
@@ -68,3 +84,82 @@ reading_in d = document_reading_of d.reading
 -- the document, and what it was read as
 abbrev pub read_pair : ReadDocumentValue → Document × DocumentReading
 read_pair d = (document_of d.document.now, reading_in d)
+
+-- ---- sets of names
+
+-- the name is in the set
+abbrev pub has_key : {X S : Type 0} → HashMap (Bor (List ℕ)) X S → List ℕ → Bool
+has_key names name = is_some (get_by (λ k. bytes_eq name k.now) names)
+
+-- those of the set are those before, and these
+abbrev pub IsFound : {X S : Type 0} → (List ℕ → Bool) → HashMap (Bor (List ℕ)) X S → List (Bor (List ℕ)) → Type 0
+IsFound before names found = (q : List ℕ) → has_key names q ≡ (before q || list_any (bytes_eq q) (map (λ n. n.now) found))
+
+-- the names with this property were added
+abbrev pub GainsNames : {X S : Type 0} → HashMap (Bor (List ℕ)) X S → HashMap (Bor (List ℕ)) X S → (List ℕ → Bool) → Type 0
+GainsNames old new more = (q : List ℕ) → has_key new q ≡ (has_key old q || more q)
+
+-- what was added is found, too
+abbrev pub KeepsFound : {X S : Type 0} → HashMap (Bor (List ℕ)) X S → HashMap (Bor (List ℕ)) X S → List (Bor (List ℕ)) → List (Bor (List ℕ)) → Type 0
+KeepsFound old new found more = (before : List ℕ → Bool) → IsFound before old found → IsFound before new more
+
+-- ---- repeated names
+
+-- what is kept of a name that stands there so often: whether it is repeated
+abbrev pub is_repeated : ℕ → Option Bool
+is_repeated n = if nat_eq n 0 then None else Some (nat_lt 1 n)
+
+abbrev pub indexed_names : NameIndex → List (List ℕ)
+indexed_names index = map (λ n. n.items) index.names.now
+
+abbrev pub IsNameIndex : NameIndex → Type 0
+IsNameIndex index = (q : List ℕ) → get_by (λ k. bytes_eq q k.now) index.repeated ≡ is_repeated (count_by (bytes_eq q) (indexed_names index))
+
+-- ---- inclusions by their groups
+
+abbrev pub inclusions_of : InclusionIndex → List Inclusion
+inclusions_of index = map inclusion_of index.inclusions.now
+
+-- under each name stand the inclusions of the group with this name, in their order
+abbrev pub IsInclusionIndex : InclusionIndex → Type 0
+IsInclusionIndex index = (q : List ℕ) → map (λ i. inclusion_of i.now) (option_map_or (λ group. group.items) (get_by (λ k. bytes_eq q k.now) index.by_group) []) ≡ filter (λ i. bytes_eq q i.group) (inclusions_of index)
+
+-- ---- places
+
+-- the number of a name, or 0
+abbrev pub rank_of : {S : Type 0} → HashMap (Bor (List ℕ)) ℕ S → List ℕ → ℕ
+rank_of numbers name = unwrap_or (get_by (λ k. bytes_eq name k.now) numbers) 0
+
+-- the group that includes the other stands before it
+abbrev pub stands_before : (List ℕ → ℕ) → Inclusion → Bool
+stands_before place i = nat_lt (place i.group) (place i.included)
+
+-- what is known of an order
+abbrev pub IsGroupOrder : List Inclusion → GroupOrder → Type 0
+IsGroupOrder is order = order.is_right ≡ list_all (stands_before (rank_of order.places)) is
+
+-- ---- groups
+
+abbrev pub groups_of : GroupsValue → Groups
+groups_of all = record { names = indexed_names all.names; inclusions = inclusions_of all.inclusions }
+
+-- its maps are right
+abbrev pub HasGroups : GroupsValue → Type 0
+HasGroups all = IsNameIndex all.names × IsInclusionIndex all.inclusions × IsGroupOrder (inclusions_of all.inclusions) all.order
+
+abbrev pub packages_of : PackageIndex → List LockedReading
+packages_of index = map locked_reading_of index.packages.now
+
+-- the packages under a name
+abbrev pub under_name : PackageIndex → List ℕ → List LockedReading
+under_name index q = map (λ y. locked_reading_of y.now) (option_map_or (λ group. group.items) (get_by (λ k. bytes_eq q k.now) index.by_name) [])
+
+-- under each name stand the packages with this name, in their order
+abbrev pub IsIndex : PackageIndex → Type 0
+IsIndex index = (q : List ℕ) → under_name index q ≡ filter (λ y. bytes_eq q y.name) (packages_of index)
+
+-- ---- projects
+
+-- no lock is to have a package of this name, by these projects
+abbrev pub excuses : KnownProjects → List ℕ → Bool
+excuses projects name = is_installer name || (not projects.is_some || list_any (bytes_eq name) (map (λ n. n.items) projects.names.items))

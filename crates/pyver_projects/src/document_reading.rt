@@ -1,22 +1,34 @@
-//! What documents are to the check.
-ghost use Rattle.std.specs.Prelude.{◌≡◌, IfOk};
+//! What strings of a project and documents are to the check.
+ghost use Rattle.std.specs.Prelude.{◌≡◌, IfOk, IfSome, Some, map, string_bytes, is_none, false};
 ghost use Rattle.pyver_projects.specs.Documents.{locked, toml_contents};
-ghost use Rattle.pyver_projects.specs.Meanings.{IsBrokenReading, IsContentsReading, IsDocumentReading, IsLockReading, IsProjectReading, IsTextReading};
-ghost use Rattle.pyver_projects.specs.ProjectViews.{contents_of, document_of, document_reading_of};
+ghost use Rattle.pyver_projects.specs.Meanings.{IsBrokenReading, IsContentsReading, IsDocumentReading, IsLockReading, IsProjectReading, IsTextReading, IsSectionMeaning, IsStringReading, IsVersionMeaning};
+ghost use Rattle.pyver_projects.specs.ProjectViews.{contents_of, document_of, document_reading_of, HasGroups, groups_of, project_string_of, section_of, string_reading_of};
 ghost use Rattle.pyver_projects.specs.declared.document_kind.DocumentKind.TheVariants as of_kind;
 ghost use Rattle.pyver_projects.specs.declared.document_kind.LockKind.TheVariants as lock_kind;
 ghost use Rattle.toml.specs.View.{table_view};
+ghost use Rattle.std.specs.List.{AllZip};
+ghost use Rattle.pep440_version.specs.Errors.{error_rejection};
+ghost use Rattle.pep440_version.specs.ErrorTexts.{error_text, rejection_text};
+ghost use Rattle.pep440_version.specs.Rejections.{Rejection};
+ghost use Rattle.pyver_findings.specs.FileLines.{NoRequirement};
+ghost use Rattle.pyver_findings.specs.LineMeanings.{IsNone};
+ghost use Rattle.pyver_findings.specs.Views.{file_line_of, line_meaning_of};
+ghost use Rattle.pyver_projects.specs.Groups.{include_meaning, no_group};
+ghost use Rattle.pyver_projects.specs.ProjectStrings.{HasQuotedLines};
 
 use crate::document_kind::{Document, DocumentKind, LockKind};
 use crate::groups::{Groups, group_names, has_group_tool, string_inclusions};
+use crate::lock_faults::project_name;
 use crate::locked_package::LockContents;
-use crate::locked_reading::{LockedReading, read_files, read_packages, read_requirements};
+use crate::locked_reading::{
+    LockedReading, push_faults, read_files, read_packages, read_requirements,
+};
 use crate::pipfile_lock::pipfile_contents;
-use crate::place::{position_of, read_quoted_lines, reject_document};
-use crate::project::project_strings;
-use crate::string_reading::{StringReading, read_strings};
+use crate::place::{QuotedLines, position_of, read_quoted_lines, reject_document, string_line};
+use crate::project::{ProjectString, Section, project_strings};
 use crate::toml_lock::toml_contents;
-use pyver_findings::{Finding, LineMeaning};
+use pep440_rs::{ErrorKind, Version, VersionParseError};
+use pyver_findings::{FileLine, Finding, LineMeaning, parse_requirement, parse_specifiers};
 use serde_json::Value;
 use std::alloc::{AllocError, Global};
 use toml::Table;
@@ -26,17 +38,21 @@ use toml::Table;
 pub(crate) struct ProjectReading {
     // Its groups hold together with its dependencies.
     pub(crate) together: bool,
+    // In its normal form.
+    pub(crate) name: Option<Vec<u8>>,
     pub(crate) strings: Vec<StringReading>,
 }
 
 // A lock that was read.
 #[derive(Drop)]
 pub(crate) struct LockReading {
+    // The groups that it has, in their normal form.
+    pub(crate) parts: Vec<Vec<u8>>,
     pub(crate) packages: Vec<LockedReading>,
     // What the packages require of one another.
     pub(crate) requirements: Vec<LineMeaning>,
-    // What is wrong with their files.
-    pub(crate) files: Vec<LineMeaning>,
+    // What is wrong with their files, and with them beside one another.
+    pub(crate) faults: Vec<LineMeaning>,
 }
 
 // A document that was read.
@@ -70,24 +86,31 @@ fn read_project(
     let lines = read_quoted_lines(alloc, text.as_bytes())?;
     let strings = read_strings(alloc, &groups, name, &lines, strings.as_slice())?;
     let together = has_group_tool(table);
-    Ok(DocumentReading::Project(ProjectReading { together, strings }))
+    let name = project_name(alloc, table)?;
+    Ok(DocumentReading::Project(ProjectReading {
+        together,
+        name,
+        strings,
+    }))
 }
 
 // What a lock with this name is, which has this.
 fn read_lock(
     alloc: Global,
     name: &[u8],
-    contents: &LockContents,
+    contents: LockContents,
 ) -> Result<DocumentReading, AllocError>
-    ensures { IfOk result (λ x. IsLockReading name.now (contents_of contents.now) (document_reading_of x)) }
+    ensures { IfOk result (λ x. IsLockReading name.now (contents_of contents) (document_reading_of x)) }
 {
     let packages = read_packages(alloc, name, contents.packages.as_slice())?;
     let requirements = read_requirements(alloc, name, contents.requirements.as_slice())?;
-    let files = read_files(alloc, name, contents.files.as_slice())?;
+    let mut faults = read_files(alloc, name, contents.files.as_slice())?;
+    push_faults(alloc, &mut faults, name, contents.faults.as_slice())?;
     Ok(DocumentReading::Lock(LockReading {
+        parts: contents.parts,
         packages,
         requirements,
-        files,
+        faults,
     }))
 }
 
@@ -133,15 +156,16 @@ fn read_toml_lock(
     alloc: Global,
     name: &[u8],
     text: &str,
+    kind: LockKind,
     key: &str,
     header: &str,
 ) -> Result<DocumentReading, AllocError>
-    ensures { IfOk result (λ x. IsContentsReading (record { name = name.now; text = text.now }) (toml_contents key.now header.now text.now) (document_reading_of x)) }
+    ensures { IfOk result (λ x. IsContentsReading (record { name = name.now; text = text.now }) (toml_contents kind key.now header.now text.now) (document_reading_of x)) }
 {
     match toml::table_from_str(alloc, text) {
         Ok(table) => {
-            let contents = toml_contents(alloc, key, header, text, &table)?;
-            read_lock(alloc, name, &contents)
+            let contents = toml_contents(alloc, kind, key, header, text, &table)?;
+            read_lock(alloc, name, contents)
         }
         Err(error) if error.is_memory() => Err(AllocError),
         Err(error) => reject_toml(alloc, name, text, &error),
@@ -155,10 +179,46 @@ fn read_pipfile_lock(alloc: Global, name: &[u8], text: &str) -> Result<DocumentR
         Ok(document) => {
             let lines = read_quoted_lines(alloc, text.as_bytes())?;
             let contents = pipfile_contents(alloc, &lines, &document)?;
-            read_lock(alloc, name, &contents)
+            read_lock(alloc, name, contents)
         }
         Err(error) if error.is_memory() => Err(AllocError),
         Err(error) => reject_json(alloc, name, text, &error),
+    }
+}
+
+fn read_lock_text(
+    alloc: Global,
+    kind: LockKind,
+    name: &[u8],
+    text: &str,
+) -> Result<DocumentReading, AllocError>
+    ensures { IfOk result (λ x. IsTextReading (of_kind.Lock kind) (record { name = name.now; text = text.now }) (document_reading_of x)) }
+{
+    match kind {
+        LockKind::Pylock => {
+            read_toml_lock(
+                alloc,
+                name,
+                text,
+                LockKind::Pylock,
+                "packages",
+                "[[packages]]",
+            )
+        }
+        LockKind::Uv => read_toml_lock(alloc, name, text, LockKind::Uv, "package", "[[package]]"),
+        LockKind::Poetry => {
+            read_toml_lock(
+                alloc,
+                name,
+                text,
+                LockKind::Poetry,
+                "package",
+                "[[package]]",
+            )
+        }
+        LockKind::Pdm => read_toml_lock(alloc, name, text, LockKind::Pdm, "package", "[[package]]"),
+        LockKind::Pipfile => read_pipfile_lock(alloc, name, text),
+        LockKind::Unknown => reject_document(alloc, name, text.as_bytes(), 0, "no known format"),
     }
 }
 
@@ -172,16 +232,7 @@ fn read_text(
 {
     match kind {
         DocumentKind::Project => read_toml_project(alloc, name, text),
-        DocumentKind::Lock(LockKind::Pylock) => {
-            read_toml_lock(alloc, name, text, "packages", "[[packages]]")
-        }
-        DocumentKind::Lock(LockKind::Uv | LockKind::Poetry | LockKind::Pdm) => {
-            read_toml_lock(alloc, name, text, "package", "[[package]]")
-        }
-        DocumentKind::Lock(LockKind::Pipfile) => read_pipfile_lock(alloc, name, text),
-        DocumentKind::Lock(LockKind::Unknown) => {
-            reject_document(alloc, name, text.as_bytes(), 0, "no known format")
-        }
+        DocumentKind::Lock(kind) => read_lock_text(alloc, kind, name, text),
     }
 }
 
@@ -197,5 +248,142 @@ pub(crate) fn read_document(
     match std::str::from_utf8(text) {
         Ok(text) => read_text(alloc, document.kind, name, text),
         Err(_) => reject_document(alloc, name, text, 0, "not UTF-8"),
+    }
+}
+
+// A string, and what it is.
+#[derive(Drop)]
+pub(crate) struct StringReading {
+    pub(crate) section: Section,
+    pub(crate) meaning: LineMeaning,
+}
+
+fn reject(line: &FileLine, reason: String) -> Result<LineMeaning, AllocError>
+    ensures { IfOk result (λ x. line_meaning_of x ≡ IsNone (NoRequirement (file_line_of line.now) (string_bytes reason) 0)) }
+{
+    Ok(LineMeaning::IsNone(Finding::NoRequirement(line.clone()?, reason, 0)))
+}
+
+fn reject_version(
+    alloc: Global,
+    line: &FileLine,
+    error: &VersionParseError,
+) -> Result<LineMeaning, AllocError>
+    requires { IfSome (error_rejection error.now) (λ f. error_text (error_rejection error.now) ≡ Some (rejection_text f)) }
+    ensures { IfOk result (λ x. (f : Rejection) × (error_rejection error.now ≡ Some f) × (line_meaning_of x ≡ IsNone (NoRequirement (file_line_of line.now) (rejection_text f) 0))) }
+{
+    let reason = version_reason(alloc, error)?;
+    reject(line, reason)
+}
+
+// What a string of this line is that is to be a version.
+fn parse_version(alloc: Global, line: &FileLine, text: &str) -> Result<LineMeaning, AllocError>
+    ensures { IfOk result (λ x. IsVersionMeaning (file_line_of line.now) text.now (line_meaning_of x)) }
+{
+    match Version::from_str(alloc, text) {
+        Ok(_) => Ok(LineMeaning::AsksNothing),
+        Err(error) => reject_version(alloc, line, &error),
+    }
+}
+
+fn no_group(alloc: Global, line: &FileLine, reason: &str) -> Result<LineMeaning, AllocError>
+    ensures { IfOk result (λ x. line_meaning_of x ≡ no_group (file_line_of line.now) reason.now) }
+{
+    let reason = String::from_str(alloc, reason)?;
+    reject(line, reason)
+}
+
+// What the name of a group is that another includes.
+fn include_meaning(
+    alloc: Global,
+    groups: &Groups<'_>,
+    line: &FileLine,
+    group: &[u8],
+    included: &[u8],
+) -> Result<LineMeaning, AllocError>
+    requires { HasGroups groups.now }
+    ensures { IfOk result (λ x. line_meaning_of x ≡ include_meaning (groups_of groups.now) (file_line_of line.now) group.now included.now) }
+{
+    if !groups.has(included) {
+        return no_group(alloc, line, "there is no group of this name");
+    }
+    if groups.includes(alloc, included, group)? {
+        return no_group(alloc, line, "the group includes itself");
+    }
+    Ok(LineMeaning::AsksNothing)
+}
+
+// What the string of this line, which is this text, is in this section of a project with these groups.
+fn parse_string(
+    alloc: Global,
+    groups: &Groups<'_>,
+    section: &Section,
+    line: &FileLine,
+    text: &str,
+) -> Result<LineMeaning, AllocError>
+    requires { HasGroups groups.now }
+    ensures { IfOk result (λ x. IsSectionMeaning (groups_of groups.now) (section_of section.now) (file_line_of line.now) text.now (line_meaning_of x)) }
+{
+    match section {
+        Section::Python => parse_specifiers(alloc, line, text),
+        Section::Version => parse_version(alloc, line, text),
+        Section::Dependencies => parse_requirement(alloc, line),
+        Section::Extra(_) => parse_requirement(alloc, line),
+        Section::Group(_) => parse_requirement(alloc, line),
+        Section::Build => parse_requirement(alloc, line),
+        Section::Invalid(reason) => no_group(alloc, line, reason),
+        Section::Include(group, included) => {
+            include_meaning(alloc, groups, line, group.as_slice(), included.as_slice())
+        }
+    }
+}
+
+// What a string of the file with this name is.
+fn read_string(
+    alloc: Global,
+    groups: &Groups<'_>,
+    name: &[u8],
+    lines: &QuotedLines,
+    string: &ProjectString,
+) -> Result<StringReading, AllocError>
+    requires lines { HasQuotedLines lines.now }
+    requires groups { HasGroups groups.now }
+    ensures { IfOk result (λ x. IsStringReading (groups_of groups.now) (record { name = name.now; text = lines.now.text.now }) (project_string_of string.now) (string_reading_of x)) }
+{
+    let line = string_line(alloc, name, lines, string)?;
+    let meaning = parse_string(alloc, groups, &string.section, &line, string.text.as_str())?;
+    Ok(StringReading {
+        section: string.section.clone()?,
+        meaning,
+    })
+}
+
+// What the strings are.
+pub(crate) fn read_strings(
+    alloc: Global,
+    groups: &Groups<'_>,
+    name: &[u8],
+    lines: &QuotedLines,
+    strings: &[ProjectString],
+) -> Result<Vec<StringReading>, AllocError>
+    requires lines { HasQuotedLines lines.now }
+    requires groups { HasGroups groups.now }
+    ensures { IfOk result (λ xs. AllZip (IsStringReading (groups_of groups.now) (record { name = name.now; text = lines.now.text.now })) (map project_string_of strings.now) (map string_reading_of xs.items)) }
+{
+    let mut readings = Vec::new(alloc);
+    for string in strings {
+        readings.push(read_string(alloc, groups, name, lines, string)?)?;
+    }
+    Ok(readings)
+}
+
+// The reason, unless an allocation failed.
+pub(crate) fn version_reason(alloc: Global, error: &VersionParseError) -> Result<String, AllocError>
+    ensures text { IfOk result (λ s. IfSome (error_text (error_rejection error.now)) (λ t. string_bytes s ≡ t)) }
+    ensures memory { IfOk result (λ _. is_none (error_rejection error.now) ≡ false) }
+{
+    match error.kind() {
+        ErrorKind::OutOfMemory => Err(AllocError),
+        _ => error.to_string(alloc),
     }
 }

@@ -1,22 +1,21 @@
 //! The report of documents.
-ghost use Rattle.std.specs.Prelude.{◌≡◌, ◌++◌, IfOk, map};
+ghost use Rattle.std.specs.Prelude.{◌≡◌, ◌++◌, [], IfOk, map};
 ghost use Rattle.std.specs.List.{All, AllZip, flat_map, zip};
 ghost use Rattle.pyver_findings.specs.Reports.{empty_report, invalid_in, left_out_in};
 ghost use Rattle.pyver_findings.specs.MarkerPairs.{FindsOfEach};
 ghost use Rattle.pyver_findings.specs.Views.{AddsFound, finding_of, line_meaning_of, report_of};
-ghost use Rattle.pyver_projects.specs.Comparing.{FindsOfReading, IsDocumentsReport, beside_all, invalid_package, invalid_string, left_out_string, own_report, with_own_reports};
+ghost use Rattle.pyver_projects.specs.Comparing.{FindsOfReading, IsDocumentsReport, beside_all, invalid_package, invalid_string, is_excused, left_out_string, own_report, with_own_reports};
 ghost use Rattle.pyver_projects.specs.Meanings.{IsDocumentReading, IsProject, IsSoundDocument, IsSoundString};
 ghost use Rattle.pyver_projects.specs.Together.{project_conflicts};
 ghost use Rattle.pyver_projects.specs.declared.document_reading.DocumentReading.TheVariants as reading;
-ghost use Rattle.pyver_projects.specs.ProjectViews.{document_of, document_reading_of, locked_reading_of, read_pair, reading_in, string_reading_of};
+ghost use Rattle.pyver_projects.specs.ProjectViews.{excuses, document_of, document_reading_of, locked_reading_of, read_pair, reading_in, string_reading_of};
 
 use crate::document_kind::Document;
 use crate::document_reading::{
-    DocumentReading, LockReading, ProjectReading, ReadDocument, read_document,
+    DocumentReading, LockReading, ProjectReading, ReadDocument, StringReading, read_document,
 };
-use crate::lock_comparison::{push_beside_all, push_unmet_requirements};
+use crate::lock_comparison::{KnownProjects, push_beside_all, push_unmet_requirements};
 use crate::locked_reading::LockedReading;
-use crate::string_reading::StringReading;
 use crate::together::{project_conflicts, project_pairs};
 use pyver_findings::{Cause, Finding, LineMeaning, Report};
 use std::alloc::{AllocError, Global};
@@ -47,7 +46,7 @@ fn report_strings(
     strings: Vec<StringReading>,
 ) -> Result<Report, AllocError>
     requires { All IsSoundString (map string_reading_of strings.items) }
-    ensures { IfOk result (λ r. report_of r ≡ own_report (IsProject together (map string_reading_of strings.items))) }
+    ensures { IfOk result (λ r. report_of r ≡ own_report (is_excused []) (IsProject together [] (map string_reading_of strings.items))) }
 {
     let mut report = Report::empty(alloc);
     report.lines = strings.len();
@@ -87,21 +86,21 @@ fn push_packages(
     Ok(())
 }
 
-// Adds what is wrong with a file, if something is.
-fn push_wrong_file(findings: &mut Vec<Finding>, file: LineMeaning) -> Result<(), AllocError>
-    ensures { IfOk result (λ _. map finding_of findings.new.items ≡ map finding_of findings.old.items ++ invalid_in (line_meaning_of file)) }
+// Adds what is wrong with a file, or with packages beside one another, if something is.
+fn push_lock_fault(findings: &mut Vec<Finding>, fault: LineMeaning) -> Result<(), AllocError>
+    ensures { IfOk result (λ _. map finding_of findings.new.items ≡ map finding_of findings.old.items ++ invalid_in (line_meaning_of fault)) }
 {
-    if let LineMeaning::IsNone(finding) = file {
+    if let LineMeaning::IsNone(finding) = fault {
         findings.push(finding)?;
     }
     Ok(())
 }
 
-fn push_wrong_files(findings: &mut Vec<Finding>, files: Vec<LineMeaning>) -> Result<(), AllocError>
-    ensures { IfOk result (λ _. map finding_of findings.new.items ≡ map finding_of findings.old.items ++ flat_map invalid_in (map line_meaning_of files.items)) }
+fn push_lock_faults(findings: &mut Vec<Finding>, faults: Vec<LineMeaning>) -> Result<(), AllocError>
+    ensures { IfOk result (λ _. map finding_of findings.new.items ≡ map finding_of findings.old.items ++ flat_map invalid_in (map line_meaning_of faults.items)) }
 {
-    for file in files {
-        push_wrong_file(findings, file)?;
+    for fault in faults {
+        push_lock_fault(findings, fault)?;
     }
     Ok(())
 }
@@ -128,38 +127,57 @@ fn push_all_left_out(
     Ok(())
 }
 
-fn report_lock(alloc: Global, lock: LockReading) -> Result<Report, AllocError>
-    ensures { IfOk result (λ r. report_of r ≡ own_report (document_reading_of (reading.Lock lock))) }
+fn report_lock(
+    alloc: Global,
+    projects: &KnownProjects,
+    lock: LockReading,
+) -> Result<Report, AllocError>
+    ensures { IfOk result (λ r. report_of r ≡ own_report (excuses projects.now) (document_reading_of (reading.Lock lock))) }
 {
     let LockReading {
+        parts: _parts,
         packages,
         requirements,
-        files,
+        faults,
     } = lock;
     let requirements = requirements.as_slice();
     let mut report = Report::empty(alloc);
     report.lines = packages.len();
     report.files = 1;
     let mut unmet = Vec::new(alloc);
-    push_unmet_requirements(alloc, &mut unmet, packages.as_slice(), requirements)?;
+    push_unmet_requirements(
+        alloc,
+        &mut unmet,
+        projects,
+        packages.as_slice(),
+        requirements,
+    )?;
     push_packages(&mut report.findings, packages)?;
-    push_wrong_files(&mut report.findings, files)?;
+    push_lock_faults(&mut report.findings, faults)?;
     report.findings.append(&mut unmet)?;
     push_all_left_out(&mut report.left_out, requirements)?;
     Ok(report)
 }
 
 // The report of a document by itself.
-fn report_document(alloc: Global, document: DocumentReading) -> Result<Report, AllocError>
+fn report_document(
+    alloc: Global,
+    projects: &KnownProjects,
+    document: DocumentReading,
+) -> Result<Report, AllocError>
     requires { IsSoundDocument (document_reading_of document) }
-    ensures { IfOk result (λ r. report_of r ≡ own_report (document_reading_of document)) }
+    ensures { IfOk result (λ r. report_of r ≡ own_report (excuses projects.now) (document_reading_of document)) }
 {
     match document {
         DocumentReading::Project(project) => {
-            let ProjectReading { together, strings } = project;
+            let ProjectReading {
+                together,
+                name: _name,
+                strings,
+            } = project;
             report_strings(alloc, together, strings)
         }
-        DocumentReading::Lock(lock) => report_lock(alloc, lock),
+        DocumentReading::Lock(lock) => report_lock(alloc, projects, lock),
         DocumentReading::Broken(finding) => {
             let mut report = Report::empty(alloc);
             report.files = 1;
@@ -169,9 +187,13 @@ fn report_document(alloc: Global, document: DocumentReading) -> Result<Report, A
     }
 }
 
-fn report_all(alloc: Global, documents: Vec<ReadDocument<'_>>) -> Result<Report, AllocError>
+fn report_all(
+    alloc: Global,
+    projects: &KnownProjects,
+    documents: Vec<ReadDocument<'_>>,
+) -> Result<Report, AllocError>
     requires { All IsSoundDocument (map reading_in documents.items) }
-    ensures { IfOk result (λ r. report_of r ≡ with_own_reports empty_report (map reading_in documents.entry.items)) }
+    ensures { IfOk result (λ r. report_of r ≡ with_own_reports (excuses projects.now) empty_report (map reading_in documents.entry.items)) }
 {
     let mut report = Report::empty(alloc);
     for read in documents {
@@ -179,7 +201,7 @@ fn report_all(alloc: Global, documents: Vec<ReadDocument<'_>>) -> Result<Report,
             document: _document,
             reading,
         } = read;
-        report.append(report_document(alloc, reading)?)?;
+        report.append(report_document(alloc, projects, reading)?)?;
     }
     Ok(report)
 }
@@ -261,7 +283,10 @@ fn read_documents<'a>(
 /// once: `project.dependencies`; these with each extra; each group with all that it includes, and with these if there is a table
 /// `tool.uv` or `tool.poetry`; and what the build requires. After the packages of a lock the files of those from an index in whose
 /// names is a version (PEP 427, "File name convention"; PEP 625, "Specification") that `==` with the package's does not match, of those that
-/// follow one another with one version the first; and for each requirement of a package, whether no package has its name, unless that is setuptools, distribute, pip or wheel, and the locked versions of its name, if it contains none.
+/// follow one another with one version the first; the packages of one name with the same marker or none (PEP 751 ("Specification"),
+/// `poetry.lock` from format 2.1 on and `pdm.lock` with at most one target have one), and in `uv.lock` each dependency without a source on a name
+/// of more than one package; and for each requirement of a package, beside projects, whether no package has its name, unless that is one of them,
+/// setuptools, distribute, pip or wheel, and the locked versions of its name, if it contains none.
 /// Then what is wrong in each project beside each lock in its folder, or in the nearest above that has one of its kind, and beside each
 /// lock for which that is no project: for each requirement, in order, whether the lock lacks a package of its name, and the lines of the
 /// locked versions of its name with the line of the requirement, if it contains none. Then the requirements of each project that hold
@@ -272,15 +297,17 @@ fn read_documents<'a>(
 /// versions of its packages, in `Pipfile.lock` of the members of `default` and of those of `develop` that are not there with the same
 /// version. Their requirements are the names in uv's `metadata.requires-dist`, each with its `specifier`, those in an array
 /// `dependencies`, or its strings, as PDM writes them, and those in Poetry's table `dependencies` with their lists; one that PEP 440 does
-/// not know, as `^1.0`, is left out. Their files are `files`, `wheels` and `sdist`, each named by its `file`, `name`, `url` or `path`.
-/// Values of other types in a lock are passed over. Extras and groups come in the order of their names. A string has the number of the
+/// not know, as `^1.0`, is left out. The names of a project are `project.name` and `tool.poetry.name`. The files of packages are `files`,
+/// `wheels` and `sdist`, each named by its `file`, `name`, `url` or `path`. Values of other types in a lock are passed over. Extras and groups come in the order of their names. A string has the number of the
 /// first line on which it stands in quotes, a package of `Pipfile.lock` the number of the first line with its name in quotes, another
 /// package, with what it requires, the number of its header. Either has 1 without one. Each string and each package counts as a line.
 ///
 /// A requirement with a marker or a URL, of a package with markers, of the build, or that is optional, is not compared. Each lock is to
-/// have packages for `project.dependencies`, `poetry.lock` and `uv.lock` for extras, `uv.lock` for groups, too. Takes time for each requirement, each package, each
-/// pair of them with one name, and, if not all requirements of a project have a version in common, for each extra or group and
-/// requirement.
+/// have packages for `project.dependencies`, `poetry.lock` and `uv.lock` for extras, `uv.lock` for groups, too; `poetry.lock` for the groups
+/// that its packages name, and `pdm.lock` for those that it lists: `default` are the dependencies, and extras are groups.
+///
+/// Takes time for each requirement, each package, each pair of them with one name, and, if not all requirements of a project have a version in
+/// common, for each extra or group and requirement.
 ///
 /// Allocates.
 pub fn find_document_problems(alloc: Global, documents: &[Document]) -> Result<Report, AllocError>
@@ -290,7 +317,8 @@ pub fn find_document_problems(alloc: Global, documents: &[Document]) -> Result<R
     let mut compared = compare_all(alloc, documents, read.as_slice())?;
     let (mut pairs, mut undecided) = (Vec::new(alloc), Vec::new(alloc));
     push_all_pairs(alloc, &mut pairs, &mut undecided, read.as_slice())?;
-    let mut report = report_all(alloc, read)?;
+    let projects = KnownProjects::new(alloc, read.as_slice())?;
+    let mut report = report_all(alloc, &projects, read)?;
     report.findings.append(&mut compared)?;
     report.findings.append(&mut pairs)?;
     report.left_out.append(&mut undecided)?;

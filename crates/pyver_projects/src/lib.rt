@@ -6,17 +6,16 @@
 mod document_kind;
 mod document_reading;
 mod document_report;
-mod group_order;
 mod groups;
 pub mod laws;
 mod lock_comparison;
+mod lock_faults;
 mod locked_package;
 mod locked_reading;
 mod package_requirements;
 mod pipfile_lock;
 mod place;
 mod project;
-mod string_reading;
 mod table;
 mod together;
 mod toml_lock;

@@ -1,19 +1,17 @@
 //! A project beside a lock, and the requirements of a lock beside its packages.
-ghost use Rattle.std.specs.Prelude.{◌≡◌, ◌++◌, [], IfOk, if◌then◌else◌, map, ◌∷◌, List, bytes_eq, ℕ};
+ghost use Rattle.std.specs.Prelude.{◌≡◌, ◌++◌, [], IfOk, if◌then◌else◌, map, ◌∷◌, List, bytes_eq, option_map, option_to_list, ℕ};
 ghost use Rattle.std.specs.List.{flat_map, list_any, filter};
 ghost use Rattle.pyver_findings.specs.Reports.{demands_in};
 ghost use Rattle.pyver_findings.specs.Views.{demand_of, file_line_of, finding_of, line_meaning_of};
-ghost use Rattle.pyver_projects.specs.Comparing.{absent, found_beside, found_in_pair, beside_all, compared, compared_demand, accepts_version, excluded, locks_extras, locks_groups, has_name, is_installer, is_locked, is_needed, lacking, locked_line, missing, outside, unmet};
-ghost use Rattle.pyver_projects.specs.NameMaps.{IsIndex, packages_of};
-ghost use Rattle.pyver_projects.specs.ProjectViews.{document_of, document_reading_of, locked_reading_of, read_pair, section_of, string_reading_of};
+ghost use Rattle.pyver_projects.specs.Comparing.{absent, found_beside, found_in_pair, beside_all, compared, compared_demand, accepts_version, excluded, is_listed_part, locks_dependencies, locks_extras, locks_groups, has_name, is_excused, is_installer, is_project_reading, is_locked, is_needed, lacking, locked_line, missing, names_read, outside, unmet};
+ghost use Rattle.pyver_projects.specs.ProjectViews.{IsIndex, excuses, packages_of, document_of, document_reading_of, locked_reading_of, read_pair, reading_in, section_of, string_reading_of};
 ghost use Rattle.std.specs.HashMap.{get_by};
 ghost use Rattle.std.specs.Option.{option_map_or};
 
 use crate::document_kind::{Document, DocumentKind, LockKind, is_beside};
-use crate::document_reading::{DocumentReading, ReadDocument};
+use crate::document_reading::{DocumentReading, ReadDocument, StringReading};
 use crate::locked_reading::LockedReading;
 use crate::project::Section;
-use crate::string_reading::StringReading;
 use pep440_rs::Version;
 use pyver_findings::{Conflict, Demand, FileLine, Finding, LineMeaning};
 use std::alloc::{AllocError, Global};
@@ -78,10 +76,12 @@ impl<'a> PackageIndex<'a> {
     }
 }
 
-// A lock, and its packages by their names.
+// A lock, its groups, and its packages by their names.
 #[derive(Drop)]
 struct IndexedLock<'a> {
     kind: LockKind,
+    // The groups that it has, in their normal form.
+    parts: &'a [Vec<u8>],
     packages: PackageIndex<'a>,
 }
 
@@ -97,13 +97,27 @@ fn locks_extras(kind: LockKind) -> bool
     matches!(kind, LockKind::Uv | LockKind::Poetry)
 }
 
-fn is_needed(kind: LockKind, section: &Section) -> bool
-    ensures { result ≡ is_needed kind (section_of section.now) }
+fn locks_dependencies(kind: LockKind) -> bool
+    ensures { result ≡ locks_dependencies kind }
+{
+    !matches!(kind, LockKind::Pdm)
+}
+
+fn is_listed_part(parts: &[Vec<u8>], name: &[u8]) -> bool
+    ensures { result ≡ list_any (λ part. bytes_eq name.now part.items) parts.now }
+{
+    parts.iter().any(|part| name == part.as_slice())
+}
+
+// A lock with these groups has what this part of the project needs.
+#[tactic(auto, using(crate::proofs::Walks::any_of))]
+fn is_needed(kind: LockKind, parts: &[Vec<u8>], section: &Section) -> bool
+    ensures { result ≡ is_needed kind (map (λ n. n.items) parts.now) (section_of section.now) }
 {
     match section {
-        Section::Dependencies => true,
-        Section::Extra(_) => locks_extras(kind),
-        Section::Group(_) => locks_groups(kind),
+        Section::Dependencies => locks_dependencies(kind) || is_listed_part(parts, b"default"),
+        Section::Extra(name) => locks_extras(kind) || is_listed_part(parts, name.as_slice()),
+        Section::Group(name) => locks_groups(kind) || is_listed_part(parts, name.as_slice()),
         _ => false,
     }
 }
@@ -248,6 +262,94 @@ fn push_absent(
     Ok(())
 }
 
+// The projects that are checked: whether there are some, and their names.
+#[derive(Drop)]
+pub(crate) struct KnownProjects {
+    is_some: bool,
+    // In their normal form.
+    names: Vec<Vec<u8>>,
+}
+
+fn is_project_reading(reading: &DocumentReading) -> bool
+    ensures { result ≡ is_project_reading (document_reading_of reading.now) }
+{
+    matches!(reading, DocumentReading::Project(_))
+}
+
+fn has_project_reading(read: &[ReadDocument<'_>]) -> bool
+    ensures { result ≡ list_any (λ document. is_project_reading (reading_in document)) read.now }
+{
+    read.iter()
+        .any(|document| is_project_reading(&document.reading))
+}
+
+// Adds the name, if there is one.
+fn push_name(
+    alloc: Global,
+    names: &mut Vec<Vec<u8>>,
+    name: &Option<Vec<u8>>,
+) -> Result<(), AllocError>
+    ensures { IfOk result (λ _. map (λ n. n.items) names.new.items ≡ map (λ n. n.items) names.old.items ++ option_to_list (option_map (λ n. n.items) name.now)) }
+{
+    if let Some(name) = name {
+        names.push(Vec::from_slice(alloc, name.as_slice())?)?;
+    }
+    Ok(())
+}
+
+// Adds the name of the project, if it is one and has a name.
+fn push_project_name(
+    alloc: Global,
+    names: &mut Vec<Vec<u8>>,
+    reading: &DocumentReading,
+) -> Result<(), AllocError>
+    ensures { IfOk result (λ _. map (λ n. n.items) names.new.items ≡ map (λ n. n.items) names.old.items ++ names_read (document_reading_of reading.now)) }
+{
+    match reading {
+        DocumentReading::Project(project) => push_name(alloc, names, &project.name),
+        DocumentReading::Lock(_) | DocumentReading::Broken(_) => Ok(()),
+    }
+}
+
+// The names of the projects.
+fn collect_project_names(
+    alloc: Global,
+    read: &[ReadDocument<'_>],
+) -> Result<Vec<Vec<u8>>, AllocError>
+    ensures { IfOk result (λ names. map (λ n. n.items) names.items ≡ flat_map names_read (map reading_in read.now)) }
+{
+    let mut names = Vec::new(alloc);
+    for document in read {
+        push_project_name(alloc, &mut names, &document.reading)?;
+    }
+    Ok(names)
+}
+
+impl KnownProjects {
+    pub(crate) fn new(alloc: Global, read: &[ReadDocument<'_>]) -> Result<KnownProjects, AllocError>
+        ensures { IfOk result (λ projects. excuses projects ≡ is_excused (map reading_in read.now)) }
+    {
+        Ok(KnownProjects {
+            is_some: has_project_reading(read),
+            names: collect_project_names(alloc, read)?,
+        })
+    }
+
+    fn has_name(&self, name: &[u8]) -> bool
+        ensures { result ≡ list_any (λ known. bytes_eq name.now known.items) self.now.names.items }
+    {
+        self.names.iter().any(|known| name == known.as_slice())
+    }
+
+    // No lock is to have a package of this name.
+    #[tactic(auto, using(crate::proofs::Walks::any_of))]
+    fn excuses(&self, name: &[u8]) -> bool
+        ensures { result ≡ excuses self.now name.now }
+    {
+        is_installer(name) || !self.is_some || self.has_name(name)
+    }
+}
+
 fn is_installer(name: &[u8]) -> bool
     ensures { result ≡ is_installer name.now }
 {
@@ -261,13 +363,14 @@ fn is_installer(name: &[u8]) -> bool
 fn push_lacking(
     alloc: Global,
     findings: &mut Vec<Finding>,
+    projects: &KnownProjects,
     packages: &PackageIndex<'_>,
     demand: &Demand,
 ) -> Result<(), AllocError>
     requires { IsIndex packages.now }
-    ensures { IfOk result (λ _. map finding_of findings.new.items ≡ map finding_of findings.old.items ++ lacking (packages_of packages.now) (demand_of demand.now)) }
+    ensures { IfOk result (λ _. map finding_of findings.new.items ≡ map finding_of findings.old.items ++ lacking (excuses projects.now) (packages_of packages.now) (demand_of demand.now)) }
 {
-    if is_installer(demand.name.as_slice()) {
+    if projects.excuses(demand.name.as_slice()) {
         return Ok(());
     }
     push_absent(alloc, findings, packages, demand)
@@ -277,15 +380,16 @@ fn push_lacking(
 fn push_unmet(
     alloc: Global,
     findings: &mut Vec<Finding>,
+    projects: &KnownProjects,
     packages: &PackageIndex<'_>,
     requirement: &LineMeaning,
 ) -> Result<(), AllocError>
     requires { IsIndex packages.now }
-    ensures { IfOk result (λ _. map finding_of findings.new.items ≡ map finding_of findings.old.items ++ unmet (packages_of packages.now) (line_meaning_of requirement.now)) }
+    ensures { IfOk result (λ _. map finding_of findings.new.items ≡ map finding_of findings.old.items ++ unmet (excuses projects.now) (packages_of packages.now) (line_meaning_of requirement.now)) }
 {
     match requirement {
         LineMeaning::Asks(demand) => {
-            push_lacking(alloc, findings, packages, demand)?;
+            push_lacking(alloc, findings, projects, packages, demand)?;
             push_all_excluded(alloc, findings, demand, packages)
         }
         LineMeaning::IsNone(_) | LineMeaning::LeftOut(_) | LineMeaning::AsksNothing => Ok(()),
@@ -295,14 +399,15 @@ fn push_unmet(
 fn push_unmet_in_index(
     alloc: Global,
     findings: &mut Vec<Finding>,
+    projects: &KnownProjects,
     packages: &PackageIndex<'_>,
     requirements: &[LineMeaning],
 ) -> Result<(), AllocError>
     requires { IsIndex packages.now }
-    ensures { IfOk result (λ _. map finding_of findings.new.items ≡ map finding_of findings.old.items ++ flat_map (unmet (packages_of packages.now)) (map line_meaning_of requirements.now)) }
+    ensures { IfOk result (λ _. map finding_of findings.new.items ≡ map finding_of findings.old.items ++ flat_map (unmet (excuses projects.now) (packages_of packages.now)) (map line_meaning_of requirements.now)) }
 {
     for requirement in requirements {
-        push_unmet(alloc, findings, packages, requirement)?;
+        push_unmet(alloc, findings, projects, packages, requirement)?;
     }
     Ok(())
 }
@@ -311,13 +416,14 @@ fn push_unmet_in_index(
 pub(crate) fn push_unmet_requirements(
     alloc: Global,
     findings: &mut Vec<Finding>,
+    projects: &KnownProjects,
     packages: &[LockedReading],
     requirements: &[LineMeaning],
 ) -> Result<(), AllocError>
-    ensures { IfOk result (λ _. map finding_of findings.new.items ≡ map finding_of findings.old.items ++ flat_map (unmet (map locked_reading_of packages.now)) (map line_meaning_of requirements.now)) }
+    ensures { IfOk result (λ _. map finding_of findings.new.items ≡ map finding_of findings.old.items ++ flat_map (unmet (excuses projects.now) (map locked_reading_of packages.now)) (map line_meaning_of requirements.now)) }
 {
     let packages = PackageIndex::new(alloc, packages)?;
-    push_unmet_in_index(alloc, findings, &packages, requirements)
+    push_unmet_in_index(alloc, findings, projects, &packages, requirements)
 }
 
 fn push_missing(
@@ -328,9 +434,9 @@ fn push_missing(
     demand: &Demand,
 ) -> Result<(), AllocError>
     requires { IsIndex lock.now.packages }
-    ensures { IfOk result (λ _. map finding_of findings.new.items ≡ map finding_of findings.old.items ++ missing lock.now.kind (packages_of lock.now.packages) (section_of section.now) (demand_of demand.now)) }
+    ensures { IfOk result (λ _. map finding_of findings.new.items ≡ map finding_of findings.old.items ++ missing lock.now.kind (map (λ n. n.items) lock.now.parts.now) (packages_of lock.now.packages) (section_of section.now) (demand_of demand.now)) }
 {
-    if !is_needed(lock.kind, section) {
+    if !is_needed(lock.kind, lock.parts, section) {
         return Ok(());
     }
     push_absent(alloc, findings, &lock.packages, demand)
@@ -344,7 +450,7 @@ fn push_compared_demand(
     demand: &Demand,
 ) -> Result<(), AllocError>
     requires { IsIndex lock.now.packages }
-    ensures { IfOk result (λ _. map finding_of findings.new.items ≡ map finding_of findings.old.items ++ compared_demand lock.now.kind (packages_of lock.now.packages) (section_of section.now) (demand_of demand.now)) }
+    ensures { IfOk result (λ _. map finding_of findings.new.items ≡ map finding_of findings.old.items ++ compared_demand lock.now.kind (map (λ n. n.items) lock.now.parts.now) (packages_of lock.now.packages) (section_of section.now) (demand_of demand.now)) }
 {
     if demand.marker.is_some() {
         return Ok(());
@@ -361,7 +467,7 @@ fn push_compared_meaning(
     meaning: &LineMeaning,
 ) -> Result<(), AllocError>
     requires { IsIndex lock.now.packages }
-    ensures { IfOk result (λ _. map finding_of findings.new.items ≡ map finding_of findings.old.items ++ flat_map (compared_demand lock.now.kind (packages_of lock.now.packages) (section_of section.now)) (demands_in (line_meaning_of meaning.now))) }
+    ensures { IfOk result (λ _. map finding_of findings.new.items ≡ map finding_of findings.old.items ++ flat_map (compared_demand lock.now.kind (map (λ n. n.items) lock.now.parts.now) (packages_of lock.now.packages) (section_of section.now)) (demands_in (line_meaning_of meaning.now))) }
 {
     match meaning {
         LineMeaning::Asks(demand) => {
@@ -378,7 +484,7 @@ fn push_compared(
     string: &StringReading,
 ) -> Result<(), AllocError>
     requires { IsIndex lock.now.packages }
-    ensures { IfOk result (λ _. map finding_of findings.new.items ≡ map finding_of findings.old.items ++ compared lock.now.kind (packages_of lock.now.packages) (string_reading_of string.now)) }
+    ensures { IfOk result (λ _. map finding_of findings.new.items ≡ map finding_of findings.old.items ++ compared lock.now.kind (map (λ n. n.items) lock.now.parts.now) (packages_of lock.now.packages) (string_reading_of string.now)) }
 {
     if !is_locked(&string.section) {
         return Ok(());
@@ -393,7 +499,7 @@ fn push_all_compared(
     strings: &[StringReading],
 ) -> Result<(), AllocError>
     requires { IsIndex lock.now.packages }
-    ensures { IfOk result (λ _. map finding_of findings.new.items ≡ map finding_of findings.old.items ++ flat_map (compared lock.now.kind (packages_of lock.now.packages)) (map string_reading_of strings.now)) }
+    ensures { IfOk result (λ _. map finding_of findings.new.items ≡ map finding_of findings.old.items ++ flat_map (compared lock.now.kind (map (λ n. n.items) lock.now.parts.now) (packages_of lock.now.packages)) (map string_reading_of strings.now)) }
 {
     for string in strings {
         push_compared(alloc, findings, lock, string)?;
@@ -421,7 +527,12 @@ fn push_beside(
         return Ok(());
     };
     let packages = PackageIndex::new(alloc, lock.packages.as_slice())?;
-    let lock = IndexedLock { kind, packages };
+    let parts = lock.parts.as_slice();
+    let lock = IndexedLock {
+        kind,
+        parts,
+        packages,
+    };
     push_all_compared(alloc, findings, &lock, project.strings.as_slice())
 }
 

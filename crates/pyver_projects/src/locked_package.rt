@@ -48,12 +48,25 @@ pub(crate) struct LockedFile {
     pub(crate) written: String,
 }
 
+// What is wrong with a package in a lock beside others.
+#[derive(Drop)]
+pub(crate) struct LockFault {
+    // The number of the line of the package, from 1.
+    pub(crate) line: u64,
+    // What is shown of it.
+    pub(crate) text: Vec<u8>,
+    pub(crate) reason: &'static str,
+}
+
 // What is read of a lock.
 #[derive(Drop)]
 pub(crate) struct LockContents {
+    // The groups that it has, in their normal form.
+    pub(crate) parts: Vec<Vec<u8>>,
     pub(crate) packages: Vec<LockedPackage>,
     pub(crate) requirements: Vec<LockedRequirement>,
     pub(crate) files: Vec<LockedFile>,
+    pub(crate) faults: Vec<LockFault>,
 }
 
 // The name and the version.
@@ -150,7 +163,7 @@ fn file_version<'a>(name: &str, file: &'a str) -> Option<&'a str>
     }
 }
 
-fn first_of<'a>(one: Option<&'a str>, other: Option<&'a str>) -> Option<&'a str>
+pub(crate) fn first_of<'a>(one: Option<&'a str>, other: Option<&'a str>) -> Option<&'a str>
     ensures { option_map (λ t. t.now) result ≡ option_or (option_map (λ t. t.now) one.entry) (option_map (λ t. t.now) other.entry) }
 {
     match one {

@@ -8,8 +8,8 @@ ghost use Rattle.pep440_version.specs.Grammar.{Derives};
 ghost use Rattle.pep440_version.specs.Rejections.{Rejection};
 ghost use Rattle.pyver_findings.specs.FileLines.{NoRequirement};
 ghost use Rattle.pyver_findings.specs.Views.{file_line_of, line_meaning_of};
-ghost use Rattle.pyver_projects.specs.Meanings.{IsFileReading, IsLockedReading, IsNoVersion, IsVersionReading, file_meaning, file_package_line, package_line, IsRequirementReading, requirement_line};
-ghost use Rattle.pyver_projects.specs.ProjectViews.{locked_file_of, locked_of, locked_reading_of, requirement_of};
+ghost use Rattle.pyver_projects.specs.Meanings.{IsFileReading, IsLockedReading, IsNoVersion, IsVersionReading, fault_meaning, file_meaning, file_package_line, package_line, IsRequirementReading, requirement_line};
+ghost use Rattle.pyver_projects.specs.ProjectViews.{fault_of, locked_file_of, locked_of, locked_reading_of, requirement_of};
 ghost use Rattle.pep440_rs.specs.Lists.ListResults.{list_kind_of};
 ghost use Rattle.pep440_rs.specs.Lists.ListErrors.{IsListLifted, list_rejection_of};
 ghost use Rattle.pep440_rs.specs.Lists.ListGrammar.{PieceRejection};
@@ -18,8 +18,10 @@ ghost use Rattle.pyver_findings.specs.LineMeanings.{Asks, LeftOut};
 ghost use Rattle.pyver_findings.specs.declared.cause.Cause.TheVariants as cause;
 ghost use Rattle.pyver_projects.specs.PackageRequirements.{requirement_text};
 
-use crate::locked_package::{LockedFile, LockedPackage, LockedRequirement, package_text};
-use crate::string_reading::version_reason;
+use crate::document_reading::version_reason;
+use crate::locked_package::{
+    LockFault, LockedFile, LockedPackage, LockedRequirement, package_text,
+};
 use pep440_pick::Requirement;
 use pep440_rs::{
     Version, VersionParseError, VersionSpecifier, VersionSpecifiers, VersionSpecifiersParseError,
@@ -214,6 +216,35 @@ pub(crate) fn read_files(
         readings.push(read_file(alloc, name, locked)?)?;
     }
     Ok(readings)
+}
+
+// That the lock with this name has it.
+fn report_fault(alloc: Global, name: &[u8], fault: &LockFault) -> Result<LineMeaning, AllocError>
+    ensures { IfOk result (λ x. line_meaning_of x ≡ fault_meaning name.now (fault_of fault.now)) }
+{
+    let line = FileLine {
+        file: Vec::from_slice(alloc, name)?,
+        number: fault.line,
+        text: fault.text.clone()?,
+        comment: Vec::new(alloc),
+    };
+    let reason = String::from_str(alloc, fault.reason)?;
+    Ok(LineMeaning::IsNone(Finding::NoRequirement(line, reason, 0)))
+}
+
+// Adds what is wrong with packages beside one another, of the lock with this name.
+pub(crate) fn push_faults(
+    alloc: Global,
+    readings: &mut Vec<LineMeaning>,
+    name: &[u8],
+    faults: &[LockFault],
+) -> Result<(), AllocError>
+    ensures { IfOk result (λ _. map line_meaning_of readings.new.items ≡ map line_meaning_of readings.old.items ++ map (fault_meaning name.now) (map fault_of faults.now)) }
+{
+    for fault in faults {
+        readings.push(report_fault(alloc, name, fault)?)?;
+    }
+    Ok(())
 }
 
 // Adds the name, and the list if it is not empty.

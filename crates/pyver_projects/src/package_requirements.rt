@@ -7,7 +7,7 @@ ghost use Rattle.pep440_rs.specs.Blanks.{opens};
 ghost use Rattle.pep440_version.specs.Reading.{lead, past};
 ghost use Rattle.pyver_projects.specs.PackageRequirements.{is_unconditional, item_requirements, lacks, member_requirements, plain_list, requirement, requirement_in, is_plain_string, named_requirement, past_extras, requirement_of_text, requirements_by, string_requirement, requirements_from, table_requirements, version_requirements};
 ghost use Rattle.pyver_projects.specs.ProjectViews.{requirement_of};
-ghost use Rattle.pyver_projects.specs.TomlValues.{entries, listed, members_list};
+ghost use Rattle.pyver_projects.specs.ProjectStrings.{entries, listed, members_list};
 ghost use Rattle.toml.specs.View.{table_view, view};
 
 use crate::locked_package::{LockedRequirement, package_text, split_at_byte};

@@ -157,8 +157,10 @@ pub(crate) fn pipfile_contents(
     let before = document.get("default");
     push_section(alloc, &mut packages, lines, before, "develop", document)?;
     Ok(LockContents {
+        parts: Vec::new(alloc),
         packages,
         requirements: Vec::new(alloc),
         files: Vec::new(alloc),
+        faults: Vec::new(alloc),
     })
 }

@@ -3,10 +3,8 @@ ghost use Rattle.std.specs.Prelude.{◌≡◌, ◌∷◌, ◌++◌, [], IfOk, So
 ghost use Rattle.std.specs.List.{flat_map};
 ghost use Rattle.pep440_pick.specs.Names.{normal};
 ghost use Rattle.pyver_projects.specs.Documents.{array_sources, dynamic_source, dynamic_sources, entry_names, extra_sources, group_items, group_names, group_sources, groups_table, included_name, item_source, item_sources, name_faults, optional_sources, repeated_name, source_from, sources, string_or, table_fault, table_faults, table_sources, text_sources, unless};
-ghost use Rattle.pyver_projects.specs.NameMaps.{IsNameIndex, indexed_names};
-ghost use Rattle.pyver_projects.specs.ProjectStrings.{Extra, Group, Include};
-ghost use Rattle.pyver_projects.specs.ProjectViews.{section_of, project_string_of};
-ghost use Rattle.pyver_projects.specs.TomlValues.{entries, members_list};
+ghost use Rattle.pyver_projects.specs.ProjectViews.{IsNameIndex, indexed_names, section_of, project_string_of};
+ghost use Rattle.pyver_projects.specs.ProjectStrings.{Extra, Group, Include, entries, members_list};
 ghost use Rattle.toml.specs.Data.{Data, as_str};
 ghost use Rattle.toml.specs.View.{table_view, view};
 

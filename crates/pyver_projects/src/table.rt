@@ -1,6 +1,6 @@
 //! Values in a table of a TOML document.
 ghost use Rattle.std.specs.Prelude.{◌≡◌, map, option_and_then, option_map};
-ghost use Rattle.pyver_projects.specs.TomlValues.{inside, is_array_or_none, is_table_or_none, listed, text_in};
+ghost use Rattle.pyver_projects.specs.ProjectStrings.{inside, is_array_or_none, is_table_or_none, listed, text_in};
 ghost use Rattle.toml.specs.Data.{as_array, as_table, get_member};
 ghost use Rattle.toml.specs.View.{array_view, table_view, view};
 

@@ -6,16 +6,14 @@ ghost use Rattle.pyver_findings.specs.Reports.{demands_in};
 ghost use Rattle.pyver_findings.specs.MarkerPairs.{FindsOfEach};
 ghost use Rattle.pyver_findings.specs.Views.{AddsFound, demand_of, file_line_of, finding_of, line_meaning_of};
 ghost use Rattle.pyver_projects.specs.Groups.{inclusions as inclusions_in};
-ghost use Rattle.pyver_projects.specs.NameMaps.{IsInclusionIndex, has_key, inclusions_of};
-ghost use Rattle.pyver_projects.specs.ProjectViews.{section_of, string_reading_of};
+ghost use Rattle.pyver_projects.specs.ProjectViews.{IsInclusionIndex, has_key, inclusions_of, section_of, string_reading_of};
 ghost use Rattle.pyver_projects.specs.Meanings.{IsSoundString};
 ghost use Rattle.pyver_projects.specs.Together.{FindsOfPart, FindsOfParts, all_demands, demand_in_part, has_dependencies, has_group, holds_in, is_build, is_extra, is_marked, part_conflicts, part_demands, parts, project_conflicts, same_finding, same_line, same_lines, same_part, section_part, sections, with_new};
 ghost use Rattle.pyver_findings.specs.Conflicts.{conflicts};
 
-use crate::group_order::included_groups;
-use crate::groups::{InclusionIndex, inclusions};
+use crate::document_reading::StringReading;
+use crate::groups::{InclusionIndex, included_groups, inclusions};
 use crate::project::Section;
-use crate::string_reading::StringReading;
 use pyver_findings::{
     Cause, Demand, FileLine, Finding, LineMeaning, push_conflicts, push_pair_conflicts,
 };

@@ -1,10 +1,15 @@
 //! What a TOML lock has.
 ghost use Rattle.std.specs.Prelude.{◌≡◌, ◌++◌, IfOk, get_or, map, option_map};
 ghost use Rattle.pyver_projects.specs.Documents.{contents, numbered_tables, package_from, package_in, table_contents};
+ghost use Rattle.pyver_projects.specs.ProjectViews.{IsNameIndex, indexed_names, contents_of, locked_of};
 ghost use Rattle.pyver_projects.specs.ProjectStrings.{header_lines};
-ghost use Rattle.pyver_projects.specs.ProjectViews.{contents_of, locked_of};
 ghost use Rattle.toml.specs.View.{table_view, view};
 
+use crate::document_kind::LockKind;
+use crate::groups::NameIndex;
+use crate::lock_faults::{
+    CountedNames, counted_names, has_markers, lock_parts, push_package_faults, push_package_parts,
+};
 use crate::locked_package::{LockContents, LockedPackage, copy_text, push_locked_files};
 use crate::package_requirements::push_requirements;
 use crate::place::header_lines;
@@ -54,36 +59,58 @@ fn line_or_one(lines: &[u64], index: usize) -> u64
     if index < lines.len() { lines[index] } else { 1 }
 }
 
-// What the tables have, with these lines of headers.
-fn read_tables(alloc: Global, lines: &[u64], tables: &[Value]) -> Result<LockContents, AllocError>
-    ensures { IfOk result (λ found. contents_of found ≡ table_contents (numbered_tables lines.now 0 (map view tables.now))) }
+// What the tables have, with these lines of headers, beside these groups and names.
+fn read_tables(
+    alloc: Global,
+    parts: Vec<Vec<u8>>,
+    counted: &CountedNames<'_>,
+    lines: &[u64],
+    tables: &[Value],
+) -> Result<LockContents, AllocError>
+    requires { IsNameIndex counted.now.names }
+    ensures { IfOk result (λ found. contents_of found ≡ table_contents counted.now.kind (map (λ n. n.items) parts.items) counted.now.has_markers (indexed_names counted.now.names) (numbered_tables lines.now 0 (map view tables.now))) }
 {
+    let mut parts = parts;
     let mut packages = Vec::new(alloc);
     let mut requirements = Vec::new(alloc);
     let mut files = Vec::new(alloc);
+    let mut faults = Vec::new(alloc);
     for (index, item) in tables.iter().enumerate() {
         let line = line_or_one(lines, index);
+        push_package_parts(alloc, &mut parts, counted.kind, line, item)?;
         push_item(alloc, &mut packages, line, item)?;
         push_requirements(alloc, &mut requirements, line, item)?;
         push_locked_files(alloc, &mut files, line, item)?;
+        push_package_faults(alloc, &mut faults, counted, line, item)?;
     }
     Ok(LockContents {
+        parts,
         packages,
         requirements,
         files,
+        faults,
     })
 }
 
-// What a lock with this text has: packages at the key, each under the header.
+// What a lock of this kind with this text has: packages at the key, each under the header.
 pub(crate) fn toml_contents(
     alloc: Global,
+    kind: LockKind,
     key: &str,
     header: &str,
     text: &str,
     document: &Table,
 ) -> Result<LockContents, AllocError>
-    ensures { IfOk result (λ found. contents_of found ≡ contents (header_lines header.now text.now) key.now (table_view document.now)) }
+    ensures { IfOk result (λ found. contents_of found ≡ contents kind (header_lines header.now text.now) key.now (table_view document.now)) }
 {
     let lines = header_lines(alloc, header.as_bytes(), text.as_bytes())?;
-    read_tables(alloc, lines.as_slice(), items(top(document, key)))
+    let tables = items(top(document, key));
+    let names = counted_names(alloc, kind, tables)?;
+    let counted = CountedNames {
+        kind,
+        has_markers: has_markers(kind, document),
+        names: NameIndex::new(alloc, names.as_slice())?,
+    };
+    let parts = lock_parts(alloc, kind, document)?;
+    read_tables(alloc, parts, &counted, lines.as_slice(), tables)
 }

@@ -4,9 +4,8 @@ use Rattle.pyver_findings.specs.FileLines.{File}
 use Rattle.pyver_projects.specs.Documents.{group_names, sources}
 use Rattle.pyver_projects.specs.Groups.{Groups, groups, inclusions}
 use Rattle.pyver_projects.specs.Meanings.{IsProject, IsStringReading}
-use Rattle.pyver_projects.specs.NameMaps.{groups_of}
+use Rattle.pyver_projects.specs.ProjectViews.{groups_of, inclusion_of, project_string_of, string_reading_of}
 use Rattle.pyver_projects.specs.ProjectStrings.{ProjectString}
-use Rattle.pyver_projects.specs.ProjectViews.{inclusion_of, project_string_of, string_reading_of}
 use Rattle.toml.specs.View.{table_view}
 use Rattle.pyver_projects.proofs.document_reading.read_project.Goals as goal
 
@@ -25,4 +24,4 @@ returns c =
     let file : File = record { name = c.args.name.now; text = c.args.text.now } in
     let read : AllZip (IsStringReading all file) (map project_string_of c.as_slice-4.result.now) xs =
     subst (λ bytes. AllZip (IsStringReading all (record { name = c.args.name.now; text = bytes })) (map project_string_of c.as_slice-4.result.now) xs) text c.in_ok-strings-2.ensures in
-    (xs, subst (λ (g : Groups). AllZip (IsStringReading g file) (sources t) xs) same (subst (λ ss. AllZip (IsStringReading all file) ss xs) again read), ap (λ b. IsProject b xs) c.has_group_tool-together.ensures)
+    (xs, subst (λ (g : Groups). AllZip (IsStringReading g file) (sources t) xs) same (subst (λ ss. AllZip (IsStringReading all file) ss xs) again read), λ j. IsProject (c.has_group_tool-together.ensures j) (c.in_ok-name.ensures j) xs)

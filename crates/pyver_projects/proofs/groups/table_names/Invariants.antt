@@ -1,7 +1,7 @@
 use Rattle.std.proofs.Common.{◌≡◌, ◌++◌, map}
 use Rattle.toml.specs.View.{members_view}
 use Rattle.pyver_projects.specs.Documents.{entry_name}
-use Rattle.pyver_projects.specs.TomlValues.{members_list}
+use Rattle.pyver_projects.specs.ProjectStrings.{members_list}
 use Rattle.pyver_projects.proofs.groups.table_names.Given as goal
 
 abbrev pub invariant-loop-name : goal.invariant-loop-name

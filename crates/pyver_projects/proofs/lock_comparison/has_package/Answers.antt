@@ -1,8 +1,7 @@
 use Rattle.std.proofs.Common.{◌==◌, ◌∙◌, [], Bor, None, Some, ap, length, refl}
 use Rattle.pyver_findings.specs.Views.{demand_of}
 use Rattle.pyver_projects.proofs.Walks.{has_some, named}
-use Rattle.pyver_projects.specs.NameMaps.{packages_of}
-use Rattle.pyver_projects.specs.ProjectViews.{locked_reading_of}
+use Rattle.pyver_projects.specs.ProjectViews.{packages_of, locked_reading_of}
 use Rattle.pyver_projects.specs.declared.locked_reading.LockedReading.{LockedReading as LockedReadingValue}
 use Rattle.pyver_projects.proofs.lock_comparison.has_package.Goals as goal
 

@@ -5,8 +5,7 @@ use Rattle.pyver_findings.specs.Views.{demand_of, finding_of}
 use Rattle.pyver_projects.specs.Comparing.{accepts_version, locked_line, outside}
 use Rattle.std.specs.List.{flat_map, list_any}
 use Rattle.pyver_projects.proofs.Walks.{excluded_of, named}
-use Rattle.pyver_projects.specs.NameMaps.{packages_of}
-use Rattle.pyver_projects.specs.ProjectViews.{locked_reading_of}
+use Rattle.pyver_projects.specs.ProjectViews.{packages_of, locked_reading_of}
 use Rattle.pyver_projects.specs.declared.locked_reading.LockedReading.{LockedReading as LockedReadingValue}
 use Rattle.pyver_projects.proofs.lock_comparison.push_all_excluded.Goals as goal
 

@@ -3,7 +3,7 @@ use Rattle.std.specs.List.{flat_map}
 use Rattle.toml.specs.View.{members_view}
 use Rattle.pyver_projects.specs.PackageRequirements.{member_requirements}
 use Rattle.pyver_projects.specs.ProjectViews.{requirement_of}
-use Rattle.pyver_projects.specs.TomlValues.{members_list}
+use Rattle.pyver_projects.specs.ProjectStrings.{members_list}
 use Rattle.pyver_projects.proofs.package_requirements.push_members.Given as goal
 
 abbrev pub invariant-loop-name : goal.invariant-loop-name

@@ -4,9 +4,8 @@ use Rattle.std.proofs.lemmas.Result.{IfOk-weaker}
 use Rattle.pep440_pick.specs.Names.{normal}
 use Rattle.toml.specs.View.{view}
 use Rattle.pyver_projects.specs.Documents.{array_sources, extra_sources, name_faults}
-use Rattle.pyver_projects.specs.NameMaps.{indexed_names}
+use Rattle.pyver_projects.specs.ProjectViews.{indexed_names, project_string_of}
 use Rattle.pyver_projects.specs.ProjectStrings.{Extra}
-use Rattle.pyver_projects.specs.ProjectViews.{project_string_of}
 use Rattle.pyver_projects.proofs.project.push_extra.Goals as goal
 
 pub returns : goal.returns

@@ -2,7 +2,7 @@ use Rattle.std.proofs.Common.{map, subst, sym}
 use Rattle.std.specs.List.{All}
 use Rattle.pyver_findings.specs.Demands.{IsSound}
 use Rattle.pyver_findings.specs.Views.{demand_of}
-use Rattle.pyver_projects.proofs.Satisfiable.{sound_all}
+use Rattle.pyver_projects.proofs.Agreeing.{sound_all}
 use Rattle.pyver_projects.specs.ProjectViews.{string_reading_of}
 use Rattle.pyver_projects.proofs.together.conflicts_of_all.Goals as goal
 

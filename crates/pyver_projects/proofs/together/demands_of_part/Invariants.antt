@@ -1,8 +1,7 @@
 use Rattle.std.proofs.Common.{◌≡◌, ◌++◌, drop, map}
 use Rattle.std.specs.List.{flat_map}
 use Rattle.pyver_findings.specs.Views.{demand_of}
-use Rattle.pyver_projects.specs.NameMaps.{has_key}
-use Rattle.pyver_projects.specs.ProjectViews.{section_of, string_reading_of}
+use Rattle.pyver_projects.specs.ProjectViews.{has_key, section_of, string_reading_of}
 use Rattle.pyver_projects.specs.Together.{demand_in_part}
 use Rattle.pyver_projects.proofs.together.demands_of_part.Given as goal
 

@@ -1,6 +1,5 @@
 use Rattle.std.proofs.Common.{◌∙◌, ap, sym}
-use Rattle.pyver_projects.specs.NameMaps.{has_key}
-use Rattle.pyver_projects.specs.ProjectViews.{section_of}
+use Rattle.pyver_projects.specs.ProjectViews.{has_key, section_of}
 use Rattle.pyver_projects.specs.Together.{holds_in}
 use Rattle.pyver_projects.proofs.together.holds_in.Goals as goal
 

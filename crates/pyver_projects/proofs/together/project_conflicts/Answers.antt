@@ -1,7 +1,7 @@
 use Rattle.std.proofs.Common.{◌≡◌, ◌==◌, ◌∙◌, [], ap, map, sym}
 use Rattle.pyver_findings.proofs.SmallestLists.{is_nil}
 use Rattle.pyver_findings.specs.Views.{finding_of}
-use Rattle.pyver_projects.proofs.Satisfiable.{none_in_parts, sound_all}
+use Rattle.pyver_projects.proofs.Agreeing.{none_in_parts, sound_all}
 use Rattle.pyver_projects.specs.ProjectViews.{string_reading_of}
 use Rattle.pyver_projects.proofs.together.project_conflicts.Goals as goal
 

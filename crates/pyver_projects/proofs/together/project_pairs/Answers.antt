@@ -2,7 +2,7 @@ use Rattle.std.proofs.Common.{◌∙◌, [], ap, map, refl, subst, sym}
 use Rattle.pyver_findings.proofs.MarkerPairs.{nothing_found}
 use Rattle.pyver_findings.specs.MarkerPairs.{FindsOfEach}
 use Rattle.pyver_findings.specs.Views.{AddsFound}
-use Rattle.pyver_projects.proofs.Satisfiable.{no_parts, parts_found}
+use Rattle.pyver_projects.proofs.Agreeing.{no_parts, parts_found}
 use Rattle.pyver_projects.specs.ProjectViews.{section_of, string_reading_of}
 use Rattle.pyver_projects.specs.Together.{FindsOfPart, FindsOfParts}
 use Rattle.pyver_projects.proofs.together.project_pairs.Goals as goal

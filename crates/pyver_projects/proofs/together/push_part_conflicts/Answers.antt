@@ -3,8 +3,7 @@ use Rattle.std.specs.List.{All}
 use Rattle.pyver_findings.specs.Conflicts.{conflicts}
 use Rattle.pyver_findings.specs.Demands.{IsSound}
 use Rattle.pyver_findings.specs.Views.{demand_of, finding_of}
-use Rattle.pyver_projects.specs.NameMaps.{inclusions_of}
-use Rattle.pyver_projects.specs.ProjectViews.{section_of, string_reading_of}
+use Rattle.pyver_projects.specs.ProjectViews.{inclusions_of, section_of, string_reading_of}
 use Rattle.pyver_projects.specs.Together.{part_demands}
 use Rattle.pyver_projects.proofs.Holding.{sound_part}
 use Rattle.pyver_projects.proofs.together.push_part_conflicts.Goals as goal

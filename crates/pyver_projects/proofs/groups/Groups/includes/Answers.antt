@@ -1,6 +1,6 @@
 use Rattle.std.proofs.Common.{◌∙◌, sym}
-use Rattle.pyver_projects.proofs.GroupWalks.{not_included}
-use Rattle.pyver_projects.specs.NameMaps.{inclusions_of, rank_of}
+use Rattle.pyver_projects.proofs.Walks.{not_included}
+use Rattle.pyver_projects.specs.ProjectViews.{inclusions_of, rank_of}
 use Rattle.pyver_projects.proofs.groups.Groups.includes.Goals as goal
 
 pub returns-then-has_before : goal.returns-then-has_before

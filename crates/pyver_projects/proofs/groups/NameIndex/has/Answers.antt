@@ -1,6 +1,6 @@
 use Rattle.std.proofs.Common.{◌∙◌, bytes_eq}
 use Rattle.pyver_projects.proofs.Walks.{is_one}
-use Rattle.pyver_projects.specs.NameMaps.{indexed_names}
+use Rattle.pyver_projects.specs.ProjectViews.{indexed_names}
 use Rattle.pyver_projects.proofs.groups.NameIndex.has.Goals as goal
 
 pub returns : goal.returns

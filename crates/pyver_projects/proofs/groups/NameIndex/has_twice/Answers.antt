@@ -1,6 +1,6 @@
 use Rattle.std.proofs.Common.{◌∙◌, bytes_eq, count_by, sym}
 use Rattle.pyver_projects.proofs.Walks.{is_not_twice, is_twice}
-use Rattle.pyver_projects.specs.NameMaps.{indexed_names}
+use Rattle.pyver_projects.specs.ProjectViews.{indexed_names}
 use Rattle.pyver_projects.proofs.groups.NameIndex.has_twice.Goals as goal
 
 pub returns-in-Some : goal.returns-in-Some

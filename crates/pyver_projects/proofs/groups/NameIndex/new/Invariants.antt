@@ -1,6 +1,6 @@
 use Rattle.std.proofs.Common.{◌≡◌, List, ℕ, bytes_eq, count_by, map, take}
 use Rattle.std.specs.HashMap.{get_by}
-use Rattle.pyver_projects.specs.NameMaps.{is_repeated}
+use Rattle.pyver_projects.specs.ProjectViews.{is_repeated}
 use Rattle.pyver_projects.proofs.groups.NameIndex.new.Given as goal
 
 abbrev pub invariant-loop-name : goal.invariant-loop-name

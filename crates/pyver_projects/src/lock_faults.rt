@@ -1,0 +1,381 @@
+//! The names of projects, the groups of locks, and what is wrong with locked packages of one name.
+ghost use Rattle.std.specs.Prelude.{◌≡◌, ◌++◌, IfOk, ◌∷◌, [], Some, codes, map, option_map, option_to_list};
+ghost use Rattle.std.specs.List.{flat_map};
+ghost use Rattle.pyver_projects.specs.Documents.{listed_or_default, lock_parts, package_parts, project_names, written_name};
+ghost use Rattle.pyver_projects.specs.LockedFiles.{ambiguous, ambiguous_by, ambiguous_fault, ambiguous_item, ambiguous_name, counted_names, is_for_extras, has_markers, is_shared, is_uv, marked_name, marked_names, marker_text, package_faults, package_name_in, twin_fault, twin_in, twins};
+ghost use Rattle.pyver_projects.specs.ProjectViews.{IsNameIndex, indexed_names, fault_of};
+ghost use Rattle.toml.specs.View.{table_view, view};
+
+use crate::document_kind::LockKind;
+use crate::groups::NameIndex;
+use crate::locked_package::{LockFault, first_of, package_text};
+use crate::package_requirements::lacks;
+use crate::table::{inside, items, text, top};
+use pyver_findings::normalize_name;
+use std::alloc::{AllocError, Global};
+use toml::{Table, Value};
+
+// In the format of the lock, packages of one name have markers that differ.
+pub(crate) fn has_markers(kind: LockKind, document: &Table) -> bool
+    ensures { result ≡ has_markers kind (table_view document.now) }
+{
+    let metadata = top(document, "metadata");
+    match kind {
+        LockKind::Pylock => true,
+        LockKind::Poetry => match text(inside(metadata, "lock-version")) {
+            Some(version) => version == "2.1",
+            None => false,
+        },
+        LockKind::Pdm => items(inside(metadata, "targets")).len() < 2,
+        LockKind::Uv | LockKind::Pipfile | LockKind::Unknown => false,
+    }
+}
+
+fn is_uv(kind: LockKind) -> bool
+    ensures { result ≡ is_uv kind }
+{
+    matches!(kind, LockKind::Uv)
+}
+
+// The marker of the package, empty without one.
+fn marker_text(table: &Value) -> Option<&str>
+    ensures { option_map (λ t. t.now) result ≡ marker_text (view table.now) }
+{
+    if lacks(table, "marker") && lacks(table, "markers") {
+        return Some("");
+    }
+    first_of(text(table.get("marker")), text(table.get("markers")))
+}
+
+fn is_for_extras(table: &Value) -> bool
+    ensures { result ≡ is_for_extras (view table.now) }
+{
+    items(table.get("extras")).len() > 0
+}
+
+// The name in its normal form beside the marker.
+fn marked_name(alloc: Global, name: &str, marker: &str) -> Result<Vec<u8>, AllocError>
+    ensures { IfOk result (λ marked. marked.items ≡ marked_name name.now marker.now) }
+{
+    let mut marked = normalize_name(alloc, name)?;
+    marked.push(b';')?;
+    marked.extend_from_slice(marker.as_bytes())?;
+    Ok(marked)
+}
+
+// Adds the normal form of the name, if it is a string.
+fn push_package_name(
+    alloc: Global,
+    names: &mut Vec<Vec<u8>>,
+    value: Option<&Value>,
+) -> Result<(), AllocError>
+    ensures { IfOk result (λ _. map (λ n. n.items) names.new.items ≡ map (λ n. n.items) names.old.items ++ package_name_in (option_map (λ v. view v.now) value.entry)) }
+{
+    if let Some(name) = text(value) {
+        names.push(normalize_name(alloc, name)?)?;
+    }
+    Ok(())
+}
+
+// The name of the project as it is written, by PEP 621 or as Poetry has it.
+fn written_name(document: &Table) -> Option<&str>
+    ensures { option_map (λ t. t.now) result ≡ written_name (table_view document.now) }
+{
+    let poetry = inside(top(document, "tool"), "poetry");
+    let name = inside(top(document, "project"), "name");
+    first_of(text(name), text(inside(poetry, "name")))
+}
+
+// Its normal form, if it has a name.
+pub(crate) fn project_name(alloc: Global, document: &Table) -> Result<Option<Vec<u8>>, AllocError>
+    ensures { IfOk result (λ name. option_to_list (option_map (λ n. n.items) name) ≡ project_names (table_view document.now)) }
+{
+    match written_name(document) {
+        Some(name) => Ok(Some(normalize_name(alloc, name)?)),
+        None => Ok(None),
+    }
+}
+
+// Adds the normal forms of the names.
+fn push_names(alloc: Global, names: &mut Vec<Vec<u8>>, list: &[Value]) -> Result<(), AllocError>
+    ensures { IfOk result (λ _. map (λ n. n.items) names.new.items ≡ map (λ n. n.items) names.old.items ++ flat_map (λ d. package_name_in (Some d)) (map view list.now)) }
+{
+    for item in list {
+        push_package_name(alloc, names, Some(item))?;
+    }
+    Ok(())
+}
+
+// The groups that PDM names, or `default`, if there is no value.
+fn listed_or_default(alloc: Global, groups: Option<&Value>) -> Result<Vec<Vec<u8>>, AllocError>
+    ensures { IfOk result (λ names. map (λ n. n.items) names.items ≡ listed_or_default (option_map (λ v. view v.now) groups.entry)) }
+{
+    let mut names = Vec::new(alloc);
+    match groups {
+        Some(groups) => push_names(alloc, &mut names, items(Some(groups)))?,
+        None => names.push(Vec::from_slice(alloc, b"default")?)?,
+    }
+    Ok(names)
+}
+
+// The groups that a lock of this kind names beside its packages, in their normal form.
+pub(crate) fn lock_parts(
+    alloc: Global,
+    kind: LockKind,
+    document: &Table,
+) -> Result<Vec<Vec<u8>>, AllocError>
+    ensures { IfOk result (λ names. map (λ n. n.items) names.items ≡ lock_parts kind (table_view document.now)) }
+{
+    if matches!(kind, LockKind::Pdm) {
+        return listed_or_default(alloc, inside(top(document, "metadata"), "groups"));
+    }
+    Ok(Vec::new(alloc))
+}
+
+// Adds the groups that the package names.
+pub(crate) fn push_package_parts(
+    alloc: Global,
+    parts: &mut Vec<Vec<u8>>,
+    kind: LockKind,
+    line: u64,
+    table: &Value,
+) -> Result<(), AllocError>
+    ensures { IfOk result (λ _. map (λ n. n.items) parts.new.items ≡ map (λ n. n.items) parts.old.items ++ package_parts kind (line, view table.now)) }
+{
+    if matches!(kind, LockKind::Poetry) {
+        return push_names(alloc, parts, items(table.get("groups")));
+    }
+    Ok(())
+}
+
+// Adds the name and the marker, if the package has both.
+fn push_marked_names(
+    alloc: Global,
+    names: &mut Vec<Vec<u8>>,
+    table: &Value,
+) -> Result<(), AllocError>
+    ensures { IfOk result (λ _. map (λ n. n.items) names.new.items ≡ map (λ n. n.items) names.old.items ++ marked_names (view table.now)) }
+{
+    if is_for_extras(table) {
+        return Ok(());
+    }
+    let (Some(name), Some(marker)) = (text(table.get("name")), marker_text(table)) else {
+        return Ok(());
+    };
+    names.push(marked_name(alloc, name, marker)?)?;
+    Ok(())
+}
+
+// Adds the name of the package, with its marker unless the lock is uv's.
+fn push_counted_names(
+    alloc: Global,
+    names: &mut Vec<Vec<u8>>,
+    kind: LockKind,
+    table: &Value,
+) -> Result<(), AllocError>
+    ensures { IfOk result (λ _. map (λ n. n.items) names.new.items ≡ map (λ n. n.items) names.old.items ++ counted_names kind (view table.now)) }
+{
+    if is_uv(kind) {
+        push_package_name(alloc, names, table.get("name"))
+    } else {
+        push_marked_names(alloc, names, table)
+    }
+}
+
+pub(crate) fn counted_names(
+    alloc: Global,
+    kind: LockKind,
+    tables: &[Value],
+) -> Result<Vec<Vec<u8>>, AllocError>
+    ensures { IfOk result (λ names. map (λ n. n.items) names.items ≡ flat_map (counted_names kind) (map view tables.now)) }
+{
+    let mut names = Vec::new(alloc);
+    for table in tables {
+        push_counted_names(alloc, &mut names, kind, table)?;
+    }
+    Ok(names)
+}
+
+// Two packages with one of the names have this name.
+fn is_shared(alloc: Global, names: &NameIndex<'_>, name: &str) -> Result<bool, AllocError>
+    requires { IsNameIndex names.now }
+    ensures { IfOk result (λ b. b ≡ is_shared (indexed_names names.now) name.now) }
+{
+    let normal = normalize_name(alloc, name)?;
+    Ok(names.has_twice(normal.as_slice()))
+}
+
+// That another package has the name and the marker of this one.
+fn twin_fault(
+    alloc: Global,
+    line: u64,
+    name: &str,
+    version: Option<&str>,
+) -> Result<LockFault, AllocError>
+    ensures { IfOk result (λ fault. fault_of fault ≡ twin_fault line name.now (option_map (λ t. t.now) version.entry)) }
+{
+    Ok(LockFault {
+        line,
+        text: package_text(alloc, name, version)?,
+        reason: "another package has this name and no other marker",
+    })
+}
+
+// Adds the package with this name and version, if two of the names are its name and its marker.
+fn push_twin_in(
+    alloc: Global,
+    faults: &mut Vec<LockFault>,
+    names: &NameIndex<'_>,
+    line: u64,
+    name: &str,
+    version: Option<&str>,
+    marked: &[u8],
+) -> Result<(), AllocError>
+    requires { IsNameIndex names.now }
+    ensures { IfOk result (λ _. map fault_of faults.new.items ≡ map fault_of faults.old.items ++ twin_in (indexed_names names.now) line name.now (option_map (λ t. t.now) version.entry) marked.now) }
+{
+    if names.has_twice(marked) {
+        faults.push(twin_fault(alloc, line, name, version)?)?;
+    }
+    Ok(())
+}
+
+// Adds the package, if another one has its name and its marker.
+fn push_twin(
+    alloc: Global,
+    faults: &mut Vec<LockFault>,
+    names: &NameIndex<'_>,
+    line: u64,
+    table: &Value,
+) -> Result<(), AllocError>
+    requires { IsNameIndex names.now }
+    ensures { IfOk result (λ _. map fault_of faults.new.items ≡ map fault_of faults.old.items ++ twins (indexed_names names.now) (line, view table.now)) }
+{
+    if is_for_extras(table) {
+        return Ok(());
+    }
+    let (Some(name), Some(marker)) = (text(table.get("name")), marker_text(table)) else {
+        return Ok(());
+    };
+    let marked = marked_name(alloc, name, marker)?;
+    let version = text(table.get("version"));
+    push_twin_in(alloc, faults, names, line, name, version, marked.as_slice())
+}
+
+// That the package of this text requires a name that more than one has.
+fn ambiguous_fault(
+    alloc: Global,
+    line: u64,
+    requirer: &[u8],
+    name: &str,
+) -> Result<LockFault, AllocError>
+    ensures { IfOk result (λ fault. fault_of fault ≡ ambiguous_fault line requirer.now name.now) }
+{
+    let mut text = Vec::from_slice(alloc, requirer)?;
+    text.extend_from_slice(b" requires ")?;
+    text.extend_from_slice(name.as_bytes())?;
+    let reason = "more than one package has this name";
+    Ok(LockFault { line, text, reason })
+}
+
+// Adds that the package of this text requires the name, if two packages with one of the names have it.
+fn push_ambiguous_name(
+    alloc: Global,
+    faults: &mut Vec<LockFault>,
+    names: &NameIndex<'_>,
+    line: u64,
+    requirer: &[u8],
+    name: Option<&str>,
+) -> Result<(), AllocError>
+    requires { IsNameIndex names.now }
+    ensures { IfOk result (λ _. map fault_of faults.new.items ≡ map fault_of faults.old.items ++ ambiguous_name (indexed_names names.now) line requirer.now (option_map (λ t. t.now) name.entry)) }
+{
+    let Some(name) = name else {
+        return Ok(());
+    };
+    if is_shared(alloc, names, name)? {
+        faults.push(ambiguous_fault(alloc, line, requirer, name)?)?;
+    }
+    Ok(())
+}
+
+fn push_ambiguous_item(
+    alloc: Global,
+    faults: &mut Vec<LockFault>,
+    names: &NameIndex<'_>,
+    line: u64,
+    requirer: &[u8],
+    item: &Value,
+) -> Result<(), AllocError>
+    requires { IsNameIndex names.now }
+    ensures { IfOk result (λ _. map fault_of faults.new.items ≡ map fault_of faults.old.items ++ ambiguous_item (indexed_names names.now) line requirer.now (view item.now)) }
+{
+    if !lacks(item, "source") {
+        return Ok(());
+    }
+    push_ambiguous_name(alloc, faults, names, line, requirer, text(item.get("name")))
+}
+
+fn push_ambiguous_items(
+    alloc: Global,
+    faults: &mut Vec<LockFault>,
+    names: &NameIndex<'_>,
+    line: u64,
+    requirer: &[u8],
+    list: &[Value],
+) -> Result<(), AllocError>
+    requires { IsNameIndex names.now }
+    ensures { IfOk result (λ _. map fault_of faults.new.items ≡ map fault_of faults.old.items ++ flat_map (ambiguous_item (indexed_names names.now) line requirer.now) (map view list.now)) }
+{
+    for item in list {
+        push_ambiguous_item(alloc, faults, names, line, requirer, item)?;
+    }
+    Ok(())
+}
+
+// Adds the dependencies of the package whose source is missing, though two packages with one of the names have theirs.
+fn push_ambiguous_dependencies(
+    alloc: Global,
+    faults: &mut Vec<LockFault>,
+    names: &NameIndex<'_>,
+    line: u64,
+    table: &Value,
+) -> Result<(), AllocError>
+    requires { IsNameIndex names.now }
+    ensures { IfOk result (λ _. map fault_of faults.new.items ≡ map fault_of faults.old.items ++ ambiguous (indexed_names names.now) (line, view table.now)) }
+{
+    let Some(name) = text(table.get("name")) else {
+        return Ok(());
+    };
+    let requirer = package_text(alloc, name, text(table.get("version")))?;
+    let list = items(table.get("dependencies"));
+    push_ambiguous_items(alloc, faults, names, line, requirer.as_slice(), list)
+}
+
+// The packages of a lock beside which each is looked at.
+#[derive(Drop)]
+pub(crate) struct CountedNames<'a> {
+    pub(crate) kind: LockKind,
+    pub(crate) has_markers: bool,
+    pub(crate) names: NameIndex<'a>,
+}
+
+// Adds what is wrong with the package beside the others.
+pub(crate) fn push_package_faults(
+    alloc: Global,
+    faults: &mut Vec<LockFault>,
+    counted: &CountedNames<'_>,
+    line: u64,
+    table: &Value,
+) -> Result<(), AllocError>
+    requires { IsNameIndex counted.now.names }
+    ensures { IfOk result (λ _. map fault_of faults.new.items ≡ map fault_of faults.old.items ++ package_faults counted.now.kind counted.now.has_markers (indexed_names counted.now.names) (line, view table.now)) }
+{
+    if is_uv(counted.kind) {
+        push_ambiguous_dependencies(alloc, faults, &counted.names, line, table)
+    } else if counted.has_markers {
+        push_twin(alloc, faults, &counted.names, line, table)
+    } else {
+        Ok(())
+    }
+}
