@@ -169,13 +169,13 @@ def displays(page):
 
 
 def manual_examples(name):
-    """The examples of each page, and of the file of those that no page shows: there a block begins with a line `# TITLE` and ends with an empty line."""
+    """The examples of each page, and of the file of those that no page shows: there a block begins with a line `# PROGRAM TITLE` and ends with an empty line."""
     for page in MANUALS[name]:
         yield [it for number, shown in displays(page) for it in examples_of(f"{page}:{number}", shown)]
-    blocks = [it.rstrip("\n").split("\n") for it in text_of(f"docs/examples/{name}.txt").split("\n\n")]
-    if wrong := [title for title, *_ in blocks if not title.startswith("# ")]:
-        raise ValueError(f"docs/examples/{name}.txt: a block without a title: {wrong[0]}")
-    yield [it for title, *shown in blocks for it in examples_of(f"docs/examples/{name}.txt, {title}", shown)]
+    blocks = [it.rstrip("\n").split("\n") for it in text_of("docs/examples.txt").split("\n\n")]
+    if wrong := [title for title, *_ in blocks if not re.match("# (pep440|pyver) ", title)]:
+        raise ValueError(f"docs/examples.txt: a block without a title: {wrong[0]}")
+    yield [it for title, *shown in blocks if title.startswith(f"# {name} ") for it in examples_of(f"docs/examples.txt, {title}", shown)]
 
 
 def faults_of_usage(name, program):
