@@ -69,7 +69,7 @@ fn find_asked_text<'a>(name: &[u8], condition: &Condition<'a>) -> Option<&'a [u8
 }
 
 // The first such string.
-fn find_first_asked<'a>(name: &[u8], conditions: &[Condition<'a>]) -> Option<&'a [u8]>
+fn find_first_text<'a>(name: &[u8], conditions: &[Condition<'a>]) -> Option<&'a [u8]>
     ensures { option_map (λ text. text.now) result ≡ first_asked name.now (map condition_of conditions.now) }
 {
     for condition in conditions {
@@ -147,7 +147,7 @@ pub(crate) fn lacks_text(
     ensures { IfOk result (λ b. b ≡ lacks_text name.now (map condition_of conditions.now)) }
 {
     let name = name.as_bytes();
-    match find_first_asked(name, conditions) {
+    match find_first_text(name, conditions) {
         Some(text) => Ok(!are_met_at(alloc, name, text, conditions)?),
         None => Ok(false),
     }
