@@ -15,14 +15,14 @@ use Rattle.pyver_findings.specs.FileLines.{File, Finding, Conflicting}
 use Rattle.pyver_findings.specs.LineMeanings.{Asks, LineMeaning}
 use Rattle.pyver_findings.specs.Reports.{Report, demands_in, empty_report, invalid_in}
 use Rattle.toml.specs.Data.{Members}
-use Rattle.pyver_projects.proofs.Holding.{asks_always, findings_of, not_excluded, some_named, each_flat, sections_same, sound_part, sound_string}
+use Rattle.pyver_projects.proofs.Holding.{asks_always, findings_of, met_everywhere, not_excluded, each_flat, sections_same, sound_part, sound_string}
 use Rattle.pyver_projects.proofs.Walks.{beside_it, beside_pair, left_nil, nil_at, right_nil, zip_each, all_flat, zip_once}
 use Rattle.std.proofs.lemmas.Bool.{true≢false}
 use Rattle.std.proofs.lemmas.Grind.{flat_map-append}
 use Rattle.std.proofs.lemmas.List.Folds.{list_any-append, list_any_at}
 use Rattle.std.proofs.lemmas.List.Elements.{All-contains_itself, All-head, All-tail, All-cons, All-contains, All-filter, All-nil, All-weaker}
 use Rattle.pep440_pick.specs.Names.{normal}
-use Rattle.pyver_projects.specs.Comparing.{absent, is_excused, is_installer, is_project_reading, lacking, names_read, found_beside, found_in_pair, beside_all, is_beside, compared, compared_demand, excluded, invalid_package, is_locked, missing, own_report, unmet, with_own_reports, invalid_string}
+use Rattle.pyver_projects.specs.Comparing.{is_excused, is_installer, is_project_reading, lacking, names_read, found_beside, found_in_pair, beside_all, is_beside, compared, compared_demand, excluded, invalid_package, is_locked, missing, own_report, unlocked, unmet, with_own_reports, invalid_string}
 use Rattle.pyver_projects.specs.Documents.{has_group_tool, project_names, sources}
 use Rattle.pyver_projects.specs.Groups.{groups, Inclusion, inclusions}
 use Rattle.pyver_projects.specs.Meanings.{Document, DocumentReading, IsDocumentReading, IsFileReading, IsLockReading, IsProject, IsRequirementReading, IsStringReading, LockedReading, StringReading, fault_meaning, file_meaning, is_of_version, requirement_line, string_line, IsSoundString}
@@ -145,7 +145,7 @@ module _ (documents : List Document) (name : List ℕ) (others : (other : File) 
       λ i. unlike i || (not (there i) || named i)
 
 all_present : (documents : List Document) (zs : List DocumentReading) → AllZip IsDocumentReading documents zs → flat_map (λ x. (own_report (is_excused zs) x).findings) zs ≡ [] → AllPresent documents
-all_present documents zs h own lock file kind l t q list ((m, below, there), other) (i, within, here) d project others unlike =
+all_present documents zs h own lock file kind l t q list k ((m, below, there), other) (i, within, here) d project others unlike inside =
     let (y, (b, in_y, is_y), ry) = beside_it IsDocumentReading documents zs (record { kind = Lock kind; file = lock }) m below there h in
     let (ys, ms, fs, packages, requirements, files, is_lock) = lock_read lock kind l y other ry in
     let faults = fs ++ map (fault_meaning lock.name) l.faults in
@@ -155,7 +155,9 @@ all_present documents zs h own lock file kind l t q list ((m, below, there), oth
     let asked = line_demand (requirement_line lock.name q) None n in
     let met : unmet (is_excused zs) ys (Asks asked) ≡ [] =
     ap (unmet (is_excused zs) ys) (sym (asks_for lock.name q list z d rz)) ∙ nil_at (unmet (is_excused zs) ys) ms z c in_z is_z (right_nil (flat_map invalid_in faults) (flat_map (unmet (is_excused zs) ys) ms) (right_nil (flat_map invalid_package ys) (flat_map invalid_in faults ++ flat_map (unmet (is_excused zs) ys) ms) nothing)) in
-    some_named lock.name l.packages (requirement_line lock.name q) n ys packages (not_lacking (is_excused zs asked.name) (absent ys asked) (not_excused documents (normal q.name) others zs h file t project unlike) (left_nil (lacking (is_excused zs) ys asked) (excluded asked ys) (left_nil (lacking (is_excused zs) ys asked ++ excluded asked ys) [] met)))
+    let unmet_first : lacking (is_excused zs) ys asked ++ excluded asked ys ≡ [] = left_nil (lacking (is_excused zs) ys asked ++ excluded asked ys) [] met in
+    let has_all : unlocked ys asked ≡ [] = not_lacking (is_excused zs asked.name) (unlocked ys asked) (not_excused documents (normal q.name) others zs h file t project unlike) (left_nil (lacking (is_excused zs) ys asked) (excluded asked ys) unmet_first) in
+    met_everywhere lock.name l.packages (requirement_line lock.name q) n ys packages has_all (right_nil (lacking (is_excused zs) ys asked) (excluded asked ys) unmet_first) k inside
 
 -- where nothing is found of both, nothing is of each
 front_nil : (fs gs : List LineMeaning) → flat_map invalid_in (fs ++ gs) ≡ [] → flat_map invalid_in fs ≡ []

@@ -1,3 +1,4 @@
+pub mod KnownEnvironments
 pub mod Walks
 pub mod Holding
 pub mod Agreeing

@@ -23,9 +23,10 @@ use Rattle.pyver_projects.proofs.Walks.{zip_once}
 use Rattle.pyver_projects.specs.Comparing.{FindsOfReading, documents_report, with_found}
 use Rattle.pyver_projects.specs.Documents.{has_group_tool, project_names, sources}
 use Rattle.pyver_projects.specs.Groups.{Groups, groups, inclusions}
-use Rattle.pyver_projects.specs.Meanings.{DocumentReading, IsBroken, IsDocumentReading, IsFileReading, IsLock, IsLockReading, IsLockedReading, IsProject, IsProjectReading, IsRequirementReading, IsSectionMeaning, IsStringReading, IsVersionReading, LockedReading, StringReading, fault_meaning, file_meaning, is_of_version, requirement_line, string_line}
+use Rattle.pyver_projects.specs.KnownEnvironments.{ReadCondition}
+use Rattle.pyver_projects.specs.Meanings.{DocumentReading, IsBroken, IsConditionReading, IsDocumentReading, IsFileReading, IsLock, IsLockReading, IsLockedReading, IsProject, IsProjectReading, IsRequirementReading, IsSectionMeaning, IsStringReading, IsVersionReading, LockedReading, StringReading, fault_meaning, file_meaning, is_of_version, package_line, requirement_line, string_line}
 use Rattle.pyver_projects.specs.ProjectLaws.{DocumentReportsOnce, IsReadable, IsReadableAs}
-use Rattle.pyver_projects.specs.ProjectStrings.{Build, Dependencies, Extra, Group, Include, Invalid, LockContents, LockedFile, LockedRequirement, Section, Python, ProjectString, Version}
+use Rattle.pyver_projects.specs.ProjectStrings.{Build, Dependencies, Extra, Group, Include, Invalid, LockContents, LockedFile, LockedPackage, LockedRequirement, PackageCondition, Section, Python, ProjectString, Version}
 use Rattle.pyver_projects.specs.declared.document_kind.DocumentKind.{DocumentKind}
 use Rattle.pyver_projects.specs.declared.document_kind.DocumentKind.TheVariants.{Lock, Project}
 use Rattle.pyver_findings.proofs.MarkerPairs.{IsOnce, IsTold, each_once, each_told, names_once, names_tell, no_causes}
@@ -58,13 +59,25 @@ one_string all file s x y (p, a) (q, b) =
     let meaning = one_meaning all (string_line file s) s.text s.section x.meaning y.meaning a b in
     λ j. record { section = section j; meaning = meaning j }
 
-one_version : (line : FileLine) (name : List ℕ) (v : Option (List ℕ)) (x y : LockedReading) → IsVersionReading line name v x → IsVersionReading line name v y → x ≡ y
-one_version line name None x y a b = a ∙ sym b
-one_version line name (Some text) x y (inl (r, d, a)) (inl (q, e, b)) = a ∙ ap (λ (v : Record). record { line = line; name = normal name; version = Some v; invalid = None }) (one_record text r q d e) ∙ sym b
-one_version line name (Some text) x y (inl (r, d, a)) (inr (f, e, b)) = absurd (not_both text r f d e)
-one_version line name (Some text) x y (inr (f, e, a)) (inl (r, d, b)) = absurd (not_both text r f d e)
-one_version line name (Some text) x y (inr (f, r, a)) (inr (g, s, b)) =
-    a ∙ ap (λ (h : Rejection). record { line = line; name = normal name; version = None; invalid = Some (NoRequirement line (rejection_text h) (length name + 1)) }) (one_refusal text f g r s) ∙ sym b
+one_version : (line : FileLine) (name : List ℕ) (c : Option ReadCondition) (v : Option (List ℕ)) (x y : LockedReading) → IsVersionReading line name c v x → IsVersionReading line name c v y → x ≡ y
+one_version line name c None x y a b = a ∙ sym b
+one_version line name c (Some text) x y (inl (r, d, a)) (inl (q, e, b)) = a ∙ ap (λ (v : Record). record { line = line; name = normal name; condition = c; version = Some v; invalid = None }) (one_record text r q d e) ∙ sym b
+one_version line name c (Some text) x y (inl (r, d, a)) (inr (f, e, b)) = absurd (not_both text r f d e)
+one_version line name c (Some text) x y (inr (f, e, a)) (inl (r, d, b)) = absurd (not_both text r f d e)
+one_version line name c (Some text) x y (inr (f, r, a)) (inr (g, s, b)) =
+    a ∙ ap (λ (h : Rejection). record { line = line; name = normal name; condition = c; version = None; invalid = Some (NoRequirement line (rejection_text h) (length name + 1)) }) (one_refusal text f g r s) ∙ sym b
+
+one_condition : (p : Option PackageCondition) (c d : Option ReadCondition) → IsConditionReading p c → IsConditionReading p d → c ≡ d
+one_condition None c d a b = a ∙ sym b
+one_condition (Some p) c d (inl (l, f, a)) (inl (m, g, b)) = a ∙ ap (λ (list : List Spec). Some (record { python = list; marker = p.marker })) (one_list p.python l m f g) ∙ sym b
+one_condition (Some p) c d (inl (l, f, a)) (inr (g, r, b)) = absurd (not_both_list p.python l g f r)
+one_condition (Some p) c d (inr (f, r, a)) (inl (l, g, b)) = absurd (not_both_list p.python l f g r)
+one_condition (Some p) c d (inr (f, r, a)) (inr (g, s, b)) = a ∙ sym b
+
+one_package : (file : List ℕ) (p : LockedPackage) (x y : LockedReading) → IsLockedReading file p x → IsLockedReading file p y → x ≡ y
+one_package file p x y (a, b) (c, d) =
+    let same : x.condition ≡ y.condition = one_condition p.condition x.condition y.condition a c in
+    one_version (package_line file p) p.name y.condition p.version x y (subst (λ z. IsVersionReading (package_line file p) p.name z p.version x) same b) d
 
 one_project : (file : File) (t : Members) (x y : DocumentReading) → IsProjectReading file t x → IsProjectReading file t y → x ≡ y
 one_project file t x y (xs, g, a) (ys, h, b) =
@@ -89,7 +102,7 @@ one_file file f x y (inr (none, a)) (inr (other, b)) = a ∙ sym b
 
 one_lock : (file : List ℕ) (l : LockContents) (x y : DocumentReading) → IsLockReading file l x → IsLockReading file l y → x ≡ y
 one_lock file l x y (ys, ms, fs, g, h, i, a) (zs, ns, gs, j, k, m, b) =
-    let packages = zip_once (IsLockedReading file) (Contains l.packages) (λ p v w known q r. one_version _ p.name p.version v w q r) l.packages ys zs (All-contains_itself l.packages) g j in
+    let packages = zip_once (IsLockedReading file) (Contains l.packages) (λ p v w known q r. one_package file p v w q r) l.packages ys zs (All-contains_itself l.packages) g j in
     let requirements = zip_once (IsRequirementReading file) (Contains l.requirements) (λ p v w known q r. one_requirement file p v w q r) l.requirements ms ns (All-contains_itself l.requirements) h k in
     let files = zip_once (IsFileReading file) (Contains l.files) (λ p v w known q r. one_file file p v w q r) l.files fs gs (All-contains_itself l.files) i m in
     a ∙ (λ n. IsLock l.parts (packages n) (requirements n) (files n ++ map (fault_meaning file) l.faults)) ∙ sym b

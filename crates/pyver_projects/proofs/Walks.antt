@@ -1,5 +1,5 @@
 -- Lists beside lists, lists that are made of each element, strings that are read one after another, and names that are known, repeated or those of packages.
-use Rattle.std.proofs.Common.{Bool, Err, IfOk, IfSome, List, None, Ok, Option, Result, Some, String, [], ap, arith, false, get_or, if◌then◌else◌, inr, is_none, length, map, refl, subst, suc, sym, take, take_all, true, zero, ℕ, ◌++◌, ◌+◌, ◌-◌, ◌<◌, ◌||◌, ◌∙◌, ◌∷◌, ◌≡◌, ◌≤◌, ◌⊎◌, Bor, Vec, bytes_eq, cond, count_by, is_some, nat_eq, nat_lt, not, ◌&&◌, ◌==◌, drop, option_map}
+use Rattle.std.proofs.Common.{Bool, Err, IfOk, IfSome, List, None, Ok, Option, Result, Some, String, [], ap, arith, false, get_or, if◌then◌else◌, inr, is_none, length, map, refl, subst, suc, sym, take, take_all, true, zero, inl, ℕ, ◌++◌, ◌+◌, ◌-◌, ◌<◌, ◌||◌, ◌∙◌, ◌∷◌, ◌≡◌, ◌≤◌, ◌⊎◌, Bor, Vec, bytes_eq, cond, count_by, is_some, nat_eq, nat_lt, not, ◌&&◌, ◌==◌, drop, option_map}
 use Rattle.std.proofs.lemmas.Bool.{true≢false, and_parts, false_from_ne_true, or_left, or_right}
 use Rattle.std.proofs.lemmas.List.Elements.{All-append, All-cons, All-head, All-nil, All-tail, All-contains, All-contains_itself, All-weaker}
 use Rattle.pyver_findings.specs.NamedFiles.{folder}
@@ -10,13 +10,13 @@ use Rattle.std.proofs.lemmas.Slice.Zip.{all_zipped_more}
 use Rattle.pep440_version.specs.ErrorTexts.{error_text, rejection_text}
 use Rattle.pep440_version.specs.Rejections.{Rejection, Rejects}
 use Rattle.pep440_rs.specs.Lists.ListErrors.{IsListLifted, lacks_list_memory, list_rejection_of}
-use Rattle.pep440_rs.specs.Lists.ListGrammar.{PieceRejection, RejectsList}
+use Rattle.pep440_rs.specs.Lists.ListGrammar.{PieceRejection}
 use Rattle.pep440_rs.specs.declared.list.error.SpecifiersErrorKind.{SpecifiersErrorKind}
 use Rattle.toml.specs.Data.{Data}
 use Rattle.toml.specs.View.{items_of, members_view}
 use Rattle.toml.specs.declared.value.Value.{Value}
 use Rattle.std.specs.declared.alloc.Global.{Global}
-use Rattle.pyver_projects.specs.ProjectStrings.{items_list, members_list}
+use Rattle.pyver_projects.specs.ProjectStrings.{LockedPackage, items_list, members_list}
 use Rattle.std.proofs.lemmas.List.Sums.{sum_by-append}
 use Rattle.std.proofs.lemmas.Slice.Eq.{bytes_eq-Decides, ends_is}
 use Rattle.pyver_findings.proofs.Grouping.{swap}
@@ -24,7 +24,9 @@ use Rattle.pyver_projects.specs.ProjectViews.{is_repeated, stands_before}
 use Rattle.std.specs.Option.{option_copied, option_map_or, MatchOption}
 use Rattle.pyver_findings.specs.Demands.{Demand}
 use Rattle.pyver_projects.specs.Comparing.{accepts_version, excluded, has_name, is_allowed, locked_line, outside}
-use Rattle.pyver_projects.specs.Meanings.{LockedReading}
+use Rattle.pyver_findings.specs.FileLines.{FileLine}
+use Rattle.pyver_projects.specs.KnownEnvironments.{ReadCondition}
+use Rattle.pyver_projects.specs.Meanings.{IsConditionReading, IsLockedReading, IsVersionReading, LockedReading, package_line}
 use Rattle.std.proofs.lemmas.Bool.Decides.{Decides-eqb}
 use Rattle.std.proofs.lemmas.Str.Pattern.{NoCharPasses-char, drop_at_char, ends_text}
 use Rattle.std.specs.Str.{NoCharPasses}
@@ -198,11 +200,19 @@ reason_by kind (Some f) is some lifted = (f, refl)
 pub list_reason : (kind : SpecifiersErrorKind) → lacks_list_memory kind ≡ false → IsListLifted kind → (f : PieceRejection) × (list_rejection_of kind ≡ Some f)
 list_reason kind some lifted = reason_by kind (list_rejection_of kind) refl some lifted
 
--- a string is no list for its reason
-pub list_read : {Y E : Type 0} (r : Result Y E) (o : Option PieceRejection) (text : List ℕ) (A Q : Y → Type 0) → IfSome o (RejectsList text) → IfOk r (λ y. (f : PieceRejection) × (o ≡ Some f) × Q y)
-    → IfOk r (λ y. A y ⊎ ((f : PieceRejection) × RejectsList text f × Q y))
-list_read (Ok y) o text A Q refuses (f, some, q) = inr (f, subst (λ (p : Option PieceRejection). IfSome p (RejectsList text)) some refuses, q)
-list_read (Err e) o text A Q refuses h = tt
+condition_is : (line : FileLine) (name : List ℕ) (c : Option ReadCondition) (w : Option (List ℕ)) (y : LockedReading) → IsVersionReading line name c w y → c ≡ y.condition
+condition_is line name c None y is = ap (λ (z : LockedReading). z.condition) (sym is)
+condition_is line name c (Some text) y (inl (r, d, is)) = ap (λ (z : LockedReading). z.condition) (sym is)
+condition_is line name c (Some text) y (inr (f, r, is)) = ap (λ (z : LockedReading). z.condition) (sym is)
+
+-- a package under this condition
+pub locked_so : (file : List ℕ) (p : LockedPackage) (line : FileLine) (name : List ℕ) (c : Option ReadCondition) (y : LockedReading) → line ≡ package_line file p → name ≡ p.name → IsConditionReading p.condition c
+    → IsVersionReading line name c p.version y → IsLockedReading file p y
+locked_so file p line name c y at named read version =
+    let so = condition_is line name c p.version y version in (
+      subst (IsConditionReading p.condition) so read,
+      subst (λ d. IsVersionReading (package_line file p) p.name d p.version y) so (subst (λ l. IsVersionReading l p.name c p.version y) at (subst (λ s. IsVersionReading line s c p.version y) named version)),
+    )
 
 -- a string is no version for its reason
 pub version_read : {Y E : Type 0} (r : Result Y E) (o : Option Rejection) (text : List ℕ) (A : Y → Type 0) (Q : Rejection → Y → Type 0) → IfSome o (Rejects text) → IfOk r (λ y. (f : Rejection) × (o ≡ Some f) × Q f y)
@@ -292,9 +302,18 @@ module _ {X : Type 0} (p q : X → Bool) where
   both_by false x xs e = e
 
   -- one of those that pass the first test passes the second where one passes both
-  any-both : (xs : List X) → list_any q (filter p xs) ≡ list_any (λ y. p y && q y) xs
+  pub any-both : (xs : List X) → list_any q (filter p xs) ≡ list_any (λ y. p y && q y) xs
   any-both [] = refl
   any-both (x ∷ xs) = both_by (p x) x xs (any-both xs)
+
+kept_some : {X : Type 0} (b c : Bool) (x : X) (rest : List X) → (b || c) ≡ true → (c ≡ true → rest ≡ [] → ⊥) → cond b (x ∷ rest) rest ≡ [] → ⊥
+kept_some true c x rest some later none = cc none
+kept_some false c x rest some later none = later some none
+
+-- where one passes the test, some are kept
+pub filter_some : {X : Type 0} (p : X → Bool) (xs : List X) → list_any p xs ≡ true → filter p xs ≡ [] → ⊥
+filter_some p [] some none = true≢false (sym some)
+filter_some p (x ∷ xs) some none = kept_some (p x) (list_any p xs) x (filter p xs) some (filter_some p xs) none
 
 -- a list behind a reference, or none
 pub copied : {L A : Type 0} (o : Option (Bor (Vec L A))) → option_map_or (λ g. g.now.items) o [] ≡ option_map_or (λ g. g.items) (option_copied o) []

@@ -1,6 +1,6 @@
 -- What is found in documents: in each by itself, and in each project beside each lock.
 use Rattle.std.specs.Prelude.{ℕ, ◌≡◌, ◌||◌, ◌&&◌, List, [], ◌∷◌, ◌++◌, Bool, true, false, Option, Some, None, bytes_eq, codes, is_none, is_some, length, nat_lt, not, if◌then◌else◌}
-use Rattle.std.specs.List.{AllZip, flat_map, list_any, zip}
+use Rattle.std.specs.List.{AllZip, filter, find, flat_map, list_all, list_any, zip}
 use Rattle.pep440_rs.specs.LiteralMatching.{list_matches_literally}
 use Rattle.pep440_rs.specs.Specifiers.{Spec}
 use Rattle.pep440_version.specs.Record.{Record}
@@ -11,6 +11,7 @@ use Rattle.pyver_findings.specs.MarkerPairs.{FindsNothing, FindsOfEach}
 use Rattle.pyver_findings.specs.Reports.{Report, demands_in, empty_report, invalid_in, joined_report, left_out_in}
 use Rattle.pyver_findings.specs.declared.cause.Cause.{Cause}
 use Rattle.pyver_findings.specs.declared.finding.Conflict.TheVariants.{PinOutside}
+use Rattle.pyver_projects.specs.KnownEnvironments.{environment_name, is_left_out_in, known_environments}
 use Rattle.pyver_projects.specs.Meanings.{Document, DocumentReading, IsBroken, IsDocumentReading, IsLock, IsProject, LockedReading, StringReading}
 use Rattle.pyver_projects.specs.ProjectStrings.{Dependencies, Extra, Group, Section}
 use Rattle.pyver_projects.specs.Together.{FindsOfParts, project_conflicts}
@@ -19,6 +20,7 @@ use Rattle.pyver_projects.specs.Documents.{lies_above}
 use Rattle.pyver_projects.specs.declared.document_kind.DocumentKind.{DocumentKind}
 use Rattle.pyver_projects.specs.declared.document_kind.DocumentKind.TheVariants.{Lock, Project}
 use Rattle.pyver_projects.specs.declared.document_kind.LockKind.{LockKind}
+use Rattle.pyver_projects.specs.declared.known_environment.KnownEnvironment.{KnownEnvironment}
 use Rattle.pyver_projects.specs.declared.document_kind.LockKind.TheVariants.{Pdm, Pipfile, Poetry, Pylock, Unknown, Uv}
 
 -- ---- a document by itself
@@ -74,6 +76,36 @@ excluded a ys = if list_any (is_allowed a) ys then [] else outside a.line (flat_
 abbrev pub absent : List LockedReading → Demand → List Finding
 absent ys a = if list_any (has_name a) ys then [] else NoRequirement a.line (codes "the lock has no package of this name") 0 ∷ []
 
+-- the requirement with this list may take the package: the list contains its version, or none is known
+abbrev pub may_take : List Spec → LockedReading → Bool
+may_take list y = is_none y.version || accepts_version list y.version
+
+-- in the environment the lock leaves out all of these
+abbrev pub leaves_out_all : List LockedReading → KnownEnvironment → Bool
+leaves_out_all taken k = list_all (λ (y : LockedReading). is_left_out_in k y.condition) taken
+
+-- that no package meets the requirement on this line in the environment
+abbrev pub lack_in : FileLine → KnownEnvironment → Finding
+lack_in line k = NoRequirement line (codes "no locked package meets it on " ++ environment_name k) 0
+
+-- in this one, if there is one
+abbrev pub lack_finding : FileLine → Option KnownEnvironment → List Finding
+lack_finding line None = []
+lack_finding line (Some k) = lack_in line k ∷ []
+
+-- the first environment in which the lock leaves out all packages that a requirement on this line may take, if there are some
+abbrev pub partly_locked : FileLine → List LockedReading → List Finding
+partly_locked line [] = []
+partly_locked line (y ∷ taken) = lack_finding line (find (leaves_out_all (y ∷ taken)) known_environments)
+
+-- the packages that the requirement may take
+abbrev pub taken_packages : List LockedReading → Demand → List LockedReading
+taken_packages ys a = filter (may_take a.specifiers) (filter (has_name a) ys)
+
+-- the lock has no package of the name of the requirement, or in some environment none that it may take
+abbrev pub unlocked : List LockedReading → Demand → List Finding
+unlocked ys a = absent ys a ++ partly_locked a.line (taken_packages ys a)
+
 -- a tool that builds or installs, which older releases of Poetry do not lock
 abbrev pub is_installer : List ℕ → Bool
 is_installer name = bytes_eq name (codes "setuptools") || (bytes_eq name (codes "distribute") || (bytes_eq name (codes "pip") || bytes_eq name (codes "wheel")))
@@ -97,7 +129,7 @@ is_excused xs name = is_installer name || (not (list_any is_project_reading xs) 
 module _ (excused : List ℕ → Bool) where
   -- the lock lacks what a package requires
   abbrev pub lacking : List LockedReading → Demand → List Finding
-  lacking ys a = if excused a.name then [] else absent ys a
+  lacking ys a = if excused a.name then [] else unlocked ys a
 
   -- what the requirement of a package lacks and excludes in its own lock
   abbrev pub unmet : List LockedReading → LineMeaning → List Finding
@@ -152,7 +184,7 @@ is_locked _ = false
 module _ (kind : LockKind) (parts : List (List ℕ)) where
   -- a lock has the package, if it needs it
   abbrev pub missing : List LockedReading → Section → Demand → List Finding
-  missing ys section a = if is_needed kind parts section then absent ys a else []
+  missing ys section a = if is_needed kind parts section then unlocked ys a else []
 
   -- a requirement beside the lock, which counts if it has no marker
   abbrev pub compared_demand : List LockedReading → Section → Demand → List Finding

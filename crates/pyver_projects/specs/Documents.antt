@@ -4,9 +4,9 @@ use Rattle.std.specs.List.{ends_with, flat_map, starts_with}
 use Rattle.std.specs.Option.{option_or}
 use Rattle.pep440_pick.specs.Names.{is_name, normal}
 use Rattle.toml.specs.Data.{Data, Members, as_str, get, get_member}
-use Rattle.pyver_projects.specs.LockedFiles.{files_from, last_section, counted_names, has_markers, package_faults, package_name_in}
+use Rattle.pyver_projects.specs.LockedFiles.{files_from, last_section, counted_names, has_markers, locked_python, package_condition, package_faults, package_name_in}
 use Rattle.pyver_projects.specs.PackageRequirements.{requirements_from}
-use Rattle.pyver_projects.specs.ProjectStrings.{Build, Dependencies, Extra, Group, Include, Invalid, LockContents, LockedPackage, ProjectString, Python, Section, Version, header_lines, entries, inside, is_array_or_none, is_table_or_none, listed, text_in}
+use Rattle.pyver_projects.specs.ProjectStrings.{Build, Dependencies, Extra, Group, Include, Invalid, LockContents, LockedPackage, PackageCondition, ProjectString, Python, Section, Version, header_lines, entries, inside, is_array_or_none, is_table_or_none, listed, text_in}
 use Rattle.pyver_projects.specs.PipfileLocks.{member_packages}
 use Rattle.pyver_findings.specs.NamedFiles.{folder}
 use Rattle.pyver_projects.specs.declared.document_kind.DocumentKind.{DocumentKind}
@@ -163,12 +163,13 @@ numbered_tables lines i [] = []
 numbered_tables lines i (d ∷ ds) = (get_or lines i 1, d) ∷ numbered_tables lines (i + 1) ds
 
 -- a package on this line, if it has a name
-abbrev pub package_in : ℕ → Option (List ℕ) → Option (List ℕ) → List LockedPackage
-package_in line None version = []
-package_in line (Some name) version = record { line = line; name = name; version = version } ∷ []
+abbrev pub package_in : ℕ → Option (List ℕ) → Option (List ℕ) → Option PackageCondition → List LockedPackage
+package_in line None version condition = []
+package_in line (Some name) version condition = record { line = line; name = name; version = version; condition = condition } ∷ []
 
-abbrev pub package_from : ℕ × Data → List LockedPackage
-package_from e = package_in e.0 (text_in (get (codes "name") e.1)) (text_in (get (codes "version") e.1))
+-- of a lock for these Pythons, if they are known
+abbrev pub package_from : Option (List ℕ) → ℕ × Data → List LockedPackage
+package_from python e = package_in e.0 (text_in (get (codes "name") e.1)) (text_in (get (codes "version") e.1)) (package_condition python e.1)
 
 -- the normal forms of the names in an array
 abbrev pub names_listed : Option Data → List (List ℕ)
@@ -189,12 +190,12 @@ abbrev pub package_parts : LockKind → ℕ × Data → List (List ℕ)
 package_parts Poetry e = names_listed (get (codes "groups") e.1)
 package_parts kind e = []
 
--- what the tables of packages of a lock of this kind have, each with its line, beside these groups, that have markers or not, and are looked
--- at beside those with these names
-abbrev pub table_contents : LockKind → List (List ℕ) → Bool → List (List ℕ) → List (ℕ × Data) → LockContents
-table_contents kind parts marked names tables = record {
+-- what the tables of packages of a lock of this kind have, each with its line, beside these groups, that have markers or not, for these
+-- Pythons, and are looked at beside those with these names
+abbrev pub table_contents : LockKind → List (List ℕ) → Bool → Option (List ℕ) → List (List ℕ) → List (ℕ × Data) → LockContents
+table_contents kind parts marked python names tables = record {
   parts = parts ++ flat_map (package_parts kind) tables;
-  packages = flat_map package_from tables;
+  packages = flat_map (package_from python) tables;
   requirements = flat_map requirements_from tables;
   files = flat_map files_from tables;
   faults = flat_map (package_faults kind marked names) tables;
@@ -203,7 +204,7 @@ table_contents kind parts marked names tables = record {
 -- what a lock of this kind has in these packages, with these lines of headers
 abbrev pub packages_contents : LockKind → List ℕ → Members → List Data → LockContents
 packages_contents kind lines document packages =
-    table_contents kind (lock_parts kind document) (has_markers kind document) (flat_map (counted_names kind) packages) (numbered_tables lines 0 packages)
+    table_contents kind (lock_parts kind document) (has_markers kind document) (locked_python kind document) (flat_map (counted_names kind) packages) (numbered_tables lines 0 packages)
 
 -- in those in the array of tables at this key
 abbrev pub contents : LockKind → List ℕ → List ℕ → Members → LockContents

@@ -4,6 +4,7 @@ pub mod PackageRequirements
 pub mod LockedFiles
 pub mod Documents
 pub mod Groups
+pub mod KnownEnvironments
 pub mod Meanings
 pub mod ProjectViews
 pub mod Together

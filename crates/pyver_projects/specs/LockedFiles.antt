@@ -6,9 +6,10 @@ use Rattle.std.specs.List.{ends_with, list_any, flat_map}
 use Rattle.std.specs.Option.{option_map_or, option_or}
 use Rattle.pep440_pick.specs.Names.{same_name, normal}
 use Rattle.pep440_pick.specs.RequirementReading.{split_at_byte}
+use Rattle.pep440_version.specs.Changes.ChangeWords.{after}
 use Rattle.toml.specs.Data.{Data, get, Members, get_member}
-use Rattle.pyver_projects.specs.PackageRequirements.{lacks, package_text}
-use Rattle.pyver_projects.specs.ProjectStrings.{LockedFile, LockFault, listed, text_in, inside}
+use Rattle.pyver_projects.specs.PackageRequirements.{lacks, package_text, plain_list}
+use Rattle.pyver_projects.specs.ProjectStrings.{LockedFile, LockFault, PackageCondition, listed, text_in, inside}
 use Rattle.pyver_projects.specs.declared.document_kind.LockKind.{LockKind}
 use Rattle.pyver_projects.specs.declared.document_kind.LockKind.TheVariants.{Pdm, Pipfile, Poetry, Pylock, Unknown, Uv}
 
@@ -105,9 +106,13 @@ package_name d = package_name_in (get (codes "name") d)
 
 -- ---- packages with one marker
 
+-- the marker of a package, if it has one that is a string
+abbrev pub written_marker : Data → Option (List ℕ)
+written_marker d = option_or (text_in (get (codes "marker") d)) (text_in (get (codes "markers") d))
+
 -- the marker of a package, empty without one; none if it is no string, as where Poetry has one for each group
 abbrev pub marker_text : Data → Option (List ℕ)
-marker_text d = if lacks (codes "marker") d && lacks (codes "markers") d then Some [] else option_or (text_in (get (codes "marker") d)) (text_in (get (codes "markers") d))
+marker_text d = if lacks (codes "marker") d && lacks (codes "markers") d then Some [] else written_marker d
 
 -- a name in its normal form beside a marker
 abbrev pub marked_name : List ℕ → List ℕ → List ℕ
@@ -180,6 +185,29 @@ has_markers Pdm document = nat_lt (length (listed (inside (codes "targets") (get
 has_markers Uv document = false
 has_markers Pipfile document = false
 has_markers Unknown document = false
+
+-- Poetry's list, whose `*` excludes no version; `^3.` is `>=3.` for the versions of Python 3
+abbrev pub poetry_python : List ℕ → List ℕ
+poetry_python list = option_map_or (λ rest. codes ">=3." ++ rest) (after (codes "^3.") list) (plain_list list)
+
+-- that of the one target
+abbrev pub target_python : List Data → Option (List ℕ)
+target_python (target ∷ []) = text_in (get (codes "requires_python") target)
+target_python _ = None
+
+-- the Pythons that a lock of this kind is for, where its packages have markers that say where they are needed
+abbrev pub locked_python : LockKind → Members → Option (List ℕ)
+locked_python Poetry document = if has_markers Poetry document then option_map poetry_python (text_in (inside (codes "python-versions") (get_member (codes "metadata") document))) else None
+locked_python Pdm document = target_python (listed (inside (codes "targets") (get_member (codes "metadata") document)))
+locked_python kind document = None
+
+abbrev pub condition_in : Option (List ℕ) → Option (List ℕ) → Option PackageCondition
+condition_in (Some python) (Some marker) = Some (record { python = python; marker = marker })
+condition_in _ _ = None
+
+-- where a lock for these Pythons has the package, if not everywhere
+abbrev pub package_condition : Option (List ℕ) → Data → Option PackageCondition
+package_condition python d = condition_in python (written_marker d)
 
 abbrev pub is_uv : LockKind → Bool
 is_uv Uv = true

@@ -20,8 +20,9 @@ use Rattle.toml.specs.Data.{Members}
 use Rattle.toml.specs.Parse.{parse_document}
 use Rattle.pyver_projects.specs.Documents.{has_group_tool, locked, project_names, sources}
 use Rattle.pyver_projects.specs.Groups.{Groups, groups, include_meaning, no_group}
+use Rattle.pyver_projects.specs.KnownEnvironments.{ReadCondition}
 use Rattle.pyver_projects.specs.PackageRequirements.{package_text, requirement_text}
-use Rattle.pyver_projects.specs.ProjectStrings.{Build, Dependencies, Extra, Group, Include, Invalid, LockContents, LockFault, LockedFile, LockedPackage, LockedRequirement, ProjectString, Python, Section, Version, first_line, number_or_one}
+use Rattle.pyver_projects.specs.ProjectStrings.{Build, Dependencies, Extra, Group, Include, Invalid, LockContents, LockFault, LockedFile, LockedPackage, LockedRequirement, PackageCondition, ProjectString, Python, Section, Version, first_line, number_or_one}
 use Rattle.pyver_projects.specs.declared.document_kind.DocumentKind.{DocumentKind}
 use Rattle.pyver_projects.specs.declared.document_kind.DocumentKind.TheVariants.{Lock, Project}
 use Rattle.pyver_findings.specs.Reports.{demands_in}
@@ -57,10 +58,12 @@ IsStringReading all file s x = (x.section ≡ s.section) × IsSectionMeaning all
 
 -- ---- locked packages
 
--- a package that was read: its line, its name in its normal form, its version if it has one that is valid, and what is wrong with it
+-- a package that was read: its line, its name in its normal form, where it is, if not everywhere, its version if it has one that is valid, and what
+-- is wrong with it
 pub record LockedReading : Type 0 where
   pub line : FileLine
   pub name : List ℕ
+  pub condition : Option ReadCondition
   pub version : Option Record
   pub invalid : Option Finding
 
@@ -68,14 +71,20 @@ pub record LockedReading : Type 0 where
 abbrev pub package_line : List ℕ → LockedPackage → FileLine
 package_line file p = record { file = file; number = p.line; text = package_text p.name p.version; comment = [] }
 
--- a package on this line with this name and version
-abbrev pub IsVersionReading : FileLine → List ℕ → Option (List ℕ) → LockedReading → Type 0
-IsVersionReading line name None y = y ≡ record { line = line; name = normal name; version = None; invalid = None }
-IsVersionReading line name (Some text) y = ((r : Record) × Derives text r × (y ≡ record { line = line; name = normal name; version = Some r; invalid = None }))
-    ⊎ ((f : Rejection) × Rejects text f × (y ≡ record { line = line; name = normal name; version = None; invalid = Some (NoRequirement line (rejection_text f) (length name + 1)) }))
+-- a package on this line with this name, condition and version
+abbrev pub IsVersionReading : FileLine → List ℕ → Option ReadCondition → Option (List ℕ) → LockedReading → Type 0
+IsVersionReading line name c None y = y ≡ record { line = line; name = normal name; condition = c; version = None; invalid = None }
+IsVersionReading line name c (Some text) y = ((r : Record) × Derives text r × (y ≡ record { line = line; name = normal name; condition = c; version = Some r; invalid = None }))
+    ⊎ ((f : Rejection) × Rejects text f × (y ≡ record { line = line; name = normal name; condition = c; version = None; invalid = Some (NoRequirement line (rejection_text f) (length name + 1)) }))
+
+-- where a package is: everywhere, if PEP 440 does not know the list of Pythons
+abbrev pub IsConditionReading : Option PackageCondition → Option ReadCondition → Type 0
+IsConditionReading None c = c ≡ None
+IsConditionReading (Some p) c = ((list : List Spec) × DerivesList p.python list × (c ≡ Some (record { python = list; marker = p.marker })))
+    ⊎ ((f : PieceRejection) × RejectsList p.python f × (c ≡ None))
 
 abbrev pub IsLockedReading : List ℕ → LockedPackage → LockedReading → Type 0
-IsLockedReading file p y = IsVersionReading (package_line file p) p.name p.version y
+IsLockedReading file p y = IsConditionReading p.condition y.condition × IsVersionReading (package_line file p) p.name y.condition p.version y
 
 -- ---- requirements of locked packages
 

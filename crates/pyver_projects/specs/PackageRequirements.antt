@@ -79,9 +79,9 @@ module _ (line : ℕ) (requirer : List ℕ) where
       ++ (flat_map item_requirements (listed (get (codes "dependencies") d))
       ++ flat_map member_requirements (entries (get (codes "dependencies") d)))
 
--- the package is locked without markers
+-- the package is locked without markers: those of Poetry, of PDM and PEP 751, and of uv
 abbrev pub is_unconditional : Data → Bool
-is_unconditional d = lacks (codes "markers") d && lacks (codes "resolution-markers") d
+is_unconditional d = lacks (codes "markers") d && (lacks (codes "marker") d && lacks (codes "resolution-markers") d)
 
 -- the requirements of a package with this name, if it has one
 abbrev pub requirements_by : ℕ → Option (List ℕ) → Data → List LockedRequirement

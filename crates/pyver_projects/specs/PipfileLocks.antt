@@ -29,7 +29,7 @@ package_version d = option_map pinned_version (option_and_then as_str (get (code
 
 -- a member as a package, on the first line of the lock on which its name stands in quotes
 abbrev pub member_package : List ℕ → List ℕ × Data → LockedPackage
-member_package text e = record { line = number_or_one (first_line text e.0); name = e.0; version = package_version e.1 }
+member_package text e = record { line = number_or_one (first_line text e.0); name = e.0; version = package_version e.1; condition = None }
 
 -- both are one version, or none
 abbrev pub same_version : Option (List ℕ) → Option (List ℕ) → Bool

@@ -19,18 +19,23 @@ use Rattle.pyver_findings.specs.FindingLaws.{HaveNone, IsRightConflict, IsRightP
 use Rattle.pyver_findings.specs.LineMeanings.{IsNone, IsPlain}
 use Rattle.pyver_findings.specs.Reports.{Report}
 use Rattle.pyver_findings.specs.declared.finding.Conflict.TheVariants.{PinOutside}
+use Rattle.pyver_markers.specs.Environments.{Environment}
+use Rattle.pyver_markers.specs.MarkerValues.{value}
 use Rattle.pyver_requirements.specs.LineParts.{line_parts}
+use Rattle.pyver_requirements.specs.MarkerGrammar.{DenotesMarker, Marker}
 use Rattle.toml.specs.Data.{Members}
 use Rattle.toml.specs.Parse.{parse_document}
-use Rattle.pyver_projects.specs.Comparing.{IsDocumentsReport, is_beside, is_installer, is_locked, is_needed}
+use Rattle.pyver_projects.specs.Comparing.{IsDocumentsReport, is_beside, is_installer, is_locked, is_needed, lack_in}
 use Rattle.pyver_projects.specs.Documents.{has_group_tool, locked, project_names, sources}
 use Rattle.pyver_projects.specs.Groups.{groups}
+use Rattle.pyver_projects.specs.KnownEnvironments.{known_environment, known_environments, python_record}
 use Rattle.pyver_projects.specs.Meanings.{Document, IsSectionMeaning, IsStringReading, StringReading, fault_meaning, file_meaning, is_of_version, package_line, requirement_line, string_line}
-use Rattle.pyver_projects.specs.ProjectStrings.{LockContents, LockFault, LockedFile, LockedPackage, LockedRequirement, ProjectString, Section}
+use Rattle.pyver_projects.specs.ProjectStrings.{LockContents, LockFault, LockedFile, LockedPackage, LockedRequirement, PackageCondition, ProjectString, Section}
 use Rattle.pyver_projects.specs.Together.{has_group, holds_in, part_demands, section_part}
 use Rattle.pyver_projects.specs.declared.document_kind.DocumentKind.{DocumentKind}
 use Rattle.pyver_projects.specs.declared.document_kind.DocumentKind.TheVariants.{Lock, Project}
 use Rattle.pyver_projects.specs.declared.document_kind.LockKind.{LockKind}
+use Rattle.pyver_projects.specs.declared.known_environment.KnownEnvironment.{KnownEnvironment}
 
 -- the file is TOML in UTF-8 with this table
 abbrev pub HasTable : File → Members → Type 0
@@ -75,6 +80,27 @@ SomeContained ps name list = (p : LockedPackage) × (v : Record) × Contains ps 
 -- the line is that of a package of this name with a version
 abbrev pub IsLineOfName : List ℕ → List LockedPackage → List ℕ → FileLine → Type 0
 IsLineOfName lock ps name line = (p : LockedPackage) × (v : Record) × Contains ps p × LocksVersion name p v × (line ≡ package_line lock p)
+
+-- the marker that this string denotes does not hold in the environment
+abbrev pub FailsIn : Environment → List ℕ → Type 0
+FailsIn e text = (m : Marker) × DenotesMarker text m × (value e m ≡ Some false)
+
+-- the lock is for the Python of the environment, where the marker of the package does not hold
+abbrev pub IsLeftOut : KnownEnvironment → LockedPackage → Type 0
+IsLeftOut k p = (c : PackageCondition) × (list : List Spec) × (p.condition ≡ Some c) × DerivesList c.python list × IsTrue (list_matches_literally list (python_record k.minor))
+    × FailsIn (known_environment k) c.marker
+
+-- the list does not contain the version of the package
+abbrev pub IsOutsideList : List Spec → LockedPackage → Type 0
+IsOutsideList list p = (text : List ℕ) × (v : Record) × (p.version ≡ Some text) × Derives text v × (list_matches_literally list v ≡ false)
+
+-- the package does not meet a requirement for this name with this list in the environment
+abbrev pub CannotMeet : List ℕ → List Spec → KnownEnvironment → LockedPackage → Type 0
+CannotMeet name list k p = (same_name name p.name ≡ false) ⊎ (IsOutsideList list p ⊎ IsLeftOut k p)
+
+-- the package meets it there
+abbrev pub MeetsIn : List ℕ → List Spec → KnownEnvironment → LockedPackage → Type 0
+MeetsIn name list k p = IsTrue (same_name name p.name) × (¬ IsOutsideList list p) × (¬ IsLeftOut k p)
 
 -- the string is this requirement, and has no marker and no URL
 abbrev pub AlwaysAsks : ProjectString → Needed → Type 0
@@ -213,10 +239,42 @@ pub record IsAbsent (documents : List Document) (f : Finding) : Type 0 where
   pub none : All (λ (p : LockedPackage). same_name requirement.name p.name ≡ false) contents.packages
   pub is : f ≡ NoRequirement (requirement_line lock.name requirement) (codes "the lock has no package of this name") 0
 
+-- in some environment none of these packages meets the requirement on this line for this name with this list
+pub record IsLack (ps : List LockedPackage) (name : List ℕ) (list : List Spec) (line : FileLine) (f : Finding) : Type 0 where
+  pub environment : KnownEnvironment
+  pub none : All (CannotMeet name list environment) ps
+  pub is : f ≡ lack_in line environment
+
+-- in some environment no package of a lock meets a requirement of a project that needs one
+pub record IsPartlyMissing (documents : List Document) (f : Finding) : Type 0 where
+  pub file : File
+  pub string : ProjectString
+  pub lock : File
+  pub kind : LockKind
+  pub contents : LockContents
+  pub needed : Needed
+  pub has : HasString documents file string
+  pub counts : is_needed kind contents.parts string.section ≡ true
+  pub asks : AlwaysAsks string needed
+  pub known : HasLock documents kind lock contents
+  pub lack : IsLack contents.packages needed.name needed.specifiers (string_line file string) f
+
+-- in some environment no package of a lock meets a requirement of another one
+pub record IsPartlyAbsent (documents : List Document) (f : Finding) : Type 0 where
+  pub lock : File
+  pub kind : LockKind
+  pub contents : LockContents
+  pub requirement : LockedRequirement
+  pub list : List Spec
+  pub known : HasLock documents kind lock contents
+  pub within : Contains contents.requirements requirement
+  pub read : DerivesList requirement.list list
+  pub lack : IsLack contents.packages requirement.name list (requirement_line lock.name requirement) f
+
 -- the finding is right
 abbrev pub IsDocumentFinding : List Document → Finding → Type 0
 IsDocumentFinding documents f = IsInvalidString documents f
-    ⊎ (IsInvalidPackage documents f ⊎ (IsUnread documents f ⊎ (IsMissing documents f ⊎ (IsExcluded documents f ⊎ (IsConflict documents f ⊎ (IsUnmet documents f ⊎ (IsAbsent documents f ⊎ (IsOtherFile documents f ⊎ IsLockFault documents f))))))))
+    ⊎ (IsInvalidPackage documents f ⊎ (IsUnread documents f ⊎ (IsMissing documents f ⊎ (IsExcluded documents f ⊎ (IsConflict documents f ⊎ (IsUnmet documents f ⊎ (IsAbsent documents f ⊎ (IsOtherFile documents f ⊎ (IsLockFault documents f ⊎ (IsPartlyMissing documents f ⊎ IsPartlyAbsent documents f))))))))))
 
 -- each finding is right
 abbrev pub DocumentFindingsHold : Type 0
@@ -239,10 +297,11 @@ AllMet documents = (lock : File) (kind : LockKind) (l : LockContents) (q : Locke
 abbrev pub IsOtherProject : List ℕ → Members → Type 0
 IsOtherProject name t = list_any (bytes_eq (normal name)) (project_names t) ≡ false
 
--- some package has the name that a package requires in the same lock, where there is a project and none of that name, but for installers
+-- some package meets the requirement of another one in each environment, where there is a project and none of that name, but for installers
 abbrev pub AllPresent : List Document → Type 0
-AllPresent documents = (lock file : File) (kind : LockKind) (l : LockContents) (t : Members) (q : LockedRequirement) (list : List Spec) → HasLock documents kind lock l → Contains l.requirements q → DerivesList q.list list
-    → HasProject documents file t → ((other : File) (u : Members) → HasProject documents other u → IsOtherProject q.name u) → is_installer (normal q.name) ≡ false → (p : LockedPackage) × Contains l.packages p × IsTrue (same_name q.name p.name)
+AllPresent documents = (lock file : File) (kind : LockKind) (l : LockContents) (t : Members) (q : LockedRequirement) (list : List Spec) (k : KnownEnvironment) → HasLock documents kind lock l → Contains l.requirements q → DerivesList q.list list
+    → HasProject documents file t → ((other : File) (u : Members) → HasProject documents other u → IsOtherProject q.name u) → is_installer (normal q.name) ≡ false → Contains known_environments k
+    → (p : LockedPackage) × Contains l.packages p × MeetsIn q.name list k p
 
 -- each file of a package of a lock whose name has a version has that of the package
 abbrev pub AllOfVersion : List Document → Type 0

@@ -68,11 +68,17 @@ pub record ProjectString : Type 0 where
   pub section : Section
   pub text : List ℕ
 
--- a package in a lock: the number of its line, its name and its version, if it has one, as they are written
+-- where a lock has a package: for these Pythons where the marker holds, as both are written
+pub record PackageCondition : Type 0 where
+  pub python : List ℕ
+  pub marker : List ℕ
+
+-- a package in a lock: the number of its line, its name and its version, if it has one, as they are written, and where it is, if not everywhere
 pub record LockedPackage : Type 0 where
   pub line : ℕ
   pub name : List ℕ
   pub version : Option (List ℕ)
+  pub condition : Option PackageCondition
 
 -- a requirement of a locked package: the number of the line and the name and version of that package, the name that it requires, and the
 -- list of specifiers as it is written

@@ -3,14 +3,17 @@
 use Rattle.std.specs.Prelude.{map, option_map, option_to_list, string_bytes, Bool, List, None, Option, Some, [], bytes_eq, count_by, if◌then◌else◌, is_some, nat_eq, nat_lt, not, ℕ, ◌||◌, ◌≡◌}
 use Rattle.pyver_findings.specs.Views.{file_line_of, file_of, finding_of, line_meaning_of}
 use Rattle.pyver_projects.specs.Groups.{Inclusion, Groups}
+use Rattle.pyver_projects.specs.KnownEnvironments.{ReadCondition}
 use Rattle.pyver_projects.specs.Meanings.{Document, DocumentReading, IsBroken, IsLock, IsProject, LockedReading, StringReading}
-use Rattle.pyver_projects.specs.ProjectStrings.{Build, Dependencies, Extra, Group, Include, Invalid, LockContents, LockFault, LockedFile, LockedPackage, LockedRequirement, Section, Python, ProjectString, Version}
+use Rattle.pyver_projects.specs.ProjectStrings.{Build, Dependencies, Extra, Group, Include, Invalid, LockContents, LockFault, LockedFile, LockedPackage, LockedRequirement, PackageCondition, Section, Python, ProjectString, Version}
 use Rattle.pyver_projects.specs.declared.document_kind.Document.{Document as DocumentValue}
 use Rattle.pyver_projects.specs.declared.document_reading.DocumentReading.{DocumentReading as DocumentReadingValue}
 use Rattle.pyver_projects.specs.declared.document_reading.ReadDocument.{ReadDocument as ReadDocumentValue}
 use Rattle.pyver_projects.specs.declared.document_reading.DocumentReading.TheVariants as reading
 use Rattle.pyver_projects.specs.declared.groups.Inclusion.{Inclusion as InclusionValue}
 use Rattle.pyver_projects.specs.declared.locked_package.LockContents.{LockContents as ContentsValue}
+use Rattle.pyver_projects.specs.declared.locked_package.PackageCondition.{PackageCondition as ConditionValue}
+use Rattle.pyver_projects.specs.declared.known_environment.ReadCondition.{ReadCondition as ReadConditionValue}
 use Rattle.pyver_projects.specs.declared.locked_package.LockFault.{LockFault as FaultValue}
 use Rattle.pyver_projects.specs.declared.locked_package.LockedFile.{LockedFile as FileValue}
 use Rattle.pyver_projects.specs.declared.locked_package.LockedPackage.{LockedPackage as LockedValue}
@@ -48,8 +51,14 @@ project_string_of s = record { section = section_of s.section; text = string_byt
 abbrev pub inclusion_of : InclusionValue → Inclusion
 inclusion_of i = record { group = i.group.items; included = i.included.items }
 
+abbrev pub condition_of_package : ConditionValue → PackageCondition
+condition_of_package c = record { python = string_bytes c.python; marker = string_bytes c.marker }
+
+abbrev pub read_condition_of : ReadConditionValue → ReadCondition
+read_condition_of c = record { python = c.python; marker = c.marker.items }
+
 abbrev pub locked_of : LockedValue → LockedPackage
-locked_of l = record { line = l.line; name = string_bytes l.name; version = option_map string_bytes l.version }
+locked_of l = record { line = l.line; name = string_bytes l.name; version = option_map string_bytes l.version; condition = option_map condition_of_package l.condition }
 
 abbrev pub requirement_of : RequirementValue → LockedRequirement
 requirement_of q = record { line = q.line; requirer = q.requirer.items; name = string_bytes q.name; list = string_bytes q.list }
@@ -67,7 +76,7 @@ abbrev pub string_reading_of : StringReadingValue → StringReading
 string_reading_of x = record { section = section_of x.section; meaning = line_meaning_of x.meaning }
 
 abbrev pub locked_reading_of : LockedReadingValue → LockedReading
-locked_reading_of y = record { line = file_line_of y.line; name = y.name.items; version = y.version; invalid = option_map finding_of y.invalid }
+locked_reading_of y = record { line = file_line_of y.line; name = y.name.items; condition = option_map read_condition_of y.condition; version = y.version; invalid = option_map finding_of y.invalid }
 
 abbrev pub document_of : DocumentValue → Document
 document_of d = record { kind = d.kind; file = file_of d.file }

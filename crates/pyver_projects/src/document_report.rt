@@ -65,6 +65,7 @@ fn push_package(findings: &mut Vec<Finding>, locked: LockedReading) -> Result<()
     let LockedReading {
         line: _line,
         name: _name,
+        condition: _condition,
         version: _version,
         invalid,
     } = locked;
@@ -285,11 +286,12 @@ fn read_documents<'a>(
 /// names is a version (PEP 427, "File name convention"; PEP 625, "Specification") that `==` with the package's does not match, of those that
 /// follow one another with one version the first; the packages of one name with the same marker or none (PEP 751 ("Specification"),
 /// `poetry.lock` from format 2.1 on and `pdm.lock` with at most one target have one), and in `uv.lock` each dependency without a source on a name
-/// of more than one package; and for each requirement of a package, beside projects, whether no package has its name, unless that is one of them,
-/// setuptools, distribute, pip or wheel, and the locked versions of its name, if it contains none.
+/// of more than one package; and for each requirement of a package, beside projects, whether no package has its name, or the first environment
+/// in which the lock leaves out all packages that it may take, unless that is one of them, setuptools, distribute, pip or wheel, and the locked
+/// versions of its name, if it contains none.
 /// Then what is wrong in each project beside each lock in its folder, or in the nearest above that has one of its kind, and beside each
-/// lock for which that is no project: for each requirement, in order, whether the lock lacks a package of its name, and the lines of the
-/// locked versions of its name with the line of the requirement, if it contains none. Then the requirements of each project that hold
+/// lock for which that is no project: for each requirement, in order, whether the lock lacks a package of its name, or such an environment,
+/// and the lines of the locked versions of its name with the line of the requirement, if it contains none. Then the requirements of each project that hold
 /// together and have no version in common under two markers, as `pyver_findings` reports them.
 ///
 /// Of `pyproject.toml` these are read: `project.dependencies`, `project.optional-dependencies`, `project.requires-python`,
@@ -305,6 +307,10 @@ fn read_documents<'a>(
 /// A requirement with a marker or a URL, of a package with markers, of the build, or that is optional, is not compared. Each lock is to
 /// have packages for `project.dependencies`, `poetry.lock` and `uv.lock` for extras, `uv.lock` for groups, too; `poetry.lock` for the groups
 /// that its packages name, and `pdm.lock` for those that it lists: `default` are the dependencies, and extras are groups.
+///
+/// The environments are CPython 3.9 to 3.14 on Linux, Windows and macOS, of those for which the lock is: `poetry.lock` from format 2.1 on by its
+/// `metadata.python-versions`, where `^3.9` is `>=3.9`, and `pdm.lock` by the `requires_python` of its one target. It leaves a package out where its
+/// marker, a string at `markers` or `marker`, does not hold (PEP 508, "Environment Markers"); what depends on other variables is not left out.
 ///
 /// Takes time for each requirement, each package, each pair of them with one name, and, if not all requirements of a project have a version in
 /// common, for each extra or group and requirement.

@@ -3,7 +3,8 @@ ghost use Rattle.pyver_projects.specs.ProjectLaws.{DocumentReportsOnce, Document
 
 /// What is reported by itself is a string of a project that is not what it is to be there, a group that is invalid, a package whose version
 /// is none or is not that in the name of one of its files, a package whose name and marker another has, too, or a dependency on two, if the
-/// format has one, a document that is not TOML, or JSON, in UTF-8, or a requirement whose name no package of some lock has. Lines that are
+/// format has one, a document that is not TOML, or JSON, in UTF-8, or a requirement whose name no package of some lock has, or which in some
+/// environment no package meets that the lock does not leave out. Lines that are
 /// reported together belong to a requirement, of a project or of a package in the same lock, and to packages of its name, none of whose
 /// versions it contains, or to requirements of a project that hold together, have no version in common, and have one without any one of them.
 pub fn findings_hold()
@@ -12,8 +13,8 @@ pub fn findings_hold()
 
 /// Where nothing is reported, each requirement of a project without a marker and a URL, but of its build, contains a version of its
 /// name in each lock that counts for it and has one. Each requirement of a locked package that is read and is in PEP 440's syntax contains a
-/// version of its name in the same lock, if there is one; and names a package of it, if there is a project, none has this name, and it is none
-/// of setuptools, distribute, pip and wheel.
+/// version of its name in the same lock, if there is one; and in each environment that is known some package meets it that the lock does not
+/// leave out, if there is a project, none has this name, and it is none of setuptools, distribute, pip and wheel.
 /// Each file of a locked package from an index, in whose name a version is read, has one that `==` with the package's version matches.
 /// No package has the name and the marker of another, if the format has one, and no dependency of `uv.lock` is on two.
 pub fn no_finding_means_contained()

@@ -7,6 +7,7 @@ mod document_kind;
 mod document_reading;
 mod document_report;
 mod groups;
+mod known_environment;
 pub mod laws;
 mod lock_comparison;
 mod lock_faults;

@@ -1,15 +1,17 @@
 //! A project beside a lock, and the requirements of a lock beside its packages.
-ghost use Rattle.std.specs.Prelude.{◌≡◌, ◌++◌, [], IfOk, if◌then◌else◌, map, ◌∷◌, List, bytes_eq, option_map, option_to_list, ℕ};
-ghost use Rattle.std.specs.List.{flat_map, list_any, filter};
+ghost use Rattle.std.specs.Prelude.{◌≡◌, ◌++◌, [], IfOk, if◌then◌else◌, is_none, map, ◌∷◌, List, bytes_eq, option_map, option_to_list, ℕ};
+ghost use Rattle.std.specs.List.{flat_map, find, list_any, filter};
 ghost use Rattle.pyver_findings.specs.Reports.{demands_in};
 ghost use Rattle.pyver_findings.specs.Views.{demand_of, file_line_of, finding_of, line_meaning_of};
-ghost use Rattle.pyver_projects.specs.Comparing.{absent, found_beside, found_in_pair, beside_all, compared, compared_demand, accepts_version, excluded, is_listed_part, locks_dependencies, locks_extras, locks_groups, has_name, is_excused, is_installer, is_project_reading, is_locked, is_needed, lacking, locked_line, missing, names_read, outside, unmet};
+ghost use Rattle.pyver_projects.specs.Comparing.{absent, found_beside, found_in_pair, beside_all, compared, compared_demand, accepts_version, excluded, is_listed_part, locks_dependencies, locks_extras, locks_groups, has_name, is_excused, is_installer, is_project_reading, is_locked, is_needed, lack_finding, lack_in, lacking, leaves_out_all, locked_line, may_take, missing, names_read, outside, partly_locked, taken_packages, unlocked, unmet};
+ghost use Rattle.pyver_projects.specs.KnownEnvironments.{known_environments};
 ghost use Rattle.pyver_projects.specs.ProjectViews.{IsIndex, excuses, packages_of, document_of, document_reading_of, locked_reading_of, read_pair, reading_in, section_of, string_reading_of};
 ghost use Rattle.std.specs.HashMap.{get_by};
 ghost use Rattle.std.specs.Option.{option_map_or};
 
 use crate::document_kind::{Document, DocumentKind, LockKind, is_beside};
 use crate::document_reading::{DocumentReading, ReadDocument, StringReading};
+use crate::known_environment::{KnownEnvironment, known_environments};
 use crate::locked_reading::LockedReading;
 use crate::project::Section;
 use pep440_rs::Version;
@@ -262,6 +264,160 @@ fn push_absent(
     Ok(())
 }
 
+// The requirement may take the package.
+fn may_take(alloc: Global, demand: &Demand, locked: &LockedReading) -> Result<bool, AllocError>
+    ensures { IfOk result (λ b. b ≡ may_take (demand_of demand.now).specifiers (locked_reading_of locked.now)) }
+{
+    if locked.version.is_none() {
+        return Ok(true);
+    }
+    accepts_version(alloc, demand, &locked.version)
+}
+
+// The packages that it may take.
+fn filter_taken<'a>(
+    alloc: Global,
+    demand: &Demand,
+    group: &[&'a LockedReading],
+) -> Result<Vec<&'a LockedReading>, AllocError>
+    ensures { IfOk result (λ taken. map (λ y. locked_reading_of y.now) taken.items ≡ filter (may_take (demand_of demand.now).specifiers) (map (λ y. locked_reading_of y.now) group.now)) }
+{
+    let mut taken = Vec::new(alloc);
+    for locked in group {
+        if may_take(alloc, demand, *locked)? {
+            taken.push(*locked)?;
+        }
+    }
+    Ok(taken)
+}
+
+// In the environment the lock leaves out all of these.
+fn leaves_out_all(
+    alloc: Global,
+    taken: &[&LockedReading],
+    environment: KnownEnvironment,
+) -> Result<bool, AllocError>
+    ensures { IfOk result (λ b. b ≡ leaves_out_all (map (λ y. locked_reading_of y.now) taken.now) environment) }
+{
+    for locked in taken {
+        if !environment.is_left_out_in(alloc, &locked.condition)? {
+            return Ok(false);
+        }
+    }
+    Ok(true)
+}
+
+// The first environment in which it does.
+fn find_lack(
+    alloc: Global,
+    taken: &[&LockedReading],
+) -> Result<Option<KnownEnvironment>, AllocError>
+    ensures { IfOk result (λ found. found ≡ find (leaves_out_all (map (λ y. locked_reading_of y.now) taken.now)) known_environments) }
+{
+    let environments = known_environments(alloc)?;
+    for environment in &environments {
+        if leaves_out_all(alloc, taken, *environment)? {
+            return Ok(Some(*environment));
+        }
+    }
+    Ok(None)
+}
+
+// One of these is everywhere.
+fn has_unconditional(taken: &[&LockedReading]) -> bool
+    ensures { result ≡ list_any (λ y. is_none y.now.condition) taken.now }
+{
+    taken.iter().any(|locked| locked.condition.is_none())
+}
+
+// That the requirement on this line is met by no package in the environment.
+fn lack_in(
+    alloc: Global,
+    line: &FileLine,
+    environment: KnownEnvironment,
+) -> Result<Finding, AllocError>
+    ensures { IfOk result (λ f. finding_of f ≡ lack_in (file_line_of line.now) environment) }
+{
+    let mut reason = String::from_str(alloc, "no locked package meets it on ")?;
+    reason.push_str(environment.name(alloc)?.as_str())?;
+    Ok(Finding::NoRequirement(line.clone()?, reason, 0))
+}
+
+fn push_lack(
+    alloc: Global,
+    findings: &mut Vec<Finding>,
+    line: &FileLine,
+    environment: Option<KnownEnvironment>,
+) -> Result<(), AllocError>
+    ensures { IfOk result (λ _. map finding_of findings.new.items ≡ map finding_of findings.old.items ++ lack_finding (file_line_of line.now) environment) }
+{
+    if let Some(environment) = environment {
+        findings.push(lack_in(alloc, line, environment)?)?;
+    }
+    Ok(())
+}
+
+// Adds the first environment in which the lock leaves out all packages that a requirement on this line may take, if there are some.
+#[tactic(auto, using(crate::proofs::KnownEnvironments::none_lacking))]
+fn push_partly_locked(
+    alloc: Global,
+    findings: &mut Vec<Finding>,
+    line: &FileLine,
+    taken: &[&LockedReading],
+) -> Result<(), AllocError>
+    ensures { IfOk result (λ _. map finding_of findings.new.items ≡ map finding_of findings.old.items ++ partly_locked (file_line_of line.now) (map (λ y. locked_reading_of y.now) taken.now)) }
+{
+    if taken.is_empty() {
+        return Ok(());
+    }
+    if has_unconditional(taken) {
+        return Ok(());
+    }
+    let environment = find_lack(alloc, taken)?;
+    push_lack(alloc, findings, line, environment)
+}
+
+fn push_partly_locked_of(
+    alloc: Global,
+    findings: &mut Vec<Finding>,
+    demand: &Demand,
+    group: &[&LockedReading],
+) -> Result<(), AllocError>
+    ensures { IfOk result (λ _. map finding_of findings.new.items ≡ map finding_of findings.old.items ++ partly_locked (demand_of demand.now).line (filter (may_take (demand_of demand.now).specifiers) (map (λ y. locked_reading_of y.now) group.now))) }
+{
+    let taken = filter_taken(alloc, demand, group)?;
+    push_partly_locked(alloc, findings, &demand.line, taken.as_slice())
+}
+
+fn push_all_partly_locked(
+    alloc: Global,
+    findings: &mut Vec<Finding>,
+    packages: &PackageIndex<'_>,
+    demand: &Demand,
+) -> Result<(), AllocError>
+    requires { IsIndex packages.now }
+    ensures { IfOk result (λ _. map finding_of findings.new.items ≡ map finding_of findings.old.items ++ partly_locked (demand_of demand.now).line (taken_packages (packages_of packages.now) (demand_of demand.now))) }
+{
+    match packages.of_name(demand.name.as_slice()) {
+        Some(group) => push_partly_locked_of(alloc, findings, demand, group.as_slice()),
+        None => Ok(()),
+    }
+}
+
+// Adds that the lock has no package of the name of the requirement, or in some environment none that it may take.
+fn push_unlocked(
+    alloc: Global,
+    findings: &mut Vec<Finding>,
+    packages: &PackageIndex<'_>,
+    demand: &Demand,
+) -> Result<(), AllocError>
+    requires { IsIndex packages.now }
+    ensures { IfOk result (λ _. map finding_of findings.new.items ≡ map finding_of findings.old.items ++ unlocked (packages_of packages.now) (demand_of demand.now)) }
+{
+    push_absent(alloc, findings, packages, demand)?;
+    push_all_partly_locked(alloc, findings, packages, demand)
+}
+
 // The projects that are checked: whether there are some, and their names.
 #[derive(Drop)]
 pub(crate) struct KnownProjects {
@@ -373,7 +529,7 @@ fn push_lacking(
     if projects.excuses(demand.name.as_slice()) {
         return Ok(());
     }
-    push_absent(alloc, findings, packages, demand)
+    push_unlocked(alloc, findings, packages, demand)
 }
 
 // Adds what a requirement of a package lacks and excludes in its own lock.
@@ -439,7 +595,7 @@ fn push_missing(
     if !is_needed(lock.kind, lock.parts, section) {
         return Ok(());
     }
-    push_absent(alloc, findings, &lock.packages, demand)
+    push_unlocked(alloc, findings, &lock.packages, demand)
 }
 
 fn push_compared_demand(

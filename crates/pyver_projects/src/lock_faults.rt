@@ -1,15 +1,16 @@
 //! The names of projects, the groups of locks, and what is wrong with locked packages of one name.
-ghost use Rattle.std.specs.Prelude.{◌≡◌, ◌++◌, IfOk, ◌∷◌, [], Some, codes, map, option_map, option_to_list};
+ghost use Rattle.std.specs.Prelude.{◌≡◌, ◌++◌, IfOk, ◌∷◌, [], Some, codes, map, option_copied, option_map, option_to_list, string_bytes};
+ghost use Rattle.pep440_version.specs.Changes.ChangeWords.{after};
 ghost use Rattle.std.specs.List.{flat_map};
 ghost use Rattle.pyver_projects.specs.Documents.{listed_or_default, lock_parts, package_parts, project_names, written_name};
-ghost use Rattle.pyver_projects.specs.LockedFiles.{ambiguous, ambiguous_by, ambiguous_fault, ambiguous_item, ambiguous_name, counted_names, is_for_extras, has_markers, is_shared, is_uv, marked_name, marked_names, marker_text, package_faults, package_name_in, twin_fault, twin_in, twins};
-ghost use Rattle.pyver_projects.specs.ProjectViews.{IsNameIndex, indexed_names, fault_of};
+ghost use Rattle.pyver_projects.specs.LockedFiles.{ambiguous, ambiguous_by, ambiguous_fault, ambiguous_item, ambiguous_name, counted_names, is_for_extras, has_markers, is_shared, is_uv, locked_python, package_condition, poetry_python, target_python, written_marker, marked_name, marked_names, marker_text, package_faults, package_name_in, twin_fault, twin_in, twins};
+ghost use Rattle.pyver_projects.specs.ProjectViews.{IsNameIndex, condition_of_package, indexed_names, fault_of};
 ghost use Rattle.toml.specs.View.{table_view, view};
 
 use crate::document_kind::LockKind;
 use crate::groups::NameIndex;
-use crate::locked_package::{LockFault, first_of, package_text};
-use crate::package_requirements::lacks;
+use crate::locked_package::{LockFault, PackageCondition, copy_text, first_of, package_text};
+use crate::package_requirements::{lacks, plain_list};
 use crate::table::{inside, items, text, top};
 use pyver_findings::normalize_name;
 use std::alloc::{AllocError, Global};
@@ -31,10 +32,92 @@ pub(crate) fn has_markers(kind: LockKind, document: &Table) -> bool
     }
 }
 
+// What follows `^3.`, if the list begins with it.
+fn strip_caret(list: &str) -> Option<&str>
+    ensures { option_copied result ≡ after (codes "^3.") list.now }
+{
+    list.strip_prefix("^3.")
+}
+
+// Poetry's list as one of PEP 440.
+fn poetry_python(alloc: Global, list: &str) -> Result<String, AllocError>
+    ensures { IfOk result (λ text. string_bytes text ≡ poetry_python list.now) }
+{
+    match strip_caret(list) {
+        Some(rest) => {
+            let mut text = String::from_str(alloc, ">=3.")?;
+            text.push_str(rest)?;
+            Ok(text)
+        }
+        None => String::from_str(alloc, plain_list(list)),
+    }
+}
+
+fn poetry_python_or_none(alloc: Global, list: Option<&str>) -> Result<Option<String>, AllocError>
+    ensures { IfOk result (λ text. option_map string_bytes text ≡ option_map poetry_python (option_map (λ t. t.now) list.entry)) }
+{
+    match list {
+        Some(list) => Ok(Some(poetry_python(alloc, list)?)),
+        None => Ok(None),
+    }
+}
+
+// That of the one target.
+fn target_python(targets: &[Value]) -> Option<&str>
+    ensures { option_map (λ t. t.now) result ≡ target_python (map view targets.now) }
+{
+    match targets {
+        [target] => text(target.get("requires_python")),
+        _ => None,
+    }
+}
+
+// The Pythons that the lock is for, where its packages have markers that say where they are needed.
+pub(crate) fn locked_python(
+    alloc: Global,
+    kind: LockKind,
+    document: &Table,
+) -> Result<Option<String>, AllocError>
+    ensures { IfOk result (λ text. option_map string_bytes text ≡ locked_python kind (table_view document.now)) }
+{
+    let metadata = top(document, "metadata");
+    match kind {
+        LockKind::Poetry if has_markers(kind, document) => {
+            poetry_python_or_none(alloc, text(inside(metadata, "python-versions")))
+        }
+        LockKind::Pdm => copy_text(alloc, target_python(items(inside(metadata, "targets")))),
+        _ => Ok(None),
+    }
+}
+
+// Where a lock for these Pythons has the package, if not everywhere.
+pub(crate) fn package_condition(
+    alloc: Global,
+    python: &Option<String>,
+    table: &Value,
+) -> Result<Option<PackageCondition>, AllocError>
+    ensures { IfOk result (λ c. option_map condition_of_package c ≡ package_condition (option_map string_bytes python.now) (view table.now)) }
+{
+    match (python, written_marker(table)) {
+        (Some(python), Some(marker)) => Ok(Some(PackageCondition {
+            python: python.clone()?,
+            marker: String::from_str(alloc, marker)?,
+        })),
+        _ => Ok(None),
+    }
+}
+
 fn is_uv(kind: LockKind) -> bool
     ensures { result ≡ is_uv kind }
 {
     matches!(kind, LockKind::Uv)
+}
+
+// The marker of the package, if it has one.
+fn written_marker(table: &Value) -> Option<&str>
+    ensures { option_map (λ t. t.now) result ≡ written_marker (view table.now) }
+{
+    first_of(text(table.get("marker")), text(table.get("markers")))
 }
 
 // The marker of the package, empty without one.
@@ -44,7 +127,7 @@ fn marker_text(table: &Value) -> Option<&str>
     if lacks(table, "marker") && lacks(table, "markers") {
         return Some("");
     }
-    first_of(text(table.get("marker")), text(table.get("markers")))
+    written_marker(table)
 }
 
 fn is_for_extras(table: &Value) -> bool
@@ -357,6 +440,8 @@ fn push_ambiguous_dependencies(
 pub(crate) struct CountedNames<'a> {
     pub(crate) kind: LockKind,
     pub(crate) has_markers: bool,
+    // The Pythons that the lock is for, where markers say where packages are needed.
+    pub(crate) python: Option<String>,
     pub(crate) names: NameIndex<'a>,
 }
 

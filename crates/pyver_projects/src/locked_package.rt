@@ -13,6 +13,13 @@ use pep440_pick::same_name;
 use std::alloc::{AllocError, Global};
 use toml::Value;
 
+// Where a lock has a package: for these Pythons where the marker holds, as both are written.
+#[derive(Drop)]
+pub(crate) struct PackageCondition {
+    pub(crate) python: String,
+    pub(crate) marker: String,
+}
+
 // A package in a lock.
 #[derive(Drop)]
 pub(crate) struct LockedPackage {
@@ -20,6 +27,8 @@ pub(crate) struct LockedPackage {
     pub(crate) line: u64,
     pub(crate) name: String,
     pub(crate) version: Option<String>,
+    // Where it is, if not everywhere.
+    pub(crate) condition: Option<PackageCondition>,
 }
 
 // A requirement of a package in a lock.

@@ -8,24 +8,21 @@ ghost use Rattle.pep440_version.specs.Grammar.{Derives};
 ghost use Rattle.pep440_version.specs.Rejections.{Rejection};
 ghost use Rattle.pyver_findings.specs.FileLines.{NoRequirement};
 ghost use Rattle.pyver_findings.specs.Views.{file_line_of, line_meaning_of};
-ghost use Rattle.pyver_projects.specs.Meanings.{IsFileReading, IsLockedReading, IsNoVersion, IsVersionReading, fault_meaning, file_meaning, file_package_line, package_line, IsRequirementReading, requirement_line};
-ghost use Rattle.pyver_projects.specs.ProjectViews.{fault_of, locked_file_of, locked_of, locked_reading_of, requirement_of};
-ghost use Rattle.pep440_rs.specs.Lists.ListResults.{list_kind_of};
-ghost use Rattle.pep440_rs.specs.Lists.ListErrors.{IsListLifted, list_rejection_of};
-ghost use Rattle.pep440_rs.specs.Lists.ListGrammar.{PieceRejection};
+ghost use Rattle.pyver_projects.specs.Meanings.{IsConditionReading, IsFileReading, IsLockedReading, IsNoVersion, IsVersionReading, fault_meaning, file_meaning, file_package_line, package_line, IsRequirementReading, requirement_line};
+ghost use Rattle.pyver_projects.specs.ProjectViews.{condition_of_package, fault_of, locked_file_of, locked_of, locked_reading_of, read_condition_of, requirement_of};
+ghost use Rattle.pep440_rs.specs.Lists.ListGrammar.{DerivesList, PieceRejection, RejectsList};
 ghost use Rattle.pyver_findings.specs.Demands.{line_demand};
 ghost use Rattle.pyver_findings.specs.LineMeanings.{Asks, LeftOut};
 ghost use Rattle.pyver_findings.specs.declared.cause.Cause.TheVariants as cause;
 ghost use Rattle.pyver_projects.specs.PackageRequirements.{requirement_text};
 
 use crate::document_reading::version_reason;
+use crate::known_environment::ReadCondition;
 use crate::locked_package::{
-    LockFault, LockedFile, LockedPackage, LockedRequirement, package_text,
+    LockFault, LockedFile, LockedPackage, LockedRequirement, PackageCondition, package_text,
 };
 use pep440_pick::Requirement;
-use pep440_rs::{
-    Version, VersionParseError, VersionSpecifier, VersionSpecifiers, VersionSpecifiersParseError,
-};
+use pep440_rs::{Version, VersionParseError, VersionSpecifier, VersionSpecifiers};
 use pyver_findings::{Cause, Demand, FileLine, Finding, LineMeaning, normalize_name};
 use std::alloc::{AllocError, Global};
 
@@ -35,6 +32,8 @@ pub(crate) struct LockedReading {
     pub(crate) line: FileLine,
     // In its normal form.
     pub(crate) name: Vec<u8>,
+    // Where it is, if not everywhere.
+    pub(crate) condition: Option<ReadCondition>,
     // The version, if it has one that is valid.
     pub(crate) version: Option<Version>,
     pub(crate) invalid: Option<Finding>,
@@ -65,14 +64,16 @@ fn reject(
     alloc: Global,
     line: FileLine,
     name: &str,
+    condition: Option<ReadCondition>,
     reason: String,
 ) -> Result<LockedReading, AllocError>
-    ensures { IfOk result (λ y. locked_reading_of y ≡ record { line = file_line_of line; name = normal name.now; version = None; invalid = Some (NoRequirement (file_line_of line) (string_bytes reason) (length name.now + 1)) }) }
+    ensures { IfOk result (λ y. locked_reading_of y ≡ record { line = file_line_of line; name = normal name.now; condition = option_map read_condition_of condition; version = None; invalid = Some (NoRequirement (file_line_of line) (string_bytes reason) (length name.now + 1)) }) }
 {
     let column = name.len() + 1;
     Ok(LockedReading {
         line: line.clone()?,
         name: normalize_name(alloc, name)?,
+        condition,
         version: None,
         invalid: Some(Finding::NoRequirement(line, reason, column)),
     })
@@ -82,31 +83,93 @@ fn reject_version(
     alloc: Global,
     line: FileLine,
     name: &str,
+    condition: Option<ReadCondition>,
     error: &VersionParseError,
 ) -> Result<LockedReading, AllocError>
     requires { IfSome (error_rejection error.now) (λ f. error_text (error_rejection error.now) ≡ Some (rejection_text f)) }
-    ensures { IfOk result (λ y. (f : Rejection) × (error_rejection error.now ≡ Some f) × (locked_reading_of y ≡ record { line = file_line_of line; name = normal name.now; version = None; invalid = Some (NoRequirement (file_line_of line) (rejection_text f) (length name.now + 1)) })) }
+    ensures { IfOk result (λ y. (f : Rejection) × (error_rejection error.now ≡ Some f) × (locked_reading_of y ≡ record { line = file_line_of line; name = normal name.now; condition = option_map read_condition_of condition; version = None; invalid = Some (NoRequirement (file_line_of line) (rejection_text f) (length name.now + 1)) })) }
 {
     let reason = version_reason(alloc, error)?;
-    reject(alloc, line, name, reason)
+    reject(alloc, line, name, condition, reason)
 }
 
 fn read_version(
     alloc: Global,
     line: FileLine,
     name: &str,
+    condition: Option<ReadCondition>,
     version: &str,
 ) -> Result<LockedReading, AllocError>
-    ensures { IfOk result (λ y. IsVersionReading (file_line_of line) name.now (Some version.now) (locked_reading_of y)) }
+    ensures { IfOk result (λ y. IsVersionReading (file_line_of line) name.now (option_map read_condition_of condition) (Some version.now) (locked_reading_of y)) }
 {
     match Version::from_str(alloc, version) {
         Ok(version) => Ok(LockedReading {
             line,
             name: normalize_name(alloc, name)?,
+            condition,
             version: Some(version),
             invalid: None,
         }),
-        Err(error) => reject_version(alloc, line, name, &error),
+        Err(error) => reject_version(alloc, line, name, condition, &error),
+    }
+}
+
+// The list, unless the string is none.
+fn parse_list(alloc: Global, text: &str) -> Result<Option<VersionSpecifiers>, AllocError>
+    ensures { IfOk result (λ found. MatchOption found ((f : PieceRejection) × RejectsList text.now f) (λ list. DerivesList text.now list)) }
+{
+    match VersionSpecifiers::from_str(alloc, text) {
+        Ok(list) => Ok(Some(list)),
+        Err(error) if error.is_out_of_memory() => Err(AllocError),
+        Err(_) => Ok(None),
+    }
+}
+
+// Where a package is for these Pythons, if the marker holds; everywhere, if their list is none of PEP 440.
+fn parse_condition(
+    alloc: Global,
+    condition: &PackageCondition,
+) -> Result<Option<ReadCondition>, AllocError>
+    ensures { IfOk result (λ c. IsConditionReading (Some (condition_of_package condition.now)) (option_map read_condition_of c)) }
+{
+    let Some(python) = parse_list(alloc, condition.python.as_str())? else {
+        return Ok(None);
+    };
+    let marker = Vec::from_slice(alloc, condition.marker.as_bytes())?;
+    Ok(Some(ReadCondition { python, marker }))
+}
+
+fn read_condition(
+    alloc: Global,
+    condition: &Option<PackageCondition>,
+) -> Result<Option<ReadCondition>, AllocError>
+    ensures { IfOk result (λ c. IsConditionReading (option_map condition_of_package condition.now) (option_map read_condition_of c)) }
+{
+    match condition {
+        Some(condition) => parse_condition(alloc, condition),
+        None => Ok(None),
+    }
+}
+
+// What the package on this line is, under this condition.
+fn read_package_version(
+    alloc: Global,
+    line: FileLine,
+    name: &str,
+    condition: Option<ReadCondition>,
+    version: &Option<String>,
+) -> Result<LockedReading, AllocError>
+    ensures { IfOk result (λ y. IsVersionReading (file_line_of line) name.now (option_map read_condition_of condition) (option_map string_bytes version.now) (locked_reading_of y)) }
+{
+    match version {
+        Some(version) => read_version(alloc, line, name, condition, version.as_str()),
+        None => Ok(LockedReading {
+            line,
+            name: normalize_name(alloc, name)?,
+            condition,
+            version: None,
+            invalid: None,
+        }),
     }
 }
 
@@ -120,15 +183,8 @@ fn read_package(
 {
     let line = package_line(alloc, file, locked)?;
     let name = locked.name.as_str();
-    match &locked.version {
-        Some(version) => read_version(alloc, line, name, version.as_str()),
-        None => Ok(LockedReading {
-            line,
-            name: normalize_name(alloc, name)?,
-            version: None,
-            invalid: None,
-        }),
-    }
+    let condition = read_condition(alloc, &locked.condition)?;
+    read_package_version(alloc, line, name, condition, &locked.version)
 }
 
 // What the packages are.
@@ -302,17 +358,6 @@ fn ask(
     Ok(LineMeaning::Asks(Demand::new(alloc, &line, None, &asked)?))
 }
 
-// A requirement whose list has this error is left out, unless an allocation failed.
-fn leave_out(error: &VersionSpecifiersParseError) -> Result<LineMeaning, AllocError>
-    requires { IsListLifted (list_kind_of error.now) }
-    ensures { IfOk result (λ x. (f : PieceRejection) × (list_rejection_of (list_kind_of error.now) ≡ Some f) × (line_meaning_of x ≡ LeftOut cause.OtherSyntax)) }
-{
-    if error.is_out_of_memory() {
-        return Err(AllocError);
-    }
-    Ok(LineMeaning::LeftOut(Cause::OtherSyntax))
-}
-
 // What the requirement is.
 fn read_requirement(
     alloc: Global,
@@ -321,9 +366,9 @@ fn read_requirement(
 ) -> Result<LineMeaning, AllocError>
     ensures { IfOk result (λ x. IsRequirementReading file.now (requirement_of requirement.now) (line_meaning_of x)) }
 {
-    match VersionSpecifiers::from_str(alloc, requirement.list.as_str()) {
-        Ok(specifiers) => ask(alloc, file, requirement, specifiers),
-        Err(error) => leave_out(&error),
+    match parse_list(alloc, requirement.list.as_str())? {
+        Some(specifiers) => ask(alloc, file, requirement, specifiers),
+        None => Ok(LineMeaning::LeftOut(Cause::OtherSyntax)),
     }
 }
 

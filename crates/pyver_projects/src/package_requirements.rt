@@ -42,7 +42,7 @@ fn push_requirement(
 }
 
 // The list, where Poetry's `*` excludes no version.
-fn plain_list(list: &str) -> &str
+pub(crate) fn plain_list(list: &str) -> &str
     ensures { result.now ≡ plain_list list.now }
 {
     if list == "*" { "" } else { list }
@@ -329,7 +329,7 @@ fn push_by(
 fn is_unconditional(table: &Value) -> bool
     ensures { result ≡ is_unconditional (view table.now) }
 {
-    lacks(table, "markers") && lacks(table, "resolution-markers")
+    lacks(table, "markers") && lacks(table, "marker") && lacks(table, "resolution-markers")
 }
 
 // Adds the requirements of the package on this line, unless it has markers.

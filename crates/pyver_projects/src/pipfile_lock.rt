@@ -84,6 +84,7 @@ fn member_package(
         line: line_number(lines, name.as_bytes()),
         name: name.clone()?,
         version: copy_text(alloc, package_version(value))?,
+        condition: None,
     })
 }
 

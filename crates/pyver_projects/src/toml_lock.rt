@@ -1,16 +1,19 @@
 //! What a TOML lock has.
-ghost use Rattle.std.specs.Prelude.{◌≡◌, ◌++◌, IfOk, get_or, map, option_map};
+ghost use Rattle.std.specs.Prelude.{◌≡◌, ◌++◌, IfOk, get_or, map, option_map, string_bytes};
 ghost use Rattle.pyver_projects.specs.Documents.{contents, numbered_tables, package_from, package_in, table_contents};
-ghost use Rattle.pyver_projects.specs.ProjectViews.{IsNameIndex, indexed_names, contents_of, locked_of};
+ghost use Rattle.pyver_projects.specs.ProjectViews.{IsNameIndex, condition_of_package, indexed_names, contents_of, locked_of};
 ghost use Rattle.pyver_projects.specs.ProjectStrings.{header_lines};
 ghost use Rattle.toml.specs.View.{table_view, view};
 
 use crate::document_kind::LockKind;
 use crate::groups::NameIndex;
 use crate::lock_faults::{
-    CountedNames, counted_names, has_markers, lock_parts, push_package_faults, push_package_parts,
+    CountedNames, counted_names, has_markers, lock_parts, locked_python, package_condition,
+    push_package_faults, push_package_parts,
 };
-use crate::locked_package::{LockContents, LockedPackage, copy_text, push_locked_files};
+use crate::locked_package::{
+    LockContents, LockedPackage, PackageCondition, copy_text, push_locked_files,
+};
 use crate::package_requirements::push_requirements;
 use crate::place::header_lines;
 use crate::table::{items, text, top};
@@ -24,8 +27,9 @@ fn push_package(
     line: u64,
     name: Option<&str>,
     version: Option<&str>,
+    condition: Option<PackageCondition>,
 ) -> Result<(), AllocError>
-    ensures { IfOk result (λ _. map locked_of packages.new.items ≡ map locked_of packages.old.items ++ package_in line (option_map (λ t. t.now) name.entry) (option_map (λ t. t.now) version.entry)) }
+    ensures { IfOk result (λ _. map locked_of packages.new.items ≡ map locked_of packages.old.items ++ package_in line (option_map (λ t. t.now) name.entry) (option_map (λ t. t.now) version.entry) (option_map condition_of_package condition)) }
 {
     let Some(name) = name else {
         return Ok(());
@@ -36,6 +40,7 @@ fn push_package(
         line,
         name,
         version,
+        condition,
     })?;
     Ok(())
 }
@@ -43,14 +48,16 @@ fn push_package(
 fn push_item(
     alloc: Global,
     packages: &mut Vec<LockedPackage>,
+    python: &Option<String>,
     line: u64,
     item: &Value,
 ) -> Result<(), AllocError>
-    ensures { IfOk result (λ _. map locked_of packages.new.items ≡ map locked_of packages.old.items ++ package_from (line, view item.now)) }
+    ensures { IfOk result (λ _. map locked_of packages.new.items ≡ map locked_of packages.old.items ++ package_from (option_map string_bytes python.now) (line, view item.now)) }
 {
     let name = text(item.get("name"));
     let version = text(item.get("version"));
-    push_package(alloc, packages, line, name, version)
+    let condition = package_condition(alloc, python, item)?;
+    push_package(alloc, packages, line, name, version, condition)
 }
 
 fn line_or_one(lines: &[u64], index: usize) -> u64
@@ -68,7 +75,7 @@ fn read_tables(
     tables: &[Value],
 ) -> Result<LockContents, AllocError>
     requires { IsNameIndex counted.now.names }
-    ensures { IfOk result (λ found. contents_of found ≡ table_contents counted.now.kind (map (λ n. n.items) parts.items) counted.now.has_markers (indexed_names counted.now.names) (numbered_tables lines.now 0 (map view tables.now))) }
+    ensures { IfOk result (λ found. contents_of found ≡ table_contents counted.now.kind (map (λ n. n.items) parts.items) counted.now.has_markers (option_map string_bytes counted.now.python) (indexed_names counted.now.names) (numbered_tables lines.now 0 (map view tables.now))) }
 {
     let mut parts = parts;
     let mut packages = Vec::new(alloc);
@@ -78,7 +85,7 @@ fn read_tables(
     for (index, item) in tables.iter().enumerate() {
         let line = line_or_one(lines, index);
         push_package_parts(alloc, &mut parts, counted.kind, line, item)?;
-        push_item(alloc, &mut packages, line, item)?;
+        push_item(alloc, &mut packages, &counted.python, line, item)?;
         push_requirements(alloc, &mut requirements, line, item)?;
         push_locked_files(alloc, &mut files, line, item)?;
         push_package_faults(alloc, &mut faults, counted, line, item)?;
@@ -106,9 +113,11 @@ pub(crate) fn toml_contents(
     let lines = header_lines(alloc, header.as_bytes(), text.as_bytes())?;
     let tables = items(top(document, key));
     let names = counted_names(alloc, kind, tables)?;
+    let python = locked_python(alloc, kind, document)?;
     let counted = CountedNames {
         kind,
         has_markers: has_markers(kind, document),
+        python,
         names: NameIndex::new(alloc, names.as_slice())?,
     };
     let parts = lock_parts(alloc, kind, document)?;
