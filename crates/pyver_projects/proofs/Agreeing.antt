@@ -15,7 +15,8 @@ use Rattle.pyver_findings.specs.FileLines.{File, Finding, Conflicting}
 use Rattle.pyver_findings.specs.LineMeanings.{Asks, LineMeaning}
 use Rattle.pyver_findings.specs.Reports.{Report, demands_in, empty_report, invalid_in}
 use Rattle.toml.specs.Data.{Members}
-use Rattle.pyver_projects.proofs.Holding.{asks_always, findings_of, met_everywhere, not_excluded, each_flat, sections_same, sound_part, sound_string}
+use Rattle.pyver_projects.proofs.LockedPackages.{met_everywhere, not_excluded}
+use Rattle.pyver_projects.proofs.Holding.{asks_always, findings_of, each_flat, sections_same, sound_part, sound_string}
 use Rattle.pyver_projects.proofs.Walks.{beside_it, beside_pair, left_nil, nil_at, right_nil, zip_each, all_flat, zip_once}
 use Rattle.std.proofs.lemmas.Bool.{true≢false}
 use Rattle.std.proofs.lemmas.Grind.{flat_map-append}

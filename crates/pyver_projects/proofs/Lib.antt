@@ -1,5 +1,5 @@
-pub mod KnownEnvironments
 pub mod Walks
+pub mod LockedPackages
 pub mod Holding
 pub mod Agreeing
 pub mod Once

@@ -161,7 +161,7 @@ fn is_false(value: Option<bool>) -> bool
 }
 
 // The marker does not hold in the environment.
-#[tactic(auto, using(crate::proofs::KnownEnvironments::none_false))]
+#[tactic(auto, using(crate::proofs::LockedPackages::none_false))]
 fn is_false_in(
     alloc: Global,
     marker: &[u8],

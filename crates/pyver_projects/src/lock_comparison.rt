@@ -358,7 +358,7 @@ fn push_lack(
 }
 
 // Adds the first environment in which the lock leaves out all packages that a requirement on this line may take, if there are some.
-#[tactic(auto, using(crate::proofs::KnownEnvironments::none_lacking))]
+#[tactic(auto, using(crate::proofs::LockedPackages::none_lacking))]
 fn push_partly_locked(
     alloc: Global,
     findings: &mut Vec<Finding>,

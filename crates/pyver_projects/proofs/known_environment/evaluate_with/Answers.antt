@@ -1,6 +1,6 @@
 use Rattle.std.proofs.Common.{[], ◌∙◌, ◌∷◌, ap}
 use Rattle.pyver_markers.specs.Environments.{Text}
-use Rattle.pyver_projects.proofs.KnownEnvironments.{evaluated_so}
+use Rattle.pyver_projects.proofs.LockedPackages.{evaluated_so}
 use Rattle.pyver_projects.specs.KnownEnvironments.{cpython_variables}
 use Rattle.pyver_projects.proofs.known_environment.evaluate_with.Goals as goal
 

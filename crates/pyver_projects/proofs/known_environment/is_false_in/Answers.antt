@@ -1,4 +1,4 @@
-use Rattle.pyver_projects.proofs.KnownEnvironments.{read_false_so}
+use Rattle.pyver_projects.proofs.LockedPackages.{read_false_so}
 use Rattle.pyver_projects.specs.KnownEnvironments.{known_environment}
 use Rattle.pyver_projects.proofs.known_environment.is_false_in.Goals as goal
 
