@@ -1,4 +1,4 @@
-use Rattle.std.proofs.Common.{option_map, string_bytes}
+use Rattle.std.proofs.Common.{option_map}
 use Rattle.std.proofs.lemmas.Result.{IfOk-weaker}
 use Rattle.pyver_findings.specs.Views.{file_line_of}
 use Rattle.pyver_projects.proofs.Walks.{locked_so}

@@ -1,7 +1,7 @@
-use Rattle.std.proofs.Common.{List, bytes_eq, map, not, sym, ◌||◌, ◌∙◌, ◌≡◌}
-use Rattle.std.specs.List.{flat_map, list_any}
+use Rattle.std.proofs.Common.{bytes_eq, not, sym, ◌||◌, ◌∙◌}
+use Rattle.std.specs.List.{list_any}
 use Rattle.pyver_projects.proofs.Walks.{any_of}
-use Rattle.pyver_projects.specs.Comparing.{is_installer, is_project_reading, names_read}
+use Rattle.pyver_projects.specs.Comparing.{is_installer, is_project_reading}
 use Rattle.pyver_projects.specs.ProjectViews.{reading_in}
 use Rattle.pyver_projects.proofs.lock_comparison.KnownProjects.new.Goals as goal
 
