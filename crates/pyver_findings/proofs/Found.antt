@@ -36,7 +36,7 @@ any_is P (f ∷ fs) (inr h) = let r = any_is P fs h in (suc r.0, r.1, omega (ari
 -- ---- what is reported of some lines names no others
 
 -- lines with nothing in common are not none
-some_lines : (some : List Demand) → have_none some ≡ true → map (λ (a : Demand). a.line) some ≡ [] → ⊥
+pub some_lines : (some : List Demand) → have_none some ≡ true → map (λ (a : Demand). a.line) some ≡ [] → ⊥
 some_lines [] empty e = true≢false (sym empty)
 some_lines (a ∷ some) empty e =
     let none : length (a.line ∷ map (λ (b : Demand). b.line) some) ≡ 0 = ap length e in

@@ -3,7 +3,7 @@ use Rattle.std.proofs.Common.{◌≡◌, ◌⊎◌, ◌∙◌, ℕ, List, [], �
 use Rattle.std.proofs.lemmas.Bool.{true≢false}
 use Rattle.std.proofs.lemmas.List.{map-append}
 use Rattle.std.proofs.lemmas.List.Elements.{All-append, All-cons, All-contains_itself, All-filter, All-head, All-nil, All-tail, All-weaker, filter_passes}
-use Rattle.std.specs.List.{All, AllZip, Contains, filter, flat_map}
+use Rattle.std.specs.List.{All, AllZip, Contains, filter, flat_map, list_any}
 use Rattle.pep440_pick.proofs.Once.{one_requirement}
 use Rattle.pep440_pick.specs.Names.{normal}
 use Rattle.pep440_pick.specs.RequirementGrammar.{DerivesRequirement, Needed}
@@ -17,12 +17,11 @@ use Rattle.pyver_findings.specs.Demands.{Demand, IsSound, is_pinned, line_demand
 use Rattle.pyver_findings.specs.Conflicts.{conflict_kind, conflicts, counts_under, first_mentions, have_none, holds_nowhere, of_all, of_marker, of_name, has_same_marker, has_same_name, same_marker, smallest, under}
 use Rattle.pyver_findings.specs.FileLines.{Conflicting, File, FileLine, Finding, NoRequirement, all_lines}
 use Rattle.pyver_findings.specs.NamedFiles.{constraints_files}
-use Rattle.pyver_findings.specs.FindingLaws.{AreNeeded, AsksFor, CountTogether, CountsIn, CountsUnder, FindingsHold, FitsConflict, HasMarker, HoldTogether, HoldsIn, IsRight, IsRightBy, IsRightConflict, IsRightConstraint, IsRightPair, LineAllows, NamesVersion}
+use Rattle.pyver_findings.specs.FindingLaws.{AreNeeded, AsksFor, CountTogether, CountsIn, CountsUnder, FindingsHold, FitsConflict, HasMarker, HoldTogether, IsRight, IsRightBy, IsRightConflict, IsRightConstraint, IsRightPair, LineAllows, NamesVersion}
 use Rattle.pyver_findings.specs.LineMeanings.{IsNone, LeftOut, LineMeaning, AsksNothing, IsKindMeaning, IsMeaning, constraint_faults, has_extras, has_right_url, kind_faults, requirement_meaning, has_scheme, names_file, under_marker, with_marker, with_url}
-use Rattle.pyver_findings.specs.MarkerPairs.{FindsDecided, FindsOfEach, FindsOfFirsts, FindsOfName, FindsOfNames, FindsOfPair, FindsOfPairs, IsDecision, few_first_lines, lines_to_pair, under_either}
+use Rattle.pyver_findings.specs.MarkerPairs.{AsksIn, FindsDecided, FindsOfEach, FindsOfFirsts, FindsOfName, FindsOfNames, FindsOfSet, FindsOfSets, IsDecision, conflicting_sets, counts_with, few_first_lines, lines_to_pair, under_any}
 use Rattle.pyver_findings.proofs.Found.{marker_yes}
 use Rattle.pyver_findings.proofs.SmallestLists.{Allows, IsSpared, all_smallest, none_allowed, smallest_none, smallest_right}
-use Rattle.pyver_findings.proofs.MarkerPairs.{both_true}
 use Rattle.pyver_findings.proofs.Rejecting.{invalid_right}
 use Rattle.pyver_findings.specs.Reports.{Report, demands_in, invalid_in}
 use Rattle.pyver_findings.specs.declared.cause.Cause.{Cause}
@@ -30,9 +29,7 @@ use Rattle.pyver_findings.specs.declared.cause.Cause.TheVariants as cause
 use Rattle.pyver_findings.specs.declared.finding.Conflict.TheVariants.{NoVersion, PinOutside, TwoPins}
 use Rattle.pyver_findings.specs.declared.marker_pairs.Decision.{Decision}
 use Rattle.pyver_findings.specs.declared.marker_pairs.Decision.TheVariants.{Apart, Together, Unknown}
-use Rattle.pyver_markers.specs.Conditions.{IsEnvironment}
 use Rattle.pyver_markers.specs.Environments.{Environment}
-use Rattle.pyver_markers.specs.MarkerValues.{value}
 use Rattle.pyver_requirements.specs.LineKinds.{ConstraintsFile, Editable, Invalid, LineKind, Location, PipOption, Requirement, RequirementsFile, Variable, has_variable, line_kind}
 use Rattle.pyver_requirements.specs.LineParts.{LineParts, pip_parts}
 use Rattle.pyver_requirements.specs.MarkerReading.{marker}
@@ -148,12 +145,12 @@ module _ (read : List FileLine) where
 -- ---- lists and markers
 
 -- both hold of each
-both : (P Q : Demand → Type 0) (lines : List Demand) → All P lines → All Q lines → All (λ a. P a × Q a) lines
+pub both : (P Q : Demand → Type 0) (lines : List Demand) → All P lines → All Q lines → All (λ a. P a × Q a) lines
 both P Q [] p q = All-nil (λ a. P a × Q a)
 both P Q (a ∷ lines) p q = All-cons (λ a. P a × Q a) a lines (All-head P a lines p, All-head Q a lines q) (both P Q lines (All-tail P a lines p) (All-tail Q a lines q))
 
 -- what holds of demands holds so of their lines
-mapped : (P : FileLine → Type 0) (Q : Demand → Type 0) → ((a : Demand) → Q a → P a.line) → (lines : List Demand) → All Q lines → All P (map (λ (a : Demand). a.line) lines)
+pub mapped : (P : FileLine → Type 0) (Q : Demand → Type 0) → ((a : Demand) → Q a → P a.line) → (lines : List Demand) → All Q lines → All P (map (λ (a : Demand). a.line) lines)
 mapped P Q so [] k = All-nil P
 mapped P Q so (a ∷ lines) k = All-cons P a.line (map (λ (b : Demand). b.line) lines) (so a (All-head Q a lines k)) (mapped P Q so lines (All-tail Q a lines k))
 
@@ -161,26 +158,31 @@ pub counted_marker : (n m : Option (List ℕ)) → (is_none n || same_marker n m
 counted_marker None m e = inl refl
 counted_marker (Some n) m e = inr (marker_yes (Some n) m e)
 
--- ---- two markers that hold together
+-- ---- markers that hold together
 
--- the marker holds in the environment
-abbrev pub MarkerIn : Environment → Option (List ℕ) → Type 0
-MarkerIn e m = (text : List ℕ) × (m ≡ Some text) × HoldsIn e text
+pub asks_alike : (e : Environment) (a c : Demand) → c.marker ≡ a.marker → AsksIn e a → AsksIn e c
+asks_alike e a c same (inl none) = inl (same ∙ none)
+asks_alike e a c same (inr (text, is, holds)) = inr (text, same ∙ is, holds)
 
-pub environment_of_pair : (one other : Option (List ℕ)) → IsDecision one other Together → (e : Environment) × IsEnvironment e × MarkerIn e one × MarkerIn e other
-environment_of_pair (Some one) (Some other) (m, variables, (a, b, first, second, is), example, system) =
-    let e = example.environment in
-    let holds = both_true (value e a) (value e b) (ap (value e) (sym is) ∙ example.holds e example.has) in
-    (e, example.known, (one, refl, (a, first, holds.0)), (other, refl, (b, second, holds.1)))
-environment_of_pair (Some one) None decided = cc decided
-environment_of_pair None other decided = cc decided
+asks_by : (e : Environment) (a c : Demand) (set : List Demand) (b : Bool) → has_same_marker c a ≡ b → AsksIn e a → (b || list_any (has_same_marker c) set) ≡ true → (list_any (has_same_marker c) set ≡ true → AsksIn e c) → AsksIn e c
+asks_by e a c set true is here some others = asks_alike e a c (marker_yes c.marker a.marker is) here
+asks_by e a c set false is here some others = others some
 
-either_by : (n one other : Option (List ℕ)) (b : Bool) → (is_none n || same_marker n one) ≡ b → (b || (is_none n || same_marker n other)) ≡ true → (n ≡ None) ⊎ ((n ≡ one) ⊎ (n ≡ other))
-either_by n one other true is e = elim (counted_marker n one is) [ inl none ↦ inl none | inr here ↦ inr (inl here) ]
-either_by n one other false is e = elim (counted_marker n other e) [ inl none ↦ inl none | inr there ↦ inr (inr there) ]
+asks_like_one : (e : Environment) (c : Demand) (set : List Demand) → All (AsksIn e) set → list_any (has_same_marker c) set ≡ true → AsksIn e c
+asks_like_one e c [] ask some = absurd (true≢false (sym some))
+asks_like_one e c (a ∷ set) ask some = asks_by e a c set (has_same_marker c a) refl (All-head (AsksIn e) a set ask) some (asks_like_one e c set (All-tail (AsksIn e) a set ask))
 
-counted_either : (n one other : Option (List ℕ)) → ((is_none n || same_marker n one) || (is_none n || same_marker n other)) ≡ true → (n ≡ None) ⊎ ((n ≡ one) ⊎ (n ≡ other))
-counted_either n one other e = either_by n one other (is_none n || same_marker n one) refl e
+none_yes : (m : Option (List ℕ)) → is_none m ≡ true → m ≡ None
+none_yes None e = refl
+none_yes (Some text) e = absurd (true≢false (sym e))
+
+asks_or : (e : Environment) (c : Demand) (set : List Demand) (b : Bool) → is_none c.marker ≡ b → All (AsksIn e) set → (b || list_any (has_same_marker c) set) ≡ true → AsksIn e c
+asks_or e c set true is ask counts = inl (none_yes c.marker is)
+asks_or e c set false is ask counts = asks_like_one e c set ask counts
+
+-- beside lines that ask those with their markers do
+pub asks_beside : (e : Environment) (set : List Demand) → All (AsksIn e) set → (c : Demand) → counts_with set c ≡ true → AsksIn e c
+asks_beside e set ask c counts = asks_or e c set (is_none c.marker) refl ask counts
 
 -- ---- what holds of each finding
 
@@ -277,49 +279,44 @@ module _ (parts : List ℕ → LineParts) where
           by_empty (IsRightConflict parts read) (have_none (under None lines)) _ _ (under_right None lines refl k)
           (of_each (IsRightConflict parts read) (λ (a : Demand). of_marker a.marker lines) (λ a. marker_right a.marker lines k (holds_nowhere a.marker) refl) (first_mentions has_same_marker [] lines))
 
-      -- ---- two markers
+      -- ---- several markers
 
-      abbrev pub CountsEither : Option (List ℕ) → Option (List ℕ) → Demand → Type 0
-      CountsEither one other c = IsNamed c × ((counts_under one c || counts_under other c) ≡ true)
+      abbrev pub IsAsking : Environment → Demand → Type 0
+      IsAsking e c = IsNamed c × AsksIn e c
 
-      in_environment : (e : Environment) (one other : Option (List ℕ)) → MarkerIn e one → MarkerIn e other → (c : Demand) → CountsEither one other c → CountsIn parts e c.line
-      in_environment e one other (s, is, first) (t, so, second) c (((known, derived, marked), same), counts) =
-          elim (counted_either c.marker one other counts) [
-            | inl none ↦ inl (marked ∙ ap (option_map Ok) none)
-            | inr found ↦ elim found [
-              | inl here ↦ inr (s, marked ∙ ap (option_map Ok) (here ∙ is), first)
-              | inr there ↦ inr (t, marked ∙ ap (option_map Ok) (there ∙ so), second)
-            ]
-          ]
+      in_environment : (e : Environment) (c : Demand) → IsAsking e c → CountsIn parts e c.line
+      in_environment e c (((known, derived, marked), same), inl none) = inl (marked ∙ ap (option_map Ok) none)
+      in_environment e c (((known, derived, marked), same), inr (text, is, holds)) = inr (text, marked ∙ ap (option_map Ok) is, holds)
 
-      either_right : (one other : Option (List ℕ)) (lines : List Demand) → All IsNamed lines → IsDecision one other Together → All (IsRightPair parts read) (of_all (under_either one other lines))
-      either_right one other lines k decided =
-          let (e, is_one, first, second) = environment_of_pair one other decided in
-          let these = under_either one other lines in
-          let named = All-filter (λ (c : Demand). counts_under one c || counts_under other c) IsNamed lines k in
-          let counted = both IsNamed (λ (c : Demand). (counts_under one c || counts_under other c) ≡ true) these named (filter_passes (λ (c : Demand). counts_under one c || counts_under other c) lines) in
+      set_right : (set lines : List Demand) → All IsNamed lines → IsDecision set Together → All (IsRightPair parts read) (of_all (under_any set lines))
+      set_right set lines k (variables, asked, system) =
+          let e = asked.environment in
+          let these = under_any set lines in
+          let named = All-filter (counts_with set) IsNamed lines k in
+          let asking = both IsNamed (AsksIn e) these named (All-weaker (λ c. counts_with set c ≡ true) (AsksIn e) (asks_beside e set (asked.ask e asked.has)) these (filter_passes (counts_with set) lines)) in
           right_by (HoldTogether parts) these named
-          (name, e, is_one, mapped (AsksFor parts name) IsNamed asks_for (smallest these) (all_smallest IsNamed these named), mapped (CountsIn parts e) (CountsEither one other) (in_environment e one other first second) (smallest these) (all_smallest (CountsEither one other) these counted))
+          (name, e, asked.known, mapped (AsksFor parts name) IsNamed asks_for (smallest these) (all_smallest IsNamed these named), mapped (CountsIn parts e) (IsAsking e) (in_environment e) (smallest these) (all_smallest (IsAsking e) these asking))
 
       none_right : (fs : List Finding) → fs ≡ [] → All (IsRightPair parts read) fs
       none_right fs none = subst (All (IsRightPair parts read)) (sym none) (All-nil (IsRightPair parts read))
 
-      decided_right : (d : Decision) (one other : Option (List ℕ)) (lines : List Demand) → All IsNamed lines → IsDecision one other d → (fs : List Finding) (cs : List Cause) → FindsDecided d (under_either one other lines) fs cs → All (IsRightPair parts read) fs
-      decided_right Together one other lines k decided fs cs (is, also) = subst (All (IsRightPair parts read)) (sym is) (either_right one other lines k decided)
-      decided_right Apart one other lines k decided fs cs (is, also) = none_right fs is
-      decided_right Unknown one other lines k decided fs cs (is, also) = none_right fs is
+      decided_right : (d : Decision) (set lines : List Demand) → All IsNamed lines → IsDecision set d → (fs : List Finding) (cs : List Cause) → FindsDecided d (under_any set lines) fs cs → All (IsRightPair parts read) fs
+      decided_right Together set lines k decided fs cs (is, also) = subst (All (IsRightPair parts read)) (sym is) (set_right set lines k decided)
+      decided_right Apart set lines k decided fs cs (is, also) = none_right fs is
+      decided_right Unknown set lines k decided fs cs (is, also) = none_right fs is
 
-      pairs_right : (lines firsts : List Demand) → All IsNamed lines → (fs : List Finding) (cs : List Cause) → FindsOfPairs lines firsts fs cs → All (IsRightPair parts read) fs
-      pairs_right lines [] k fs cs (is, also) = none_right fs is
-      pairs_right lines (a ∷ rest) k fs cs (f, g, c, d, here, later, is, also) =
-          subst (All (IsRightPair parts read)) (sym is)
-          (All-append (IsRightPair parts read) f g
-          (found_each (IsRightPair parts read) (FindsOfPair lines a) (λ b fs cs finds. decided_right finds.0 a.marker b.marker lines k finds.1 fs cs finds.2) rest f c here)
-          (pairs_right lines rest k g d later))
+      each_set_right : (lines : List Demand) (sets : List (List Demand)) → All IsNamed lines → (fs : List Finding) (cs : List Cause) → FindsOfEach (FindsOfSet lines) sets fs cs → All (IsRightPair parts read) fs
+      each_set_right lines sets k = found_each (IsRightPair parts read) (FindsOfSet lines) (λ set fs cs finds. decided_right finds.0 set lines k finds.1 fs cs finds.2) sets
+
+      sets_right : (lines : List Demand) (sets : List (List Demand)) (whole : Bool) → All IsNamed lines → (fs : List Finding) (cs : List Cause) → FindsOfSets lines sets whole fs cs → All (IsRightPair parts read) fs
+      sets_right lines sets true k fs cs finds = each_set_right lines sets k fs cs finds
+      sets_right lines sets false k fs cs (told, finds, also) = each_set_right lines sets k fs told finds
 
       firsts_right : (lines : List Demand) → All IsNamed lines → (firsts : Option (List Demand)) (fs : List Finding) (cs : List Cause) → FindsOfFirsts lines firsts fs cs → All (IsRightPair parts read) fs
       firsts_right lines k None fs cs (is, also) = none_right fs is
-      firsts_right lines k (Some firsts) fs cs finds = pairs_right lines (lines_to_pair lines firsts) k fs cs finds
+      firsts_right lines k (Some firsts) fs cs finds =
+          let found = conflicting_sets lines (lines_to_pair lines firsts) in
+          sets_right lines found.sets found.whole k fs cs finds
 
     pub pairs_of_names_right : (lines : List Demand) → All (IsAsked parts read) lines → (fs : List Finding) (cs : List Cause) → FindsOfNames lines fs cs → All (IsRightPair parts read) fs
     pairs_of_names_right lines k =

@@ -6,6 +6,5 @@ pub mod MarkerPairs
 pub mod Holding
 pub mod Found
 pub mod Complete
-pub mod PairsFound
-pub mod JsonCodes
+pub mod SetsFound
 pub mod StringReadings

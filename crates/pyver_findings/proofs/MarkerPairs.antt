@@ -1,15 +1,15 @@
--- What is found of lines of one name under two markers.
-use Rattle.std.proofs.Common.{arith, ◌≡◌, ◌⊎◌, ◌+◌, ◌-◌, ◌<◌, ◌≤◌, ◌∙◌, ℕ, List, [], ◌∷◌, ◌++◌, ◌||◌, Bool, true, false, Option, Some, None, Err, Result, ap, append_assoc, drop, get_or, inl, inr, is_none, length, map, nat_lt, refl, subst, suc, sym, take, if◌then◌else◌}
+-- What is found of lines of one name under several markers.
+use Rattle.std.proofs.Common.{arith, ◌≡◌, ◌⊎◌, ◌+◌, ◌-◌, ◌<◌, ◌≤◌, ◌∙◌, ℕ, List, [], ◌∷◌, ◌++◌, ◌==◌, ◌||◌, Bool, true, false, Option, Some, None, Err, Result, ap, append_assoc, drop, get_or, inl, inr, is_none, length, map, nat_lt, refl, subst, suc, sym, take, if◌then◌else◌}
 use Rattle.std.proofs.lemmas.Bool.{false_from_ne_true, ltb-false, ltb-true, true≢false}
-use Rattle.std.proofs.lemmas.List.Elements.{All-filter}
+use Rattle.std.proofs.lemmas.List.Elements.{All-cons, All-head, All-nil, All-tail}
 use Rattle.std.proofs.lemmas.List.{append-nil, drop_all, length-append, length-map, map-append, take_all, take_more}
 use Rattle.std.specs.List.{All, Contains, filter, list_any}
 use Rattle.pyver_findings.proofs.Steps.{rest_at}
-use Rattle.pyver_findings.specs.Conflicts.{conflict_kind, counts_under, first_mentions, has_same_marker, has_same_name, have_none, holds_nowhere, is_read_contradictory, of_all, smallest}
-use Rattle.pyver_findings.specs.Demands.{Demand, IsSound}
+use Rattle.pyver_findings.specs.Conflicts.{conflict_kind, first_mentions, has_same_marker, has_same_name, have_none, holds_nowhere, is_read_contradictory, of_all, smallest}
+use Rattle.pyver_findings.specs.Demands.{Demand}
 use Rattle.pyver_findings.specs.FileLines.{Conflicting, Finding}
 use Rattle.pyver_findings.specs.FindingLaws.{HeldMarkersCount}
-use Rattle.pyver_findings.specs.MarkerPairs.{AreJoined, FindsDecided, FindsNothing, FindsOfEach, FindsOfFirsts, FindsOfName, FindsOfNames, FindsOfPair, FindsOfPairs, IsDenotedBySteps, IsDecision, IsRightDecision, KnowsSteps, few_first_lines, first_lines, lines_to_pair, under_either, with_first}
+use Rattle.pyver_findings.specs.MarkerPairs.{AreJoined, AsksIn, ConflictingSets, FindsDecided, FindsNothing, FindsOfEach, FindsOfFirsts, FindsOfName, FindsOfNames, FindsOfSet, FindsOfSets, HasDenoted, IsDenotedBySteps, IsDecision, KnowsSteps, conflicting_sets, few_first_lines, first_lines, lines_to_pair, under_any, with_first}
 use Rattle.pyver_findings.specs.Views.{AddsFindings, AddsFound, finding_of}
 use Rattle.pyver_findings.specs.declared.cause.Cause.{Cause}
 use Rattle.pyver_findings.specs.declared.cause.Cause.TheVariants as cause
@@ -18,7 +18,7 @@ use Rattle.pyver_findings.specs.declared.marker_pairs.Decision.{Decision}
 use Rattle.pyver_findings.specs.declared.marker_pairs.Decision.TheVariants.{Apart, Together, Unknown}
 use Rattle.pyver_markers.proofs.Versions.{contradictory_never}
 use Rattle.pyver_markers.specs.Conditions.{is_contradictory}
-use Rattle.pyver_markers.specs.Environments.{Assignment}
+use Rattle.pyver_markers.specs.Environments.{Assignment, Environment}
 use Rattle.pyver_markers.specs.Extents.{IsExample}
 use Rattle.pyver_markers.specs.MarkerValues.{both_hold, value}
 use Rattle.pyver_requirements.specs.MarkerGrammar.{Both, DenotesMarker, Marker}
@@ -38,15 +38,27 @@ held_markers_count e text known (m, denoted, holds) =
     false_from_ne_true (holds_nowhere (Some text)) (λ nowhere.
     contradictory_never m (ap is_read_contradictory (sym (steps_are_read text m denoted)) ∙ nowhere) e known holds)
 
--- ---- two markers
+-- ---- joined markers
 
 pub parsed : (text : List ℕ) (all : List Step) → ((m : Marker) × DenotesMarker text m × (all ≡ steps m)) → ((m : Marker) → DenotesMarker text m → all ≡ steps m) → IsDenotedBySteps (DenotesMarker text) all
 parsed text all (m, denoted, have) only = ((m, denoted), only)
 
-pub both_steps : (word other : List ℕ) (one all joined : List Step) → IsDenotedBySteps (DenotesMarker word) one → IsDenotedBySteps (DenotesMarker other) all
-    → ((m n : Marker) → one ≡ steps m → all ≡ steps n → joined ≡ steps (Both m n)) → IsDenotedBySteps (AreJoined word other) joined
-both_steps word other one all joined ((a, first), only) ((b, second), alone) join =
-    ((Both a b, (a, b, first, second, refl)), (λ m d. join d.0 d.1 (only d.0 d.2) (alone d.1 d.3) ∙ ap steps (sym d.4)))
+pub marked_steps : (a : Demand) (text : List ℕ) (all : List Step) → a.marker ≡ Some text → IsDenotedBySteps (DenotesMarker text) all → IsDenotedBySteps (HasDenoted a) all
+marked_steps a text all has ((m, denoted), only) = ((m, (text, has, denoted)), (λ n d. only n (subst (λ t. DenotesMarker t n) (let same : Some d.0 ≡ Some text = sym d.1 ∙ has in cc same) d.2)))
+
+pub joined_one : (set : List Demand) (a : Demand) (all : List Step) → set ≡ a ∷ [] → IsDenotedBySteps (HasDenoted a) all → IsDenotedBySteps (AreJoined set) all
+joined_one set a all is has = subst (λ s. IsDenotedBySteps (AreJoined s) all) (sym is) has
+
+pub joined_more : (set : List Demand) (a : Demand) (others : List Demand) (one rest joined : List Step) → set ≡ a ∷ others → 1 ≤ length others → IsDenotedBySteps (HasDenoted a) one → IsDenotedBySteps (AreJoined others) rest
+    → ((m n : Marker) → one ≡ steps m → rest ≡ steps n → joined ≡ steps (Both m n)) → IsDenotedBySteps (AreJoined set) joined
+joined_more set a [] one rest joined is some has are join = absurd (omega (arith, some))
+joined_more set a (b ∷ others) one rest joined is some ((x, has), only) ((y, are), alone) join =
+    subst (λ s. IsDenotedBySteps (AreJoined s) joined) (sym is)
+    ((Both x y, (x, y, has, are, refl)), (λ m d. join d.0 d.1 (only d.0 d.2) (alone d.1 d.3) ∙ ap steps (sym d.4)))
+
+pub some_mapped : {X Y : Type 0} (view : Y → X) (ys : List Y) → (length ys == 0) ≡ false → 1 ≤ length (map view ys)
+some_mapped view [] some = absurd (true≢false some)
+some_mapped view (y ∷ ys) some = omega arith
 
 pub both_true : (p q : Option Bool) → both_hold p q ≡ Some true → (p ≡ Some true) × (q ≡ Some true)
 both_true (Some true) (Some true) e = (refl, refl)
@@ -72,15 +84,33 @@ found_on_system Is system all joined b ((m, is), only) join found so =
     let (variables, example, one) = found so in
     (variables, (λ n e. of_second m n variables (example (Both m n) (join m n (only m is) e))), one)
 
-pub known : (Is : Marker → Type 0) (all : List Step) (d : Decision) → IsDenotedBySteps Is all → KnowsSteps all d → IsRightDecision Is d
-known Is all Together ((m, is), only) (variables, example, system) = (m, variables, is, example m (only m is), system)
-known Is all Apart ((m, is), only) never = λ n it. never n (only n it)
-known Is all Unknown has knows = tt
+-- where the joined marker holds, all lines ask
+all_ask : (e : Environment) (set : List Demand) (m : Marker) → AreJoined set m → value e m ≡ Some true → All (AsksIn e) set
+all_ask e [] m are holds = absurd are
+all_ask e (a ∷ []) m (text, has, denoted) holds = All-cons (AsksIn e) a [] (inr (text, has, (m, denoted, holds))) (All-nil (AsksIn e))
+all_ask e (a ∷ (b ∷ rest)) m (x, y, (text, has, denoted), are, is) holds =
+    let both = both_true (value e x) (value e y) (ap (value e) (sym is) ∙ holds) in
+    All-cons (AsksIn e) a (b ∷ rest) (inr (text, has, (x, denoted, both.0))) (all_ask e (b ∷ rest) y are both.1)
 
-pub unknown : (one other : Option (List ℕ)) → IsDecision one other Unknown
-unknown None other = refl
-unknown (Some one) None = refl
-unknown (Some one) (Some other) = tt
+one_held : (e : Environment) (a : Demand) (m : Marker) → HasDenoted a m → AsksIn e a → (n : Marker) × HasDenoted a n × (value e n ≡ Some true)
+one_held e a m (text, has, denoted) (inl none) = let never : None ≡ Some text = sym none ∙ has in cc never
+one_held e a m has (inr (text, is, (n, denoted, holds))) = (n, (text, is, denoted), holds)
+
+-- where all lines ask, so holds a joined marker
+all_held : (e : Environment) (set : List Demand) (m : Marker) → AreJoined set m → All (AsksIn e) set → (n : Marker) × AreJoined set n × (value e n ≡ Some true)
+all_held e [] m are ask = absurd are
+all_held e (a ∷ []) m has ask = one_held e a m has (All-head (AsksIn e) a [] ask)
+all_held e (a ∷ (b ∷ rest)) m (x, y, has, are, is) ask =
+    let (n, first, holds) = one_held e a x has (All-head (AsksIn e) a (b ∷ rest) ask) in
+    let (l, others, hold) = all_held e (b ∷ rest) y are (All-tail (AsksIn e) a (b ∷ rest) ask) in
+    (Both n l, (n, l, first, others, refl), (λ i. both_hold (holds i) (hold i)))
+
+pub known : (set : List Demand) (all : List Step) (d : Decision) → IsDenotedBySteps (AreJoined set) all → KnowsSteps all d → IsDecision set d
+known set all Together ((m, is), only) (variables, example, system) =
+    let x = example m (only m is) in
+    (variables, record { environment = x.environment; known = x.known; has = x.has; ask = λ e extends. all_ask e set m is (x.holds e extends) }, system)
+known set all Apart ((m, is), only) never = λ e one ask. let held = all_held e set m is ask in never held.0 (only held.0 held.1) e one held.2
+known set all Unknown has knows = tt
 
 -- ---- what is found, one after another
 
@@ -109,7 +139,7 @@ pub finish : (Rest Whole : List Finding → List Cause → Type 0) (old new : Li
 finish Rest Whole old new before after r (fs, cs, k, so_far, so) =
     (fs, cs, subst (λ l. Whole l cs) (append-nil fs) (subst (λ l. Whole (fs ++ []) l) (append-nil cs) (k [] [] r)), so_far, so)
 
--- ---- pairs
+-- ---- sets
 
 -- lines that have no version in common, by what is known of their markers
 module _ (lines : List Demand) (old new : List FindingValue) (before after : List Cause) where
@@ -124,18 +154,24 @@ module _ (lines : List Demand) (old new : List FindingValue) (before after : Lis
       subst (λ e. AddsFound (FindsDecided e lines) old new before after) (sym is)
       ([], cause.Undecided ∷ [], (refl, ap (λ n. if n then cause.Undecided ∷ [] else []) (sym none)), ap (map finding_of) same ∙ sym (append-nil (map finding_of old)), also)
 
--- the lines under either marker are sound where all are
-pub pair_sound : (one other : Option (List ℕ)) (lines : List Demand) → All IsSound lines → All IsSound (under_either one other lines)
-pair_sound one other lines sound = All-filter (λ (a : Demand). counts_under one a || counts_under other a) IsSound lines sound
-
-module _ (lines : List Demand) (a b : Demand) (old new : List FindingValue) (before after : List Cause) where
+module _ (lines set : List Demand) (old new : List FindingValue) (before after : List Cause) where
   -- they have a version in common
-  pub pair_shared : have_none (under_either a.marker b.marker lines) ≡ false → new ≡ old → after ≡ before → AddsFound (FindsOfPair lines a b) old new before after
-  pair_shared some same also =
-      nothing_found (FindsOfPair lines a b) old new before after (Unknown, unknown a.marker b.marker, (refl, ap (λ n. if n then cause.Undecided ∷ [] else []) (sym some))) same also
+  pub set_shared : have_none (under_any set lines) ≡ false → new ≡ old → after ≡ before → AddsFound (FindsOfSet lines set) old new before after
+  set_shared some same also =
+      nothing_found (FindsOfSet lines set) old new before after (Unknown, tt, (refl, ap (λ n. if n then cause.Undecided ∷ [] else []) (sym some))) same also
 
-  pub pair_decided : (d : Decision) → IsDecision a.marker b.marker d → AddsFound (FindsDecided d (under_either a.marker b.marker lines)) old new before after → AddsFound (FindsOfPair lines a b) old new before after
-  pair_decided d k (fs, cs, finds, adds, also) = (fs, cs, (d, k, finds), adds, also)
+  pub set_decided : (d : Decision) → IsDecision set d → AddsFound (FindsDecided d (under_any set lines)) old new before after → AddsFound (FindsOfSet lines set) old new before after
+  set_decided d k (fs, cs, finds, adds, also) = (fs, cs, (d, k, finds), adds, also)
+
+module _ (lines : List Demand) (sets : List (List Demand)) (old new : List FindingValue) (before after : List Cause) where
+  pub sets_whole : (whole : Bool) → whole ≡ true → AddsFound (FindsOfEach (FindsOfSet lines) sets) old new before after → AddsFound (FindsOfSets lines sets whole) old new before after
+  sets_whole whole is adds = subst (λ b. AddsFound (FindsOfSets lines sets b) old new before after) (sym is) adds
+
+  -- there may be others
+  pub sets_cut : (whole : Bool) (last : List Cause) → whole ≡ false → last ≡ after ++ cause.Undecided ∷ [] → AddsFound (FindsOfEach (FindsOfSet lines) sets) old new before after → AddsFound (FindsOfSets lines sets whole) old new before last
+  sets_cut whole last is more (fs, cs, finds, adds, also) =
+      subst (λ b. AddsFound (FindsOfSets lines sets b) old new before last) (sym is)
+      (fs, cs ++ cause.Undecided ∷ [], (cs, finds, refl), adds, more ∙ ap (λ l. l ++ cause.Undecided ∷ []) also ∙ append_assoc before cs (cause.Undecided ∷ []))
 
 -- of lines of one name, by their markers
 module _ (lines : List Demand) (old new : List FindingValue) (before after : List Cause) where
@@ -143,8 +179,10 @@ module _ (lines : List Demand) (old new : List FindingValue) (before after : Lis
   name_undecided many same also =
       ([], cause.Undecided ∷ [], subst (λ (f : Option (List Demand)). FindsOfFirsts lines f [] (cause.Undecided ∷ [])) many (refl, refl), ap (map finding_of) same ∙ sym (append-nil (map finding_of old)), also)
 
-  pub name_paired : (firsts : List Demand) → Some firsts ≡ few_first_lines lines → AddsFound (FindsOfPairs lines (lines_to_pair lines firsts)) old new before after → AddsFound (FindsOfName lines) old new before after
-  name_paired firsts few (fs, cs, finds, adds, also) = (fs, cs, subst (λ (f : Option (List Demand)). FindsOfFirsts lines f fs cs) few finds, adds, also)
+  pub name_searched : (firsts : List Demand) (found : ConflictingSets) → Some firsts ≡ few_first_lines lines → found ≡ conflicting_sets lines (lines_to_pair lines firsts) → AddsFound (FindsOfSets lines found.sets found.whole) old new before after
+      → AddsFound (FindsOfName lines) old new before after
+  name_searched firsts found few is (fs, cs, finds, adds, also) =
+      (fs, cs, subst (λ (f : Option (List Demand)). FindsOfFirsts lines f fs cs) few (subst (λ (f : ConflictingSets). FindsOfSets lines f.sets f.whole fs cs) is finds), adds, also)
 
 -- ---- lists
 
@@ -166,23 +204,9 @@ each_done view P xs i old new before after behind so_far =
     let Whole = FindsOfEach P (map view xs) in
     finish (FindsOfEach P []) Whole old new before after (refl, refl) (subst (λ l. AddsFound (Continues (FindsOfEach P (map view l)) Whole) old new before after) none so_far)
 
-first_and_rest : {Y : Type 0} (xs : List Y) (x : Y) → 1 ≤ length xs → x ≡ get_or xs 0 x → xs ≡ x ∷ take (length xs - 1) (drop 1 xs)
+pub first_and_rest : {Y : Type 0} (xs : List Y) (x : Y) → 1 ≤ length xs → x ≡ get_or xs 0 x → xs ≡ x ∷ take (length xs - 1) (drop 1 xs)
 first_and_rest [] x long is = absurd (omega arith)
 first_and_rest (y ∷ rest) x long is = let whole : take (length (y ∷ rest) - 1) rest ≡ rest = take_all (length (y ∷ rest) - 1) rest (omega arith) in (λ j. sym is j ∷ sym whole j)
-
--- one line more, beside those behind it
-pub pairs_more : {Y : Type 0} (view : Y → Demand) (lines : List Demand) (Whole : List Finding → List Cause → Type 0) (rest : List Y) (one : Y) (old new more : List FindingValue) (before after last : List Cause) → 1 ≤ length rest
-    → one ≡ get_or rest 0 one → AddsFound (FindsOfEach (FindsOfPair lines (view one)) (map view (take (length rest - 1) (drop 1 rest)))) new more after last
-    → AddsFound (Continues (FindsOfPairs lines (map view rest)) Whole) old new before after → AddsFound (Continues (FindsOfPairs lines (map view (take (length rest - 1) (drop 1 rest)))) Whole) old more before last
-pairs_more view lines Whole rest one old new more before after last long is adds so_far =
-    let later = map view (take (length rest - 1) (drop 1 rest)) in
-    found_more (FindsOfPairs lines (view one ∷ later)) (FindsOfPairs lines later) Whole (FindsOfEach (FindsOfPair lines (view one)) later) old new more before after last
-    (λ f g c d p r. (f, g, c, d, p, r, refl, refl)) adds (subst (λ l. AddsFound (Continues (FindsOfPairs lines (map view l)) Whole) old new before after) (first_and_rest rest one long is) so_far)
-
-pub pairs_done : {Y : Type 0} (view : Y → Demand) (lines : List Demand) (Whole : List Finding → List Cause → Type 0) (rest : List Y) (old new : List FindingValue) (before after : List Cause) → length rest < 1
-    → AddsFound (Continues (FindsOfPairs lines (map view rest)) Whole) old new before after → AddsFound Whole old new before after
-pairs_done view lines Whole [] old new before after none so_far = finish (FindsOfPairs lines []) Whole old new before after (refl, refl) so_far
-pairs_done view lines Whole (y ∷ rest) old new before after none so_far = absurd (omega (arith, none))
 
 -- ---- names
 
@@ -319,19 +343,20 @@ undecided_told : (none : Bool) (cs : List Cause) → cs ≡ (if none then cause.
 undecided_told true cs is = inr (subst Tells (sym is) (inl refl))
 undecided_told false cs is = inl is
 
-pair_told : (d : Decision) (lines : List Demand) (fs : List Finding) (cs : List Cause) → FindsDecided d lines fs cs → IsTold cs
-pair_told Together lines fs cs (is, also) = inl also
-pair_told Apart lines fs cs (is, also) = inl also
-pair_told Unknown lines fs cs (is, also) = undecided_told (have_none lines) cs also
+decided_told : (d : Decision) (lines : List Demand) (fs : List Finding) (cs : List Cause) → FindsDecided d lines fs cs → IsTold cs
+decided_told Together lines fs cs (is, also) = inl also
+decided_told Apart lines fs cs (is, also) = inl also
+decided_told Unknown lines fs cs (is, also) = undecided_told (have_none lines) cs also
 
-pub pairs_told : (lines firsts : List Demand) (fs : List Finding) (cs : List Cause) → FindsOfPairs lines firsts fs cs → IsTold cs
-pairs_told lines [] fs cs (is, also) = inl also
-pairs_told lines (a ∷ rest) fs cs (f, g, c, d, here, later, is, also) =
-    joined_told cs c d also (each_told (FindsOfPair lines a) (λ b fs cs finds. pair_told finds.0 (under_either a.marker b.marker lines) fs cs finds.2) rest f c here) (pairs_told lines rest g d later)
+sets_told : (lines : List Demand) (sets : List (List Demand)) (whole : Bool) (fs : List Finding) (cs : List Cause) → FindsOfSets lines sets whole fs cs → IsTold cs
+sets_told lines sets true fs cs finds = each_told (FindsOfSet lines) (λ set fs cs finds. decided_told finds.0 (under_any set lines) fs cs finds.2) sets fs cs finds
+sets_told lines sets false fs cs (told, finds, is) = inr (subst Tells (sym is) (tells_right told (cause.Undecided ∷ []) (inl refl)))
 
 firsts_told : (lines : List Demand) (firsts : Option (List Demand)) (fs : List Finding) (cs : List Cause) → FindsOfFirsts lines firsts fs cs → IsTold cs
 firsts_told lines None fs cs (is, also) = inr (subst Tells (sym also) (inl refl))
-firsts_told lines (Some firsts) fs cs finds = pairs_told lines (lines_to_pair lines firsts) fs cs finds
+firsts_told lines (Some firsts) fs cs finds =
+    let found = conflicting_sets lines (lines_to_pair lines firsts) in
+    sets_told lines found.sets found.whole fs cs finds
 
 pub names_tell : (lines : List Demand) (fs : List Finding) (cs : List Cause) → FindsOfNames lines fs cs → IsTold cs
 names_tell lines = each_told (of_name_of lines) (λ a fs cs finds. firsts_told (filter (has_same_name a) lines) (few_first_lines (filter (has_same_name a) lines)) fs cs finds) (first_mentions has_same_name [] lines)
@@ -361,38 +386,32 @@ of_none : (lines : List Demand) (b : Bool) → have_none lines ≡ b → [] ≡ 
 of_none lines true is told = cc told
 of_none lines false is told = ap (λ b. if b then Conflicting (conflict_kind (smallest lines)) (map (λ (a : Demand). a.line) (smallest lines)) ∷ [] else []) is
 
-apart_and_together : (one other : Option (List ℕ)) → IsDecision one other Together → IsDecision one other Apart → ⊥
-apart_and_together (Some one) (Some other) (m, variables, is, example, system) never = never m is example.environment example.known (example.holds example.environment example.has)
-apart_and_together (Some one) None decided apart = cc decided
-apart_and_together None other decided apart = cc decided
+apart_and_together : (set : List Demand) → IsDecision set Together → IsDecision set Apart → ⊥
+apart_and_together set (variables, asked, system) apart = apart asked.environment asked.known (asked.ask asked.environment asked.has)
 
-decided_once : (d e : Decision) (one other : Option (List ℕ)) (lines : List Demand) (fs gs : List Finding) → IsDecision one other d → IsDecision one other e → FindsDecided d lines fs [] → FindsDecided e lines gs [] → fs ≡ gs
-decided_once Together Together one other lines fs gs k l (is, _) (so, _) = is ∙ sym so
-decided_once Together Apart one other lines fs gs k l finds found = absurd (apart_and_together one other k l)
-decided_once Together Unknown one other lines fs gs k l (is, _) (so, told) = is ∙ of_none lines (have_none lines) refl told ∙ sym so
-decided_once Apart Together one other lines fs gs k l finds found = absurd (apart_and_together one other l k)
-decided_once Apart Apart one other lines fs gs k l (is, _) (so, _) = is ∙ sym so
-decided_once Apart Unknown one other lines fs gs k l (is, _) (so, _) = is ∙ sym so
-decided_once Unknown Together one other lines fs gs k l (is, told) (so, _) = is ∙ sym (of_none lines (have_none lines) refl told) ∙ sym so
-decided_once Unknown Apart one other lines fs gs k l (is, _) (so, _) = is ∙ sym so
-decided_once Unknown Unknown one other lines fs gs k l (is, _) (so, _) = is ∙ sym so
+decided_once : (d e : Decision) (set lines : List Demand) (fs gs : List Finding) → IsDecision set d → IsDecision set e → FindsDecided d lines fs [] → FindsDecided e lines gs [] → fs ≡ gs
+decided_once Together Together set lines fs gs k l (is, _) (so, _) = is ∙ sym so
+decided_once Together Apart set lines fs gs k l finds found = absurd (apart_and_together set k l)
+decided_once Together Unknown set lines fs gs k l (is, _) (so, told) = is ∙ of_none lines (have_none lines) refl told ∙ sym so
+decided_once Apart Together set lines fs gs k l finds found = absurd (apart_and_together set l k)
+decided_once Apart Apart set lines fs gs k l (is, _) (so, _) = is ∙ sym so
+decided_once Apart Unknown set lines fs gs k l (is, _) (so, _) = is ∙ sym so
+decided_once Unknown Together set lines fs gs k l (is, told) (so, _) = is ∙ sym (of_none lines (have_none lines) refl told) ∙ sym so
+decided_once Unknown Apart set lines fs gs k l (is, _) (so, _) = is ∙ sym so
+decided_once Unknown Unknown set lines fs gs k l (is, _) (so, _) = is ∙ sym so
 
-pair_once : (lines : List Demand) (a b : Demand) → IsOnce (FindsOfPair lines a b)
-pair_once lines a b fs gs (d, k, finds) (e, l, found) = decided_once d e a.marker b.marker (under_either a.marker b.marker lines) fs gs k l finds found
+set_once : (lines set : List Demand) → IsOnce (FindsOfSet lines set)
+set_once lines set fs gs (d, k, finds) (e, l, found) = decided_once d e set (under_any set lines) fs gs k l finds found
 
-pairs_once : (lines firsts : List Demand) → IsOnce (FindsOfPairs lines firsts)
-pairs_once lines [] fs gs (is, _) (so, _) = is ∙ sym so
-pairs_once lines (a ∷ rest) fs gs (f, g, c, d, here, later, is, nil) (f', g', c', d', here', later', is', nil') =
-    let one = both_nil c d nil in
-    let other = both_nil c' d' nil' in
-    let P = FindsOfEach (FindsOfPair lines a) rest in
-    let first = each_once (FindsOfPair lines a) (pair_once lines a) rest f f' (subst (P f) one.0 here) (subst (P f') other.0 here') in
-    let others = pairs_once lines rest g g' (subst (FindsOfPairs lines rest g) one.1 later) (subst (FindsOfPairs lines rest g') other.1 later') in
-    is ∙ (λ j. first j ++ others j) ∙ sym is'
+sets_once : (lines : List Demand) (sets : List (List Demand)) (whole : Bool) → IsOnce (FindsOfSets lines sets whole)
+sets_once lines sets true fs gs finds found = each_once (FindsOfSet lines) (set_once lines) sets fs gs finds found
+sets_once lines sets false fs gs (told, finds, is) found = let none = (both_nil told (cause.Undecided ∷ []) is).1 in cc none
 
 firsts_once : (lines : List Demand) (firsts : Option (List Demand)) → IsOnce (FindsOfFirsts lines firsts)
 firsts_once lines None fs gs (is, _) (so, _) = is ∙ sym so
-firsts_once lines (Some firsts) fs gs finds found = pairs_once lines (lines_to_pair lines firsts) fs gs finds found
+firsts_once lines (Some firsts) fs gs finds found =
+    let all = conflicting_sets lines (lines_to_pair lines firsts) in
+    sets_once lines all.sets all.whole fs gs finds found
 
 pub names_once : (lines : List Demand) → IsOnce (FindsOfNames lines)
 names_once lines = each_once (of_name_of lines) (λ a. firsts_once (filter (has_same_name a) lines) (few_first_lines (filter (has_same_name a) lines))) (first_mentions has_same_name [] lines)

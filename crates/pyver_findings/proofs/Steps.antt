@@ -1,8 +1,10 @@
 -- Steps of loops over lists that make something of each element.
-use Rattle.std.proofs.Common.{◌≡◌, ◌+◌, ◌<◌, ◌∙◌, ℕ, List, [], ◌∷◌, ◌++◌, Bool, true, false, length, get_or, take, drop, map, refl, sym, ap, if◌then◌else◌}
+use Rattle.std.proofs.Common.{◌≡◌, ◌+◌, ◌<◌, ◌∙◌, ℕ, List, [], ◌∷◌, ◌++◌, Bool, IfOk, Result, true, false, length, get_or, take, drop, map, refl, sym, ap, if◌then◌else◌}
 use Rattle.std.proofs.lemmas.List.{append-nil, append_assoc, drop_more, map-append, take_more}
 use Rattle.std.proofs.lemmas.List.Concat.{flat_map-append}
-use Rattle.std.specs.List.{flat_map, list_any}
+use Rattle.std.proofs.lemmas.Result.{IfOk-weaker}
+use Rattle.std.specs.Global.{Vec}
+use Rattle.std.specs.List.{filter, flat_map, list_any}
 use Rattle.pyver_findings.specs.Demands.{Demand}
 use Rattle.pyver_findings.specs.Conflicts.{first_mentions}
 
@@ -60,3 +62,16 @@ three_parts o a b c n1 n2 n3 e0 e1 e2 e3 = e3 ∙ (λ j. (e2 ∙ (λ i. (e1 ∙ 
 -- one part more, before the others
 pub part_more : (a x y b c : List ℕ) → b ≡ a ++ x → c ≡ b ++ y → c ≡ a ++ (x ++ y)
 part_more a x y b c first rest = rest ∙ ap (λ l. l ++ y) first ∙ append_assoc a x y
+
+-- ---- what is seen of elements
+
+kept_seen : {X Y : Type 0} (p : X → Bool) (view : Y → X) (b : Bool) (y : Y) (ys : List Y) → map view (filter (λ z. p (view z)) ys) ≡ filter p (map view ys) → map view (if b then y ∷ filter (λ z. p (view z)) ys else filter (λ z. p (view z)) ys) ≡ (if b then view y ∷ filter p (map view ys) else filter p (map view ys))
+kept_seen p view true y ys so = ap (λ l. view y ∷ l) so
+kept_seen p view false y ys so = so
+
+filter_seen : {X Y : Type 0} (p : X → Bool) (view : Y → X) (ys : List Y) → map view (filter (λ y. p (view y)) ys) ≡ filter p (map view ys)
+filter_seen p view [] = refl
+filter_seen p view (y ∷ ys) = kept_seen p view (p (view y)) y ys (filter_seen p view ys)
+
+pub filter_viewed : {X Y E : Type 0} (p : X → Bool) (view : Y → X) (ys : List Y) (r : Result (Vec Y) E) → IfOk r (λ kept. kept.items ≡ filter (λ y. p (view y)) ys) → IfOk r (λ kept. map view kept.items ≡ filter p (map view ys))
+filter_viewed p view ys r h = IfOk-weaker r (λ kept. kept.items ≡ filter (λ y. p (view y)) ys) (λ kept. map view kept.items ≡ filter p (map view ys)) (λ kept is. ap (map view) is ∙ filter_seen p view ys) h

@@ -2,7 +2,7 @@
 -- reported together count together and cannot be satisfied, and none of them can be left out; those that have no version in common are
 -- reported; there is one report, if nothing is undecided.
 use Rattle.std.specs.Prelude.{◌≡◌, ◌⊎◌, ⊤, ℕ, List, [], ◌∷◌, ◌++◌, IsTrue, Option, Some, None, Ok, bytes_eq, false, map, option_map, true}
-use Rattle.std.specs.List.{All, AllZip, Any, Contains, filter, flat_map}
+use Rattle.std.specs.List.{All, AllZip, Any, Contains, filter, flat_map, list_all}
 use Rattle.pep440_pick.specs.Names.{normal}
 use Rattle.pep440_pick.specs.RequirementGrammar.{DerivesRequirement, Needed}
 use Rattle.pep440_rs.specs.Denoted.{IsDenoted}
@@ -13,19 +13,18 @@ use Rattle.pyver_findings.specs.Demands.{Demand, is_pinned}
 use Rattle.pyver_findings.specs.FileLines.{Conflicting, File, FileLine, Finding, NoRequirement, all_lines}
 use Rattle.pyver_findings.specs.NamedFiles.{constraints_files}
 use Rattle.pyver_findings.specs.LineMeanings.{IsMeaning, IsNone, IsPlain, LineMeaning, has_extras, has_right_url}
-use Rattle.pyver_findings.specs.MarkerPairs.{under_either}
+use Rattle.pyver_findings.specs.MarkerPairs.{AsksIn, HoldsIn}
 use Rattle.pyver_findings.specs.Reports.{IsReport, Report, demands_in}
 use Rattle.pyver_findings.specs.declared.cause.Cause.TheVariants as cause
 use Rattle.pyver_findings.specs.declared.finding.Conflict.{Conflict}
 use Rattle.pyver_findings.specs.declared.finding.Conflict.TheVariants.{NoVersion, PinOutside, TwoPins}
 use Rattle.pyver_markers.specs.Conditions.{IsEnvironment}
 use Rattle.pyver_markers.specs.Environments.{Environment}
-use Rattle.pyver_markers.specs.MarkerValues.{value}
 use Rattle.pyver_requirements.specs.LineKinds.{Editable, Invalid, Requirement, line_kind}
-use Rattle.pyver_requirements.specs.LineParts.{LineParts, pip_parts}
-use Rattle.pyver_requirements.specs.MarkerGrammar.{DenotesMarker, Marker}
+use Rattle.pyver_requirements.specs.LineParts.{LineParts, pip_parts, is_blank_byte, is_url_byte, line_parts}
 use Rattle.pyver_requirements.specs.MarkerReading.{marker}
 use Rattle.pyver_requirements.specs.declared.line_fault.LineFault.{LineFault}
+use Rattle.pyver_requirements.specs.MarkerGrammar.{DenotesMarker, Marker}
 
 -- after `;` this marker stands, in its normal form; or there is neither
 abbrev pub HasMarker : LineParts → Option (List ℕ) → Type 0
@@ -47,10 +46,6 @@ AreParts p = IsPlain p.requirement × ((n : Needed) × DerivesRequirement p.requ
 -- the line is a requirement
 abbrev pub IsRequirementLine : FileLine → Type 0
 IsRequirementLine l = (line_kind l.text ≡ Requirement) × AreParts (pip_parts l.text)
-
--- the marker, in its normal form, holds in the environment
-abbrev pub HoldsIn : Environment → List ℕ → Type 0
-HoldsIn e text = (m : Marker) × DenotesMarker text m × (value e m ≡ Some true)
 
 -- ---- lines, or strings, with these parts
 
@@ -184,17 +179,21 @@ ConflictsHaveFindings = (files : List File) (r : Report) (lines : List Demand) (
 abbrev pub IsUndecided : Report → Type 0
 IsUndecided r = Contains r.left_out cause.Undecided
 
--- the marker of the line holds in the environment
-abbrev pub AsksIn : Environment → Demand → Type 0
-AsksIn e a = (m : List ℕ) × (a.marker ≡ Some m) × HoldsIn e m
+-- of these requirements one with the name of `a` asks in the environment
+abbrev pub IsOneIn : Environment → Demand → List Demand → Demand → Type 0
+IsOneIn e a lines b = Contains lines b × IsTrue (has_same_name a b) × AsksIn e b
 
--- where the lines of a name under one of two markers have no version in common, and both markers hold in one environment, some of these lines
--- are reported together, or something is said to be undecided
-abbrev pub PairsHaveFindings : Type 0
-PairsHaveFindings = (files : List File) (r : Report) (lines : List Demand) (a b : Demand) (e : Environment) → IsReport files r → AreDemands files lines
-    → Contains lines a → Contains lines b → IsTrue (has_same_name a b) → IsEnvironment e → AsksIn e a → AsksIn e b
-    → HaveNone (under_either a.marker b.marker (filter (has_same_name a) lines))
-    → Any (IsAmong (map (λ (c : Demand). c.line) (under_either a.marker b.marker (filter (has_same_name a) lines)))) r.findings ⊎ IsUndecided r
+-- lines that do so are reported together
+abbrev pub IsAmongIn : Environment → Demand → List Demand → Finding → Type 0
+IsAmongIn e a lines (NoRequirement l reason column) = ⊥
+IsAmongIn e a lines (Conflicting conflict reported) =
+    (¬ (reported ≡ [])) × All (λ (l : FileLine). (b : Demand) × IsOneIn e a lines b × (b.line ≡ l)) reported
+
+-- where lines of one name that ask in one environment have no version in common, lines of this name that ask there are reported together, or
+-- something is said to be undecided
+abbrev pub SetsHaveFindings : Type 0
+SetsHaveFindings = (files : List File) (r : Report) (lines : List Demand) (a : Demand) (e : Environment) (asking : List Demand) → IsReport files r → AreDemands files lines
+    → Contains lines a → IsEnvironment e → All (IsOneIn e a lines) asking → HaveNone asking → Any (IsAmongIn e a lines) r.findings ⊎ IsUndecided r
 
 -- a line has at most one meaning
 abbrev pub MeaningsOnce : Type 0
@@ -203,3 +202,38 @@ MeaningsOnce = (l : FileLine) (x y : LineMeaning) → IsMeaning l x → IsMeanin
 -- files have at most one report in which nothing is undecided
 abbrev pub ReportsOnce : Type 0
 ReportsOnce = (files : List File) (r s : Report) → IsReport files r → IsReport files s → ¬ IsUndecided r → ¬ IsUndecided s → r ≡ s
+
+-- ---- the grammar of strings that are requirements (PEP 508, "Grammar")
+
+-- spaces and tabs, or nothing
+abbrev pub AreSpaces : List ℕ → Type 0
+AreSpaces text = list_all is_blank_byte text ≡ true
+
+-- one or more bytes without a blank
+abbrev pub IsUrl : List ℕ → Type 0
+IsUrl url = (¬ (url ≡ [])) × (list_all is_url_byte url ≡ true)
+
+-- a name with extras
+abbrev pub IsNamed : List ℕ → Type 0
+IsNamed text = IsPlain text × ((n : Needed) × DerivesRequirement text n × (n.specifiers ≡ []))
+
+-- nothing, or `;` and a marker
+abbrev pub IsMarkerPart : List ℕ → Type 0
+IsMarkerPart text = (text ≡ []) ⊎ ((rest : List ℕ) × (m : Marker) × (text ≡ 59 ∷ rest) × DenotesMarker rest m)
+
+-- a name with extras and a list, and then nothing, or `;` and a marker
+abbrev pub IsListed : List ℕ → Type 0
+IsListed text = (front : List ℕ) × (rest : List ℕ) × (text ≡ front ++ rest) × IsPlain front × ((n : Needed) × DerivesRequirement front n) × IsMarkerPart rest
+
+-- a name with extras, `@`, a URL, and then nothing, or blanks and perhaps `;` and a marker
+abbrev pub IsLinked : List ℕ → Type 0
+IsLinked text = (front blanks url more rest : List ℕ) × (text ≡ front ++ 64 ∷ (blanks ++ (url ++ (more ++ rest))))
+    × IsNamed front × AreSpaces blanks × IsUrl url × AreSpaces more × (((more ≡ []) × (rest ≡ [])) ⊎ ((¬ (more ≡ [])) × IsMarkerPart rest))
+
+-- the string is a requirement
+abbrev pub DerivesString : List ℕ → Type 0
+DerivesString text = IsListed text ⊎ IsLinked text
+
+-- a string has the parts of a requirement if and only if the grammar derives it
+abbrev pub StringsHaveGrammar : Type 0
+StringsHaveGrammar = (text : List ℕ) → (DerivesString text → AreParts (line_parts text)) × (AreParts (line_parts text) → DerivesString text)

@@ -3,7 +3,6 @@ pub mod Columns
 pub mod LineMeanings
 pub mod FileLines
 pub mod NamedFiles
-pub mod FindingKinds
 pub mod Conflicts
 pub mod MarkerPairs
 pub mod Reports
@@ -12,4 +11,3 @@ pub mod ReportTexts
 pub mod ReportObjects
 pub mod SarifLogs
 pub mod FindingLaws
-pub mod StringGrammar

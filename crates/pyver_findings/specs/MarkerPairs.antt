@@ -1,16 +1,17 @@
--- Lines of one name with two different markers that no version can satisfy together, where both markers hold in one environment.
-use Rattle.std.specs.Prelude.{◌≡◌, ⊤, ℕ, ◌&&◌, ◌||◌, List, [], ◌∷◌, ◌++◌, Bool, true, not, Option, None, Some, bytes_eq, codes, is_none, length, nat_lt, if◌then◌else◌}
-use Rattle.std.specs.List.{filter, list_all, list_any}
-use Rattle.pyver_findings.specs.Conflicts.{counts_under, first_mentions, has_same_marker, has_same_name, have_none, of_all, under}
+-- Lines of one name with different markers that no version can satisfy together, where all these markers hold in one environment.
+use Rattle.std.specs.Prelude.{◌≡◌, ◌⊎◌, ⊤, ℕ, ◌&&◌, ◌||◌, List, [], ◌∷◌, ◌++◌, Bool, true, false, not, Option, None, Some, bytes_eq, codes, is_none, length, nat_lt, suc, zero, if◌then◌else◌}
+use Rattle.std.specs.List.{All, filter, flat_map, list_all, list_any}
+use Rattle.pyver_findings.specs.Conflicts.{first_mentions, has_same_marker, has_same_name, have_none, of_all, smallest, under}
 use Rattle.pyver_findings.specs.Demands.{Demand}
 use Rattle.pyver_findings.specs.FileLines.{Finding}
 use Rattle.pyver_findings.specs.declared.cause.Cause.{Cause}
 use Rattle.pyver_findings.specs.declared.cause.Cause.TheVariants as cause
 use Rattle.pyver_findings.specs.declared.marker_pairs.Decision.{Decision}
 use Rattle.pyver_findings.specs.declared.marker_pairs.Decision.TheVariants.{Apart, Together, Unknown}
-use Rattle.pyver_markers.specs.Conditions.{IsNever}
-use Rattle.pyver_markers.specs.Environments.{Assignment}
+use Rattle.pyver_markers.specs.Conditions.{IsEnvironment, IsNever}
+use Rattle.pyver_markers.specs.Environments.{Assignment, Environment, Extends, assigned}
 use Rattle.pyver_markers.specs.Extents.{IsExample}
+use Rattle.pyver_markers.specs.MarkerValues.{value}
 use Rattle.pyver_requirements.specs.MarkerGrammar.{Both, DenotesMarker, Marker}
 use Rattle.pyver_requirements.specs.MarkerSteps.{Step, steps}
 
@@ -40,22 +41,40 @@ is_one_system variables = names_system_once variables || (are_of_system (codes "
     || (are_of_system (codes "nt") (codes "win32") (codes "Windows") variables || (are_of_system (codes "posix") (codes "darwin") (codes "Darwin") variables
     || (are_of_system (codes "posix") (codes "android") (codes "Android") variables || are_of_system (codes "posix") (codes "ios") (codes "iOS") variables))))
 
--- ---- two markers
+-- ---- lines whose markers hold together
 
--- the marker holds where both do that these strings denote
-abbrev pub AreJoined : List ℕ → List ℕ → Marker → Type 0
-AreJoined one other both = (m : Marker) × (n : Marker) × DenotesMarker one m × DenotesMarker other n × (both ≡ Both m n)
+-- the marker, in its normal form, holds in the environment
+abbrev pub HoldsIn : Environment → List ℕ → Type 0
+HoldsIn e text = (m : Marker) × DenotesMarker text m × (value e m ≡ Some true)
 
--- of a marker: where the variables are so, of one system, it holds; it holds nowhere; nothing is known
-abbrev pub IsRightDecision : (Marker → Type 0) → Decision → Type 0
-IsRightDecision Is Together = (m : Marker) × (variables : List Assignment) × Is m × IsExample m variables × (is_one_system variables ≡ true)
-IsRightDecision Is Apart = (m : Marker) → Is m → IsNever true m
-IsRightDecision Is Unknown = ⊤
+-- the line has no marker, or one that holds in the environment
+abbrev pub AsksIn : Environment → Demand → Type 0
+AsksIn e a = (a.marker ≡ None) ⊎ ((m : List ℕ) × (a.marker ≡ Some m) × HoldsIn e m)
 
--- what is known of two markers; of no marker, nothing
-abbrev pub IsDecision : Option (List ℕ) → Option (List ℕ) → Decision → Type 0
-IsDecision (Some one) (Some other) d = IsRightDecision (AreJoined one other) d
-IsDecision _ _ d = d ≡ Unknown
+-- in some environment the variables are so, and wherever they are, all these lines ask
+pub record AskWhere (set : List Demand) (variables : List Assignment) : Type 0 where
+  pub environment : Environment
+  pub known : IsEnvironment environment
+  pub has : Extends (assigned variables) environment
+  pub ask : (e : Environment) → Extends (assigned variables) e → All (AsksIn e) set
+
+-- of lines: all ask where variables are so, of one system; there is no environment in which all ask; nothing is known
+abbrev pub IsDecision : List Demand → Decision → Type 0
+IsDecision set Together = (variables : List Assignment) × AskWhere set variables × (is_one_system variables ≡ true)
+IsDecision set Apart = (e : Environment) → IsEnvironment e → ¬ All (AsksIn e) set
+IsDecision set Unknown = ⊤
+
+-- ---- joined markers
+
+-- the line has this marker
+abbrev pub HasDenoted : Demand → Marker → Type 0
+HasDenoted a m = (text : List ℕ) × (a.marker ≡ Some text) × DenotesMarker text m
+
+-- each of these lines has a marker, and this one holds where all of them do
+abbrev pub AreJoined : List Demand → Marker → Type 0
+AreJoined [] m = ⊥
+AreJoined (a ∷ []) m = HasDenoted a m
+AreJoined (a ∷ (b ∷ rest)) m = (x : Marker) × (y : Marker) × HasDenoted a x × AreJoined (b ∷ rest) y × (m ≡ Both x y)
 
 -- ---- by steps
 
@@ -70,10 +89,6 @@ KnowsSteps all Apart = (m : Marker) → all ≡ steps m → IsNever true m
 KnowsSteps all Unknown = ⊤
 
 -- ---- lines of one name
-
--- those without a marker, and those with one of these two
-abbrev pub under_either : Option (List ℕ) → Option (List ℕ) → List Demand → List Demand
-under_either one other lines = filter (λ (a : Demand). counts_under one a || counts_under other a) lines
 
 -- one line more, if it has a marker that none of those has
 abbrev pub with_first : List Demand → Demand → List Demand
@@ -96,6 +111,84 @@ few_first_lines lines = if nat_lt 32 (length (first_lines [] lines)) then None e
 abbrev pub lines_to_pair : List Demand → List Demand → List Demand
 lines_to_pair lines firsts = if nat_lt (length firsts) 2 || have_none (under None lines) then [] else open_lines lines firsts
 
+-- ---- sets of markers, each by the first line that has it
+
+-- the line has no marker, or that of one of these
+abbrev pub counts_with : List Demand → Demand → Bool
+counts_with set a = is_none a.marker || list_any (has_same_marker a) set
+
+-- those without a marker, and those with the marker of one of these
+abbrev pub under_any : List Demand → List Demand → List Demand
+under_any set lines = filter (counts_with set) lines
+
+-- these have each marker of the set
+abbrev pub has_all : List Demand → List Demand → Bool
+has_all firsts set = list_all (λ (a : Demand). list_any (has_same_marker a) firsts) set
+
+-- the first set of which these have each marker
+abbrev pub set_among : List Demand → List (List Demand) → Option (List Demand)
+set_among firsts [] = None
+set_among firsts (set ∷ rest) = if has_all firsts set then Some set else set_among firsts rest
+
+-- those with the markers of a smallest list of their lines that have no version in common
+abbrev pub smallest_set : List Demand → List Demand → List Demand
+smallest_set lines firsts = filter (λ (a : Demand). list_any (has_same_marker a) (smallest (under_any firsts lines))) firsts
+
+-- one set more, if their lines have no version in common and none of these sets says so
+abbrev pub with_set : List Demand → List Demand → List (List Demand) → List (List Demand)
+with_set lines firsts sets = if is_none (set_among firsts sets) && have_none (under_any firsts lines) then sets ++ smallest_set lines firsts ∷ [] else sets
+
+-- of two markers whose lines have no version in common
+abbrev pub conflicting_pair : List Demand → Demand → Demand → List (List Demand)
+conflicting_pair lines a b = if have_none (under_any (a ∷ (b ∷ [])) lines) then (a ∷ (b ∷ [])) ∷ [] else []
+
+-- each of these beside each behind it
+abbrev pub conflicting_pairs : List Demand → List Demand → List (List Demand)
+conflicting_pairs lines [] = []
+conflicting_pairs lines (a ∷ rest) = flat_map (conflicting_pair lines a) rest ++ conflicting_pairs lines rest
+
+-- markers that hold in an environment, and others of which any may
+pub record Branch : Type 0 where
+  pub kept : List Demand
+  pub free : List Demand
+
+-- all but those with this marker
+abbrev pub others_than : Demand → List Demand → List Demand
+others_than a firsts = filter (λ (b : Demand). not (has_same_marker a b)) firsts
+
+-- where not all markers of the set hold, the first of them does not that is not kept, or it holds and one behind it does not
+abbrev pub branches : List Demand → List Demand → List Demand → List Branch
+branches kept free [] = []
+branches kept free (a ∷ set) = if list_any (has_same_marker a) kept then branches kept free set
+    else record { kept = kept; free = others_than a free } ∷ branches (kept ++ a ∷ []) (others_than a free) set
+
+abbrev pub branches_of : Branch → Option (List Demand) → List Branch
+branches_of b None = []
+branches_of b (Some set) = branches b.kept b.free set
+
+-- sets whose lines have no version in common, and whether in each environment the lines of one of them ask, or lines that have one
+pub record ConflictingSets : Type 0 where
+  pub sets : List (List Demand)
+  pub whole : Bool
+
+-- of each branch a set; the others are those of environments in which not all of its markers hold
+abbrev pub search_branches : List Demand → List Branch → ℕ → List (List Demand) → ConflictingSets
+search_branches lines [] tries sets = record { sets = sets; whole = true }
+search_branches lines (b ∷ queue) zero sets = record { sets = sets; whole = false }
+search_branches lines (b ∷ queue) (suc tries) sets =
+    let firsts = b.kept ++ b.free in
+    let more = with_set lines firsts sets in
+    search_branches lines (queue ++ branches_of b (set_among firsts more)) tries more
+
+-- of these markers any may hold
+abbrev pub first_branches : List Demand → List Branch
+first_branches [] = []
+first_branches (a ∷ rest) = record { kept = []; free = a ∷ rest } ∷ []
+
+-- first pairs, and then larger sets, in at most 1,000 branches
+abbrev pub conflicting_sets : List Demand → List Demand → ConflictingSets
+conflicting_sets lines firsts = search_branches lines (first_branches firsts) 1000 (conflicting_pairs lines firsts)
+
 -- ---- what is found
 
 -- no finding, and no cause for which there may be more
@@ -108,27 +201,26 @@ FindsOfEach P [] fs cs = FindsNothing fs cs
 FindsOfEach P (x ∷ rest) fs cs =
     (f : List Finding) × (g : List Finding) × (c : List Cause) × (d : List Cause) × P x f c × FindsOfEach P rest g d × (fs ≡ f ++ g) × (cs ≡ c ++ d)
 
--- of lines that have no version in common, if both markers hold in one environment
+-- of lines that have no version in common, if all their markers hold in one environment
 abbrev pub FindsDecided : Decision → List Demand → List Finding → List Cause → Type 0
 FindsDecided Together lines fs cs = (fs ≡ of_all lines) × (cs ≡ [])
 FindsDecided Apart lines fs cs = FindsNothing fs cs
 FindsDecided Unknown lines fs cs = (fs ≡ []) × (cs ≡ (if have_none lines then cause.Undecided ∷ [] else []))
 
--- of two markers
-abbrev pub FindsOfPair : List Demand → Demand → Demand → List Finding → List Cause → Type 0
-FindsOfPair lines a b fs cs = (d : Decision) × IsDecision a.marker b.marker d × FindsDecided d (under_either a.marker b.marker lines) fs cs
+-- of the lines under the markers of a set
+abbrev pub FindsOfSet : List Demand → List Demand → List Finding → List Cause → Type 0
+FindsOfSet lines set fs cs = (d : Decision) × IsDecision set d × FindsDecided d (under_any set lines) fs cs
 
--- of each of these markers beside each behind it
-abbrev pub FindsOfPairs : List Demand → List Demand → List Finding → List Cause → Type 0
-FindsOfPairs lines [] fs cs = FindsNothing fs cs
-FindsOfPairs lines (a ∷ rest) fs cs =
-    (f : List Finding) × (g : List Finding) × (c : List Cause) × (d : List Cause) × FindsOfEach (FindsOfPair lines a) rest f c × FindsOfPairs lines rest g d
-    × (fs ≡ f ++ g) × (cs ≡ c ++ d)
+-- of each of these sets; whether there are others may not be known
+abbrev pub FindsOfSets : List Demand → List (List Demand) → Bool → List Finding → List Cause → Type 0
+FindsOfSets lines sets true fs cs = FindsOfEach (FindsOfSet lines) sets fs cs
+FindsOfSets lines sets false fs cs = (told : List Cause) × FindsOfEach (FindsOfSet lines) sets fs told × (cs ≡ told ++ cause.Undecided ∷ [])
 
 -- of lines of one name; too many markers are not looked at
 abbrev pub FindsOfFirsts : List Demand → Option (List Demand) → List Finding → List Cause → Type 0
 FindsOfFirsts lines None fs cs = (fs ≡ []) × (cs ≡ cause.Undecided ∷ [])
-FindsOfFirsts lines (Some firsts) fs cs = FindsOfPairs lines (lines_to_pair lines firsts) fs cs
+FindsOfFirsts lines (Some firsts) fs cs =
+    FindsOfSets lines (conflicting_sets lines (lines_to_pair lines firsts)).sets (conflicting_sets lines (lines_to_pair lines firsts)).whole fs cs
 
 abbrev pub FindsOfName : List Demand → List Finding → List Cause → Type 0
 FindsOfName lines = FindsOfFirsts lines (few_first_lines lines)

@@ -3,8 +3,7 @@ use Rattle.std.specs.Prelude.{Bool, List, [], codes, if◌then◌else◌, nat_le
 use Rattle.std.specs.Fmt.{decimal}
 use Rattle.std.specs.List.{All, flat_map}
 use Rattle.pyver_findings.specs.FileLines.{Conflicting, FileLine, Finding, NoRequirement}
-use Rattle.pyver_findings.specs.FindingKinds.{finding_kind, kind_code, kind_word}
-use Rattle.pyver_findings.specs.Reports.{Report}
+use Rattle.pyver_findings.specs.Reports.{Report, finding_kind, kind_code, kind_word}
 use Rattle.pyver_findings.specs.declared.finding.FindingKind.{FindingKind}
 use Rattle.std.specs.Str.{is_utf8}
 use Rattle.cli_io.specs.Escapes.{hex_digits, is_printable}

@@ -3,8 +3,7 @@ use Rattle.std.specs.Prelude.{Bool, List, [], codes, count_by, false, if◌then�
 use Rattle.std.specs.Fmt.{decimal}
 use Rattle.std.specs.List.{flat_map}
 use Rattle.pyver_findings.specs.FileLines.{Conflicting, FileLine, Finding, NoRequirement}
-use Rattle.pyver_findings.specs.FindingKinds.{finding_kind, kind_code}
-use Rattle.pyver_findings.specs.Reports.{Report}
+use Rattle.pyver_findings.specs.Reports.{Report, finding_kind, kind_code}
 use Rattle.pyver_findings.specs.declared.cause.Cause.{Cause}
 use Rattle.pyver_findings.specs.declared.finding.Conflict.{Conflict}
 use Rattle.pyver_findings.specs.declared.finding.Conflict.TheVariants.{NoVersion, PinOutside, TwoPins}
@@ -104,7 +103,7 @@ abbrev pub left_out_lines : List Cause → List ℕ
 left_out_lines causes = left_out_text causes cause.Editable ++ (left_out_text causes cause.PipOption ++ (left_out_text causes cause.Variable
     ++ (left_out_text causes cause.Location ++ (left_out_text causes cause.Url ++ left_out_text causes cause.OtherSyntax))))
 
--- and how many pairs of markers
+-- and how many sets of markers
 abbrev pub left_out_texts : List Cause → List ℕ
 left_out_texts causes = left_out_lines causes ++ left_out_text causes cause.Undecided
 

@@ -1,16 +1,65 @@
 -- What the check of requirements files reports.
-use Rattle.std.specs.Prelude.{◌≡◌, ℕ, ◌+◌, ◌-◌, ◌^◌, List, [], ◌∷◌, ◌++◌, Bool, false, bytes_eq, length, min, not}
+use Rattle.std.specs.Prelude.{◌≡◌, ℕ, ◌+◌, ◌-◌, ◌^◌, List, [], ◌∷◌, ◌++◌, Bool, false, bytes_eq, length, min, not, codes}
 use Rattle.std.specs.List.{AllZip, filter, flat_map, list_any}
 use Rattle.pyver_findings.specs.Demands.{Demand}
 use Rattle.pyver_findings.specs.Conflicts.{conflicts}
 use Rattle.pyver_findings.specs.FileLines.{Conflicting, File, FileLine, Finding, NoRequirement, all_lines}
 use Rattle.pyver_findings.specs.NamedFiles.{constraints_files}
-use Rattle.pyver_findings.specs.FindingKinds.{is_ignored}
-use Rattle.pyver_findings.specs.LineMeanings.{Asks, IsNone, LeftOut, LineMeaning, AsksNothing, IsMeaning, constraint_faults}
+use Rattle.pyver_findings.specs.LineMeanings.{Asks, IsNone, LeftOut, LineMeaning, AsksNothing, IsMeaning, constraint_faults, has_part}
 use Rattle.pyver_findings.specs.MarkerPairs.{FindsOfNames}
 use Rattle.pyver_findings.specs.declared.cause.Cause.{Cause}
+use Rattle.pyver_findings.specs.declared.finding.Conflict.{Conflict}
+use Rattle.pyver_findings.specs.declared.finding.Conflict.TheVariants.{NoVersion, PinOutside, TwoPins}
+use Rattle.pyver_findings.specs.declared.finding.FindingKind.{FindingKind}
+use Rattle.pyver_findings.specs.declared.finding.FindingKind.TheVariants as kind
 
--- the findings, those that a comment ignores, the number of lines and of files, and for each line and pair of markers that was left out why
+-- ---- the kinds of findings, each with a code and a word
+
+abbrev pub conflict_kind_of : Conflict → FindingKind
+conflict_kind_of NoVersion = kind.NoVersion
+conflict_kind_of PinOutside = kind.PinOutside
+conflict_kind_of TwoPins = kind.TwoPins
+
+abbrev pub finding_kind : Finding → FindingKind
+finding_kind (NoRequirement l reason column) = kind.NoRequirement
+finding_kind (Conflicting conflict lines) = conflict_kind_of conflict
+
+abbrev pub kind_code : FindingKind → List ℕ
+kind_code kind.NoRequirement = codes "PV001"
+kind_code kind.NoVersion = codes "PV002"
+kind_code kind.PinOutside = codes "PV003"
+kind_code kind.TwoPins = codes "PV004"
+
+abbrev pub kind_summary : FindingKind → List ℕ
+kind_summary kind.NoRequirement = codes "A line or string is malformed, or what it names is missing."
+kind_summary kind.NoVersion = codes "No version satisfies the lines."
+kind_summary kind.PinOutside = codes "A line is pinned to a version that another excludes."
+kind_summary kind.TwoPins = codes "Two lines are pinned to two versions."
+
+abbrev pub kind_word : FindingKind → List ℕ
+kind_word kind.NoRequirement = codes "no-requirement"
+kind_word kind.NoVersion = codes "no-version"
+kind_word kind.PinOutside = codes "pin-outside"
+kind_word kind.TwoPins = codes "two-pins"
+
+-- ---- comments that ignore findings
+
+-- the comment that ignores findings of a kind
+abbrev pub ignore_comment : FindingKind → List ℕ
+ignore_comment k = codes "# pyver: ignore[" ++ (kind_code k ++ codes "]")
+
+-- the line has this comment
+abbrev pub ignores : FindingKind → FileLine → Bool
+ignores k l = has_part (ignore_comment k) l.comment
+
+-- the line has the comment for this kind, or one of the lines that cannot be satisfied together
+abbrev pub is_ignored : Finding → Bool
+is_ignored (NoRequirement l reason column) = ignores kind.NoRequirement l
+is_ignored (Conflicting conflict lines) = list_any (ignores (conflict_kind_of conflict)) lines
+
+-- ---- reports
+
+-- the findings, those that a comment ignores, the number of lines and of files, and for each line and set of markers that was left out why
 pub record Report : Type 0 where
   pub findings : List Finding
   pub ignored : List Finding
@@ -47,7 +96,7 @@ constraint_findings files = flat_map constraint_faults (all_lines files)
 abbrev pub found_in : List File → List LineMeaning → List Finding
 found_in files xs = flat_map invalid_in xs ++ (constraint_findings (constraints_files files) ++ conflicts (flat_map demands_in xs))
 
--- the report of the files, whatever comments ignore: behind these findings those of lines under two markers
+-- the report of the files, whatever comments ignore: behind these findings those of lines under several markers
 abbrev pub IsReport : List File → Report → Type 0
 IsReport files r = (xs : List LineMeaning) × AllZip IsMeaning (all_lines files) xs
     × (fs : List Finding) × (cs : List Cause) × FindsOfNames (flat_map demands_in xs) fs cs × (r ≡ record {

@@ -8,6 +8,7 @@ use Rattle.pyver_findings.specs.Demands.{Demand}
 use Rattle.pyver_findings.specs.FileLines.{Conflicting, File, FileLine, Finding, NoRequirement}
 use Rattle.pyver_findings.specs.NamedFiles.{NamedFile, Position}
 use Rattle.pyver_findings.specs.LineMeanings.{Asks, AsksNothing, IsMeaning, IsNone, LeftOut, LineMeaning}
+use Rattle.pyver_findings.specs.MarkerPairs.{Branch, ConflictingSets}
 use Rattle.pyver_findings.specs.Reports.{Report, demands_in, invalid_in, left_out_in}
 use Rattle.pyver_findings.specs.declared.cause.Cause.{Cause}
 use Rattle.pyver_findings.specs.declared.demand.Demand.{Demand as DemandValue}
@@ -15,6 +16,8 @@ use Rattle.pyver_findings.specs.declared.file_line.FileLine.{FileLine as FileLin
 use Rattle.pyver_findings.specs.declared.file_line.SourceFile.{SourceFile}
 use Rattle.pyver_findings.specs.declared.finding.Finding.{Finding as FindingValue}
 use Rattle.pyver_findings.specs.declared.line_meaning.LineMeaning.{LineMeaning as LineMeaningValue}
+use Rattle.pyver_findings.specs.declared.marker_sets.Branch.{Branch as BranchValue}
+use Rattle.pyver_findings.specs.declared.marker_sets.FoundSets.{FoundSets}
 use Rattle.pyver_findings.specs.declared.named_files.NamedFile.{NamedFile as NamedFileValue}
 use Rattle.pyver_findings.specs.declared.named_files.Position.{Position as PositionValue}
 use Rattle.pyver_findings.specs.declared.report.Report.{Report as ReportValue}
@@ -50,6 +53,16 @@ demand_of a = record { line = file_line_of a.line; name = a.name.items; marker =
 -- those that these references point to
 abbrev pub demands_at : List (Bor DemandValue) → List Demand
 demands_at lines = map (λ x. demand_of x.now) lines
+
+-- those of each of these lists
+abbrev pub demands_of_sets : List (Vec (Bor DemandValue)) → List (List Demand)
+demands_of_sets sets = map (λ s. demands_at s.items) sets
+
+abbrev pub branch_of : BranchValue → Branch
+branch_of b = record { kept = demands_at b.kept.items; free = demands_at b.free.items }
+
+abbrev pub found_sets_of : FoundSets → ConflictingSets
+found_sets_of f = record { sets = demands_of_sets f.sets.items; whole = f.whole }
 
 -- those of a group, if there is one
 abbrev pub demands_of_group : Option (Vec (Bor DemandValue)) → List Demand

@@ -1,6 +1,6 @@
 //! Why something is left out.
 
-/// Why a line is left out, or lines of one name under two markers.
+/// Why a line is left out, or lines of one name under several markers.
 #[derive(Clone, Copy, Debug, PartialEq, Eq)]
 pub enum Cause {
     /// `-e` or `--editable`.
@@ -15,6 +15,6 @@ pub enum Cause {
     Url,
     /// A requirement of a locked package whose list of versions is not one of PEP 440, as Poetry's `^1.0`.
     OtherSyntax,
-    /// Of two markers of one name it is not known whether they hold in one environment, or the name has more than 32.
+    /// Of some markers of one name it is not known whether they hold in one environment, or the name has more than 32, or too many sets.
     Undecided,
 }

@@ -1,8 +1,7 @@
 //! What is reported.
 ghost use Rattle.std.specs.Prelude.{◌≡◌, bytes_eq, map, not};
 ghost use Rattle.std.specs.List.{list_any};
-ghost use Rattle.pyver_findings.specs.FindingKinds.{conflict_kind_of, finding_kind, ignore_comment, ignores, is_ignored, kind_code, kind_summary, kind_word};
-ghost use Rattle.pyver_findings.specs.Reports.{are_of_several, spans_files};
+ghost use Rattle.pyver_findings.specs.Reports.{are_of_several, conflict_kind_of, finding_kind, ignore_comment, ignores, is_ignored, kind_code, kind_summary, kind_word, spans_files};
 ghost use Rattle.pyver_findings.specs.Views.{file_line_of, finding_of};
 
 use crate::file_line::FileLine;

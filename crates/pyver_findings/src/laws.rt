@@ -1,7 +1,6 @@
 //! What holds of findings, as the contract of a function that does nothing.
 ghost use Rattle.pyver_findings.specs.ReportObjects.{JsonStringsDiffer};
-ghost use Rattle.pyver_findings.specs.FindingLaws.{ConflictsHaveFindings, FindingsHold, HeldMarkersCount, InvalidLinesHaveFindings, MeaningsOnce, PairsHaveFindings, ReportsOnce, WrongConstraintsHaveFindings};
-ghost use Rattle.pyver_findings.specs.StringGrammar.{StringsHaveGrammar};
+ghost use Rattle.pyver_findings.specs.FindingLaws.{ConflictsHaveFindings, FindingsHold, HeldMarkersCount, InvalidLinesHaveFindings, MeaningsOnce, ReportsOnce, SetsHaveFindings, StringsHaveGrammar, WrongConstraintsHaveFindings};
 
 /// A line that is reported by itself is a line of the files and no requirement, for the reason and at the column that are
 /// reported, or an editable or has extras and is of a file that a line names after `-c`. Lines that are reported together are lines of the files, ask for one name and have no two markers, and none that is contradictory, or
@@ -17,13 +16,13 @@ pub fn invalid_lines_have_findings()
     ensures constraint { WrongConstraintsHaveFindings }
 {}
 
-/// If no version is allowed by all lines of a name that count under a marker that is not contradictory, or under either of two markers that hold
-/// in one environment, some of these lines are reported together; or, of two markers, something is said to be undecided. A marker that holds in
-/// an environment is not contradictory.
+/// If no version is allowed by all lines of a name that count under a marker that is not contradictory, some of these lines are reported
+/// together; if none is allowed by lines of a name that ask in one environment, some that ask there are, or something is said to be undecided.
+/// A marker that holds in an environment is not contradictory.
 pub fn conflicts_have_findings()
     ensures held { HeldMarkersCount }
     ensures one { ConflictsHaveFindings }
-    ensures two { PairsHaveFindings }
+    ensures several { SetsHaveFindings }
 {}
 
 /// A line has at most one meaning, and files have at most one report in which nothing is undecided.
@@ -37,7 +36,7 @@ pub fn strings_have_grammar()
     ensures { StringsHaveGrammar }
 {}
 
-#[tactic(auto, using(crate::proofs::JsonCodes::strings_differ))]
+#[tactic(auto, using(crate::proofs::StringReadings::strings_differ))]
 /// Different bytes are different JSON strings.
 pub fn json_strings_differ()
     ensures { JsonStringsDiffer }

@@ -16,6 +16,7 @@ pub mod laws;
 mod line_meaning;
 mod marker;
 mod marker_pairs;
+mod marker_sets;
 mod named_files;
 mod normal_name;
 mod plain;

@@ -34,6 +34,7 @@ pub(crate) fn counts_under(marker: &Option<Vec<u8>>, line: &Demand) -> bool
     line.marker.is_none() || same_marker(&line.marker, marker)
 }
 
+#[tactic(auto, using(crate::proofs::Steps::filter_viewed))]
 // The lines without a marker, and those with this one.
 pub(crate) fn under<'a>(
     alloc: Global,
@@ -42,13 +43,11 @@ pub(crate) fn under<'a>(
 ) -> Result<Vec<&'a Demand>, AllocError>
     ensures { IfOk result (λ kept. demands_at kept.items ≡ under (option_map (λ m. m.items) marker.now) (demands_at lines.now)) }
 {
-    let mut kept = Vec::new(alloc);
-    for line in lines {
-        if counts_under(marker, line) {
-            kept.push(*line)?;
-        }
-    }
-    Ok(kept)
+    lines
+        .iter()
+        .copied()
+        .filter(|line| counts_under(marker, *line))
+        .collect(alloc)
 }
 
 // Adds the line to those of its marker, if it has one.

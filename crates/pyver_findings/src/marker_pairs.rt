@@ -1,12 +1,12 @@
-//! Lines of one name under two different markers that hold in one environment.
+//! Lines of one name under several different markers that hold in one environment.
 ghost use Rattle.std.specs.Prelude.{◌≡◌, ◌&&◌, ◌||◌, ◌∷◌, ◌++◌, [], IfOk, IfSome, List, bytes_eq, codes, map, option_map, true, ℕ};
 ghost use Rattle.std.specs.HashMap.{get_by};
 ghost use Rattle.std.specs.List.{All, list_all, list_any};
 ghost use Rattle.std.specs.Option.{option_map_or};
-ghost use Rattle.pyver_findings.specs.Conflicts.{has_same_marker, have_none};
+ghost use Rattle.pyver_findings.specs.Conflicts.{have_none};
 ghost use Rattle.pyver_findings.specs.Demands.{IsSound};
-ghost use Rattle.pyver_findings.specs.MarkerPairs.{AreJoined, FindsDecided, FindsOfEach, FindsOfName, FindsOfNames, FindsOfPair, FindsOfPairs, IsDenotedBySteps, IsDecision, IsRightDecision, KnowsSteps, are_of_system, few_first_lines, is_named, is_of_system, is_one_system, lines_to_pair, names_system_once, open_lines, under_either, with_first};
-ghost use Rattle.pyver_findings.specs.Views.{AddsFound, demand_of, demands_at, demands_of_group};
+ghost use Rattle.pyver_findings.specs.MarkerPairs.{AreJoined, FindsDecided, FindsOfEach, FindsOfName, FindsOfNames, FindsOfSet, HasDenoted, IsDenotedBySteps, IsDecision, KnowsSteps, are_of_system, few_first_lines, is_named, is_of_system, is_one_system, lines_to_pair, names_system_once, open_lines, with_first};
+ghost use Rattle.pyver_findings.specs.Views.{AddsFound, demand_of, demands_at, demands_of_group, demands_of_sets};
 ghost use Rattle.pyver_findings.specs.declared.cause.Cause.TheVariants as cause;
 ghost use Rattle.pyver_findings.specs.declared.marker_pairs.Decision.TheVariants.{Together};
 ghost use Rattle.pyver_markers.specs.EnvironmentViews.{assignment_of};
@@ -17,13 +17,14 @@ use crate::conflicts::group_by_name;
 use crate::demand::Demand;
 use crate::finding::Finding;
 use crate::group::push_of_all;
-use crate::marker::{counts_under, same_marker, under};
+use crate::marker::under;
+use crate::marker_sets::{find_conflicting_sets, have_same_marker, under_any};
 use crate::smallest::have_none;
 use pyver_markers::{EnvironmentMarker, FoundVariable};
 use pyver_requirements::MarkerError;
 use std::alloc::{AllocError, Global};
 
-// The most markers of one name of which each two are compared.
+// The most markers of one name that are compared.
 const MOST: usize = 32;
 
 // Markers of systems.
@@ -35,12 +36,12 @@ const SYSTEMS: [&str; 5] = [
     "os_name == 'posix' and sys_platform == 'ios' and platform_system == 'iOS'",
 ];
 
-// What is known of two markers.
+// What is known of several markers.
 #[derive(Clone, Copy)]
 enum Decision {
-    // Both hold in some environment of one system.
+    // All hold in some environment of one system.
     Together,
-    // Both hold in no environment.
+    // In no environment all hold.
     Apart,
     Unknown,
 }
@@ -135,21 +136,39 @@ fn parse_marker<'a>(
     }
 }
 
-// The marker that holds where both do, or none if one of the strings is none.
+// The marker of the line, or none if it has none.
+fn parse_marker_of<'a>(
+    alloc: Global,
+    line: &'a Demand,
+) -> Result<Option<EnvironmentMarker<'a>>, AllocError>
+    ensures { IfOk result (λ read. IfSome read (IsDenotedBySteps (HasDenoted (demand_of line.now)))) }
+{
+    match &line.marker {
+        Some(text) => parse_marker(alloc, text.as_slice()),
+        None => Ok(None),
+    }
+}
+
+// The marker that holds where those of all these lines do, or none if one of them has none.
 fn join_markers<'a>(
     alloc: Global,
-    one: &'a [u8],
-    other: &'a [u8],
+    set: &[&'a Demand],
 ) -> Result<Option<EnvironmentMarker<'a>>, AllocError>
-    ensures { IfOk result (λ joined. IfSome joined (IsDenotedBySteps (AreJoined one.now other.now))) }
+    ensures { IfOk result (λ joined. IfSome joined (IsDenotedBySteps (AreJoined (demands_at set.now)))) }
 {
-    let Some(one) = parse_marker(alloc, one)? else {
+    let [first, others @ ..] = set else {
         return Ok(None);
     };
-    let Some(other) = parse_marker(alloc, other)? else {
+    let Some(marker) = parse_marker_of(alloc, *first)? else {
         return Ok(None);
     };
-    Ok(Some(one.and(&other)?))
+    if others.is_empty() {
+        return Ok(Some(marker));
+    }
+    let Some(joined) = join_markers(alloc, others)? else {
+        return Ok(None);
+    };
+    Ok(Some(marker.and(&joined)?))
 }
 
 // Whether an environment of one system is found in which the marker holds.
@@ -190,66 +209,38 @@ fn is_found_on_any(alloc: Global, marker: &EnvironmentMarker<'_>) -> Result<bool
     Ok(false)
 }
 
-// What is known of the marker that holds where both do.
-fn decide_marker(alloc: Global, both: &EnvironmentMarker<'_>) -> Result<Decision, AllocError>
-    ensures { IfOk result (KnowsSteps both.now) }
+// What is known of the marker that holds where all do.
+fn decide_marker(alloc: Global, joined: &EnvironmentMarker<'_>) -> Result<Decision, AllocError>
+    ensures { IfOk result (KnowsSteps joined.now) }
 {
-    if both.is_never(alloc, true)? {
+    if joined.is_never(alloc, true)? {
         return Ok(Decision::Apart);
     }
-    if is_found(alloc, both)? || is_found_on_any(alloc, both)? {
+    if is_found(alloc, joined)? || is_found_on_any(alloc, joined)? {
         return Ok(Decision::Together);
     }
     Ok(Decision::Unknown)
 }
 
 #[tactic(auto, using(crate::proofs::MarkerPairs::known))]
-// What is known of two markers.
-fn decide(alloc: Global, one: &[u8], other: &[u8]) -> Result<Decision, AllocError>
-    ensures { IfOk result (IsRightDecision (AreJoined one.now other.now)) }
+// What is known of the markers of these lines.
+fn decide(alloc: Global, set: &[&Demand]) -> Result<Decision, AllocError>
+    ensures { IfOk result (IsDecision (demands_at set.now)) }
 {
-    match join_markers(alloc, one, other)? {
-        Some(both) => decide_marker(alloc, &both),
+    match join_markers(alloc, set)? {
+        Some(joined) => decide_marker(alloc, &joined),
         None => Ok(Decision::Unknown),
     }
 }
 
-fn decide_lines(alloc: Global, one: &Demand, other: &Demand) -> Result<Decision, AllocError>
-    ensures { IfOk result (IsDecision (demand_of one.now).marker (demand_of other.now).marker) }
-{
-    match (&one.marker, &other.marker) {
-        (Some(one), Some(other)) => decide(alloc, one.as_slice(), other.as_slice()),
-        _ => Ok(Decision::Unknown),
-    }
-}
-
-// The lines without a marker, and those with the marker of one of the two.
-fn under_either<'a>(
-    alloc: Global,
-    one: &Demand,
-    other: &Demand,
-    lines: &[&'a Demand],
-) -> Result<Vec<&'a Demand>, AllocError>
-    ensures { IfOk result (λ kept. demands_at kept.items ≡ under_either (demand_of one.now).marker (demand_of other.now).marker
-        (demands_at lines.now)) }
-{
-    let mut kept = Vec::new(alloc);
-    for line in lines {
-        if counts_under(&one.marker, line) || counts_under(&other.marker, line) {
-            kept.push(*line)?;
-        }
-    }
-    Ok(kept)
-}
-
-fn push_unknown_pair(left_out: &mut Vec<Cause>) -> Result<(), AllocError>
+fn push_undecided(left_out: &mut Vec<Cause>) -> Result<(), AllocError>
     ensures { IfOk result (λ _. left_out.new.items ≡ left_out.old.items ++ cause.Undecided ∷ []) }
 {
     left_out.push(Cause::Undecided)?;
     Ok(())
 }
 
-// What is wrong with lines that have no version in common, by what is known of the two markers.
+// What is wrong with lines that have no version in common, by what is known of their markers.
 fn push_by_decision(
     alloc: Global,
     findings: &mut Vec<Finding>,
@@ -265,83 +256,47 @@ fn push_by_decision(
     match decision {
         Decision::Together => push_of_all(alloc, findings, together),
         Decision::Apart => Ok(()),
-        Decision::Unknown => push_unknown_pair(left_out),
+        Decision::Unknown => push_undecided(left_out),
     }
 }
 
-// What is wrong with the lines of one name under these two markers.
-fn push_of_pair(
+// What is wrong with the lines of one name under the markers of the set.
+fn push_of_set(
     alloc: Global,
     findings: &mut Vec<Finding>,
     left_out: &mut Vec<Cause>,
     lines: &[&Demand],
-    one: &Demand,
-    other: &Demand,
+    set: &[&Demand],
 ) -> Result<(), AllocError>
     requires { All IsSound (demands_at lines.now) }
-    ensures { IfOk result (λ _. AddsFound (FindsOfPair (demands_at lines.now) (demand_of one.now) (demand_of other.now)) findings.old.items
-        findings.new.items left_out.old.items left_out.new.items) }
+    ensures { IfOk result (λ _. AddsFound (FindsOfSet (demands_at lines.now) (demands_at set.now)) findings.old.items findings.new.items
+        left_out.old.items left_out.new.items) }
 {
-    let together = under_either(alloc, one, other, lines)?;
+    let together = under_any(alloc, set, lines)?;
     if !have_none(alloc, together.as_slice(), &[])? {
         return Ok(());
     }
-    let decision = decide_lines(alloc, one, other)?;
+    let decision = decide(alloc, set)?;
     push_by_decision(alloc, findings, left_out, decision, together.as_slice())?;
     Ok(())
 }
 
-// What is wrong with the lines of this marker beside those of each of the others.
-fn push_of_first(
+// What is wrong with the lines of each of the sets.
+fn push_of_each_set(
     alloc: Global,
     findings: &mut Vec<Finding>,
     left_out: &mut Vec<Cause>,
     lines: &[&Demand],
-    one: &Demand,
-    others: &[&Demand],
+    sets: &[Vec<&Demand>],
 ) -> Result<(), AllocError>
     requires { All IsSound (demands_at lines.now) }
-    ensures { IfOk result (λ _. AddsFound (FindsOfEach (FindsOfPair (demands_at lines.now) (demand_of one.now)) (demands_at others.now))
-        findings.old.items findings.new.items left_out.old.items left_out.new.items) }
+    ensures { IfOk result (λ _. AddsFound (FindsOfEach (FindsOfSet (demands_at lines.now)) (demands_of_sets sets.now)) findings.old.items
+        findings.new.items left_out.old.items left_out.new.items) }
 {
-    for other in others {
-        push_of_pair(alloc, findings, left_out, lines, one, *other)?;
+    for set in sets {
+        push_of_set(alloc, findings, left_out, lines, set.as_slice())?;
     }
     Ok(())
-}
-
-// What is wrong with the lines of each two of these markers.
-fn push_of_pairs(
-    alloc: Global,
-    findings: &mut Vec<Finding>,
-    left_out: &mut Vec<Cause>,
-    lines: &[&Demand],
-    firsts: &[&Demand],
-) -> Result<(), AllocError>
-    requires { All IsSound (demands_at lines.now) }
-    ensures { IfOk result (λ _. AddsFound (FindsOfPairs (demands_at lines.now) (demands_at firsts.now)) findings.old.items findings.new.items
-        left_out.old.items left_out.new.items) }
-{
-    let mut rest = firsts;
-    while let [one, later @ ..] = rest {
-        push_of_first(alloc, findings, left_out, lines, *one, later)?;
-        rest = later;
-    }
-    Ok(())
-}
-
-// Whether one of these has the marker of the line.
-fn have_same_marker(firsts: &[&Demand], line: &Demand) -> bool
-    ensures { result ≡ list_any (has_same_marker (demand_of line.now)) (demands_at firsts.now) }
-{
-    let mut rest = firsts;
-    while let [first, later @ ..] = rest {
-        if same_marker(&line.marker, &first.marker) {
-            return true;
-        }
-        rest = later;
-    }
-    false
 }
 
 // Adds the line, if it has a marker that none of these has.
@@ -390,7 +345,7 @@ fn find_open_lines<'a>(
     Ok(paired)
 }
 
-// Of these lines those that are to be paired.
+// Of these lines those whose markers are to be compared.
 fn lines_to_pair<'a>(
     alloc: Global,
     lines: &[&Demand],
@@ -408,7 +363,7 @@ fn lines_to_pair<'a>(
     find_open_lines(alloc, lines, firsts)
 }
 
-// What is wrong with lines of one name under two markers.
+// What is wrong with lines of one name under several markers.
 fn push_of_name(
     alloc: Global,
     findings: &mut Vec<Finding>,
@@ -420,10 +375,15 @@ fn push_of_name(
         left_out.new.items) }
 {
     let Some(firsts) = few_first_lines(alloc, lines)? else {
-        return push_unknown_pair(left_out);
+        return push_undecided(left_out);
     };
     let paired = lines_to_pair(alloc, lines, firsts.as_slice())?;
-    push_of_pairs(alloc, findings, left_out, lines, paired.as_slice())
+    let found = find_conflicting_sets(alloc, lines, paired.as_slice())?;
+    push_of_each_set(alloc, findings, left_out, lines, found.sets.as_slice())?;
+    if found.whole {
+        return Ok(());
+    }
+    push_undecided(left_out)
 }
 
 // What is wrong with the lines of the group, if there is one.
@@ -443,9 +403,11 @@ fn push_of_group(
     }
 }
 
-/// Adds what is wrong with lines of one name under two different markers that hold in one environment, for each name, in the order in which
-/// names are first mentioned. A cause is added for each two markers whose lines have no version in common, if it is not known whether they
-/// hold together, and for a name with more than 32 markers. Fails if memory runs out; then findings of some names may have been added.
+/// Adds what is wrong with lines of one name under several different markers that hold in one environment, for each name, in the order in which
+/// names are first mentioned: first of each two markers whose lines have no version in common, and then of larger sets of which no two have none.
+/// In each environment, lines of a name that ask in it and have no version in common have a finding among them. A cause is added for each set
+/// of markers of which it is not known whether they hold together, for a name with more than 32 markers, and for one with so many sets that
+/// a search of 1,000 steps does not find all. Fails if memory runs out; then findings of some names may have been added.
 ///
 /// Allocates.
 pub fn push_pair_conflicts(

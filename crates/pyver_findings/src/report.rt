@@ -1,9 +1,8 @@
 //! The report of requirements files.
 ghost use Rattle.std.specs.Prelude.{◌≡◌, ◌++◌, IfOk, map, not};
 ghost use Rattle.std.specs.List.{filter};
-ghost use Rattle.pyver_findings.specs.FindingKinds.{is_ignored};
+ghost use Rattle.pyver_findings.specs.Reports.{IsReport, demands_in, empty_report, invalid_in, is_ignored, joined_report, left_out_in, without_ignored};
 ghost use Rattle.pyver_findings.specs.Views.{AddsFindings, KeepsReadings, demand_of, file_line_of, file_of, finding_of, line_meaning_of, report_of};
-ghost use Rattle.pyver_findings.specs.Reports.{IsReport, demands_in, empty_report, invalid_in, joined_report, left_out_in, without_ignored};
 
 use crate::cause::Cause;
 use crate::conflicts::push_conflicts;
@@ -26,7 +25,7 @@ pub struct Report {
     pub lines: usize,
     /// How many files were read.
     pub files: usize,
-    /// Of each line that was left out, why, and of each two markers.
+    /// Of each line that was left out, why, and of each set of markers.
     pub left_out: Vec<Cause>,
 }
 
@@ -76,8 +75,8 @@ fn parse_lines(alloc: Global, lines: &[FileLine]) -> Result<Readings, AllocError
 /// order; then editables, and requirements with extras, in files that a line names after `-c`; then for each name, in the order in which names are first mentioned, lines that no version satisfies together: of these a
 /// smallest list, from which no line can be left out. Lines without a marker count with the lines of each marker; if they have no version in
 /// common, some of them are reported, and no line with a marker. Lines under a contradictory marker, as `EnvironmentMarker::is_contradictory`
-/// has it, ask for nothing. Behind these follow, for each name, lines under two different markers that
-/// no version satisfies, if both hold in one environment of one system; of three and more markers nothing is asked.
+/// has it, ask for nothing. Behind these follow, for each name, lines under several different markers that
+/// no version satisfies, if all of these hold in one environment of one system.
 ///
 /// A line names a version if a member of its list is `==` without a star, or `===`; a finding of two lines says whether one or both do.
 /// Takes n log n steps for n lines, and for a finding as many each time that its lines can be halved. But each marker of a name takes time

@@ -238,6 +238,7 @@ fn list_meaning(
     }
 }
 
+#[tactic(auto, using(crate::proofs::Rejecting::list_read))]
 /// What the string of this line is, which is to be a list of specifiers: it asks for no package, no version satisfies it, or it is invalid
 /// for the reason and at the column of its first invalid piece.
 ///

@@ -17,10 +17,7 @@ fn push_copies(
 ) -> Result<(), AllocError>
     ensures { IfOk result (λ _. members.new.items ≡ members.old.items ++ list.now) }
 {
-    for member in list {
-        members.push(member.clone()?)?;
-    }
-    Ok(())
+    members.extend_from_slice(list)
 }
 
 // Adds the members of the lists of the lines.

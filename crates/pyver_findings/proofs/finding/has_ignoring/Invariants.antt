@@ -1,6 +1,6 @@
 use Rattle.std.proofs.Common.{◌≡◌, drop, map}
 use Rattle.std.specs.List.{list_any}
-use Rattle.pyver_findings.specs.FindingKinds.{ignores}
+use Rattle.pyver_findings.specs.Reports.{ignores}
 use Rattle.pyver_findings.specs.Views.{file_line_of}
 use Rattle.pyver_findings.proofs.finding.has_ignoring.Given as goal
 

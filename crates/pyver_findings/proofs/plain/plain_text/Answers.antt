@@ -1,4 +1,4 @@
-use Rattle.pyver_findings.proofs.JsonCodes.{another_byte, no_other_byte, plain_utf8}
+use Rattle.pyver_findings.proofs.StringReadings.{another_byte, no_other_byte, plain_utf8}
 use Rattle.pyver_findings.proofs.plain.plain_text.Goals as goal
 
 pub returns-then-count-text-clause-other : goal.returns-then-count-text-clause-other

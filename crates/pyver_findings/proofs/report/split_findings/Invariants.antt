@@ -1,7 +1,7 @@
 use Rattle.std.proofs.Common.{◌≡◌, ◌++◌, map, not}
 use Rattle.std.specs.List.{filter}
 use Rattle.std.specs.Vec.Iter.{into_iter_items}
-use Rattle.pyver_findings.specs.FindingKinds.{is_ignored}
+use Rattle.pyver_findings.specs.Reports.{is_ignored}
 use Rattle.pyver_findings.specs.Views.{finding_of}
 use Rattle.pyver_findings.proofs.report.split_findings.Given as goal
 

@@ -1,5 +1,5 @@
 use Rattle.std.proofs.Common.{◌∙◌, ap}
-use Rattle.pyver_findings.specs.FindingKinds.{finding_kind, is_ignored, kind_code}
+use Rattle.pyver_findings.specs.Reports.{finding_kind, is_ignored, kind_code}
 use Rattle.pyver_findings.specs.ReportObjects.{json_string}
 use Rattle.pyver_findings.specs.ReportTexts.{finding_message}
 use Rattle.pyver_findings.specs.SarifLogs.{finding_location, finding_result, suppression}
