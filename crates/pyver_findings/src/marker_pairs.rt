@@ -404,9 +404,9 @@ fn push_of_group(
 }
 
 /// Adds what is wrong with lines of one name under several different markers that hold in one environment, for each name, in the order in which
-/// names are first mentioned: first of each two markers whose lines have no version in common, and then of larger sets of which no two have none.
+/// names are first mentioned: first of each two markers whose lines have no version in common, and then of larger sets, if no two in them have none.
 /// In each environment, lines of a name that ask in it and have no version in common have a finding among them. A cause is added for each set
-/// of markers of which it is not known whether they hold together, for a name with more than 32 markers, and for one with so many sets that
+/// of markers where it is not known whether they hold together, for a name with more than 32 markers, and for one with so many sets that
 /// a search of 1,000 steps does not find all. Fails if memory runs out; then findings of some names may have been added.
 ///
 /// Allocates.
