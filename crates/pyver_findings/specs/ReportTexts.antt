@@ -88,7 +88,7 @@ cause_text cause.Variable = codes "pyver: lines with a variable left out: "
 cause_text cause.Location = codes "pyver: paths, archives and URLs left out: "
 cause_text cause.Url = codes "pyver: requirements and files by URL left out: "
 cause_text cause.OtherSyntax = codes "pyver: requirements of packages in another syntax left out: "
-cause_text cause.Undecided = codes "pyver: pairs of markers not decided: "
+cause_text cause.Undecided = codes "pyver: sets of markers not decided: "
 
 -- a line with a number
 abbrev pub count_text : List ℕ → ℕ → List ℕ

@@ -35,7 +35,7 @@ pub use file_line::{FileLine, SourceFile};
 pub use finding::{Conflict, Finding, FindingKind};
 pub use json_string::push_json_string;
 pub use line_meaning::LineMeaning;
-pub use marker_pairs::push_pair_conflicts;
+pub use marker_pairs::push_marker_conflicts;
 pub use named_files::{NamedFile, Position, push_named_files};
 pub use normal_name::normalize_name;
 pub use report::{Report, find_problems};

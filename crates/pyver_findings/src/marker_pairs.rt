@@ -410,7 +410,7 @@ fn push_of_group(
 /// a search of 1,000 steps does not find all. Fails if memory runs out; then findings of some names may have been added.
 ///
 /// Allocates.
-pub fn push_pair_conflicts(
+pub fn push_marker_conflicts(
     alloc: Global,
     findings: &mut Vec<Finding>,
     left_out: &mut Vec<Cause>,

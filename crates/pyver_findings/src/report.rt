@@ -11,7 +11,7 @@ use crate::demand::Demand;
 use crate::file_line::{FileLine, SourceFile, all_lines};
 use crate::finding::Finding;
 use crate::line_meaning::{LineMeaning, parse_line};
-use crate::marker_pairs::push_pair_conflicts;
+use crate::marker_pairs::push_marker_conflicts;
 use std::alloc::{AllocError, Global};
 
 /// What is wrong in requirements files, and how much of them was read.
@@ -94,7 +94,7 @@ pub fn find_problems(alloc: Global, files: &[SourceFile]) -> Result<Report, Allo
     push_constraint_findings(alloc, &mut findings, files, lines.as_slice())?;
     let demands = readings.demands;
     push_conflicts(alloc, &mut findings, demands.as_slice())?;
-    push_pair_conflicts(alloc, &mut findings, &mut left_out, demands.as_slice())?;
+    push_marker_conflicts(alloc, &mut findings, &mut left_out, demands.as_slice())?;
     Ok(Report {
         findings,
         ignored: Vec::new(alloc),

@@ -272,7 +272,7 @@ fn cause_text(cause: Cause) -> &'static str
         Cause::Location => "pyver: paths, archives and URLs left out: ",
         Cause::Url => "pyver: requirements and files by URL left out: ",
         Cause::OtherSyntax => "pyver: requirements of packages in another syntax left out: ",
-        Cause::Undecided => "pyver: pairs of markers not decided: ",
+        Cause::Undecided => "pyver: sets of markers not decided: ",
     }
 }
 

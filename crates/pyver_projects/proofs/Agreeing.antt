@@ -1,5 +1,5 @@
 -- Where nothing is found, each requirement contains a locked version of its name, and requirements that hold together have a version in common: all of
--- them, and so those of each part; and what is found under two markers.
+-- them, and so those of each part; and what is found under several markers.
 use Rattle.std.proofs.Common.{◌≡◌, ◌∙◌, ℕ, List, [], ◌++◌, Bool, true, false, Some, None, refl, sym, ap, subst, inl, inr, if◌then◌else◌, bytes_eq, map, not, ◌∷◌, ◌||◌, Option, arith, cond, get_or, is_none, is_some, length, nat_lt, suc, zero, ◌<◌}
 use Rattle.std.specs.List.{All, AllZip, Contains, flat_map, list_any, zip, filter}
 use Rattle.pep440_pick.specs.RequirementGrammar.{Needed}

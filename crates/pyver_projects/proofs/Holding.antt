@@ -221,7 +221,7 @@ module _ (P : Finding → Type 0) (file : File) (t : Members) (so : (part : Sect
   conflicts_hold xs h =
       with_new_all P [] (flat_map (part_conflicts (has_group_tool t) xs) (parts xs)) (All-nil P) (all_flat P (part_conflicts (has_group_tool t) xs) (parts xs) (everywhere (λ part. All P (part_conflicts (has_group_tool t) xs part)) (part_holds xs h) (parts xs)))
 
--- what is found under two markers
+-- what is found under several markers
 module _ (P : Finding → Type 0) (file : File) (t : Members) (so : (part : Section) (f : Finding) → IsRightPair line_parts (part_lines file t part) f → P f) where
   part_pairs_hold : (xs : List StringReading) → AllZip (IsStringReading (groups t) file) (sources t) xs → (part : Section) (fs : List Finding) (cs : List Cause) → FindsOfPart (has_group_tool t) xs part fs cs → All P fs
   part_pairs_hold xs h part fs cs finds =
@@ -525,7 +525,7 @@ module _ (documents : List Document) where
       (λ e y at s. counted_right (is_beside documents d e) (found_beside e.kind x y) (beside_right d.kind d.file e x y known at r s)) documents xs (All-contains_itself documents) h)) documents xs
       (All-contains_itself documents) h))
 
--- what is found of a document under two markers
+-- what is found of a document under several markers
 module _ (documents : List Document) where
   none_found : (fs : List Finding) → fs ≡ [] → All (IsDocumentFinding documents) fs
   none_found fs none = subst (All (IsDocumentFinding documents)) (sym none) (All-nil (IsDocumentFinding documents))

@@ -125,7 +125,7 @@ one_document (Lock kind) file x y (ps, (text, e)) (inr (u, inl (ms, f, a))) (inr
     let equal : ns ≡ ms = cc same in
     one_lock file.name ms x y a (subst (λ (l : LockContents). IsLockReading file.name l y) equal b)
 
--- ---- under two markers
+-- ---- under several markers
 
 part_told : (together : Bool) (xs : List StringReading) (part : Section) (fs : List Finding) (cs : List Cause) → FindsOfPart together xs part fs cs → IsTold cs
 part_told together xs part fs cs finds = names_tell (part_demands together (inclusions (sections xs)) part xs) fs cs finds

@@ -252,7 +252,7 @@ with_findings a found = record { findings = a.findings ++ found; ignored = a.ign
 abbrev pub documents_report : List Document → List DocumentReading → Report
 documents_report documents xs = with_findings (with_own_reports (is_excused xs) empty_report xs) (flat_map (beside_all documents (zip documents xs)) (zip documents xs))
 
--- of a project the requirements that hold together under two markers
+-- of a project the requirements that hold together under several markers
 abbrev pub FindsOfReading : DocumentReading → List Finding → List Cause → Type 0
 FindsOfReading (IsProject together names xs) fs cs = FindsOfParts together xs fs cs
 FindsOfReading (IsLock parts ys ms files) fs cs = FindsNothing fs cs
@@ -262,7 +262,7 @@ FindsOfReading (IsBroken f) fs cs = FindsNothing fs cs
 abbrev pub with_found : Report → List Finding → List Cause → Report
 with_found a fs cs = record { findings = a.findings ++ fs; ignored = a.ignored; lines = a.lines; files = a.files; left_out = a.left_out ++ cs }
 
--- the report of the documents: behind these findings those of requirements under two markers
+-- the report of the documents: behind these findings those of requirements under several markers
 abbrev pub IsDocumentsReport : List Document → Report → Type 0
 IsDocumentsReport documents r = (xs : List DocumentReading) × AllZip IsDocumentReading documents xs
     × (fs : List Finding) × (cs : List Cause) × FindsOfEach FindsOfReading xs fs cs × (r ≡ with_found (documents_report documents xs) fs cs)

@@ -123,13 +123,13 @@ part_conflicts together xs part = conflicts (part_demands together (inclusions (
 abbrev pub project_conflicts : Bool → List StringReading → List Finding
 project_conflicts together xs = with_new same_finding [] (flat_map (part_conflicts together xs) (parts xs))
 
--- ---- under two markers
+-- ---- under several markers
 
 -- the requirement has a marker
 abbrev pub is_marked : Demand → Bool
 is_marked a = is_some a.marker
 
--- of the requirements of a part those that have no version in common under two markers that hold together
+-- of the requirements of a part those that have no version in common under several markers that hold together
 abbrev pub FindsOfPart : Bool → List StringReading → Section → List Finding → List Cause → Type 0
 FindsOfPart together xs part = FindsOfNames (part_demands together (inclusions (sections xs)) part xs)
 

@@ -222,7 +222,7 @@ fn compare_all(
     Ok(findings)
 }
 
-// Adds what is wrong with the requirements of the document under two markers.
+// Adds what is wrong with the requirements of the document under several markers.
 fn push_reading_pairs(
     alloc: Global,
     findings: &mut Vec<Finding>,
@@ -244,7 +244,7 @@ fn push_reading_pairs(
     }
 }
 
-// Adds what is wrong with the requirements of each document under two markers.
+// Adds what is wrong with the requirements of each document under several markers.
 fn push_all_pairs(
     alloc: Global,
     findings: &mut Vec<Finding>,
@@ -292,7 +292,7 @@ fn read_documents<'a>(
 /// Then what is wrong in each project beside each lock in its folder, or in the nearest above that has one of its kind, and beside each
 /// lock for which that is no project: for each requirement, in order, whether the lock lacks a package of its name, or such an environment,
 /// and the lines of the locked versions of its name with the line of the requirement, if it contains none. Then the requirements of each project that hold
-/// together and have no version in common under two markers, as `pyver_findings` reports them.
+/// together and have no version in common under several markers, as `pyver_findings` reports them.
 ///
 /// Of `pyproject.toml` these are read: `project.dependencies`, `project.optional-dependencies`, `project.requires-python`,
 /// `project.version`, `dependency-groups` with the names of included groups, and `build-system.requires`; of a lock the names and

@@ -15,7 +15,7 @@ use crate::document_reading::StringReading;
 use crate::groups::{InclusionIndex, included_groups, inclusions};
 use crate::project::Section;
 use pyver_findings::{
-    Cause, Demand, FileLine, Finding, LineMeaning, push_conflicts, push_pair_conflicts,
+    Cause, Demand, FileLine, Finding, LineMeaning, push_conflicts, push_marker_conflicts,
 };
 use std::alloc::{AllocError, Global};
 use std::collections::HashMap;
@@ -345,9 +345,9 @@ pub(crate) fn project_conflicts(
     each_once(alloc, findings)
 }
 
-// ---- under two markers
+// ---- under several markers
 
-// Adds what is wrong with the requirements of the part under two markers.
+// Adds what is wrong with the requirements of the part under several markers.
 fn push_part_pairs(
     alloc: Global,
     findings: &mut Vec<Finding>,
@@ -361,11 +361,11 @@ fn push_part_pairs(
     ensures { IfOk result (λ _. AddsFound (FindsOfPart project.now.together (map string_reading_of project.now.strings.now) (section_of part.now)) findings.old.items findings.new.items left_out.old.items left_out.new.items) }
 {
     let demands = part_demands(alloc, project, part)?;
-    push_pair_conflicts(alloc, findings, left_out, demands.as_slice())?;
+    push_marker_conflicts(alloc, findings, left_out, demands.as_slice())?;
     Ok(())
 }
 
-// What is wrong with the requirements of each of the parts under two markers.
+// What is wrong with the requirements of each of the parts under several markers.
 fn pairs_of_parts(
     alloc: Global,
     left_out: &mut Vec<Cause>,
@@ -413,7 +413,7 @@ fn has_marker(strings: &[StringReading]) -> bool
     false
 }
 
-// What is wrong with requirements of a project under two markers.
+// What is wrong with requirements of a project under several markers.
 pub(crate) fn project_pairs(
     alloc: Global,
     left_out: &mut Vec<Cause>,

@@ -17,8 +17,8 @@ push_conflicts-requires c =
     let kept = c.in_ok-readings.readings in
     All-same IsSound (map demand_of c.as_slice-3.result.now) (map demand_of kept.demands.items) (ap (map demand_of) c.as_slice-3.ensures.value) (readings_sound _ kept c.in_ok-readings.ensures)
 
-pub push_pair_conflicts-requires : goal.push_pair_conflicts-requires
-push_pair_conflicts-requires c =
+pub push_marker_conflicts-requires : goal.push_marker_conflicts-requires
+push_marker_conflicts-requires c =
     let kept = c.in_ok-readings.readings in
     All-same IsSound (map demand_of c.as_slice-4.result.now) (map demand_of kept.demands.items) (ap (map demand_of) c.as_slice-4.ensures.value) (readings_sound _ kept c.in_ok-readings.ensures)
 
@@ -29,8 +29,8 @@ returns c =
     let same = ap (map file_line_of) c.as_slice.ensures.value ∙ c.in_ok-lines.ensures in
     let lines : c.len.result ≡ length (all_lines files) = c.len.ensures ∙ sym c.as_slice.ensures.len ∙ sym (length-map c.as_slice.result.now file_line_of) ∙ ap length same in
     let count : length c.args.files.now ≡ length files = sym (length-map c.args.files.now file_of) in
-    is_report files kept c.push_constraint_findings.new.findings.items c.push_conflicts.new.findings.items c.push_pair_conflicts.new.findings.items c.push_pair_conflicts.new.left_out.items _
+    is_report files kept c.push_constraint_findings.new.findings.items c.push_conflicts.new.findings.items c.push_marker_conflicts.new.findings.items c.push_marker_conflicts.new.left_out.items _
     (subst (λ l. KeepsReadings l kept) same c.in_ok-readings.ensures) c.in_ok-push_constraint_findings.ensures
     (subst (λ l. AddsFindings c.push_constraint_findings.new.findings.items c.push_conflicts.new.findings.items (conflicts (map demand_of l))) c.as_slice-3.ensures.value c.in_ok-push_conflicts.ensures)
-    (subst (λ l. AddsFound (FindsOfNames (map demand_of l)) c.push_conflicts.new.findings.items c.push_pair_conflicts.new.findings.items kept.left_out.items c.push_pair_conflicts.new.left_out.items) c.as_slice-4.ensures.value c.in_ok-push_pair_conflicts.ensures)
-    (λ j. record { findings = map finding_of c.push_pair_conflicts.new.findings.items; ignored = map finding_of (c.new.ensures.items j); lines = lines j; files = count j; left_out = c.push_pair_conflicts.new.left_out.items })
+    (subst (λ l. AddsFound (FindsOfNames (map demand_of l)) c.push_conflicts.new.findings.items c.push_marker_conflicts.new.findings.items kept.left_out.items c.push_marker_conflicts.new.left_out.items) c.as_slice-4.ensures.value c.in_ok-push_marker_conflicts.ensures)
+    (λ j. record { findings = map finding_of c.push_marker_conflicts.new.findings.items; ignored = map finding_of (c.new.ensures.items j); lines = lines j; files = count j; left_out = c.push_marker_conflicts.new.left_out.items })

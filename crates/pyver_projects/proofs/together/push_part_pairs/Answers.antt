@@ -8,13 +8,13 @@ use Rattle.pyver_projects.specs.Together.{part_demands}
 use Rattle.pyver_projects.proofs.Holding.{sound_part}
 use Rattle.pyver_projects.proofs.together.push_part_pairs.Goals as goal
 
-pub push_pair_conflicts-requires : goal.push_pair_conflicts-requires
-push_pair_conflicts-requires c =
+pub push_marker_conflicts-requires : goal.push_marker_conflicts-requires
+push_marker_conflicts-requires c =
     subst (λ xs. All IsSound (map demand_of xs)) (sym c.as_slice.ensures.value)
     (subst (All IsSound) (sym c.in_ok-demands.ensures) (sound_part c.args.project.now.together (inclusions_of c.args.project.now.inclusions) (section_of c.args.part.now) (map string_reading_of c.args.project.now.strings.now) c.requires.sound))
 
 pub returns : goal.returns
 returns c =
     let xs = map string_reading_of c.args.project.now.strings.now in
-    subst (λ l. AddsFound (FindsOfNames l) c.args.findings.now.items c.push_pair_conflicts.new.findings.items c.args.left_out.now.items c.push_pair_conflicts.new.left_out.items)
-    (ap (map demand_of) c.as_slice.ensures.value ∙ c.in_ok-demands.ensures ∙ ap (λ is. part_demands c.args.project.now.together is (section_of c.args.part.now) xs) c.requires.known) c.in_ok-push_pair_conflicts.ensures
+    subst (λ l. AddsFound (FindsOfNames l) c.args.findings.now.items c.push_marker_conflicts.new.findings.items c.args.left_out.now.items c.push_marker_conflicts.new.left_out.items)
+    (ap (map demand_of) c.as_slice.ensures.value ∙ c.in_ok-demands.ensures ∙ ap (λ is. part_demands c.args.project.now.together is (section_of c.args.part.now) xs) c.requires.known) c.in_ok-push_marker_conflicts.ensures

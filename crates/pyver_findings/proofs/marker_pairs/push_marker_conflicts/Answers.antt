@@ -10,7 +10,7 @@ use Rattle.pyver_findings.specs.Demands.{Demand}
 use Rattle.pyver_findings.specs.MarkerPairs.{FindsOfEach}
 use Rattle.pyver_findings.specs.Views.{demand_of}
 use Rattle.pyver_findings.specs.declared.demand.Demand.{Demand as DemandValue}
-use Rattle.pyver_findings.proofs.marker_pairs.push_pair_conflicts.Goals as goal
+use Rattle.pyver_findings.proofs.marker_pairs.push_marker_conflicts.Goals as goal
 
 pub push_of_group-requires : goal.push_of_group-requires
 push_of_group-requires c =

@@ -7,7 +7,7 @@ use Rattle.pyver_findings.specs.Conflicts.{first_mentions, has_same_name}
 use Rattle.pyver_findings.specs.Demands.{Demand}
 use Rattle.pyver_findings.specs.MarkerPairs.{FindsOfEach}
 use Rattle.pyver_findings.specs.Views.{AddsFound, demand_of}
-use Rattle.pyver_findings.proofs.marker_pairs.push_pair_conflicts.Given as goal
+use Rattle.pyver_findings.proofs.marker_pairs.push_marker_conflicts.Given as goal
 
 abbrev pub invariant-loop-line : goal.invariant-loop-line
 invariant-loop-line l =
