@@ -290,7 +290,7 @@ examples:
 Prints what is wrong in requirements files: lines that are no requirements, lines that no version
 satisfies together, and versions that one line names and another excludes. '-' and no file mean
 standard input. Files that lines name after -r and -c are read too, each once; their paths are
-relative to the file that names them. Lines with different markers do not count together.
+relative to the file that names them. Lines count together where all their markers hold.
 A file named pyproject.toml is read as a project, one named pylock.toml, pylock.NAME.toml, uv.lock,
 poetry.lock, pdm.lock or Pipfile.lock as a lock: malformed strings are reported, requirements that
 no version satisfies together, and, for each lock beside a project, versions that it excludes and
