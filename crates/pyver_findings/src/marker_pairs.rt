@@ -233,7 +233,7 @@ fn decide(alloc: Global, set: &[&Demand]) -> Result<Decision, AllocError>
     }
 }
 
-fn push_undecided(left_out: &mut Vec<Cause>) -> Result<(), AllocError>
+fn push_undecided_cause(left_out: &mut Vec<Cause>) -> Result<(), AllocError>
     ensures { IfOk result (λ _. left_out.new.items ≡ left_out.old.items ++ cause.Undecided ∷ []) }
 {
     left_out.push(Cause::Undecided)?;
@@ -256,7 +256,7 @@ fn push_by_decision(
     match decision {
         Decision::Together => push_of_all(alloc, findings, together),
         Decision::Apart => Ok(()),
-        Decision::Unknown => push_undecided(left_out),
+        Decision::Unknown => push_undecided_cause(left_out),
     }
 }
 
@@ -375,7 +375,7 @@ fn push_of_name(
         left_out.new.items) }
 {
     let Some(firsts) = few_first_lines(alloc, lines)? else {
-        return push_undecided(left_out);
+        return push_undecided_cause(left_out);
     };
     let paired = lines_to_pair(alloc, lines, firsts.as_slice())?;
     let found = find_conflicting_sets(alloc, lines, paired.as_slice())?;
@@ -383,7 +383,7 @@ fn push_of_name(
     if found.whole {
         return Ok(());
     }
-    push_undecided(left_out)
+    push_undecided_cause(left_out)
 }
 
 // What is wrong with the lines of the group, if there is one.

@@ -107,7 +107,7 @@ fn find_among<'a>(
 
 #[tactic(auto, using(crate::proofs::Steps::filter_viewed))]
 // Those whose markers these lines have.
-fn find_marked<'a>(
+fn find_by_markers<'a>(
     alloc: Global,
     firsts: &[&'a Demand],
     lines: &[&Demand],
@@ -141,7 +141,7 @@ fn push_set<'a>(
         return Ok(());
     }
     let kept = find_smallest(alloc, together.as_slice())?;
-    let set = find_marked(alloc, firsts, kept.as_slice())?;
+    let set = find_by_markers(alloc, firsts, kept.as_slice())?;
     sets.push(set)?;
     Ok(())
 }

@@ -359,7 +359,7 @@ fn push_lack(
 
 // Adds the first environment in which the lock leaves out all packages that a requirement on this line may take, if there are some.
 #[tactic(auto, using(crate::proofs::LockedPackages::none_lacking))]
-fn push_partly_locked(
+fn push_first_lack(
     alloc: Global,
     findings: &mut Vec<Finding>,
     line: &FileLine,
@@ -377,7 +377,7 @@ fn push_partly_locked(
     push_lack(alloc, findings, line, environment)
 }
 
-fn push_partly_locked_of(
+fn push_lack_of_group(
     alloc: Global,
     findings: &mut Vec<Finding>,
     demand: &Demand,
@@ -386,10 +386,10 @@ fn push_partly_locked_of(
     ensures { IfOk result (λ _. map finding_of findings.new.items ≡ map finding_of findings.old.items ++ partly_locked (demand_of demand.now).line (filter (may_take (demand_of demand.now).specifiers) (map (λ y. locked_reading_of y.now) group.now))) }
 {
     let taken = filter_taken(alloc, demand, group)?;
-    push_partly_locked(alloc, findings, &demand.line, taken.as_slice())
+    push_first_lack(alloc, findings, &demand.line, taken.as_slice())
 }
 
-fn push_all_partly_locked(
+fn push_lack_of_name(
     alloc: Global,
     findings: &mut Vec<Finding>,
     packages: &PackageIndex<'_>,
@@ -399,13 +399,13 @@ fn push_all_partly_locked(
     ensures { IfOk result (λ _. map finding_of findings.new.items ≡ map finding_of findings.old.items ++ partly_locked (demand_of demand.now).line (taken_packages (packages_of packages.now) (demand_of demand.now))) }
 {
     match packages.of_name(demand.name.as_slice()) {
-        Some(group) => push_partly_locked_of(alloc, findings, demand, group.as_slice()),
+        Some(group) => push_lack_of_group(alloc, findings, demand, group.as_slice()),
         None => Ok(()),
     }
 }
 
 // Adds that the lock has no package of the name of the requirement, or in some environment none that it may take.
-fn push_unlocked(
+fn push_absence_or_lack(
     alloc: Global,
     findings: &mut Vec<Finding>,
     packages: &PackageIndex<'_>,
@@ -415,7 +415,7 @@ fn push_unlocked(
     ensures { IfOk result (λ _. map finding_of findings.new.items ≡ map finding_of findings.old.items ++ unlocked (packages_of packages.now) (demand_of demand.now)) }
 {
     push_absent(alloc, findings, packages, demand)?;
-    push_all_partly_locked(alloc, findings, packages, demand)
+    push_lack_of_name(alloc, findings, packages, demand)
 }
 
 // The projects that are checked: whether there are some, and their names.
@@ -529,7 +529,7 @@ fn push_lacking(
     if projects.excuses(demand.name.as_slice()) {
         return Ok(());
     }
-    push_unlocked(alloc, findings, packages, demand)
+    push_absence_or_lack(alloc, findings, packages, demand)
 }
 
 // Adds what a requirement of a package lacks and excludes in its own lock.
@@ -595,7 +595,7 @@ fn push_missing(
     if !is_needed(lock.kind, lock.parts, section) {
         return Ok(());
     }
-    push_unlocked(alloc, findings, &lock.packages, demand)
+    push_absence_or_lack(alloc, findings, &lock.packages, demand)
 }
 
 fn push_compared_demand(

@@ -25,6 +25,6 @@ returns-in-Unknown c =
     let lines = map (λ (x : Bor DemandValue). demand_of x.now) c.args.together.now in
     let old = c.args.findings.now.items in
     let before = c.args.left_out.now.items in
-    let after = c.push_undecided.new.left_out.items in
-    IfOk-weaker c.push_undecided.result (λ _. after ≡ before ++ cause.Undecided ∷ []) (λ _. AddsFound (FindsDecided c.args.decision lines) old old before after)
-    (λ _ also. decided_unknown lines old old before after c.args.decision c.in-Unknown.is c.requires.none refl also) c.push_undecided.ensures
+    let after = c.push_undecided_cause.new.left_out.items in
+    IfOk-weaker c.push_undecided_cause.result (λ _. after ≡ before ++ cause.Undecided ∷ []) (λ _. AddsFound (FindsDecided c.args.decision lines) old old before after)
+    (λ _ also. decided_unknown lines old old before after c.args.decision c.in-Unknown.is c.requires.none refl also) c.push_undecided_cause.ensures

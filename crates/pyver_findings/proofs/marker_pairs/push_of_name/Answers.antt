@@ -13,9 +13,9 @@ returns-in_default c =
     let lines = map view c.args.lines.now in
     let old = c.args.findings.now.items in
     let before = c.args.left_out.now.items in
-    let after = c.push_undecided.new.left_out.items in
+    let after = c.push_undecided_cause.new.left_out.items in
     let many = sym (ap (option_map (λ f. map view f.items)) c.in_default.is) ∙ c.in_ok-firsts.ensures in
-    IfOk-weaker c.push_undecided.result (λ _. after ≡ before ++ cause.Undecided ∷ []) (λ _. AddsFound (FindsOfName lines) old old before after) (λ _ also. name_undecided lines old old before after many refl also) c.push_undecided.ensures
+    IfOk-weaker c.push_undecided_cause.result (λ _. after ≡ before ++ cause.Undecided ∷ []) (λ _. AddsFound (FindsOfName lines) old old before after) (λ _ also. name_undecided lines old old before after many refl also) c.push_undecided_cause.ensures
 
 pub returns-then-found : goal.returns-then-found
 returns-then-found c =
@@ -40,11 +40,11 @@ returns c =
     let new = c.push_of_each_set.new.findings.items in
     let before = c.args.left_out.now.items in
     let after = c.push_of_each_set.new.left_out.items in
-    let last = c.push_undecided-2.new.left_out.items in
+    let last = c.push_undecided_cause-2.new.left_out.items in
     let few = sym (ap (option_map (λ f. map view f.items)) c.in-Some.is) ∙ c.in_ok-firsts.ensures in
     let paired = ap (map view) c.as_slice-2.ensures.value ∙ c.in_ok-paired.ensures ∙ ap (λ l. lines_to_pair lines (map view l)) c.as_slice.ensures.value in
     let found = c.in_ok-found.found in
     let adds = subst (λ l. AddsFound (FindsOfEach (FindsOfSet lines) (demands_of_sets l)) old new before after) c.as_slice-3.ensures.value c.in_ok-push_of_each_set.ensures in
-    IfOk-weaker c.push_undecided-2.result (λ _. last ≡ after ++ cause.Undecided ∷ []) (λ _. AddsFound (FindsOfName lines) old new before last)
+    IfOk-weaker c.push_undecided_cause-2.result (λ _. last ≡ after ++ cause.Undecided ∷ []) (λ _. AddsFound (FindsOfName lines) old new before last)
     (λ _ more. name_searched lines old new before last (map view c.in-Some.firsts.items) (found_sets_of found) few (c.in_ok-found.ensures ∙ ap (conflicting_sets lines) paired)
-    (sets_cut lines (demands_of_sets found.sets.items) old new before after found.whole last c.if-found.false more adds)) c.push_undecided-2.ensures
+    (sets_cut lines (demands_of_sets found.sets.items) old new before after found.whole last c.if-found.false more adds)) c.push_undecided_cause-2.ensures

@@ -2,7 +2,7 @@ use Rattle.std.proofs.Common.{◌++◌, ◌∙◌, ap, map, sym}
 use Rattle.std.proofs.lemmas.List.{append-nil}
 use Rattle.pyver_findings.specs.Views.{file_line_of, finding_of}
 use Rattle.pyver_projects.proofs.LockedPackages.{nowhere_lacking}
-use Rattle.pyver_projects.proofs.lock_comparison.push_partly_locked.Goals as goal
+use Rattle.pyver_projects.proofs.lock_comparison.push_first_lack.Goals as goal
 
 pub returns-then-has_unconditional : goal.returns-then-has_unconditional
 returns-then-has_unconditional c =
