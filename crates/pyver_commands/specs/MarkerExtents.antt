@@ -1,11 +1,10 @@
 -- `marker MARKER [MARKER]`: an environment in which the marker holds, or both do.
-use Rattle.std.specs.Prelude.{◌≡◌, ◌⊎◌, ◌+◌, ℕ, List, [], ◌∷◌, ◌++◌, Option, Some, None, Err, codes, length, min, if◌then◌else◌, ◌==◌}
+use Rattle.std.specs.Prelude.{◌≡◌, ◌⊎◌, ◌+◌, ℕ, List, [], ◌++◌, Option, Some, None, Err, codes, length, min}
 use Rattle.std.specs.Fmt.{decimal}
-use Rattle.std.specs.List.{flat_map, list_any}
 use Rattle.cli_io.specs.Escapes.{escaped}
 use Rattle.cli_io.specs.Runs.{Outcome}
 use Rattle.pyver_commands.specs.Outcomes.{message_outcome}
-use Rattle.pyver_markers.specs.Environments.{Assignment}
+use Rattle.pyver_markers.specs.Environments.{environment_text}
 use Rattle.pyver_markers.specs.Extents.{Always, Extent, IsExtent, Nowhere, Somewhere, Undecided}
 use Rattle.pyver_requirements.specs.MarkerGrammar.{Both, DenotesMarker, Marker}
 use Rattle.pyver_requirements.specs.MarkerSteps.{Misfit, Step, marker_reason, marker_steps, steps}
@@ -22,21 +21,6 @@ marker_fault_message word byte reason = codes "pyver: '" ++ (escaped word ++ (co
 
 abbrev pub marker_message : List ℕ → Misfit → List ℕ
 marker_message word f = marker_fault_message word (fault_byte word f.position) (marker_reason f.fault)
-
--- ---- environments
-
--- the string in double quotes, or in single ones if it has a double one
-abbrev pub quoted_text : List ℕ → List ℕ
-quoted_text text = if list_any (λ b. b == 34) text then codes "'" ++ (text ++ codes "'") else codes "\"" ++ (text ++ codes "\"")
-
--- the variable is the string, as a marker
-abbrev pub assignment_text : Assignment → List ℕ
-assignment_text v = v.name ++ (codes " == " ++ quoted_text v.text)
-
--- all variables are their strings, as a marker
-abbrev pub environment_text : List Assignment → List ℕ
-environment_text [] = []
-environment_text (v ∷ rest) = assignment_text v ++ flat_map (λ (x : Assignment). codes " and " ++ assignment_text x) rest
 
 -- ---- outcomes
 

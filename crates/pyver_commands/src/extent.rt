@@ -1,8 +1,7 @@
 //! The command `marker`.
-ghost use Rattle.std.specs.Prelude.{◌≡◌, ◌≤◌, ◌==◌, ◌++◌, ℕ, List, [], IfOk, None, Some, codes, map, option_map};
-ghost use Rattle.std.specs.List.{flat_map, list_any};
+ghost use Rattle.std.specs.Prelude.{◌≡◌, ◌≤◌, ◌++◌, ℕ, List, [], IfOk, None, Some, map, option_map};
 ghost use Rattle.pyver_commands.specs.AnswerViews.{outcome_of};
-ghost use Rattle.pyver_commands.specs.MarkerExtents.{FailsAsMarker, FindsExtent, HasSteps, PrintsSteps, assignment_text, environment_text, extent_outcome, fault_byte, marker_fault_message, marker_message, quoted_text};
+ghost use Rattle.pyver_commands.specs.MarkerExtents.{FailsAsMarker, FindsExtent, HasSteps, PrintsSteps, extent_outcome, fault_byte, marker_fault_message, marker_message};
 ghost use Rattle.pyver_commands.specs.Outcomes.{message_outcome};
 ghost use Rattle.pyver_markers.specs.EnvironmentViews.{assignment_of, extent_of};
 ghost use Rattle.pyver_markers.specs.Extents.{Somewhere, Undecided};
@@ -13,7 +12,7 @@ ghost use Rattle.pyver_requirements.specs.MarkerViews.{IsMarkerFault};
 use crate::answer::Answer;
 use crate::version_json::push_text;
 use cli_io::push_escaped;
-use pyver_markers::{EnvironmentMarker, FoundVariable, MarkerExtent};
+use pyver_markers::{EnvironmentMarker, FoundVariable, MarkerExtent, push_environment};
 use pyver_requirements::{MarkerError, MarkerFault};
 use std::alloc::{AllocError, Global};
 
@@ -68,54 +67,6 @@ fn report_error(alloc: Global, word: &str, error: MarkerError) -> Result<Answer,
         MarkerError::Invalid(fault, position) => {
             let answer = report_fault(alloc, word, fault, position)?;
             Ok(answer)
-        }
-    }
-}
-
-fn has_double_quote(text: &[u8]) -> bool
-    ensures { result ≡ list_any (λ b. b == 34) text.now }
-{
-    text.iter().any(|byte| *byte == b'"')
-}
-
-fn push_quoted_text(output: &mut Vec<u8>, text: &[u8]) -> Result<(), AllocError>
-    ensures { IfOk result (λ _. output.new.items ≡ output.old.items ++ quoted_text text.now) }
-{
-    let quote = if has_double_quote(text) { b'\'' } else { b'"' };
-    output.push(quote)?;
-    output.extend_from_slice(text)?;
-    output.push(quote)?;
-    Ok(())
-}
-
-fn push_assignment(output: &mut Vec<u8>, variable: &FoundVariable<'_>) -> Result<(), AllocError>
-    ensures { IfOk result (λ _. output.new.items ≡ output.old.items ++ assignment_text (assignment_of variable.now)) }
-{
-    output.extend_from_slice(variable.name)?;
-    output.extend_from_slice(b" == ")?;
-    push_quoted_text(output, variable.text.as_slice())
-}
-
-// The variables behind the first one.
-fn push_others(output: &mut Vec<u8>, variables: &[FoundVariable<'_>]) -> Result<(), AllocError>
-    ensures { IfOk result (λ _. output.new.items ≡ output.old.items
-        ++ flat_map (λ x. codes " and " ++ assignment_text x) (map assignment_of variables.now)) }
-{
-    for variable in variables {
-        output.extend_from_slice(b" and ")?;
-        push_assignment(output, variable)?;
-    }
-    Ok(())
-}
-
-fn push_environment(output: &mut Vec<u8>, variables: &[FoundVariable<'_>]) -> Result<(), AllocError>
-    ensures { IfOk result (λ _. output.new.items ≡ output.old.items ++ environment_text (map assignment_of variables.now)) }
-{
-    match variables {
-        [] => Ok(()),
-        [first, others @ ..] => {
-            push_assignment(output, first)?;
-            push_others(output, others)
         }
     }
 }

@@ -1,6 +1,6 @@
 -- Environments: what the variables of markers are (PEP 508, "Environment Markers").
-use Rattle.std.specs.Prelude.{◌≡◌, ℕ, List, Option, Some, bytes_eq, option_map}
-use Rattle.std.specs.List.{find}
+use Rattle.std.specs.Prelude.{◌≡◌, ℕ, ◌==◌, List, [], ◌∷◌, ◌++◌, Option, Some, bytes_eq, codes, option_map, if◌then◌else◌}
+use Rattle.std.specs.List.{find, flat_map, list_any}
 
 -- a string; or names, as of `extras` and `dependency_groups`
 pub data Setting : Type 0 where
@@ -23,3 +23,18 @@ assigned variables name = option_map (λ (v : Assignment). Text v.text) (find (�
 -- what one environment has, the other has, too
 abbrev pub Extends : Environment → Environment → Type 0
 Extends e whole = (name : List ℕ) (s : Setting) → e name ≡ Some s → whole name ≡ Some s
+
+-- ---- as markers
+
+-- the string in double quotes, or in single ones if it has a double one
+abbrev pub quoted_text : List ℕ → List ℕ
+quoted_text text = if list_any (λ b. b == 34) text then codes "'" ++ (text ++ codes "'") else codes "\"" ++ (text ++ codes "\"")
+
+-- the variable is the string, as a marker
+abbrev pub assignment_text : Assignment → List ℕ
+assignment_text v = v.name ++ (codes " == " ++ quoted_text v.text)
+
+-- all variables are their strings, as a marker
+abbrev pub environment_text : List Assignment → List ℕ
+environment_text [] = []
+environment_text (v ∷ rest) = assignment_text v ++ flat_map (λ (x : Assignment). codes " and " ++ assignment_text x) rest

@@ -1,6 +1,11 @@
-//! Environments.
-ghost use Rattle.std.specs.Prelude.{◌≡◌, option_map};
-ghost use Rattle.pyver_markers.specs.EnvironmentViews.{environment_of, setting_of};
+//! Environments, and how they are written.
+ghost use Rattle.std.specs.Prelude.{◌≡◌, ◌==◌, ◌++◌, IfOk, codes, map, option_map};
+ghost use Rattle.std.specs.List.{flat_map, list_any};
+ghost use Rattle.pyver_markers.specs.EnvironmentViews.{assignment_of, environment_of, setting_of};
+ghost use Rattle.pyver_markers.specs.Environments.{assignment_text, environment_text, quoted_text};
+
+use crate::found_environment::FoundVariable;
+use std::alloc::AllocError;
 
 /// What a variable is in an environment.
 #[derive(Clone, Copy)]
@@ -26,4 +31,58 @@ pub(crate) fn find_setting<'a>(variables: &[Variable<'a>], name: &[u8]) -> Optio
 {
     let found = variables.iter().find(|variable| variable.name == name)?;
     Some(found.setting)
+}
+
+fn has_double_quote(text: &[u8]) -> bool
+    ensures { result ≡ list_any (λ b. b == 34) text.now }
+{
+    text.iter().any(|byte| *byte == b'"')
+}
+
+fn push_quoted_text(output: &mut Vec<u8>, text: &[u8]) -> Result<(), AllocError>
+    ensures { IfOk result (λ _. output.new.items ≡ output.old.items ++ quoted_text text.now) }
+{
+    let quote = if has_double_quote(text) { b'\'' } else { b'"' };
+    output.push(quote)?;
+    output.extend_from_slice(text)?;
+    output.push(quote)?;
+    Ok(())
+}
+
+fn push_assignment(output: &mut Vec<u8>, variable: &FoundVariable<'_>) -> Result<(), AllocError>
+    ensures { IfOk result (λ _. output.new.items ≡ output.old.items ++ assignment_text (assignment_of variable.now)) }
+{
+    output.extend_from_slice(variable.name)?;
+    output.extend_from_slice(b" == ")?;
+    push_quoted_text(output, variable.text.as_slice())
+}
+
+// The variables behind the first one.
+fn push_others(output: &mut Vec<u8>, variables: &[FoundVariable<'_>]) -> Result<(), AllocError>
+    ensures { IfOk result (λ _. output.new.items ≡ output.old.items
+        ++ flat_map (λ x. codes " and " ++ assignment_text x) (map assignment_of variables.now)) }
+{
+    for variable in variables {
+        output.extend_from_slice(b" and ")?;
+        push_assignment(output, variable)?;
+    }
+    Ok(())
+}
+
+/// Appends the variables, each equal to its string, as a marker: `python_version == "3.13" and os_name == "nt"`; nothing of none.
+///
+/// Allocates.
+pub fn push_environment(
+    output: &mut Vec<u8>,
+    variables: &[FoundVariable<'_>],
+) -> Result<(), AllocError>
+    ensures { IfOk result (λ _. output.new.items ≡ output.old.items ++ environment_text (map assignment_of variables.now)) }
+{
+    match variables {
+        [] => Ok(()),
+        [first, others @ ..] => {
+            push_assignment(output, first)?;
+            push_others(output, others)
+        }
+    }
 }

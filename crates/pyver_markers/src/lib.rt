@@ -1,6 +1,6 @@
 //! Environment markers in environments, and as sets of them.
 //!
-//! In the order in which to read it: `environment`, what variables are; `text` and `version`, how two strings compare; `marker_comparison`;
+//! In the order in which to read it: `environment`, what variables are and how they are written; `text` and `version`, how two strings compare; `marker_comparison`;
 //! `environment_box`, sets of environments, with `emptiness`, by `text_condition`, `version_condition` and `release_condition`; `marker_boxes`, from steps;
 //! `found_environment`; `environment_marker`, which reads markers and asks all this.
 #![tactic(auto)]
@@ -18,7 +18,7 @@ mod text_condition;
 mod version;
 mod version_condition;
 
-pub use environment::{Setting, Variable};
+pub use environment::{Setting, Variable, push_environment};
 pub use environment_box::{Condition, EnvironmentBox};
 pub use environment_marker::{EnvironmentMarker, MarkerExtent};
 pub use found_environment::FoundVariable;

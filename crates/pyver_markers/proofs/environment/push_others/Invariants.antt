@@ -1,9 +1,8 @@
 use Rattle.std.proofs.Common.{◌≡◌, ◌++◌, codes, drop, map}
 use Rattle.std.specs.List.{flat_map}
-use Rattle.pyver_commands.specs.MarkerExtents.{assignment_text}
 use Rattle.pyver_markers.specs.EnvironmentViews.{assignment_of}
-use Rattle.pyver_markers.specs.Environments.{Assignment}
-use Rattle.pyver_commands.proofs.extent.push_others.Given as goal
+use Rattle.pyver_markers.specs.Environments.{Assignment, assignment_text}
+use Rattle.pyver_markers.proofs.environment.push_others.Given as goal
 
 abbrev pub invariant-loop-variable : goal.invariant-loop-variable
 invariant-loop-variable l =
