@@ -1,7 +1,8 @@
 -- What is reported: each line that ought to be a requirement and is none, each constraint that pip does not take, and some of the lines of a name
 -- that have no version in common; and that there is one meaning and one report.
-use Rattle.std.proofs.Common.{Bool, Err, List, None, Ok, Option, Result, Some, [], ap, append_assoc, arith, false, get_or, if◌then◌else◌, inl, inr, length, map, option_map, refl, subst, suc, sym, true, zero, ℕ, ◌++◌, ◌<◌, ◌∙◌, ◌∷◌, ◌≡◌}
+use Rattle.std.proofs.Common.{Bool, Err, List, None, Ok, Option, Result, Some, [], ap, append_assoc, arith, false, get_or, if◌then◌else◌, inl, inr, length, map, not, option_map, refl, subst, suc, sym, true, zero, ℕ, ◌++◌, ◌<◌, ◌∙◌, ◌∷◌, ◌≡◌}
 use Rattle.std.proofs.lemmas.Bool.{true≢false}
+use Rattle.std.proofs.lemmas.List.{map-append}
 use Rattle.std.proofs.lemmas.List.Elements.{All-contains_itself, All-filter, All-weaker}
 use Rattle.std.specs.List.{All, AllZip, Contains, filter, flat_map}
 use Rattle.pep440_pick.specs.RequirementGrammar.{DerivesRequirement, Needed, RequirementRejection}
@@ -10,13 +11,13 @@ use Rattle.pyver_findings.proofs.Holding.{IsAsked, all_asked, derived_sound}
 use Rattle.pyver_findings.proofs.SmallestLists.{none_by, some_allowed}
 use Rattle.pyver_findings.specs.Conflicts.{conflicts, counts_under, has_same_name, have_none, under}
 use Rattle.pyver_findings.specs.Demands.{Demand, IsSound}
-use Rattle.pyver_findings.specs.FileLines.{File, FileLine, Finding, NoRequirement, all_lines}
+use Rattle.pyver_findings.specs.FileLines.{Conflicting, File, FileLine, Finding, NoRequirement, all_lines}
 use Rattle.pyver_findings.specs.NamedFiles.{constraints_files}
-use Rattle.pyver_findings.specs.FindingLaws.{ConflictsHaveFindings, FitsUrl, HasMarker, HaveNone, InvalidLinesHaveFindings, IsAlone, IsAmong, IsRequirementLine, IsWrongConstraint, LacksRequirement, MeaningsOnce, ReportsOnce, WrongConstraintsHaveFindings}
+use Rattle.pyver_findings.specs.FindingLaws.{ConflictsHaveFindings, FitsUrl, HasMarker, HaveNone, InvalidLinesHaveFindings, IsAlone, IsAmong, IsRequirementLine, IsWrongConstraint, LacksRequirement, MeaningsOnce, ReportsOnce, WrongConstraintsHaveFindings, without_environment, without_environments}
 use Rattle.pyver_findings.specs.LineMeanings.{IsKindMeaning, IsMeaning, IsNone, IsPartsMeaning, IsPlain, LeftOut, LineMeaning, constraint_faults, has_extras, has_right_url, invalid_line, kind_faults, not_plain, rejection_meaning, requirement_meaning, under_marker, with_marker, with_url}
 use Rattle.pyver_findings.specs.MarkerPairs.{FindsOfNames}
 use Rattle.pyver_findings.specs.Views.{AddsFindings, AddsFound, KeepsReadings, demand_of, finding_of}
-use Rattle.pyver_findings.specs.Reports.{IsReport, Report, constraint_findings, demands_in, found_in, invalid_in, left_out_in}
+use Rattle.pyver_findings.specs.Reports.{IsReport, Report, both_counts, constraint_findings, demands_in, found_in, invalid_in, is_ignored, joined_report, left_out_in, without_ignored}
 use Rattle.pyver_findings.specs.declared.cause.Cause.{Cause}
 use Rattle.pyver_findings.specs.declared.finding.Finding.{Finding as FindingValue}
 use Rattle.pyver_findings.specs.declared.report.Readings.{Readings}
@@ -68,10 +69,47 @@ reports_once files r s (xs, h, fs, cs, finds, a) (ys, k, gs, ds, also, b) decide
     let asked : flat_map demands_in ys ≡ flat_map demands_in xs = ap (flat_map demands_in) (sym same) in
     let none = no_causes (flat_map left_out_in xs) cs (names_tell (flat_map demands_in xs) fs cs finds) (λ known. decided (subst (λ (q : Report). Contains q.left_out cause.Undecided) (sym a) known)) in
     let nothing = no_causes (flat_map left_out_in ys) ds (names_tell (flat_map demands_in ys) gs ds also) (λ known. again (subst (λ (q : Report). Contains q.left_out cause.Undecided) (sym b) known)) in
-    let found : fs ≡ gs =
+    let found : map without_environment fs ≡ map without_environment gs =
     names_once (flat_map demands_in xs) fs gs (subst (FindsOfNames (flat_map demands_in xs) fs) none finds) (subst (FindsOfNames (flat_map demands_in xs) gs) nothing (subst (λ demands. FindsOfNames demands gs ds) asked also)) in
     let left : cs ≡ ds = none ∙ sym nothing in
-    a ∙ (λ j. record { findings = found_in files (same j) ++ found j; ignored = []; lines = length (all_lines files); files = length files; left_out = flat_map left_out_in (same j) ++ left j }) ∙ sym b
+    let all : map without_environment (found_in files xs ++ fs) ≡ map without_environment (found_in files ys ++ gs) =
+    map-append without_environment (found_in files xs) fs ∙ (λ j. map without_environment (found_in files (same j)) ++ found j) ∙ sym (map-append without_environment (found_in files ys) gs) in
+    ap without_environments a
+    ∙ (λ j. record { findings = all j; ignored = []; lines = length (all_lines files); files = length files; left_out = flat_map left_out_in (same j) ++ left j })
+    ∙ sym (ap without_environments b)
+
+-- two reports as one name the environments of both
+pub joined_alike : (r s : Report) → without_environments (joined_report r s) ≡ joined_report (without_environments r) (without_environments s)
+joined_alike r s = λ j. record {
+  findings = map-append without_environment r.findings s.findings j;
+  ignored = map-append without_environment r.ignored s.ignored j;
+  lines = both_counts r.lines s.lines;
+  files = both_counts r.files s.files;
+  left_out = r.left_out ++ s.left_out;
+}
+
+ignored_so : (f : Finding) → is_ignored f ≡ is_ignored (without_environment f)
+ignored_so (NoRequirement l reason column) = refl
+ignored_so (Conflicting conflict lines environment) = refl
+
+kept_by : (b c : Bool) (f : Finding) (gs hs : List Finding) → b ≡ c → map without_environment gs ≡ hs
+    → map without_environment (if b then f ∷ gs else gs) ≡ (if c then without_environment f ∷ hs else hs)
+kept_by true true f gs hs same rest = ap (λ l. without_environment f ∷ l) rest
+kept_by true false f gs hs same rest = absurd (true≢false same)
+kept_by false true f gs hs same rest = absurd (true≢false (sym same))
+kept_by false false f gs hs same rest = rest
+
+filtered_alike : (keeps : Finding → Bool) → ((f : Finding) → keeps f ≡ keeps (without_environment f)) → (fs : List Finding)
+    → map without_environment (filter keeps fs) ≡ filter keeps (map without_environment fs)
+filtered_alike keeps so [] = refl
+filtered_alike keeps so (f ∷ fs) = kept_by (keeps f) (keeps (without_environment f)) f (filter keeps fs) (filter keeps (map without_environment fs)) (so f) (filtered_alike keeps so fs)
+
+-- comments ignore findings whatever environment these name
+pub ignored_alike : (r : Report) → without_environments (without_ignored r) ≡ without_ignored (without_environments r)
+ignored_alike r =
+    let kept = filtered_alike (λ f. not (is_ignored f)) (λ f. ap not (ignored_so f)) r.findings in
+    let left = map-append without_environment r.ignored (filter is_ignored r.findings) ∙ ap (λ l. map without_environment r.ignored ++ l) (filtered_alike is_ignored ignored_so r.findings) in
+    λ j. record { findings = kept j; ignored = left j; lines = r.lines; files = r.files; left_out = r.left_out }
 
 -- ---- lines that are no requirements
 

@@ -56,9 +56,9 @@ module _ (lines : List FileLine) where
   unmapped (a ∷ some) k = All-cons IsOne a some (All-head (Contains lines) a.line (map (λ (b : Demand). b.line) some) k) (unmapped some (All-tail (Contains lines) a.line (map (λ (b : Demand). b.line) some) k))
 
   -- of lines with nothing in common some are reported
-  pub all_found : (some : List Demand) → All IsOne some → have_none some ≡ true → Some_is (IsAmong lines) (of_all some)
+  pub all_found : (some : List Demand) → All IsOne some → have_none some ≡ true → Some_is (IsAmong lines) (of_all None some)
   all_found some k empty =
-      subst (λ e. Some_is (IsAmong lines) (if e then Conflicting (conflict_kind (smallest some)) (map (λ (a : Demand). a.line) (smallest some)) ∷ [] else [])) (sym empty)
+      subst (λ e. Some_is (IsAmong lines) (if e then Conflicting (conflict_kind (smallest some)) (map (λ (a : Demand). a.line) (smallest some)) None ∷ [] else [])) (sym empty)
       (inl (some_lines (smallest some) (smallest_none some empty), mapped (smallest some) (all_smallest IsOne some k)))
 
 -- ---- first mentions
@@ -184,7 +184,7 @@ ones_of some = unmapped (map (λ (a : Demand). a.line) some) some (All-contains_
 -- the lines under the marker are among these
 module _ (known : List FileLine) (lines : List Demand) (marker : Option (List ℕ)) (somewhere : holds_nowhere marker ≡ false) (ones : All (IsOne known) (under marker lines)) where
   -- the lines without a marker have nothing in common
-  by_none : have_none (under None lines) ≡ true → Some_is (IsAmong known) (of_all (under None lines))
+  by_none : have_none (under None lines) ≡ true → Some_is (IsAmong known) (of_all None (under None lines))
   by_none e = all_found known (under None lines) (all_sub (IsOne known) (counts_under None) (counts_under marker) (λ x. none_counts x.marker marker) lines ones) e
 
   -- a line has the marker
@@ -193,7 +193,7 @@ module _ (known : List FileLine) (lines : List Demand) (marker : Option (List �
   by_line none a has is =
       reach (λ (x : Demand). x.marker) has_same_marker (λ x y. marker_yes x.marker y.marker) (λ x y. marker_alike x.marker y.marker) (IsAmong known) (λ (b : Demand). of_marker b.marker lines) a
       (λ b e. subst (λ n. Some_is (IsAmong known) (of_marker n lines)) (sym (e ∙ is))
-      (subst (λ none. Some_is (IsAmong known) (if none then [] else of_all (under marker lines))) (sym somewhere) (all_found known (under marker lines) ones none))) [] lines refl has
+      (subst (λ none. Some_is (IsAmong known) (if none then [] else of_all None (under marker lines))) (sym somewhere) (all_found known (under marker lines) ones none))) [] lines refl has
 
 by_marker : (known : List FileLine) (lines : List Demand) (marker : Option (List ℕ)) → holds_nowhere marker ≡ false → All (IsOne known) (under marker lines) → have_none (under marker lines) ≡ true → have_none (under None lines) ≡ false
     → Some_is (IsAmong known) (flat_map (λ (b : Demand). of_marker b.marker lines) (first_mentions has_same_marker [] lines))
@@ -205,7 +205,7 @@ by_marker known lines (Some m) somewhere ones none e =
     ]
 
 by_both : (known : List FileLine) (lines : List Demand) (marker : Option (List ℕ)) → holds_nowhere marker ≡ false → All (IsOne known) (under marker lines) → (b : Bool) → have_none (under marker lines) ≡ true → have_none (under None lines) ≡ b
-    → Some_is (IsAmong known) (if b then of_all (under None lines) else flat_map (λ (a : Demand). of_marker a.marker lines) (first_mentions has_same_marker [] lines))
+    → Some_is (IsAmong known) (if b then of_all None (under None lines) else flat_map (λ (a : Demand). of_marker a.marker lines) (first_mentions has_same_marker [] lines))
 by_both known lines marker somewhere ones true none e = by_none known lines marker somewhere ones e
 by_both known lines marker somewhere ones false none e = by_marker known lines marker somewhere ones none e
 

@@ -162,22 +162,22 @@ found_by : (b : Bool) (f : Finding) → b ≡ false → (if b then f ∷ [] else
 found_by b f e = ap (λ c. if c then f ∷ [] else []) e
 
 -- lines that have a version in common are not found
-none_found : (lines : List Demand) → have_none lines ≡ false → of_all lines ≡ []
-none_found lines e = found_by (have_none lines) (Conflicting (conflict_kind (smallest lines)) (map (λ (a : Demand). a.line) (smallest lines))) e
+none_found : (lines : List Demand) → have_none lines ≡ false → of_all None lines ≡ []
+none_found lines e = found_by (have_none lines) (Conflicting (conflict_kind (smallest lines)) (map (λ (a : Demand). a.line) (smallest lines)) None) e
 
 -- under the marker of a line that has one: its group is empty once it was taken
 own_by : (any b : Bool) (always own all group : List Demand) → have_none always ≡ false → have_none (always ++ own) ≡ have_none all → group ≡ (if any then [] else own) → b ≡ have_none (always ++ group)
-    → (if b then of_all all else []) ≡ (if any then [] else of_all all)
-own_by true b always own all group some same is e = ap (λ c. if c then of_all all else []) (e ∙ ap (λ g. have_none (always ++ g)) is ∙ ap have_none (append-nil always) ∙ some)
+    → (if b then of_all None all else []) ≡ (if any then [] else of_all None all)
+own_by true b always own all group some same is e = ap (λ c. if c then of_all None all else []) (e ∙ ap (λ g. have_none (always ++ g)) is ∙ ap have_none (append-nil always) ∙ some)
 own_by false b always own all group some same is e =
-    ap (λ c. if c then of_all all else []) (e ∙ ap (λ g. have_none (always ++ g)) is ∙ same) ∙ twice (have_none all) refl
+    ap (λ c. if c then of_all None all else []) (e ∙ ap (λ g. have_none (always ++ g)) is ∙ same) ∙ twice (have_none all) refl
   where
-    twice : (c : Bool) → have_none all ≡ c → (if c then of_all all else []) ≡ of_all all
+    twice : (c : Bool) → have_none all ≡ c → (if c then of_all None all else []) ≡ of_all None all
     twice true h = refl
     twice false h = sym (none_found all h)
 
-always_by : (any b : Bool) (always : List Demand) → have_none always ≡ false → b ≡ have_none (always ++ []) → (if b then of_all always else []) ≡ (if any then [] else of_all always)
-always_by any b always some e = ap (λ c. if c then of_all always else []) (e ∙ ap have_none (append-nil always) ∙ some) ∙ sym (nothing any (of_all always) (none_found always some))
+always_by : (any b : Bool) (always : List Demand) → have_none always ≡ false → b ≡ have_none (always ++ []) → (if b then of_all None always else []) ≡ (if any then [] else of_all None always)
+always_by any b always some e = ap (λ c. if c then of_all None always else []) (e ∙ ap have_none (append-nil always) ∙ some) ∙ sym (nothing any (of_all None always) (none_found always some))
   where
     nothing : (any : Bool) (found : List Finding) → found ≡ [] → (if any then [] else found) ≡ []
     nothing true found e = refl
@@ -185,7 +185,7 @@ always_by any b always some e = ap (λ c. if c then of_all always else []) (e �
 
 at_marker : (marker : Option (List ℕ)) (any b : Bool) (lines always : List Demand) (groups : List ℕ → List Demand) → All IsSound lines → always ≡ under None lines → have_none always ≡ false
     → ((m : List ℕ) → marker ≡ Some m → groups m ≡ (if any then [] else filter (has_marker m) lines)) → b ≡ have_none (always ++ option_map_or groups marker [])
-    → (if b then of_all (under marker lines) else []) ≡ (if any then [] else of_all (under marker lines))
+    → (if b then of_all None (under marker lines) else []) ≡ (if any then [] else of_all None (under marker lines))
 at_marker None any b lines always groups sound is some taken e =
     always_by any b (under None lines) (ap have_none (sym is) ∙ some) (e ∙ ap (λ l. have_none (l ++ [])) is)
 at_marker (Some m) any b lines always groups sound is some taken e =
@@ -205,6 +205,6 @@ pub at_line : (a : Demand) (b : Bool) (lines always before : List Demand) (group
     → ((q : List ℕ) → groups q ≡ (if list_any (has_marker q) before then [] else filter (has_marker q) lines)) → b ≡ have_none (always ++ option_map_or groups a.marker [])
     → (if b then of_marker a.marker lines else []) ≡ made_first has_same_marker (λ (x : Demand). of_marker x.marker lines) before a
 at_line a b lines always before groups sound is some taken e =
-    nowhere_by (holds_nowhere a.marker) (list_any (has_same_marker a) before) b (of_all (under a.marker lines))
+    nowhere_by (holds_nowhere a.marker) (list_any (has_same_marker a) before) b (of_all None (under a.marker lines))
     (at_marker a.marker (list_any (has_same_marker a) before) b lines always groups sound is some
     (λ m has. taken m ∙ ap (λ n. if list_any (λ (x : Demand). same_marker n x.marker) before then [] else filter (has_marker m) lines) (sym has)) e)

@@ -17,15 +17,16 @@ use Rattle.pyver_findings.specs.Demands.{Demand, IsSound, is_pinned, line_demand
 use Rattle.pyver_findings.specs.Conflicts.{conflict_kind, conflicts, counts_under, first_mentions, have_none, holds_nowhere, of_all, of_marker, of_name, has_same_marker, has_same_name, same_marker, smallest, under}
 use Rattle.pyver_findings.specs.FileLines.{Conflicting, File, FileLine, Finding, NoRequirement, all_lines}
 use Rattle.pyver_findings.specs.NamedFiles.{constraints_files}
-use Rattle.pyver_findings.specs.FindingLaws.{AreNeeded, AsksFor, CountTogether, CountsIn, CountsUnder, FindingsHold, FitsConflict, HasMarker, HoldTogether, IsRight, IsRightBy, IsRightConflict, IsRightConstraint, IsRightPair, LineAllows, NamesVersion}
+use Rattle.pyver_findings.specs.FindingLaws.{AreNeeded, AreRightBy, AsksFor, CountTogether, CountsIn, CountsUnder, FindingsHold, FitsConflict, HasMarker, HoldUnder, IsRight, IsRightConflict, IsRightConstraint, IsRightPair, LineAllows, NamesVersion}
 use Rattle.pyver_findings.specs.LineMeanings.{IsNone, LeftOut, LineMeaning, AsksNothing, IsKindMeaning, IsMeaning, constraint_faults, has_extras, has_right_url, kind_faults, requirement_meaning, has_scheme, names_file, under_marker, with_marker, with_url}
-use Rattle.pyver_findings.specs.MarkerPairs.{AsksIn, FindsDecided, FindsOfEach, FindsOfFirsts, FindsOfName, FindsOfNames, FindsOfSet, FindsOfSets, IsDecision, conflicting_sets, counts_with, few_first_lines, lines_to_pair, under_any}
+use Rattle.pyver_findings.specs.MarkerPairs.{AskUnder, AsksIn, FindsDecided, FindsOfEach, FindsOfFirsts, FindsOfName, FindsOfNames, FindsOfSet, FindsOfSets, IsDecision, conflicting_sets, counts_with, few_first_lines, lines_to_pair, under_any}
 use Rattle.pyver_findings.proofs.Found.{marker_yes}
 use Rattle.pyver_findings.proofs.SmallestLists.{Allows, IsSpared, all_smallest, none_allowed, smallest_none, smallest_right}
 use Rattle.pyver_findings.proofs.Rejecting.{invalid_right}
 use Rattle.pyver_findings.specs.Reports.{Report, demands_in, invalid_in}
 use Rattle.pyver_findings.specs.declared.cause.Cause.{Cause}
 use Rattle.pyver_findings.specs.declared.cause.Cause.TheVariants as cause
+use Rattle.pyver_findings.specs.declared.finding.Conflict.{Conflict}
 use Rattle.pyver_findings.specs.declared.finding.Conflict.TheVariants.{NoVersion, PinOutside, TwoPins}
 use Rattle.pyver_findings.specs.declared.marker_pairs.Decision.{Decision}
 use Rattle.pyver_findings.specs.declared.marker_pairs.Decision.TheVariants.{Apart, Together, Unknown}
@@ -247,11 +248,12 @@ module _ (parts : List ℕ → LineParts) where
       abbrev pub Counts : Option (List ℕ) → Demand → Type 0
       Counts marker a = IsNamed a × (counts_under marker a ≡ true)
 
-      right_by : (Count : List FileLine → Type 0) (lines : List Demand) → All IsNamed lines → Count (map (λ (a : Demand). a.line) (smallest lines)) → All (IsRightBy parts Count read) (of_all lines)
-      right_by Count lines named counts =
+      right_by : (Count : List FileLine → Type 0) (P : Finding → Type 0) (environment : Option (List ℕ)) → ((conflict : Conflict) (together : List FileLine) → AreRightBy parts Count read conflict together → P (Conflicting conflict together environment))
+          → (lines : List Demand) → All IsNamed lines → Count (map (λ (a : Demand). a.line) (smallest lines)) → All P (of_all environment lines)
+      right_by Count P environment so lines named counts =
           let some = smallest lines in
           let these = all_smallest IsNamed lines named in
-          where_true (IsRightBy parts Count read) (have_none lines) (Conflicting (conflict_kind some) (map (λ (a : Demand). a.line) some)) (λ e. (
+          where_true P (have_none lines) (Conflicting (conflict_kind some) (map (λ (a : Demand). a.line) some) environment) (λ e. so (conflict_kind some) (map (λ (a : Demand). a.line) some) (
             mapped (Contains read) IsNamed (λ a one. one.0.0) some these,
             counts,
             kind_fits some these,
@@ -259,18 +261,18 @@ module _ (parts : List ℕ → LineParts) where
             needed parts [] some (All-nil (IsDerived parts)) (derived some these) (smallest_right lines (sound parts lines (derived lines named)) e).2,
           ))
 
-      all_right : (marker : Option (List ℕ)) (lines : List Demand) → holds_nowhere marker ≡ false → All IsNamed lines → All (Counts marker) lines → All (IsRightConflict parts read) (of_all lines)
+      all_right : (marker : Option (List ℕ)) (lines : List Demand) → holds_nowhere marker ≡ false → All IsNamed lines → All (Counts marker) lines → All (IsRightConflict parts read) (of_all None lines)
       all_right marker lines somewhere named k =
           let some = smallest lines in
-          right_by (CountTogether parts) lines named
+          right_by (CountTogether parts) (IsRightConflict parts read) None (λ conflict together right. right) lines named
           (name, marker, somewhere, mapped (AsksFor parts name) IsNamed asks_for some (all_smallest IsNamed lines named), mapped (CountsUnder parts marker) (Counts marker) (λ a one. counts_line marker a one.0 (counted_marker a.marker marker one.1)) some (all_smallest (Counts marker) lines k))
 
-      under_right : (marker : Option (List ℕ)) (lines : List Demand) → holds_nowhere marker ≡ false → All IsNamed lines → All (IsRightConflict parts read) (of_all (under marker lines))
+      under_right : (marker : Option (List ℕ)) (lines : List Demand) → holds_nowhere marker ≡ false → All IsNamed lines → All (IsRightConflict parts read) (of_all None (under marker lines))
       under_right marker lines somewhere k =
           let named = All-filter (counts_under marker) IsNamed lines k in
           all_right marker (under marker lines) somewhere named (both IsNamed (λ a. counts_under marker a ≡ true) (under marker lines) named (filter_passes (counts_under marker) lines))
 
-      marker_right : (marker : Option (List ℕ)) (lines : List Demand) → All IsNamed lines → (b : Bool) → holds_nowhere marker ≡ b → All (IsRightConflict parts read) (if b then [] else of_all (under marker lines))
+      marker_right : (marker : Option (List ℕ)) (lines : List Demand) → All IsNamed lines → (b : Bool) → holds_nowhere marker ≡ b → All (IsRightConflict parts read) (if b then [] else of_all None (under marker lines))
       marker_right marker lines k true is = All-nil (IsRightConflict parts read)
       marker_right marker lines k false is = under_right marker lines is k
 
@@ -288,20 +290,33 @@ module _ (parts : List ℕ → LineParts) where
       in_environment e c (((known, derived, marked), same), inl none) = inl (marked ∙ ap (option_map Ok) none)
       in_environment e c (((known, derived, marked), same), inr (text, is, holds)) = inr (text, marked ∙ ap (option_map Ok) is, holds)
 
-      set_right : (set lines : List Demand) → All IsNamed lines → IsDecision set Together → All (IsRightPair parts read) (of_all (under_any set lines))
-      set_right set lines k (variables, asked, system) =
-          let e = asked.environment in
+      -- wherever all lines of the set ask, so do those under their markers
+      under_count : (e : Environment) (set lines : List Demand) → All IsNamed lines → All (AsksIn e) set → All (CountsIn parts e) (map (λ (a : Demand). a.line) (smallest (under_any set lines)))
+      under_count e set lines k ask =
           let these = under_any set lines in
           let named = All-filter (counts_with set) IsNamed lines k in
-          let asking = both IsNamed (AsksIn e) these named (All-weaker (λ c. counts_with set c ≡ true) (AsksIn e) (asks_beside e set (asked.ask e asked.has)) these (filter_passes (counts_with set) lines)) in
-          right_by (HoldTogether parts) these named
-          (name, e, asked.known, mapped (AsksFor parts name) IsNamed asks_for (smallest these) (all_smallest IsNamed these named), mapped (CountsIn parts e) (IsAsking e) (in_environment e) (smallest these) (all_smallest (IsAsking e) these asking))
+          let asking = both IsNamed (AsksIn e) these named (All-weaker (λ c. counts_with set c ≡ true) (AsksIn e) (asks_beside e set ask) these (filter_passes (counts_with set) lines)) in
+          mapped (CountsIn parts e) (IsAsking e) (in_environment e) (smallest these) (all_smallest (IsAsking e) these asking)
+
+      set_right : (set lines : List Demand) (environment : List ℕ) → All IsNamed lines → AskUnder set environment → All (IsRightPair parts read) (of_all (Some environment) (under_any set lines))
+      set_right set lines environment k (variables, asked, system, written) =
+          let these = under_any set lines in
+          let named = All-filter (counts_with set) IsNamed lines k in
+          right_by (HoldUnder parts environment) (IsRightPair parts read) (Some environment) (λ conflict together right. right) these named
+          (variables, record {
+            name = name;
+            ask = mapped (AsksFor parts name) IsNamed asks_for (smallest these) (all_smallest IsNamed these named);
+            environment = asked.environment;
+            known = asked.known;
+            has = asked.has;
+            count = λ e extends. under_count e set lines k (asked.ask e extends);
+          }, system, written)
 
       none_right : (fs : List Finding) → fs ≡ [] → All (IsRightPair parts read) fs
       none_right fs none = subst (All (IsRightPair parts read)) (sym none) (All-nil (IsRightPair parts read))
 
       decided_right : (d : Decision) (set lines : List Demand) → All IsNamed lines → IsDecision set d → (fs : List Finding) (cs : List Cause) → FindsDecided d (under_any set lines) fs cs → All (IsRightPair parts read) fs
-      decided_right Together set lines k decided fs cs (is, also) = subst (All (IsRightPair parts read)) (sym is) (set_right set lines k decided)
+      decided_right (Together environment) set lines k decided fs cs (is, also) = subst (All (IsRightPair parts read)) (sym is) (set_right set lines environment.items k decided)
       decided_right Apart set lines k decided fs cs (is, also) = none_right fs is
       decided_right Unknown set lines k decided fs cs (is, also) = none_right fs is
 
@@ -334,11 +349,11 @@ module _ (parts : List ℕ → LineParts) where
 
 rightly : (lines : List FileLine) (f : Finding) → IsRightConflict pip_parts lines f → IsRight lines f
 rightly lines (NoRequirement l reason column) right = absurd right
-rightly lines (Conflicting conflict together) right = inl right
+rightly lines (Conflicting conflict together environment) right = inl right
 
 paired : (lines : List FileLine) (f : Finding) → IsRightPair pip_parts lines f → IsRight lines f
 paired lines (NoRequirement l reason column) right = absurd right
-paired lines (Conflicting conflict together) right = inr right
+paired lines (Conflicting conflict together environment) right = inr right
 
 -- a constraint that is reported is one that pip does not take
 module _ (files : List File) where

@@ -3,16 +3,19 @@ use Rattle.std.proofs.Common.{arith, ◌≡◌, ◌⊎◌, ◌+◌, ◌-◌, ◌
 use Rattle.std.proofs.lemmas.Bool.{false_from_ne_true, ltb-false, ltb-true, true≢false}
 use Rattle.std.proofs.lemmas.List.Elements.{All-cons, All-head, All-nil, All-tail}
 use Rattle.std.proofs.lemmas.List.{append-nil, drop_all, length-append, length-map, map-append, take_all, take_more}
+use Rattle.std.specs.Global.{Vec}
 use Rattle.std.specs.List.{All, Contains, filter, list_any}
+use Rattle.std.specs.Prelude.{IfSome}
 use Rattle.pyver_findings.proofs.Steps.{rest_at}
 use Rattle.pyver_findings.specs.Conflicts.{conflict_kind, first_mentions, has_same_marker, has_same_name, have_none, holds_nowhere, is_read_contradictory, of_all, smallest}
 use Rattle.pyver_findings.specs.Demands.{Demand}
-use Rattle.pyver_findings.specs.FileLines.{Conflicting, Finding}
-use Rattle.pyver_findings.specs.FindingLaws.{HeldMarkersCount}
-use Rattle.pyver_findings.specs.MarkerPairs.{AreJoined, AsksIn, ConflictingSets, FindsDecided, FindsNothing, FindsOfEach, FindsOfFirsts, FindsOfName, FindsOfNames, FindsOfSet, FindsOfSets, HasDenoted, IsDenotedBySteps, IsDecision, KnowsSteps, conflicting_sets, few_first_lines, first_lines, lines_to_pair, under_any, with_first}
+use Rattle.pyver_findings.specs.FileLines.{Conflicting, FileLine, Finding}
+use Rattle.pyver_findings.specs.FindingLaws.{HeldMarkersCount, without_environment}
+use Rattle.pyver_findings.specs.MarkerPairs.{AreJoined, AsksIn, ConflictingSets, FindsDecided, FindsNothing, FindsOfEach, FindsOfFirsts, FindsOfName, FindsOfNames, FindsOfSet, FindsOfSets, HasDenoted, HoldsUnder, IsDenotedBySteps, IsDecision, KnowsSteps, conflicting_sets, few_first_lines, first_lines, lines_to_pair, under_any, with_first}
 use Rattle.pyver_findings.specs.Views.{AddsFindings, AddsFound, finding_of}
 use Rattle.pyver_findings.specs.declared.cause.Cause.{Cause}
 use Rattle.pyver_findings.specs.declared.cause.Cause.TheVariants as cause
+use Rattle.pyver_findings.specs.declared.finding.Conflict.{Conflict}
 use Rattle.pyver_findings.specs.declared.finding.Finding.{Finding as FindingValue}
 use Rattle.pyver_findings.specs.declared.marker_pairs.Decision.{Decision}
 use Rattle.pyver_findings.specs.declared.marker_pairs.Decision.TheVariants.{Apart, Together, Unknown}
@@ -78,11 +81,11 @@ of_second m n variables x = record {
   writable = x.writable;
 }
 
-pub found_on_system : (Is : Marker → Type 0) (system all joined : List Step) (b : Bool) → IsDenotedBySteps Is system → ((m n : Marker) → system ≡ steps m → all ≡ steps n → joined ≡ steps (Both m n)) → (b ≡ true → KnowsSteps joined Together)
-    → b ≡ true → KnowsSteps all Together
-found_on_system Is system all joined b ((m, is), only) join found so =
-    let (variables, example, one) = found so in
-    (variables, (λ n e. of_second m n variables (example (Both m n) (join m n (only m is) e))), one)
+pub found_on_system : (Is : Marker → Type 0) (system all joined : List Step) (found : Option (Vec ℕ)) → IsDenotedBySteps Is system → ((m n : Marker) → system ≡ steps m → all ≡ steps n → joined ≡ steps (Both m n))
+    → IfSome found (λ e. HoldsUnder joined e.items) → IfSome found (λ e. HoldsUnder all e.items)
+found_on_system Is system all joined None has join holds = tt
+found_on_system Is system all joined (Some environment) ((m, is), only) join (variables, example, one, written) =
+    (variables, (λ n e. of_second m n variables (example (Both m n) (join m n (only m is) e))), one, written)
 
 -- where the joined marker holds, all lines ask
 all_ask : (e : Environment) (set : List Demand) (m : Marker) → AreJoined set m → value e m ≡ Some true → All (AsksIn e) set
@@ -106,9 +109,9 @@ all_held e (a ∷ (b ∷ rest)) m (x, y, has, are, is) ask =
     (Both n l, (n, l, first, others, refl), (λ i. both_hold (holds i) (hold i)))
 
 pub known : (set : List Demand) (all : List Step) (d : Decision) → IsDenotedBySteps (AreJoined set) all → KnowsSteps all d → IsDecision set d
-known set all Together ((m, is), only) (variables, example, system) =
+known set all (Together environment) ((m, is), only) (variables, example, system, written) =
     let x = example m (only m is) in
-    (variables, record { environment = x.environment; known = x.known; has = x.has; ask = λ e extends. all_ask e set m is (x.holds e extends) }, system)
+    (variables, record { environment = x.environment; known = x.known; has = x.has; ask = λ e extends. all_ask e set m is (x.holds e extends) }, system, written)
 known set all Apart ((m, is), only) never = λ e one ask. let held = all_held e set m is ask in never held.0 (only held.0 held.1) e one held.2
 known set all Unknown has knows = tt
 
@@ -143,8 +146,9 @@ finish Rest Whole old new before after r (fs, cs, k, so_far, so) =
 
 -- lines that have no version in common, by what is known of their markers
 module _ (lines : List Demand) (old new : List FindingValue) (before after : List Cause) where
-  pub decided_together : (d : Decision) → d ≡ Together → AddsFindings old new (of_all lines) → after ≡ before → AddsFound (FindsDecided d lines) old new before after
-  decided_together d is adds also = subst (λ e. AddsFound (FindsDecided e lines) old new before after) (sym is) (of_all lines, [], (refl, refl), adds, also ∙ sym (append-nil before))
+  pub decided_together : (environment : Vec ℕ) (d : Decision) → d ≡ Together environment → AddsFindings old new (of_all (Some environment.items) lines) → after ≡ before → AddsFound (FindsDecided d lines) old new before after
+  decided_together environment d is adds also =
+      subst (λ e. AddsFound (FindsDecided e lines) old new before after) (sym is) (of_all (Some environment.items) lines, [], (refl, refl), adds, also ∙ sym (append-nil before))
 
   pub decided_apart : (d : Decision) → d ≡ Apart → new ≡ old → after ≡ before → AddsFound (FindsDecided d lines) old new before after
   decided_apart d is same also = subst (λ e. AddsFound (FindsDecided e lines) old new before after) (sym is) (nothing_found (FindsDecided Apart lines) old new before after (refl, refl) same also)
@@ -344,7 +348,7 @@ undecided_told true cs is = inr (subst Tells (sym is) (inl refl))
 undecided_told false cs is = inl is
 
 decided_told : (d : Decision) (lines : List Demand) (fs : List Finding) (cs : List Cause) → FindsDecided d lines fs cs → IsTold cs
-decided_told Together lines fs cs (is, also) = inl also
+decided_told (Together environment) lines fs cs (is, also) = inl also
 decided_told Apart lines fs cs (is, also) = inl also
 decided_told Unknown lines fs cs (is, also) = undecided_told (have_none lines) cs also
 
@@ -368,37 +372,49 @@ both_nil [] [] is = (refl, refl)
 both_nil [] (d ∷ ds) is = cc is
 both_nil (c ∷ cs) ds is = cc is
 
--- what this finds is one thing, where nothing is left open
+-- what this finds is one thing but for environments, where nothing is left open
 abbrev pub IsOnce : (List Finding → List Cause → Type 0) → Type 0
-IsOnce P = (fs gs : List Finding) → P fs [] → P gs [] → fs ≡ gs
+IsOnce P = (fs gs : List Finding) → P fs [] → P gs [] → map without_environment fs ≡ map without_environment gs
+
+same_findings : (fs gs : List Finding) → fs ≡ gs → map without_environment fs ≡ map without_environment gs
+same_findings fs gs is = ap (map without_environment) is
 
 pub each_once : {X : Type 0} (P : X → List Finding → List Cause → Type 0) → ((x : X) → IsOnce (P x)) → (xs : List X) → IsOnce (FindsOfEach P xs)
-each_once P once [] fs gs (is, _) (so, _) = is ∙ sym so
+each_once P once [] fs gs (is, _) (so, _) = same_findings fs gs (is ∙ sym so)
 each_once P once (x ∷ rest) fs gs (f, g, c, d, here, later, is, nil) (f', g', c', d', here', later', is', nil') =
     let one = both_nil c d nil in
     let other = both_nil c' d' nil' in
     let first = once x f f' (subst (P x f) one.0 here) (subst (P x f') other.0 here') in
     let others = each_once P once rest g g' (subst (FindsOfEach P rest g) one.1 later) (subst (FindsOfEach P rest g') other.1 later') in
-    is ∙ (λ j. first j ++ others j) ∙ sym is'
+    same_findings fs (f ++ g) is ∙ map-append without_environment f g ∙ (λ j. first j ++ others j) ∙ sym (map-append without_environment f' g') ∙ same_findings (f' ++ g') gs (sym is')
 
 -- where lines have a version in common, nothing is found
-of_none : (lines : List Demand) (b : Bool) → have_none lines ≡ b → [] ≡ (if b then cause.Undecided ∷ [] else []) → of_all lines ≡ []
-of_none lines true is told = cc told
-of_none lines false is told = ap (λ b. if b then Conflicting (conflict_kind (smallest lines)) (map (λ (a : Demand). a.line) (smallest lines)) ∷ [] else []) is
+of_none : (environment : Option (List ℕ)) (lines : List Demand) (b : Bool) → have_none lines ≡ b → [] ≡ (if b then cause.Undecided ∷ [] else []) → of_all environment lines ≡ []
+of_none environment lines true is told = cc told
+of_none environment lines false is told = ap (λ b. if b then Conflicting (conflict_kind (smallest lines)) (map (λ (a : Demand). a.line) (smallest lines)) environment ∷ [] else []) is
 
-apart_and_together : (set : List Demand) → IsDecision set Together → IsDecision set Apart → ⊥
-apart_and_together set (variables, asked, system) apart = apart asked.environment asked.known (asked.ask asked.environment asked.has)
+-- in whatever environment, the lines are the same
+wherever : (one other : Option (List ℕ)) (b : Bool) (kind : Conflict) (some : List FileLine)
+    → map without_environment (if b then Conflicting kind some one ∷ [] else []) ≡ map without_environment (if b then Conflicting kind some other ∷ [] else [])
+wherever one other true kind some = refl
+wherever one other false kind some = refl
 
-decided_once : (d e : Decision) (set lines : List Demand) (fs gs : List Finding) → IsDecision set d → IsDecision set e → FindsDecided d lines fs [] → FindsDecided e lines gs [] → fs ≡ gs
-decided_once Together Together set lines fs gs k l (is, _) (so, _) = is ∙ sym so
-decided_once Together Apart set lines fs gs k l finds found = absurd (apart_and_together set k l)
-decided_once Together Unknown set lines fs gs k l (is, _) (so, told) = is ∙ of_none lines (have_none lines) refl told ∙ sym so
-decided_once Apart Together set lines fs gs k l finds found = absurd (apart_and_together set l k)
-decided_once Apart Apart set lines fs gs k l (is, _) (so, _) = is ∙ sym so
-decided_once Apart Unknown set lines fs gs k l (is, _) (so, _) = is ∙ sym so
-decided_once Unknown Together set lines fs gs k l (is, told) (so, _) = is ∙ sym (of_none lines (have_none lines) refl told) ∙ sym so
-decided_once Unknown Apart set lines fs gs k l (is, _) (so, _) = is ∙ sym so
-decided_once Unknown Unknown set lines fs gs k l (is, _) (so, _) = is ∙ sym so
+apart_and_together : (set : List Demand) (environment : Vec ℕ) → IsDecision set (Together environment) → IsDecision set Apart → ⊥
+apart_and_together set environment (variables, asked, system, written) apart = apart asked.environment asked.known (asked.ask asked.environment asked.has)
+
+decided_once : (d e : Decision) (set lines : List Demand) (fs gs : List Finding) → IsDecision set d → IsDecision set e → FindsDecided d lines fs [] → FindsDecided e lines gs [] → map without_environment fs ≡ map without_environment gs
+decided_once (Together one) (Together other) set lines fs gs k l (is, _) (so, _) =
+    same_findings fs (of_all (Some one.items) lines) is
+    ∙ wherever (Some one.items) (Some other.items) (have_none lines) (conflict_kind (smallest lines)) (map (λ (a : Demand). a.line) (smallest lines))
+    ∙ same_findings (of_all (Some other.items) lines) gs (sym so)
+decided_once (Together one) Apart set lines fs gs k l finds found = absurd (apart_and_together set one k l)
+decided_once (Together one) Unknown set lines fs gs k l (is, _) (so, told) = same_findings fs gs (is ∙ of_none (Some one.items) lines (have_none lines) refl told ∙ sym so)
+decided_once Apart (Together other) set lines fs gs k l finds found = absurd (apart_and_together set other l k)
+decided_once Apart Apart set lines fs gs k l (is, _) (so, _) = same_findings fs gs (is ∙ sym so)
+decided_once Apart Unknown set lines fs gs k l (is, _) (so, _) = same_findings fs gs (is ∙ sym so)
+decided_once Unknown (Together other) set lines fs gs k l (is, told) (so, _) = same_findings fs gs (is ∙ sym (of_none (Some other.items) lines (have_none lines) refl told) ∙ sym so)
+decided_once Unknown Apart set lines fs gs k l (is, _) (so, _) = same_findings fs gs (is ∙ sym so)
+decided_once Unknown Unknown set lines fs gs k l (is, _) (so, _) = same_findings fs gs (is ∙ sym so)
 
 set_once : (lines set : List Demand) → IsOnce (FindsOfSet lines set)
 set_once lines set fs gs (d, k, finds) (e, l, found) = decided_once d e set (under_any set lines) fs gs k l finds found
@@ -408,7 +424,7 @@ sets_once lines sets true fs gs finds found = each_once (FindsOfSet lines) (set_
 sets_once lines sets false fs gs (told, finds, is) found = let none = (both_nil told (cause.Undecided ∷ []) is).1 in cc none
 
 firsts_once : (lines : List Demand) (firsts : Option (List Demand)) → IsOnce (FindsOfFirsts lines firsts)
-firsts_once lines None fs gs (is, _) (so, _) = is ∙ sym so
+firsts_once lines None fs gs (is, _) (so, _) = same_findings fs gs (is ∙ sym so)
 firsts_once lines (Some firsts) fs gs finds found =
     let all = conflicting_sets lines (lines_to_pair lines firsts) in
     sets_once lines all.sets all.whole fs gs finds found

@@ -495,11 +495,11 @@ under_one : (f : Demand) (lines : List Demand) → under_any (f ∷ []) lines �
 under_one f lines = same_filter (counts_with (f ∷ [])) (counts_under f.marker) (λ x. or_one x.marker f.marker) lines
 
 -- what holds of each of these lines that ask, some of which are reported
-module _ (P : Finding → Type 0) (Q : Demand → Type 0) (so : (kind : _) (some : List Demand) → (map (λ (b : Demand). b.line) some ≡ [] → ⊥) → All Q some → P (Conflicting kind (map (λ (b : Demand). b.line) some))) where
-  all_reported : (some : List Demand) → All Q some → have_none some ≡ true → Some_is P (of_all some)
-  all_reported some k none =
-      subst (λ b. Some_is P (if b then Conflicting (conflict_kind (smallest some)) (map (λ (b : Demand). b.line) (smallest some)) ∷ [] else [])) (sym none)
-      (inl (so (conflict_kind (smallest some)) (smallest some) (some_lines (smallest some) (smallest_none some none)) (all_smallest Q some k)))
+module _ (P : Finding → Type 0) (Q : Demand → Type 0) (so : (kind : _) (environment : Option (List ℕ)) (some : List Demand) → (map (λ (b : Demand). b.line) some ≡ [] → ⊥) → All Q some → P (Conflicting kind (map (λ (b : Demand). b.line) some) environment)) where
+  all_reported : (environment : Option (List ℕ)) (some : List Demand) → All Q some → have_none some ≡ true → Some_is P (of_all environment some)
+  all_reported environment some k none =
+      subst (λ b. Some_is P (if b then Conflicting (conflict_kind (smallest some)) (map (λ (b : Demand). b.line) (smallest some)) environment ∷ [] else [])) (sym none)
+      (inl (so (conflict_kind (smallest some)) environment (smallest some) (some_lines (smallest some) (smallest_none some none)) (all_smallest Q some k)))
 
   module _ (e : Environment) (is_one : IsEnvironment e) (lines : List Demand) (sound : All IsSound lines) (asks : (c : Demand) → Contains lines c → AsksIn e c → Q c)
       (asking : List Demand) (known : All (Contains lines) asking) (none : have_none asking ≡ true) (ask : All (AsksIn e) asking) where
@@ -519,7 +519,7 @@ module _ (P : Finding → Type 0) (Q : Demand → Type 0) (so : (kind : _) (some
         All-weaker (λ c. Contains lines c × (counts_with set c ≡ true)) Q (λ c h. asks c h.0 (asks_beside e set k c h.1)) these (both (Contains lines) (λ c. counts_with set c ≡ true) these inside (filter_passes (counts_with set) lines))
 
     decided_found : (d : Decision) (set : List Demand) → Hits lines sound asking known none set → IsDecision set d → (fs : List Finding) (cs : List Cause) → FindsDecided d (under_any set lines) fs cs → FindsOrTells P fs cs
-    decided_found Together set (w, apart) k fs cs (is, also) = inl (subst (Some_is P) (sym is) (all_reported (under_any set lines) (under_asks set (set_asks set w)) apart))
+    decided_found (Together environment) set (w, apart) k fs cs (is, also) = inl (subst (Some_is P) (sym is) (all_reported (Some environment.items) (under_any set lines) (under_asks set (set_asks set w)) apart))
     decided_found Apart set (w, apart) k fs cs finds = absurd (k e is_one (set_asks set w))
     decided_found Unknown set (w, apart) k fs cs (is, also) = inr (subst Tells (sym (also ∙ ap (λ b. if b then cause.Undecided ∷ [] else []) apart)) (inl refl))
 
@@ -617,8 +617,8 @@ module _ (e : Environment) (is_one : IsEnvironment e) (a : Demand) (lines : List
   abbrev Line : FileLine → Type 0
   Line l = (b : Demand) × IsOneIn e a lines b × (b.line ≡ l)
 
-  among_so : (kind : _) (some : List Demand) → (map (λ (b : Demand). b.line) some ≡ [] → ⊥) → All (IsOneIn e a lines) some → Is (Conflicting kind (map (λ (b : Demand). b.line) some))
-  among_so kind some not_none k = (not_none, mapped Line (IsOneIn e a lines) (λ b one. (b, one, refl)) some k)
+  among_so : (kind : _) (environment : Option (List ℕ)) (some : List Demand) → (map (λ (b : Demand). b.line) some ≡ [] → ⊥) → All (IsOneIn e a lines) some → Is (Conflicting kind (map (λ (b : Demand). b.line) some) environment)
+  among_so kind environment some not_none k = (not_none, mapped Line (IsOneIn e a lines) (λ b one. (b, one, refl)) some k)
 
   one_in : (c : Demand) → Contains Named c → AsksIn e c → IsOneIn e a lines c
   one_in c known ask =
@@ -627,7 +627,7 @@ module _ (e : Environment) (is_one : IsEnvironment e) (a : Demand) (lines : List
 
   among_lines : (lines_of : List FileLine) → All Line lines_of → (f : Finding) → IsAmong lines_of f → Is f
   among_lines lines_of k (NoRequirement l reason column) h = h
-  among_lines lines_of k (Conflicting conflict reported) (not_none, known) = (not_none, All-weaker (Contains lines_of) Line (λ l is. All-contains Line lines_of l k is) reported known)
+  among_lines lines_of k (Conflicting conflict reported environment) (not_none, known) = (not_none, All-weaker (Contains lines_of) Line (λ l is. All-contains Line lines_of l k is) reported known)
 
   some_among : (lines_of : List FileLine) → All Line lines_of → (fs : List Finding) → Some_is (IsAmong lines_of) fs → Some_is Is fs
   some_among lines_of k [] h = absurd h

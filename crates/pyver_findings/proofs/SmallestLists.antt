@@ -196,10 +196,10 @@ pub sound_under : (marker : Option (List ℕ)) (lines : List Demand) → All IsS
 sound_under marker lines k = All-filter (counts_under marker) IsSound lines k
 
 -- where the lines without a marker have nothing in common, they decide
-pub of_always : (lines one other : List Demand) → one ≡ under None lines → other ≡ under None lines → have_none (one ++ []) ≡ true → of_all other ≡ of_name lines
+pub of_always : (lines one other : List Demand) → one ≡ under None lines → other ≡ under None lines → have_none (one ++ []) ≡ true → of_all None other ≡ of_name lines
 of_always lines one other is same none =
     let always : have_none (under None lines) ≡ true = sym (ap have_none (nothing_after one ∙ is)) ∙ none in
-    ap of_all same ∙ sym (ap (λ b. if b then of_all (under None lines) else flat_map (λ (a : Demand). of_marker a.marker lines) (first_mentions has_same_marker [] lines)) always)
+    ap (of_all None) same ∙ sym (ap (λ b. if b then of_all None (under None lines) else flat_map (λ (a : Demand). of_marker a.marker lines) (first_mentions has_same_marker [] lines)) always)
 
 -- where the first lines have no version in common with those that are kept, the later ones are left out
 skipped : (kept first : List Demand) → All IsSound kept → All IsSound first → have_none (first ++ kept) ≡ true → (later : List Demand) → All IsSound later → keep kept (later ++ reverse first) ≡ keep kept (reverse first)

@@ -77,9 +77,10 @@ abbrev pub conflict_kind : List Demand → Conflict
 conflict_kind (a ∷ (b ∷ [])) = pin_conflict a b
 conflict_kind _ = NoVersion
 
--- they have no version in common
-abbrev pub of_all : List Demand → List Finding
-of_all lines = if have_none lines then Conflicting (conflict_kind (smallest lines)) (map (λ (a : Demand). a.line) (smallest lines)) ∷ [] else []
+-- they have no version in common, in this environment, if one is named
+abbrev pub of_all : Option (List ℕ) → List Demand → List Finding
+of_all environment lines =
+    if have_none lines then Conflicting (conflict_kind (smallest lines)) (map (λ (a : Demand). a.line) (smallest lines)) environment ∷ [] else []
 
 -- the lines without a marker, and those with this one
 abbrev pub under : Option (List ℕ) → List Demand → List Demand
@@ -97,11 +98,11 @@ holds_nowhere (Some text) = is_read_contradictory (marker_steps text)
 
 -- of the lines that count under the marker
 abbrev pub of_marker : Option (List ℕ) → List Demand → List Finding
-of_marker marker lines = if holds_nowhere marker then [] else of_all (under marker lines)
+of_marker marker lines = if holds_nowhere marker then [] else of_all None (under marker lines)
 
 -- of the lines of one name: those without a marker decide where they have no version in common, and otherwise those of each marker
 abbrev pub of_name : List Demand → List Finding
-of_name lines = if have_none (under None lines) then of_all (under None lines)
+of_name lines = if have_none (under None lines) then of_all None (under None lines)
     else flat_map (λ (a : Demand). of_marker a.marker lines) (first_mentions has_same_marker [] lines)
 
 -- ---- all names

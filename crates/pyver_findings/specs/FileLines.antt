@@ -1,5 +1,5 @@
 -- The logical lines of requirements files, and what is reported of them.
-use Rattle.std.specs.Prelude.{List, map, ℕ}
+use Rattle.std.specs.Prelude.{List, Option, map, ℕ}
 use Rattle.std.specs.List.{flat_map}
 use Rattle.pyver_requirements.specs.LogicalLines.{Line, logical_lines}
 use Rattle.pyver_findings.specs.declared.finding.Conflict.{Conflict}
@@ -28,7 +28,8 @@ file_lines f = map (file_line f.name) (logical_lines f.text)
 abbrev pub all_lines : List File → List FileLine
 all_lines files = flat_map file_lines files
 
--- a line that is no requirement, with the reason and the column at which it is none; lines that cannot be satisfied together
+-- a line that is no requirement, with the reason and the column at which it is none; lines that cannot be satisfied together, and in which environment,
+-- as a marker, if they have several markers
 pub data Finding : Type 0 where
   NoRequirement : FileLine → (reason : List ℕ) → (column : ℕ) → Finding
-  Conflicting : Conflict → (lines : List FileLine) → Finding
+  Conflicting : Conflict → (lines : List FileLine) → (environment : Option (List ℕ)) → Finding

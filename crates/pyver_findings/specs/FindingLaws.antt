@@ -1,6 +1,6 @@
 -- What holds of findings: a line that is reported by itself is no requirement or no constraint, and each that is none is reported; lines that are
 -- reported together count together and cannot be satisfied, and none of them can be left out; those that have no version in common are
--- reported; there is one report, if nothing is undecided.
+-- reported; there is one report but for the environments named, if nothing is undecided.
 use Rattle.std.specs.Prelude.{◌≡◌, ◌⊎◌, ⊤, ℕ, List, [], ◌∷◌, ◌++◌, IsTrue, Option, Some, None, Ok, bytes_eq, false, map, option_map, true}
 use Rattle.std.specs.List.{All, AllZip, Any, Contains, filter, flat_map, list_all}
 use Rattle.pep440_pick.specs.Names.{normal}
@@ -13,13 +13,13 @@ use Rattle.pyver_findings.specs.Demands.{Demand, is_pinned}
 use Rattle.pyver_findings.specs.FileLines.{Conflicting, File, FileLine, Finding, NoRequirement, all_lines}
 use Rattle.pyver_findings.specs.NamedFiles.{constraints_files}
 use Rattle.pyver_findings.specs.LineMeanings.{IsMeaning, IsNone, IsPlain, LineMeaning, has_extras, has_right_url}
-use Rattle.pyver_findings.specs.MarkerPairs.{AsksIn, HoldsIn}
+use Rattle.pyver_findings.specs.MarkerPairs.{AsksIn, HoldsIn, is_one_system}
 use Rattle.pyver_findings.specs.Reports.{IsReport, Report, demands_in}
 use Rattle.pyver_findings.specs.declared.cause.Cause.TheVariants as cause
 use Rattle.pyver_findings.specs.declared.finding.Conflict.{Conflict}
 use Rattle.pyver_findings.specs.declared.finding.Conflict.TheVariants.{NoVersion, PinOutside, TwoPins}
 use Rattle.pyver_markers.specs.Conditions.{IsEnvironment}
-use Rattle.pyver_markers.specs.Environments.{Environment}
+use Rattle.pyver_markers.specs.Environments.{Assignment, Environment, Extends, assigned, environment_text}
 use Rattle.pyver_requirements.specs.LineKinds.{Editable, Invalid, Requirement, line_kind}
 use Rattle.pyver_requirements.specs.LineParts.{LineParts, pip_parts, is_blank_byte, is_url_byte, line_parts}
 use Rattle.pyver_requirements.specs.MarkerReading.{marker}
@@ -90,24 +90,35 @@ module _ (parts : List ℕ → LineParts) where
   abbrev pub CountsIn : Environment → FileLine → Type 0
   CountsIn e l = HasMarker (parts l.text) None ⊎ ((m : List ℕ) × HasMarker (parts l.text) (Some m) × HoldsIn e m)
 
-  -- the lines ask for one name in one environment
-  abbrev pub HoldTogether : List FileLine → Type 0
-  HoldTogether together = (name : List ℕ) × (e : Environment) × IsEnvironment e × All (AsksFor name) together × All (CountsIn e) together
+  -- where the variables are so, the lines ask for one name
+  pub record HoldTogether (variables : List Assignment) (together : List FileLine) : Type 0 where
+    pub name : List ℕ
+    pub ask : All (AsksFor name) together
+    pub environment : Environment
+    pub known : IsEnvironment environment
+    pub has : Extends (assigned variables) environment
+    pub count : (e : Environment) → Extends (assigned variables) e → All (CountsIn e) together
+
+  -- so it is where the marker says, of one system
+  abbrev pub HoldUnder : List ℕ → List FileLine → Type 0
+  HoldUnder environment together = (variables : List Assignment) × HoldTogether variables together × (is_one_system variables ≡ true)
+      × (environment ≡ environment_text variables)
 
   -- lines that are reported together are some of these, count so, no version is allowed by all, and without any one of them some version is
-  abbrev pub IsRightBy : (List FileLine → Type 0) → List FileLine → Finding → Type 0
-  IsRightBy Count lines (NoRequirement l reason column) = ⊥
-  IsRightBy Count lines (Conflicting conflict together) =
+  abbrev pub AreRightBy : (List FileLine → Type 0) → List FileLine → Conflict → List FileLine → Type 0
+  AreRightBy Count lines conflict together =
       All (Contains lines) together × Count together × FitsConflict conflict together × ((v : Record) → IsDenoted v → ¬ All (LineAllows v) together)
       × AreNeeded [] together
 
-  -- no two of them have different markers
+  -- no two of them have different markers, and no environment is named
   abbrev pub IsRightConflict : List FileLine → Finding → Type 0
-  IsRightConflict lines f = IsRightBy CountTogether lines f
+  IsRightConflict lines (Conflicting conflict together None) = AreRightBy CountTogether lines conflict together
+  IsRightConflict lines f = ⊥
 
-  -- their markers hold in one environment
+  -- their markers hold in the environment that is named
   abbrev pub IsRightPair : List FileLine → Finding → Type 0
-  IsRightPair lines f = IsRightBy HoldTogether lines f
+  IsRightPair lines (Conflicting conflict together (Some environment)) = AreRightBy (HoldUnder environment) lines conflict together
+  IsRightPair lines f = ⊥
 
 -- ---- requirements files
 
@@ -115,8 +126,8 @@ module _ (parts : List ℕ → LineParts) where
 -- together are rightly so
 abbrev pub IsRight : List FileLine → Finding → Type 0
 IsRight lines (NoRequirement l reason column) = Contains lines l × (¬ IsRequirementLine l) × IsMeaning l (IsNone (NoRequirement l reason column))
-IsRight lines (Conflicting conflict together) =
-    IsRightConflict pip_parts lines (Conflicting conflict together) ⊎ IsRightPair pip_parts lines (Conflicting conflict together)
+IsRight lines (Conflicting conflict together environment) =
+    IsRightConflict pip_parts lines (Conflicting conflict together environment) ⊎ IsRightPair pip_parts lines (Conflicting conflict together environment)
 
 -- the line is of a file that a line names after `-c`
 abbrev pub IsConstraint : List File → FileLine → Type 0
@@ -129,7 +140,7 @@ IsWrongConstraint l = (line_kind l.text ≡ Editable) ⊎ ((line_kind l.text ≡
 -- the line is such a constraint
 abbrev pub IsRightConstraint : List File → Finding → Type 0
 IsRightConstraint files (NoRequirement l reason column) = IsConstraint files l × IsWrongConstraint l
-IsRightConstraint files (Conflicting conflict together) = ⊥
+IsRightConstraint files (Conflicting conflict together environment) = ⊥
 
 -- each finding of a report is right
 abbrev pub FindingsHold : Type 0
@@ -138,7 +149,7 @@ FindingsHold = (files : List File) (r : Report) → IsReport files r → All (λ
 -- the line is reported by itself
 abbrev pub IsAlone : FileLine → Finding → Type 0
 IsAlone line (NoRequirement l reason column) = l ≡ line
-IsAlone line (Conflicting conflict reported) = ⊥
+IsAlone line (Conflicting conflict reported environment) = ⊥
 
 -- a line that ought to be a requirement or an option of pip, and is neither
 abbrev pub LacksRequirement : FileLine → Type 0
@@ -155,7 +166,7 @@ WrongConstraintsHaveFindings = (files : List File) (r : Report) (l : FileLine) �
 -- some of these lines are reported together, and no others
 abbrev pub IsAmong : List FileLine → Finding → Type 0
 IsAmong lines (NoRequirement l reason column) = ⊥
-IsAmong lines (Conflicting conflict reported) = (¬ (reported ≡ [])) × All (Contains lines) reported
+IsAmong lines (Conflicting conflict reported environment) = (¬ (reported ≡ [])) × All (Contains lines) reported
 
 -- the requirements of the files
 abbrev pub AreDemands : List File → List Demand → Type 0
@@ -186,7 +197,7 @@ IsOneIn e a lines b = Contains lines b × IsTrue (has_same_name a b) × AsksIn e
 -- lines that do so are reported together
 abbrev pub IsAmongIn : Environment → Demand → List Demand → Finding → Type 0
 IsAmongIn e a lines (NoRequirement l reason column) = ⊥
-IsAmongIn e a lines (Conflicting conflict reported) =
+IsAmongIn e a lines (Conflicting conflict reported environment) =
     (¬ (reported ≡ [])) × All (λ (l : FileLine). (b : Demand) × IsOneIn e a lines b × (b.line ≡ l)) reported
 
 -- where lines of one name that ask in one environment have no version in common, lines of this name that ask there are reported together, or
@@ -199,9 +210,27 @@ SetsHaveFindings = (files : List File) (r : Report) (lines : List Demand) (a : D
 abbrev pub MeaningsOnce : Type 0
 MeaningsOnce = (l : FileLine) (x y : LineMeaning) → IsMeaning l x → IsMeaning l y → x ≡ y
 
--- files have at most one report in which nothing is undecided
+-- no environment is named
+abbrev pub without_environment : Finding → Finding
+without_environment (NoRequirement l reason column) = NoRequirement l reason column
+without_environment (Conflicting conflict together environment) = Conflicting conflict together None
+
+abbrev pub without_environments : Report → Report
+without_environments r = record {
+  findings = map without_environment r.findings;
+  ignored = map without_environment r.ignored;
+  lines = r.lines;
+  files = r.files;
+  left_out = r.left_out;
+}
+
+-- the two reports differ at most in the environments that they name
+abbrev pub AreAlike : Report → Report → Type 0
+AreAlike r s = without_environments r ≡ without_environments s
+
+-- so do all reports of files in which nothing is undecided
 abbrev pub ReportsOnce : Type 0
-ReportsOnce = (files : List File) (r s : Report) → IsReport files r → IsReport files s → ¬ IsUndecided r → ¬ IsUndecided s → r ≡ s
+ReportsOnce = (files : List File) (r s : Report) → IsReport files r → IsReport files s → ¬ IsUndecided r → ¬ IsUndecided s → AreAlike r s
 
 -- ---- the grammar of strings that are requirements (PEP 508, "Grammar")
 

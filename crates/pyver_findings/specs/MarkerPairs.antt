@@ -9,7 +9,7 @@ use Rattle.pyver_findings.specs.declared.cause.Cause.TheVariants as cause
 use Rattle.pyver_findings.specs.declared.marker_pairs.Decision.{Decision}
 use Rattle.pyver_findings.specs.declared.marker_pairs.Decision.TheVariants.{Apart, Together, Unknown}
 use Rattle.pyver_markers.specs.Conditions.{IsEnvironment, IsNever}
-use Rattle.pyver_markers.specs.Environments.{Assignment, Environment, Extends, assigned}
+use Rattle.pyver_markers.specs.Environments.{Assignment, Environment, Extends, assigned, environment_text}
 use Rattle.pyver_markers.specs.Extents.{IsExample}
 use Rattle.pyver_markers.specs.MarkerValues.{value}
 use Rattle.pyver_requirements.specs.MarkerGrammar.{Both, DenotesMarker, Marker}
@@ -58,9 +58,13 @@ pub record AskWhere (set : List Demand) (variables : List Assignment) : Type 0 w
   pub has : Extends (assigned variables) environment
   pub ask : (e : Environment) → Extends (assigned variables) e → All (AsksIn e) set
 
--- of lines: all ask where variables are so, of one system; there is no environment in which all ask; nothing is known
+-- the marker says what variables are, of one system, and wherever they are so, all these lines ask
+abbrev pub AskUnder : List Demand → List ℕ → Type 0
+AskUnder set environment = (variables : List Assignment) × AskWhere set variables × (is_one_system variables ≡ true) × (environment ≡ environment_text variables)
+
+-- of lines: all ask where this marker says; there is no environment in which all ask; nothing is known
 abbrev pub IsDecision : List Demand → Decision → Type 0
-IsDecision set Together = (variables : List Assignment) × AskWhere set variables × (is_one_system variables ≡ true)
+IsDecision set (Together environment) = AskUnder set environment.items
 IsDecision set Apart = (e : Environment) → IsEnvironment e → ¬ All (AsksIn e) set
 IsDecision set Unknown = ⊤
 
@@ -82,9 +86,14 @@ AreJoined (a ∷ (b ∷ rest)) m = (x : Marker) × (y : Marker) × HasDenoted a 
 abbrev pub IsDenotedBySteps : (Marker → Type 0) → List Step → Type 0
 IsDenotedBySteps Is all = ((m : Marker) × Is m) × ((m : Marker) → Is m → all ≡ steps m)
 
+-- the marker with these steps holds where the other one says what variables are, of one system
+abbrev pub HoldsUnder : List Step → List ℕ → Type 0
+HoldsUnder all environment = (variables : List Assignment) × ((m : Marker) → all ≡ steps m → IsExample m variables) × (is_one_system variables ≡ true)
+    × (environment ≡ environment_text variables)
+
 -- what is known of the marker that has these steps
 abbrev pub KnowsSteps : List Step → Decision → Type 0
-KnowsSteps all Together = (variables : List Assignment) × ((m : Marker) → all ≡ steps m → IsExample m variables) × (is_one_system variables ≡ true)
+KnowsSteps all (Together environment) = HoldsUnder all environment.items
 KnowsSteps all Apart = (m : Marker) → all ≡ steps m → IsNever true m
 KnowsSteps all Unknown = ⊤
 
@@ -201,9 +210,9 @@ FindsOfEach P [] fs cs = FindsNothing fs cs
 FindsOfEach P (x ∷ rest) fs cs =
     (f : List Finding) × (g : List Finding) × (c : List Cause) × (d : List Cause) × P x f c × FindsOfEach P rest g d × (fs ≡ f ++ g) × (cs ≡ c ++ d)
 
--- of lines that have no version in common, if all their markers hold in one environment
+-- of lines that have no version in common, if all their markers hold in one environment, which is named
 abbrev pub FindsDecided : Decision → List Demand → List Finding → List Cause → Type 0
-FindsDecided Together lines fs cs = (fs ≡ of_all lines) × (cs ≡ [])
+FindsDecided (Together environment) lines fs cs = (fs ≡ of_all (Some environment.items) lines) × (cs ≡ [])
 FindsDecided Apart lines fs cs = FindsNothing fs cs
 FindsDecided Unknown lines fs cs = (fs ≡ []) × (cs ≡ (if have_none lines then cause.Undecided ∷ [] else []))
 

@@ -1,5 +1,5 @@
 -- The findings of a report as a JSON array of objects, and text of others as a JSON string, from which the bytes can be had again (RFC 8259).
-use Rattle.std.specs.Prelude.{Bool, List, [], codes, if◌then◌else◌, nat_le, nat_lt, ℕ, ◌&&◌, ◌++◌, ◌<◌, ◌==◌, ◌||◌, ◌∷◌, ◌≡◌}
+use Rattle.std.specs.Prelude.{Bool, List, [], None, Option, Some, codes, if◌then◌else◌, nat_le, nat_lt, ℕ, ◌&&◌, ◌++◌, ◌<◌, ◌==◌, ◌||◌, ◌∷◌, ◌≡◌}
 use Rattle.std.specs.Fmt.{decimal}
 use Rattle.std.specs.List.{All, flat_map}
 use Rattle.pyver_findings.specs.FileLines.{Conflicting, FileLine, Finding, NoRequirement}
@@ -45,10 +45,15 @@ line_array (l ∷ rest) = codes "[" ++ (line_object l ++ (flat_map next_line res
 abbrev pub reason_members : List ℕ → ℕ → List ℕ
 reason_members reason column = codes ",\"reason\":" ++ (json_string reason ++ (codes ",\"column\":" ++ decimal column))
 
--- the members of a finding after its kind: the line with the reason and the column, or the lines
+-- the member `environment`, if there is one
+abbrev pub environment_member : Option (List ℕ) → List ℕ
+environment_member None = []
+environment_member (Some environment) = codes ",\"environment\":" ++ json_string environment
+
+-- the members of a finding after its kind: the line with the reason and the column, or the lines and the environment
 abbrev pub finding_members : Finding → List ℕ
 finding_members (NoRequirement l reason column) = line_members l ++ reason_members reason column
-finding_members (Conflicting conflict lines) = codes "\"lines\":" ++ line_array lines
+finding_members (Conflicting conflict lines environment) = codes "\"lines\":" ++ (line_array lines ++ environment_member environment)
 
 -- the members `kind` and `code`
 abbrev pub kind_members : FindingKind → List ℕ

@@ -1,5 +1,5 @@
 -- The report as text, for people and as commands to GitHub Actions, and how much was read.
-use Rattle.std.specs.Prelude.{Bool, List, [], codes, count_by, false, if◌then◌else◌, length, map, take, true, ℕ, ◌++◌, ◌+◌, ◌-◌, ◌==◌, ◌∷◌}
+use Rattle.std.specs.Prelude.{Bool, List, [], None, Option, Some, codes, count_by, false, if◌then◌else◌, length, map, take, true, ℕ, ◌++◌, ◌+◌, ◌-◌, ◌==◌, ◌∷◌}
 use Rattle.std.specs.Fmt.{decimal}
 use Rattle.std.specs.List.{flat_map}
 use Rattle.pyver_findings.specs.FileLines.{Conflicting, FileLine, Finding, NoRequirement}
@@ -42,15 +42,20 @@ more_text count = if count == 0 then [] else codes "\n    and " ++ (decimal coun
 abbrev pub quoted_lines : List FileLine → List ℕ
 quoted_lines lines = flat_map quoted_line (take 20 lines) ++ more_text (length lines - 20)
 
--- the reason and the line, or why lines cannot be satisfied together and these
+-- a line of its own, indented, with the environment, if there is one
+abbrev pub environment_line : Option (List ℕ) → List ℕ
+environment_line None = []
+environment_line (Some environment) = codes "\n    where " ++ escaped environment
+
+-- the reason and the line, or why lines cannot be satisfied together, these, and where
 abbrev pub finding_message : Finding → List ℕ
 finding_message (NoRequirement l reason column) = escaped reason ++ (codes "\n    " ++ escaped l.text)
-finding_message (Conflicting conflict lines) = conflict_text conflict ++ quoted_lines lines
+finding_message (Conflicting conflict lines environment) = conflict_text conflict ++ (quoted_lines lines ++ environment_line environment)
 
 -- the position at which the line is no requirement, or of the first line
 abbrev pub finding_position : Finding → List ℕ
 finding_position (NoRequirement l reason column) = column_position_text l column
-finding_position (Conflicting conflict lines) = first_position_text lines
+finding_position (Conflicting conflict lines environment) = first_position_text lines
 
 -- a line of its own: a blank for each character that is printed before the column, and a caret
 abbrev pub caret_text : List ℕ → ℕ → List ℕ
@@ -59,7 +64,7 @@ caret_text text column = codes "\n    " ++ (map (λ _. 32) (escaped (take column
 -- the caret under the position at which the line is no requirement
 abbrev pub finding_caret : Finding → List ℕ
 finding_caret (NoRequirement l reason column) = caret_text l.text column
-finding_caret (Conflicting conflict lines) = []
+finding_caret (Conflicting conflict lines environment) = []
 
 -- the position, the message, and the caret
 abbrev pub finding_text : Finding → List ℕ
@@ -144,7 +149,7 @@ first_properties (l ∷ rest) = line_properties l
 -- the properties of a finding but its title: the position of the line with the column, from 1, or of the first line
 abbrev pub finding_properties : Finding → List ℕ
 finding_properties (NoRequirement l reason column) = line_properties l ++ (codes "col=" ++ (decimal (column + 1) ++ codes ","))
-finding_properties (Conflicting conflict lines) = first_properties lines
+finding_properties (Conflicting conflict lines environment) = first_properties lines
 
 -- the command of a finding, whose title is its code
 abbrev pub finding_command : Finding → List ℕ

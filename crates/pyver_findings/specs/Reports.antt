@@ -22,7 +22,7 @@ conflict_kind_of TwoPins = kind.TwoPins
 
 abbrev pub finding_kind : Finding → FindingKind
 finding_kind (NoRequirement l reason column) = kind.NoRequirement
-finding_kind (Conflicting conflict lines) = conflict_kind_of conflict
+finding_kind (Conflicting conflict lines environment) = conflict_kind_of conflict
 
 abbrev pub kind_code : FindingKind → List ℕ
 kind_code kind.NoRequirement = codes "PV001"
@@ -55,7 +55,7 @@ ignores k l = has_part (ignore_comment k) l.comment
 -- the line has the comment for this kind, or one of the lines that cannot be satisfied together
 abbrev pub is_ignored : Finding → Bool
 is_ignored (NoRequirement l reason column) = ignores kind.NoRequirement l
-is_ignored (Conflicting conflict lines) = list_any (ignores (conflict_kind_of conflict)) lines
+is_ignored (Conflicting conflict lines environment) = list_any (ignores (conflict_kind_of conflict)) lines
 
 -- ---- reports
 
@@ -143,4 +143,4 @@ are_of_several (l ∷ rest) = list_any (λ (m : FileLine). not (bytes_eq m.file 
 -- lines of two files, or more, are reported together
 abbrev pub spans_files : Finding → Bool
 spans_files (NoRequirement l reason column) = false
-spans_files (Conflicting conflict lines) = are_of_several lines
+spans_files (Conflicting conflict lines environment) = are_of_several lines

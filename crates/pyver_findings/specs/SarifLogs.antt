@@ -61,7 +61,7 @@ line_location l column =
 -- the location of the line with the column, or of the first line
 abbrev pub finding_location : Finding → List ℕ
 finding_location (NoRequirement l reason column) = line_location l column
-finding_location (Conflicting conflict lines) = first_location lines
+finding_location (Conflicting conflict lines environment) = first_location lines
 
 -- ---- results
 

@@ -74,7 +74,7 @@ group_at groups key = demands_of_group (get_by (λ k. bytes_eq key k.now) groups
 
 abbrev pub finding_of : FindingValue → Finding
 finding_of (finding.NoRequirement line reason column) = NoRequirement (file_line_of line) (string_bytes reason) column
-finding_of (finding.Conflicting kind lines) = Conflicting kind (map file_line_of lines.items)
+finding_of (finding.Conflicting kind lines environment) = Conflicting kind (map file_line_of lines.items) (option_map (λ e. e.items) environment)
 
 -- the second findings are the first, and these behind them
 abbrev pub AddsFindings : List FindingValue → List FindingValue → List Finding → Type 0

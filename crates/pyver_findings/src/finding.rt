@@ -121,8 +121,8 @@ fn conflict_kind_of(conflict: Conflict) -> FindingKind
 pub enum Finding {
     /// The line is no requirement, or cannot be a constraint, for this reason, and this is the column of it, in bytes from 0.
     NoRequirement(FileLine, String, usize),
-    /// No version satisfies these lines together.
-    Conflicting(Conflict, Vec<FileLine>),
+    /// No version satisfies these lines together: where their markers differ, in this environment, as a marker.
+    Conflicting(Conflict, Vec<FileLine>, Option<Vec<u8>>),
 }
 
 fn has_other_file(lines: &[FileLine], file: &[u8]) -> bool
@@ -154,7 +154,7 @@ impl Finding {
     {
         match self {
             Finding::NoRequirement(_, _, _) => FindingKind::NoRequirement,
-            Finding::Conflicting(conflict, _) => conflict_kind_of(*conflict),
+            Finding::Conflicting(conflict, _, _) => conflict_kind_of(*conflict),
         }
     }
 
@@ -166,7 +166,7 @@ impl Finding {
     {
         match self {
             Finding::NoRequirement(line, _, _) => ignores(line, FindingKind::NoRequirement),
-            Finding::Conflicting(conflict, lines) => {
+            Finding::Conflicting(conflict, lines, _) => {
                 has_ignoring(lines.as_slice(), conflict_kind_of(*conflict))
             }
         }
@@ -180,7 +180,7 @@ impl Finding {
     {
         match self {
             Finding::NoRequirement(_, _, _) => false,
-            Finding::Conflicting(_, lines) => are_of_several(lines.as_slice()),
+            Finding::Conflicting(_, lines, _) => are_of_several(lines.as_slice()),
         }
     }
 }

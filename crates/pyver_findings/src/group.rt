@@ -1,5 +1,5 @@
 //! What is wrong with the lines of one name.
-ghost use Rattle.std.specs.Prelude.{◌≡◌, ◌∷◌, ◌++◌, [], IfOk, List, None, bytes_eq, cond, false, map, ℕ};
+ghost use Rattle.std.specs.Prelude.{◌≡◌, ◌∷◌, ◌++◌, [], IfOk, List, None, bytes_eq, cond, false, map, option_map, ℕ};
 ghost use Rattle.std.specs.HashMap.{get_by};
 ghost use Rattle.std.specs.List.{All, flat_map};
 ghost use Rattle.std.specs.Option.{option_map_or};
@@ -47,29 +47,31 @@ fn copy_lines(alloc: Global, lines: &[&Demand]) -> Result<Vec<FileLine>, AllocEr
     Ok(copies)
 }
 
-// These lines cannot be satisfied together.
+// These lines cannot be satisfied together, in this environment, if one is named.
 fn push_conflict(
     alloc: Global,
     findings: &mut Vec<Finding>,
     conflict: Conflict,
     lines: &[&Demand],
+    environment: Option<Vec<u8>>,
 ) -> Result<(), AllocError>
     ensures { IfOk result (λ _. AddsFindings findings.old.items findings.new.items (Conflicting conflict (map (λ a. a.line)
-        (demands_at lines.now)) ∷ [])) }
+        (demands_at lines.now)) (option_map (λ e. e.items) environment) ∷ [])) }
 {
     let lines = copy_lines(alloc, lines)?;
-    findings.push(Finding::Conflicting(conflict, lines))?;
+    findings.push(Finding::Conflicting(conflict, lines, environment))?;
     Ok(())
 }
 
-// What is wrong with these lines together.
+// What is wrong with these lines together, in this environment, if one is named.
 pub(crate) fn push_of_all(
     alloc: Global,
     findings: &mut Vec<Finding>,
     lines: &[&Demand],
+    environment: Option<Vec<u8>>,
 ) -> Result<(), AllocError>
     requires { All IsSound (demands_at lines.now) }
-    ensures { IfOk result (λ _. AddsFindings findings.old.items findings.new.items (of_all (demands_at lines.now))) }
+    ensures { IfOk result (λ _. AddsFindings findings.old.items findings.new.items (of_all (option_map (λ e. e.items) environment) (demands_at lines.now))) }
 {
     if !have_none(alloc, lines, &[])? {
         return Ok(());
@@ -80,6 +82,7 @@ pub(crate) fn push_of_all(
         findings,
         conflict_kind(kept.as_slice()),
         kept.as_slice(),
+        environment,
     )
 }
 
@@ -99,7 +102,7 @@ fn push_of_marker(
         return Ok(());
     }
     let together = under(alloc, &line.marker, lines)?;
-    push_of_all(alloc, findings, together.as_slice())
+    push_of_all(alloc, findings, together.as_slice(), None)
 }
 
 // Takes the group of the line's marker, and says whether its lines have no version in common with those without a marker.
@@ -158,7 +161,7 @@ pub(crate) fn push_of_name(
 {
     let always = under(alloc, &None, lines)?;
     if have_none(alloc, always.as_slice(), &[])? {
-        return push_of_all(alloc, findings, always.as_slice());
+        return push_of_all(alloc, findings, always.as_slice(), None);
     }
     push_of_each_marker(alloc, findings, lines, always.as_slice())
 }

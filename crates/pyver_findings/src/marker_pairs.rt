@@ -5,10 +5,9 @@ ghost use Rattle.std.specs.List.{All, list_all, list_any};
 ghost use Rattle.std.specs.Option.{option_map_or};
 ghost use Rattle.pyver_findings.specs.Conflicts.{have_none};
 ghost use Rattle.pyver_findings.specs.Demands.{IsSound};
-ghost use Rattle.pyver_findings.specs.MarkerPairs.{AreJoined, FindsDecided, FindsOfEach, FindsOfName, FindsOfNames, FindsOfSet, HasDenoted, IsDenotedBySteps, IsDecision, KnowsSteps, are_of_system, few_first_lines, is_named, is_of_system, is_one_system, lines_to_pair, names_system_once, open_lines, with_first};
+ghost use Rattle.pyver_findings.specs.MarkerPairs.{AreJoined, FindsDecided, FindsOfEach, FindsOfName, FindsOfNames, FindsOfSet, HasDenoted, HoldsUnder, IsDenotedBySteps, IsDecision, KnowsSteps, are_of_system, few_first_lines, is_named, is_of_system, is_one_system, lines_to_pair, names_system_once, open_lines, with_first};
 ghost use Rattle.pyver_findings.specs.Views.{AddsFound, demand_of, demands_at, demands_of_group, demands_of_sets};
 ghost use Rattle.pyver_findings.specs.declared.cause.Cause.TheVariants as cause;
-ghost use Rattle.pyver_findings.specs.declared.marker_pairs.Decision.TheVariants.{Together};
 ghost use Rattle.pyver_markers.specs.EnvironmentViews.{assignment_of};
 ghost use Rattle.pyver_requirements.specs.MarkerGrammar.{DenotesMarker};
 
@@ -20,7 +19,7 @@ use crate::group::push_of_all;
 use crate::marker::under;
 use crate::marker_sets::{find_conflicting_sets, have_same_marker, under_any};
 use crate::smallest::have_none;
-use pyver_markers::{EnvironmentMarker, FoundVariable};
+use pyver_markers::{EnvironmentMarker, FoundVariable, push_environment};
 use pyver_requirements::MarkerError;
 use std::alloc::{AllocError, Global};
 
@@ -37,10 +36,10 @@ const SYSTEMS: [&str; 5] = [
 ];
 
 // What is known of several markers.
-#[derive(Clone, Copy)]
+#[derive(Drop)]
 enum Decision {
-    // All hold in some environment of one system.
-    Together,
+    // All hold in this environment of one system, as a marker.
+    Together(Vec<u8>),
     // In no environment all hold.
     Apart,
     Unknown,
@@ -171,42 +170,66 @@ fn join_markers<'a>(
     Ok(Some(marker.and(&joined)?))
 }
 
-// Whether an environment of one system is found in which the marker holds.
-fn is_found(alloc: Global, marker: &EnvironmentMarker<'_>) -> Result<bool, AllocError>
-    ensures { IfOk result (λ found. found ≡ true → KnowsSteps marker.now Together) }
+// Where the marker holds, as a marker, if an environment of one system is found.
+fn find_environment(
+    alloc: Global,
+    marker: &EnvironmentMarker<'_>,
+) -> Result<Option<Vec<u8>>, AllocError>
+    ensures { IfOk result (λ found. IfSome found (λ environment. HoldsUnder marker.now environment.items)) }
 {
-    match marker.find_environment(alloc)? {
-        Some(variables) => Ok(is_one_system(variables.as_slice())),
-        None => Ok(false),
+    let Some(variables) = marker.find_environment(alloc)? else {
+        return Ok(None);
+    };
+    if !is_one_system(variables.as_slice()) {
+        return Ok(None);
     }
+    let mut environment = Vec::new(alloc);
+    push_environment(&mut environment, variables.as_slice())?;
+    Ok(Some(environment))
 }
 
-// Whether one is found in which the marker of the system holds, too.
-fn is_found_on(
+// Where the marker of the system holds, too.
+fn find_on(
     alloc: Global,
     marker: &EnvironmentMarker<'_>,
     system: &str,
-) -> Result<bool, AllocError>
-    ensures { IfOk result (λ found. found ≡ true → KnowsSteps marker.now Together) }
+) -> Result<Option<Vec<u8>>, AllocError>
+    ensures { IfOk result (λ found. IfSome found (λ environment. HoldsUnder marker.now environment.items)) }
 {
     let Some(system) = parse_marker(alloc, system.as_bytes())? else {
-        return Ok(false);
+        return Ok(None);
     };
     let both = system.and(marker)?;
-    let found = is_found(alloc, &both)?;
+    let found = find_environment(alloc, &both)?;
     Ok(found)
 }
 
-// Whether an environment of one of the systems is found in which the marker holds.
-fn is_found_on_any(alloc: Global, marker: &EnvironmentMarker<'_>) -> Result<bool, AllocError>
-    ensures { IfOk result (λ found. found ≡ true → KnowsSteps marker.now Together) }
+// Where the marker holds on one of the systems.
+fn find_on_any(
+    alloc: Global,
+    marker: &EnvironmentMarker<'_>,
+) -> Result<Option<Vec<u8>>, AllocError>
+    ensures { IfOk result (λ found. IfSome found (λ environment. HoldsUnder marker.now environment.items)) }
 {
     for system in SYSTEMS {
-        if is_found_on(alloc, marker, system)? {
-            return Ok(true);
+        if let Some(environment) = find_on(alloc, marker, system)? {
+            return Ok(Some(environment));
         }
     }
-    Ok(false)
+    Ok(None)
+}
+
+// Where the marker holds, with all variables of the system if it names several.
+fn find_where(
+    alloc: Global,
+    marker: &EnvironmentMarker<'_>,
+) -> Result<Option<Vec<u8>>, AllocError>
+    ensures { IfOk result (λ found. IfSome found (λ environment. HoldsUnder marker.now environment.items)) }
+{
+    if let Some(environment) = find_environment(alloc, marker)? {
+        return Ok(Some(environment));
+    }
+    find_on_any(alloc, marker)
 }
 
 // What is known of the marker that holds where all do.
@@ -216,10 +239,10 @@ fn decide_marker(alloc: Global, joined: &EnvironmentMarker<'_>) -> Result<Decisi
     if joined.is_never(alloc, true)? {
         return Ok(Decision::Apart);
     }
-    if is_found(alloc, joined)? || is_found_on_any(alloc, joined)? {
-        return Ok(Decision::Together);
+    match find_where(alloc, joined)? {
+        Some(environment) => Ok(Decision::Together(environment)),
+        None => Ok(Decision::Unknown),
     }
-    Ok(Decision::Unknown)
 }
 
 #[tactic(auto, using(crate::proofs::MarkerPairs::known))]
@@ -254,7 +277,9 @@ fn push_by_decision(
         left_out.old.items left_out.new.items) }
 {
     match decision {
-        Decision::Together => push_of_all(alloc, findings, together),
+        Decision::Together(environment) => {
+            push_of_all(alloc, findings, together, Some(environment))
+        }
         Decision::Apart => Ok(()),
         Decision::Unknown => push_undecided_cause(left_out),
     }

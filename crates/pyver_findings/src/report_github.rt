@@ -93,7 +93,7 @@ fn push_properties(alloc: Global, bytes: &mut Vec<u8>, finding: &Finding) -> Res
             push_from_one(alloc, bytes, *column)?;
             push_text(bytes, ",")
         }
-        Finding::Conflicting(_, lines) => push_first_properties(alloc, bytes, lines.as_slice()),
+        Finding::Conflicting(_, lines, _) => push_first_properties(alloc, bytes, lines.as_slice()),
     }
 }
 

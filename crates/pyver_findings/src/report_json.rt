@@ -1,7 +1,7 @@
 //! A report as JSON.
-ghost use Rattle.std.specs.Prelude.{◌≡◌, ◌++◌, IfOk, map};
+ghost use Rattle.std.specs.Prelude.{◌≡◌, ◌++◌, IfOk, map, option_map};
 ghost use Rattle.std.specs.List.{flat_map};
-ghost use Rattle.pyver_findings.specs.ReportObjects.{finding_array, finding_members, finding_object, kind_members, line_array, line_members, line_object, next_finding, next_line, reason_members, report_object};
+ghost use Rattle.pyver_findings.specs.ReportObjects.{environment_member, finding_array, finding_members, finding_object, kind_members, line_array, line_members, line_object, next_finding, next_line, reason_members, report_object};
 ghost use Rattle.pyver_findings.specs.Views.{file_line_of, finding_of, report_of};
 
 use crate::file_line::FileLine;
@@ -75,6 +75,21 @@ fn push_reason(
     Ok(())
 }
 
+fn push_environment_member(
+    bytes: &mut Vec<u8>,
+    environment: &Option<Vec<u8>>,
+) -> Result<(), AllocError>
+    ensures { IfOk result (λ _. bytes.new.items ≡ bytes.old.items ++ environment_member (option_map (λ e. e.items) environment.now)) }
+{
+    match environment {
+        Some(environment) => {
+            push_text(bytes, ",\"environment\":")?;
+            push_json_string(bytes, environment.as_slice())
+        }
+        None => Ok(()),
+    }
+}
+
 fn push_finding_members(
     alloc: Global,
     bytes: &mut Vec<u8>,
@@ -87,9 +102,10 @@ fn push_finding_members(
             push_members(alloc, bytes, line)?;
             push_reason(alloc, bytes, reason.as_str(), *column)
         }
-        Finding::Conflicting(_, lines) => {
+        Finding::Conflicting(_, lines, environment) => {
             push_text(bytes, "\"lines\":")?;
-            push_lines(alloc, bytes, lines.as_slice())
+            push_lines(alloc, bytes, lines.as_slice())?;
+            push_environment_member(bytes, environment)
         }
     }
 }
@@ -153,7 +169,7 @@ fn push_findings(alloc: Global, bytes: &mut Vec<u8>, findings: &[Finding]) -> Re
 
 impl Report {
     /// The findings as a JSON array of objects, and a newline: the kind of each and its code, and then the line with the reason and the
-    /// column, or the lines, with strings as by `push_json_string`.
+    /// column, or the lines and the environment, if one is named, with strings as by `push_json_string`.
     ///
     /// Allocates.
     pub fn to_json(&self, alloc: Global) -> Result<Vec<u8>, AllocError>

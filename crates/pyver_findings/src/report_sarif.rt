@@ -143,7 +143,7 @@ fn push_location(alloc: Global, bytes: &mut Vec<u8>, finding: &Finding) -> Resul
 {
     match finding {
         Finding::NoRequirement(line, _, column) => push_line_location(alloc, bytes, line, *column),
-        Finding::Conflicting(_, lines) => push_first_location(alloc, bytes, lines.as_slice()),
+        Finding::Conflicting(_, lines, _) => push_first_location(alloc, bytes, lines.as_slice()),
     }
 }
 

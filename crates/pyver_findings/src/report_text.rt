@@ -1,8 +1,8 @@
 //! A report as lines for people.
-ghost use Rattle.std.specs.Prelude.{◌≡◌, ◌+◌, ◌++◌, IfOk, count_by, map, take};
+ghost use Rattle.std.specs.Prelude.{◌≡◌, ◌+◌, ◌++◌, IfOk, count_by, map, option_map, take};
 ghost use Rattle.std.specs.Fmt.{decimal};
 ghost use Rattle.std.specs.List.{flat_map};
-ghost use Rattle.pyver_findings.specs.ReportTexts.{caret_text, cause_text, column_position_text, conflict_text, count_text, counted, finding_caret, finding_message, finding_position, finding_text, first_position_text, ignored_text, left_out_lines, left_out_text, left_out_texts, more_text, line_position_text, problems_text, quoted_line, quoted_lines, report_text, same_cause, summary_text};
+ghost use Rattle.pyver_findings.specs.ReportTexts.{caret_text, cause_text, column_position_text, conflict_text, count_text, counted, environment_line, finding_caret, finding_message, finding_position, finding_text, first_position_text, ignored_text, left_out_lines, left_out_text, left_out_texts, more_text, line_position_text, problems_text, quoted_line, quoted_lines, report_text, same_cause, summary_text};
 ghost use Rattle.pyver_findings.specs.Views.{file_line_of, finding_of, report_of};
 
 use crate::cause::Cause;
@@ -180,7 +180,23 @@ fn conflict_text(conflict: Conflict) -> &'static str
     }
 }
 
-// The reason and the line, or why lines cannot be satisfied together and these.
+// The environment on a line of its own, if there is one.
+fn push_environment_line(
+    bytes: &mut Vec<u8>,
+    environment: &Option<Vec<u8>>,
+) -> Result<(), AllocError>
+    ensures { IfOk result (λ _. bytes.new.items ≡ bytes.old.items ++ environment_line (option_map (λ e. e.items) environment.now)) }
+{
+    match environment {
+        Some(environment) => {
+            push_text(bytes, "\n    where ")?;
+            push_escaped(bytes, environment.as_slice())
+        }
+        None => Ok(()),
+    }
+}
+
+// The reason and the line, or why lines cannot be satisfied together, these, and where.
 pub(crate) fn push_message(
     alloc: Global,
     bytes: &mut Vec<u8>,
@@ -194,9 +210,10 @@ pub(crate) fn push_message(
             push_text(bytes, "\n    ")?;
             push_escaped(bytes, line.text.as_slice())
         }
-        Finding::Conflicting(conflict, lines) => {
+        Finding::Conflicting(conflict, lines, environment) => {
             push_text(bytes, conflict_text(*conflict))?;
-            push_first_lines(alloc, bytes, lines.as_slice())
+            push_first_lines(alloc, bytes, lines.as_slice())?;
+            push_environment_line(bytes, environment)
         }
     }
 }
@@ -210,7 +227,7 @@ fn push_finding_position(
 {
     match finding {
         Finding::NoRequirement(line, _, column) => push_column_place(alloc, bytes, line, *column),
-        Finding::Conflicting(_, lines) => push_first_place(alloc, bytes, lines.as_slice()),
+        Finding::Conflicting(_, lines, _) => push_first_place(alloc, bytes, lines.as_slice()),
     }
 }
 
@@ -225,7 +242,7 @@ fn push_finding_caret(
         Finding::NoRequirement(line, _, column) => {
             push_caret(alloc, bytes, line.text.as_slice(), *column)
         }
-        Finding::Conflicting(_, _) => Ok(()),
+        Finding::Conflicting(_, _, _) => Ok(()),
     }
 }
 

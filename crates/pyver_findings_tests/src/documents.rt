@@ -85,7 +85,7 @@ fn push_finding(printed: &mut String, finding: &Finding) -> Result<(), CaseError
             write!(printed, "{} {}\n", *column, reason.as_str())?;
             push_line(printed, line)?;
         }
-        Finding::Conflicting(kind, lines) => {
+        Finding::Conflicting(kind, lines, _) => {
             printed.push_str(kind_word(*kind))?;
             for line in lines {
                 push_line(printed, line)?;

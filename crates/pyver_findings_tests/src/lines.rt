@@ -122,7 +122,7 @@ fn print_finding(alloc: Global, finding: &Finding) -> Result<String, CaseError> 
         Finding::NoRequirement(_, reason, column) => {
             Ok(format!(in alloc; "{} {}", *column, reason.as_str())?)
         }
-        Finding::Conflicting(_, _) => Err(CaseError::Unreadable),
+        Finding::Conflicting(_, _, _) => Err(CaseError::Unreadable),
     }
 }
 

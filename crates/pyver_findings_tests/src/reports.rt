@@ -83,7 +83,7 @@ fn push_finding(printed: &mut String, finding: &Finding) -> Result<(), CaseError
             let (number, reason) = (line.number, reason.as_str());
             write!(printed, "{number}:{} {reason}\n", *column)?;
         }
-        Finding::Conflicting(kind, lines) => {
+        Finding::Conflicting(kind, lines, _) => {
             printed.push_str(kind_word(*kind))?;
             for line in lines {
                 let copy = line.clone()?;

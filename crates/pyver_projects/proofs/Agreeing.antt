@@ -358,10 +358,10 @@ module _ (P : Demand → Type 0) (same : Demand → Demand → Bool) where
   mentions before (a ∷ lines) k =
       mention_by (list_any (same a) before) a (first_mentions same (before ++ a ∷ []) lines) (All-head P a lines k) (mentions (before ++ a ∷ []) lines (All-tail P a lines k))
 
-nothing_by : (lines : List Demand) (b : Bool) → have_none lines ≡ b → b ≡ false → of_all lines ≡ []
-nothing_by lines b is some = ap (λ c. if c then Conflicting (conflict_kind (smallest lines)) (map (λ (a : Demand). a.line) (smallest lines)) ∷ [] else []) (is ∙ some)
+nothing_by : (lines : List Demand) (b : Bool) → have_none lines ≡ b → b ≡ false → of_all None lines ≡ []
+nothing_by lines b is some = ap (λ c. if c then Conflicting (conflict_kind (smallest lines)) (map (λ (a : Demand). a.line) (smallest lines)) None ∷ [] else []) (is ∙ some)
 
-nothing_under : (lines : List Demand) (b : Bool) → (b ≡ false → have_none lines ≡ false) → (if b then [] else of_all lines) ≡ []
+nothing_under : (lines : List Demand) (b : Bool) → (b ≡ false → have_none lines ≡ false) → (if b then [] else of_all None lines) ≡ []
 nothing_under lines true some = refl
 nothing_under lines false some = nothing_by lines (have_none lines) refl (some refl)
 
@@ -369,7 +369,7 @@ nothing_under lines false some = nothing_by lines (have_none lines) refl (some r
 nothing_of : (lines : List Demand) → ((m : Option (List ℕ)) → holds_nowhere m ≡ false → have_none (under m lines) ≡ false) → of_name lines ≡ []
 nothing_of lines some =
     let each = flat_map (λ (a : Demand). of_marker a.marker lines) (first_mentions has_same_marker [] lines) in
-    ap (λ b. if b then of_all (under None lines) else each) (some None refl)
+    ap (λ b. if b then of_all None (under None lines) else each) (some None refl)
     ∙ flat_nil (λ (a : Demand). of_marker a.marker lines) (first_mentions has_same_marker [] lines)
     (everywhere (λ (a : Demand). of_marker a.marker lines ≡ []) (λ a. nothing_under (under a.marker lines) (holds_nowhere a.marker) (some a.marker)) (first_mentions has_same_marker [] lines))
 

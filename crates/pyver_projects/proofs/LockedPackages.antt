@@ -333,7 +333,7 @@ module _ (lock : List ℕ) (ps : List LockedPackage) (line : FileLine) (n : Need
     outside_right : (lines : List FileLine) → All IsHere lines → (SomeContained ps n.name n.specifiers → ⊥) → All IsOutsideHere (outside line lines)
     outside_right [] each none = All-nil IsOutsideHere
     outside_right (first ∷ others) each none =
-        All-cons IsOutsideHere (Conflicting PinOutside (line ∷ (first ∷ others))) [] (record { first = first; others = others; each = each; none = none; is = refl }) (All-nil IsOutsideHere)
+        All-cons IsOutsideHere (Conflicting PinOutside (line ∷ (first ∷ others)) None) [] (record { first = first; others = others; each = each; none = none; is = refl }) (All-nil IsOutsideHere)
 
     excluded_by : (b : Bool) → list_any (is_allowed always) ys ≡ b → All IsOutsideHere (if b then [] else outside line (flat_map (named_line always) ys))
     excluded_by true e = All-nil IsOutsideHere

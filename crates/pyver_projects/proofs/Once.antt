@@ -1,7 +1,9 @@
 -- Documents that are TOML or JSON in UTF-8 have at most one report.
-use Rattle.std.proofs.Common.{Bool, ◌≡◌, ◌∙◌, ℕ, ◌+◌, List, [], ◌++◌, Option, Some, None, length, map, sym, ap, subst, inl, inr}
+use Rattle.std.proofs.Common.{Bool, ◌≡◌, ◌∙◌, ℕ, ◌+◌, List, [], ◌∷◌, ◌++◌, ◌||◌, Option, Some, None, false, if◌then◌else◌, length, map, refl, sym, ap, subst, true, inl, inr}
+use Rattle.std.proofs.lemmas.Bool.{true≢false}
+use Rattle.std.proofs.lemmas.List.{map-append}
 use Rattle.std.proofs.lemmas.List.Elements.{All-contains_itself}
-use Rattle.std.specs.List.{Contains}
+use Rattle.std.specs.List.{Contains, list_any}
 use Rattle.pep440_pick.specs.Names.{normal}
 use Rattle.pep440_rs.proofs.Reading.OneMeaning.{not_both_list, one_list, one_list_refusal}
 use Rattle.pep440_rs.specs.ErrorTexts.{specifier_rejection_text}
@@ -15,7 +17,7 @@ use Rattle.pep440_version.specs.Rejections.{Rejection}
 use Rattle.pyver_findings.proofs.Complete.{one_parts}
 use Rattle.pyver_findings.specs.Columns.{list_column}
 use Rattle.pyver_findings.specs.Demands.{line_demand}
-use Rattle.pyver_findings.specs.FileLines.{File, FileLine, Finding, NoRequirement}
+use Rattle.pyver_findings.specs.FileLines.{Conflicting, File, FileLine, Finding, NoRequirement}
 use Rattle.pyver_findings.specs.LineMeanings.{Asks, IsNone, LineMeaning, list_meaning}
 use Rattle.pyver_requirements.specs.LineParts.{line_parts}
 use Rattle.toml.specs.Data.{Members}
@@ -30,7 +32,7 @@ use Rattle.pyver_projects.specs.ProjectStrings.{Build, Dependencies, Extra, Grou
 use Rattle.pyver_projects.specs.declared.document_kind.DocumentKind.{DocumentKind}
 use Rattle.pyver_projects.specs.declared.document_kind.DocumentKind.TheVariants.{Lock, Project}
 use Rattle.pyver_findings.proofs.MarkerPairs.{IsOnce, IsTold, each_once, each_told, names_once, names_tell, no_causes}
-use Rattle.pyver_findings.specs.FindingLaws.{IsUndecided}
+use Rattle.pyver_findings.specs.FindingLaws.{IsUndecided, without_environment, without_environments}
 use Rattle.pyver_findings.specs.MarkerPairs.{FindsOfEach}
 use Rattle.pyver_findings.specs.Reports.{Report}
 use Rattle.pyver_findings.specs.declared.cause.Cause.{Cause}
@@ -135,11 +137,36 @@ reading_told (IsProject together names xs) fs cs (found, finds, is) = each_told 
 reading_told (IsLock parts ys ms files) fs cs (is, also) = inl also
 reading_told (IsBroken f) fs cs (is, also) = inl also
 
+alike : (f g : Finding) → same_finding f g ≡ same_finding (without_environment f) (without_environment g)
+alike (Conflicting kind xs environment) (Conflicting other ys elsewhere) = refl
+alike (Conflicting kind xs environment) (NoRequirement line reason column) = refl
+alike (NoRequirement line reason column) g = refl
+
+any_alike : (f : Finding) (found : List Finding) → list_any (same_finding f) found ≡ list_any (same_finding (without_environment f)) (map without_environment found)
+any_alike f [] = refl
+any_alike f (g ∷ found) = λ j. alike f g j || any_alike f found j
+
+mapped_new : (b c : Bool) (f : Finding) (found : List Finding) → b ≡ c
+    → map without_environment (if b then found else found ++ f ∷ []) ≡ (if c then map without_environment found else map without_environment found ++ without_environment f ∷ [])
+mapped_new true true f found is = refl
+mapped_new true false f found is = absurd (true≢false is)
+mapped_new false true f found is = absurd (true≢false (sym is))
+mapped_new false false f found is = map-append without_environment found (f ∷ [])
+
+-- each finding once, but for environments
+new_alike : (found fs : List Finding) → map without_environment (with_new same_finding found fs) ≡ with_new same_finding (map without_environment found) (map without_environment fs)
+new_alike found [] = refl
+new_alike found (f ∷ fs) =
+    new_alike (if list_any (same_finding f) found then found else found ++ f ∷ []) fs
+    ∙ ap (λ l. with_new same_finding l (map without_environment fs)) (mapped_new (list_any (same_finding f) found) (list_any (same_finding (without_environment f)) (map without_environment found)) f found (any_alike f found))
+
 reading_once : (x : DocumentReading) → IsOnce (FindsOfReading x)
 reading_once (IsProject together names xs) fs gs (found, finds, is) (others, also, so) =
-    is ∙ ap (with_new same_finding []) (each_once (FindsOfPart together xs) (λ part. names_once (part_demands together (inclusions (sections xs)) part xs)) (parts xs) found others finds also) ∙ sym so
-reading_once (IsLock parts ys ms files) fs gs (is, _) (so, _) = is ∙ sym so
-reading_once (IsBroken f) fs gs (is, _) (so, _) = is ∙ sym so
+    ap (map without_environment) is ∙ new_alike [] found
+    ∙ ap (with_new same_finding []) (each_once (FindsOfPart together xs) (λ part. names_once (part_demands together (inclusions (sections xs)) part xs)) (parts xs) found others finds also)
+    ∙ sym (new_alike [] others) ∙ ap (map without_environment) (sym so)
+reading_once (IsLock parts ys ms files) fs gs (is, _) (so, _) = ap (map without_environment) (is ∙ sym so)
+reading_once (IsBroken f) fs gs (is, _) (so, _) = ap (map without_environment) (is ∙ sym so)
 
 in_report : (a r : Report) (fs : List Finding) (cs : List Cause) → r ≡ with_found a fs cs → Contains (a.left_out ++ cs) cause.Undecided → IsUndecided r
 in_report a r fs cs is known = subst (λ (q : Report). Contains q.left_out cause.Undecided) (sym is) known
@@ -149,7 +176,13 @@ document_reports_once documents r s readable (xs, g, fs, cs, finds, a) (ys, h, g
     let same : xs ≡ ys = zip_once IsDocumentReading IsReadable (λ d v w known p q. one_document d.kind d.file v w known p q) documents xs ys readable g h in
     let none : cs ≡ [] = no_causes (documents_report documents xs).left_out cs (each_told FindsOfReading reading_told xs fs cs finds) (λ known. decided (in_report (documents_report documents xs) r fs cs a known)) in
     let nothing : ds ≡ [] = no_causes (documents_report documents ys).left_out ds (each_told FindsOfReading reading_told ys gs ds also) (λ known. again (in_report (documents_report documents ys) s gs ds b known)) in
-    let found : fs ≡ gs =
+    let found : map without_environment fs ≡ map without_environment gs =
     each_once FindsOfReading reading_once xs fs gs (subst (FindsOfEach FindsOfReading xs fs) none finds) (subst (FindsOfEach FindsOfReading xs gs) nothing (subst (λ l. FindsOfEach FindsOfReading l gs ds) (sym same) also)) in
     let left : cs ≡ ds = none ∙ sym nothing in
-    a ∙ (λ j. with_found (documents_report documents (same j)) (found j) (left j)) ∙ sym b
+    let one = documents_report documents xs in
+    let other = documents_report documents ys in
+    let all : map without_environment (one.findings ++ fs) ≡ map without_environment (other.findings ++ gs) =
+    map-append without_environment one.findings fs ∙ (λ j. map without_environment (documents_report documents (same j)).findings ++ found j) ∙ sym (map-append without_environment other.findings gs) in
+    ap without_environments a
+    ∙ (λ j. let so = documents_report documents (same j) in record { findings = all j; ignored = map without_environment so.ignored; lines = so.lines; files = so.files; left_out = so.left_out ++ left j })
+    ∙ sym (ap without_environments b)

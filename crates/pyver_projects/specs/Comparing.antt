@@ -66,7 +66,7 @@ named_line a y = if has_name a y then locked_line y else []
 -- the line of a requirement beside those of versions that it excludes, if there are some
 abbrev pub outside : FileLine → List FileLine → List Finding
 outside line [] = []
-outside line (other ∷ others) = Conflicting PinOutside (line ∷ (other ∷ others)) ∷ []
+outside line (other ∷ others) = Conflicting PinOutside (line ∷ (other ∷ others)) None ∷ []
 
 -- the list of the requirement contains none of the locked versions of its name
 abbrev pub excluded : Demand → List LockedReading → List Finding

@@ -15,7 +15,7 @@ use Rattle.pep440_version.specs.Rejections.{Rejection, Rejects}
 use Rattle.pyver_findings.specs.Conflicts.{has_same_name, holds_nowhere, under}
 use Rattle.pyver_findings.specs.Demands.{Demand}
 use Rattle.pyver_findings.specs.FileLines.{Conflicting, File, FileLine, Finding, NoRequirement}
-use Rattle.pyver_findings.specs.FindingLaws.{HaveNone, IsRightConflict, IsRightPair, IsUndecided}
+use Rattle.pyver_findings.specs.FindingLaws.{AreAlike, HaveNone, IsRightConflict, IsRightPair, IsUndecided}
 use Rattle.pyver_findings.specs.LineMeanings.{IsNone, IsPlain}
 use Rattle.pyver_findings.specs.Reports.{Report}
 use Rattle.pyver_findings.specs.declared.finding.Conflict.TheVariants.{PinOutside}
@@ -201,7 +201,7 @@ pub record IsOutside (lock : List ℕ) (ps : List LockedPackage) (name : List �
   pub others : List FileLine
   pub each : All (IsLineOfName lock ps name) (first ∷ others)
   pub none : ¬ SomeContained ps name list
-  pub is : f ≡ Conflicting PinOutside (line ∷ (first ∷ others))
+  pub is : f ≡ Conflicting PinOutside (line ∷ (first ∷ others)) None
 
 -- the list of a requirement of a project contains no version of a package of its name in a lock
 pub record IsExcluded (documents : List Document) (f : Finding) : Type 0 where
@@ -329,7 +329,7 @@ NoFindingImpliesSatisfiable = (documents : List Document) (r : Report) → IsDoc
 
 -- ---- one report
 
--- documents that are TOML or JSON in UTF-8 have at most one report in which nothing is undecided
+-- documents that are TOML or JSON in UTF-8 have at most one report in which nothing is undecided, but for the environments that it names
 abbrev pub DocumentReportsOnce : Type 0
 DocumentReportsOnce = (documents : List Document) (r s : Report) → All IsReadable documents → IsDocumentsReport documents r → IsDocumentsReport documents s
-    → ¬ IsUndecided r → ¬ IsUndecided s → r ≡ s
+    → ¬ IsUndecided r → ¬ IsUndecided s → AreAlike r s

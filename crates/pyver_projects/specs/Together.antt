@@ -101,8 +101,8 @@ same_lines (a ∷ xs) (b ∷ bs) = same_line a b && same_lines xs bs
 
 -- both findings name the same lines
 abbrev pub same_finding : Finding → Finding → Bool
-same_finding (Conflicting kind xs) (Conflicting other ys) = same_lines xs ys
-same_finding (Conflicting kind xs) (NoRequirement line reason column) = false
+same_finding (Conflicting kind xs environment) (Conflicting other ys elsewhere) = same_lines xs ys
+same_finding (Conflicting kind xs environment) (NoRequirement line reason column) = false
 same_finding (NoRequirement line reason column) g = false
 
 -- ---- a project

@@ -149,7 +149,7 @@ fn push_outside(
     let mut lines = Vec::new(alloc);
     lines.push(line.clone()?)?;
     lines.append(&mut others)?;
-    findings.push(Finding::Conflicting(Conflict::PinOutside, lines))?;
+    findings.push(Finding::Conflicting(Conflict::PinOutside, lines, None))?;
     Ok(())
 }
 

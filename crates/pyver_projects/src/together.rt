@@ -274,7 +274,7 @@ fn same_finding(one: &Finding, other: &Finding) -> bool
     ensures { result ≡ same_finding (finding_of one.now) (finding_of other.now) }
 {
     match (one, other) {
-        (Finding::Conflicting(_, lines), Finding::Conflicting(_, others)) => {
+        (Finding::Conflicting(_, lines, _), Finding::Conflicting(_, others, _)) => {
             same_lines(lines.as_slice(), others.as_slice())
         }
         _ => false,

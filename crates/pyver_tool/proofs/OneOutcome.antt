@@ -25,8 +25,8 @@ use Rattle.pyver_commands.specs.NewestOutcomes.{FindsNewest, FindsNewestBy, Find
 use Rattle.pyver_tool.specs.Tasks.{Bump, Check, ChecksOnce, Compare, Filter, Help, Marker, Match, Misused, NameVersion, Newest, OutcomesOnce, Range, Show, Sort, usage}
 use Rattle.pyver_tool.specs.Checks.{CheckResult, with_report}
 use Rattle.pyver_tool.specs.RequirementFiles.{UnopenedFile}
-use Rattle.pyver_findings.specs.FindingLaws.{IsUndecided}
-use Rattle.pyver_findings.proofs.Complete.{reports_once}
+use Rattle.pyver_findings.specs.FindingLaws.{IsUndecided, without_environments}
+use Rattle.pyver_findings.proofs.Complete.{ignored_alike, joined_alike, reports_once}
 use Rattle.pyver_findings.specs.Reports.{Report, joined_report, without_ignored}
 use Rattle.pyver_projects.proofs.Once.{document_reports_once}
 use Rattle.cli_io.specs.Runs.{Outcome}
@@ -204,4 +204,13 @@ unfolding ChecksOnce
 checks_once read a b c readable (q, d, hq, hd, is) (p, e, hp, he, so) decided also =
     let of_lines = reports_once read.requirements q p hq hp (λ found. decided (still_undecided read.unopened a b q d is found)) (λ found. also (still_undecided read.unopened a c p e so found)) in
     let of_documents = document_reports_once read.documents d e readable hd he (λ found. decided (undecided_there read.unopened a b q d is found)) (λ found. also (undecided_there read.unopened a c p e so found)) in
-    is ∙ ap (with_report read.unopened a) (λ j. without_ignored (joined_report (of_lines j) (of_documents j))) ∙ sym so
+    let found : without_environments (without_ignored (joined_report q d)) ≡ without_environments (without_ignored (joined_report p e)) =
+    ignored_alike (joined_report q d)
+    ∙ ap without_ignored (joined_alike q d ∙ (λ j. joined_report (of_lines j) (of_documents j)) ∙ sym (joined_alike p e))
+    ∙ sym (ignored_alike (joined_report p e)) in
+    (
+      ap (λ (c : CheckResult). without_environments c.report) is ∙ joined_alike a.report (without_ignored (joined_report q d))
+      ∙ ap (joined_report (without_environments a.report)) found
+      ∙ sym (joined_alike a.report (without_ignored (joined_report p e))) ∙ sym (ap (λ (c : CheckResult). without_environments c.report) so),
+      ap (λ (c : CheckResult). c.unopened) is ∙ sym (ap (λ (c : CheckResult). c.unopened) so),
+    )

@@ -33,7 +33,7 @@ use Rattle.pyver_tool.specs.declared.misuse.TheConstants.{BUMP_PART_NAMES, COMMA
 use Rattle.pyver_tool.specs.declared.settings.Settings.{Settings}
 use Rattle.pyver_commands.specs.declared.show.ShowFormat.{ShowFormat}
 use Rattle.pyver_commands.specs.declared.sort.SortOptions.{SortOptions}
-use Rattle.pyver_findings.specs.FindingLaws.{IsUndecided}
+use Rattle.pyver_findings.specs.FindingLaws.{AreAlike, IsUndecided}
 use Rattle.pyver_projects.specs.ProjectLaws.{IsReadable}
 use Rattle.pyver_tool.specs.Checks.{CheckResult, GainsReport}
 use Rattle.pyver_tool.specs.RequirementFiles.{FilesRead}
@@ -290,8 +290,8 @@ IsOneOfMany _ = ⊥
 abbrev pub OutcomesOnce : Type 0
 OutcomesOnce = (task : Task) (input : Input) (a b : Outcome) → ¬ IsOneOfMany task → IsOutcome task input a → IsOutcome task input b → a ≡ b
 
--- what is found in files is one thing, if no pair of markers is undecided, and each document is TOML in UTF-8: of another the reason and its
--- position are not stated
+-- what is found in files is one thing but for the environments named, if no set of markers is undecided, and each document is TOML in UTF-8: of
+-- another the reason and its position are not stated
 unfoldable pub ChecksOnce : Type 0
 ChecksOnce = (read : FilesRead) (a b c : CheckResult) → All IsReadable read.documents → GainsReport read a b → GainsReport read a c
-    → ¬ IsUndecided b.report → ¬ IsUndecided c.report → b ≡ c
+    → ¬ IsUndecided b.report → ¬ IsUndecided c.report → AreAlike b.report c.report × (b.unopened ≡ c.unopened)

@@ -1,4 +1,4 @@
-use Rattle.std.proofs.Common.{◌∙◌, ◌++◌, [], ◌≡◌, Bor, ap, map, sym, true, if◌then◌else◌}
+use Rattle.std.proofs.Common.{◌∙◌, ◌++◌, [], ◌≡◌, Bor, None, ap, map, sym, true, if◌then◌else◌}
 use Rattle.std.proofs.lemmas.List.{append-nil}
 use Rattle.std.proofs.lemmas.List.Elements.{All-same}
 use Rattle.pyver_findings.proofs.SmallestLists.{sound_under}
@@ -18,6 +18,6 @@ pub returns-then-branch : goal.returns-then-branch
 returns-then-branch c =
     let marker = (demand_of c.args.line.now).marker in
     let old = map finding_of c.args.findings.now.items in
-    let all = of_all (under marker (map (λ (x : Bor DemandValue). demand_of x.now) c.args.lines.now)) in
+    let all = of_all None (under marker (map (λ (x : Bor DemandValue). demand_of x.now) c.args.lines.now)) in
     let nowhere : holds_nowhere marker ≡ true = sym c.in_ok-holds_nowhere.ensures ∙ c.if-branch.true in
     sym (append-nil old) ∙ ap (λ b. old ++ (if b then [] else all)) (sym nowhere)

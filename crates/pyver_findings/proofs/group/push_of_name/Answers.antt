@@ -22,4 +22,4 @@ returns-then-branch c =
     let before = map finding_of c.args.findings.now.items in
     let after = map finding_of c.push_of_all.new.findings.items in
     let same = of_always lines one other (ap (map view) c.as_slice.ensures.value ∙ c.in_ok-always.ensures) (ap (map view) c.as_slice-then-branch.ensures.value ∙ c.in_ok-always.ensures) (sym c.in_ok-have_none.ensures ∙ c.if-branch.true) in
-    IfOk-weaker c.push_of_all.result (λ _. after ≡ before ++ of_all other) (λ _. after ≡ before ++ of_name lines) (λ _ e. e ∙ ap (λ more. before ++ more) same) c.push_of_all.ensures
+    IfOk-weaker c.push_of_all.result (λ _. after ≡ before ++ of_all None other) (λ _. after ≡ before ++ of_name lines) (λ _ e. e ∙ ap (λ more. before ++ more) same) c.push_of_all.ensures

@@ -1,4 +1,4 @@
-use Rattle.std.proofs.Common.{◌≡◌, ◌++◌, ◌∷◌, [], Bor, map, refl}
+use Rattle.std.proofs.Common.{◌≡◌, ◌++◌, ◌∷◌, [], Bor, Some, map, refl}
 use Rattle.std.proofs.lemmas.Result.{IfOk-weaker}
 use Rattle.pyver_findings.proofs.MarkerPairs.{decided_apart, decided_together, decided_unknown}
 use Rattle.pyver_findings.specs.Conflicts.{of_all}
@@ -14,8 +14,9 @@ returns-in-Together c =
     let old = c.args.findings.now.items in
     let new = c.push_of_all.new.findings.items in
     let left = c.args.left_out.now.items in
-    IfOk-weaker c.push_of_all.result (λ _. AddsFindings old new (of_all lines)) (λ _. AddsFound (FindsDecided c.args.decision lines) old new left left)
-    (λ _ adds. decided_together lines old new left left c.args.decision c.in-Together.is adds refl) c.push_of_all.ensures
+    let environment = c.in-Together.environment in
+    IfOk-weaker c.push_of_all.result (λ _. AddsFindings old new (of_all (Some environment.items) lines)) (λ _. AddsFound (FindsDecided c.args.decision lines) old new left left)
+    (λ _ adds. decided_together lines old new left left environment c.args.decision c.in-Together.is adds refl) c.push_of_all.ensures
 
 pub returns-in-Apart : goal.returns-in-Apart
 returns-in-Apart c = decided_apart (map (λ (x : Bor DemandValue). demand_of x.now) c.args.together.now) _ _ _ _ c.args.decision c.in-Apart.is refl refl
