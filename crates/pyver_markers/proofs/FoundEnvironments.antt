@@ -9,7 +9,7 @@ use Rattle.pyver_requirements.specs.MarkerTokens as tokens
 use Rattle.pyver_requirements.specs.MarkerTokens.{Side}
 use Rattle.pyver_requirements.specs.declared.marker_operator.MarkerOperator.{MarkerOperator}
 use Rattle.pyver_markers.proofs.BoxLaws.{first_and_rest, parts_of_both, parts_of_either}
-use Rattle.pyver_markers.specs.Conditions.{AreLinked, HasNoText, HasPlainRelease, HasPython, HasVersion, IsEnvironment, IsNever, first_two, is_plain_release, setting_version, variable_version}
+use Rattle.pyver_markers.specs.Conditions.{AreLinked, HasNoText, HasPython, HasVersion, IsEnvironment, IsNever, setting_version, short_version, variable_version}
 use Rattle.pyver_markers.specs.Environments.{Assignment, Environment, Extends, Names, Setting, Text}
 use Rattle.pyver_markers.specs.EnvironmentViews.{assignment_of, environment_of, found_environment, setting_of}
 use Rattle.pyver_markers.specs.Extents.{IsAlways, IsExample, is_writable}
@@ -91,24 +91,21 @@ pub version_there : (e : Environment) (name : List ℕ) (v : Option Record) → 
 version_there e name None reads some = absurd (true≢false (sym some))
 version_there e name (Some v) reads some = let (text, has, is) = version_in (e name) v (sym reads) in (text, v, has, is)
 
-pub release_there : (e : Environment) (name : List ℕ) (v : Record) → Some v ≡ variable_version e name → is_plain_release v ≡ true → HasPlainRelease e name
-release_there e name v reads plain = let (text, has, is) = version_in (e name) v (sym reads) in (text, v, has, is, plain)
-
 pub linked : (e : Environment) (short full : List ℕ) (one other : Record) → Some one ≡ variable_version e short → Some other ≡ variable_version e full
-    → one.release ≡ first_two other.release → AreLinked e short full
+    → one ≡ short_version other → AreLinked e short full
 linked e short full one other is so same v w reads also =
     let first : one ≡ v = cc (is, reads) in
     let second : other ≡ w = cc (so, also) in
-    ap (λ (r : Record). r.release) (sym first) ∙ same ∙ ap (λ (r : Record). first_two r.release) second
+    sym first ∙ same ∙ ap short_version second
 
 pub no_text : {X : Type 0} (view : X → Setting) (o : Option X) (s : Option Setting) → is_some o ≡ false → option_map view o ≡ s → (text : List ℕ) → s ≢ Some (Text text)
 no_text view None s none is text has = cc
 no_text view (Some x) s none is text has = true≢false none
 
-pub python_there : (e : Environment) (short full : List ℕ) → short ≡ codes "python_version" → full ≡ codes "python_full_version" → HasPlainRelease e short
+pub python_there : (e : Environment) (short full : List ℕ) → short ≡ codes "python_version" → full ≡ codes "python_full_version" → HasVersion e short
     → HasVersion e full → AreLinked e short full → HasPython e
 python_there e short full is so one other same = record {
-  short = subst (HasPlainRelease e) is one;
+  short = subst (HasVersion e) is one;
   full = subst (HasVersion e) so other;
   linked = subst (λ n. AreLinked e n (codes "python_full_version")) is (subst (AreLinked e short) so same);
 }

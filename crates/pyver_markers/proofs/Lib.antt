@@ -1,7 +1,7 @@
 pub mod BoxLaws
 pub mod FoundEnvironments
 pub mod Readings
-pub mod Releases
+pub mod ShortVersions
 pub mod Steps
 pub mod Texts
 pub mod Versions

@@ -74,7 +74,7 @@ as_versions name left right o is =
     first_chosen (is_version_variable name) (compare_versions left o right)
     (if is_name_variable name then compare_strings (normal left) o (normal right) else compare_strings left o right) is
 
-met_so : (name right : List ℕ) (c : Condition) (s : Spec) → is_version_variable name ≡ true
+pub met_so : (name right : List ℕ) (c : Condition) (s : Spec) → is_version_variable name ≡ true
     → ((e : Environment) → compare e c.left c.operator c.right ≡ compare_left name c.operator right (e name)) → ComparesAs c.operator right s
     → (e : Environment) (x : List ℕ) (v : Record) → e name ≡ Some (Text x) → ascii_version x ≡ Some v → meets e c ≡ agrees c.wanted (matches_literally s.operator s.version v)
 met_so name right c s is asks as_spec e x v has reads =
@@ -82,11 +82,11 @@ met_so name right c s is asks as_spec e x v has reads =
     asks e ∙ ap (compare_left name c.operator right) has ∙ as_versions name x right c.operator is ∙ as_spec x
     ∙ ap (λ r. Some (matches_specifier s r)) reads)
 
-wanted_so : (w a b : Bool) (set : Bool) → w ≡ true → a ≡ agrees w b → set ≡ b → a ≡ set
+pub wanted_so : (w a b : Bool) (set : Bool) → w ≡ true → a ≡ agrees w b → set ≡ b → a ≡ set
 wanted_so true a b set is met holds = met ∙ sym holds
 wanted_so false a b set is met holds = absurd (true≢false (sym is))
 
-unwanted_so : (w a b : Bool) (set without : Bool) → w ≡ false → a ≡ agrees w b → set ≡ b → without ≡ not set → a ≡ without
+pub unwanted_so : (w a b : Bool) (set without : Bool) → w ≡ false → a ≡ agrees w b → set ≡ b → without ≡ not set → a ≡ without
 unwanted_so true a b set without is met holds other = absurd (true≢false is)
 unwanted_so false a b set without is met holds other = met ∙ ap not (sym holds) ∙ sym other
 
@@ -195,9 +195,8 @@ without_any_version : (box : Box) → lacks_any_version box ≡ true → HasNoEn
 without_any_version box is e known =
     let full = codes "python_full_version" in
     let implementation = codes "implementation_version" in
-    let (text, v, has, reads, plain) = known.python.short in
     elim (either_is (lacks_version (codes "python_version") box) (lacks_version full box || lacks_version implementation box) is) [
-      | inl none ↦ without_version (codes "python_version") box refl none e (text, v, has, reads)
+      | inl none ↦ without_version (codes "python_version") box refl none e known.python.short
       | inr others ↦ elim (either_is (lacks_version full box) (lacks_version implementation box) others) [
         | inl none ↦ without_version full box refl none e known.python.full
         | inr none ↦ without_version implementation box refl none e known.implementation_version

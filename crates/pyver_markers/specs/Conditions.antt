@@ -1,5 +1,5 @@
 -- What conditions say of one variable, and boxes in which no environment is.
-use Rattle.std.specs.Prelude.{◌≡◌, ◌≢◌, ℕ, List, [], ◌∷◌, ◌++◌, Bool, true, false, not, Option, Some, None, ◌||◌, bytes_eq, codes, is_none, is_some, option_to_list, if◌then◌else◌}
+use Rattle.std.specs.Prelude.{◌≡◌, ◌≢◌, ℕ, List, [], ◌∷◌, ◌++◌, Bool, true, false, not, Option, Some, None, ◌||◌, bytes_eq, codes, is_none, option_to_list, if◌then◌else◌}
 use Rattle.std.specs.List.{flat_map, list_all}
 use Rattle.std.specs.Option.{option_map_or, option_or}
 use Rattle.pep440_pick.specs.Names.{normal}
@@ -7,11 +7,10 @@ use Rattle.pep440_ranges.specs.RangeSegments.{contains}
 use Rattle.pep440_rs.specs.Bounds.{Segments}
 use Rattle.pep440_rs.specs.Denoted.{IsDenoted}
 use Rattle.pep440_rs.specs.LiteralMatching.{matches_literally}
-use Rattle.pep440_rs.specs.Matching.{any_prerelease}
 use Rattle.pep440_rs.specs.Specifiers.{Spec}
 use Rattle.pep440_sets.specs.Common.{common_version}
 use Rattle.pep440_version.specs.Key.{record_cmp}
-use Rattle.pep440_version.specs.Record.{Record}
+use Rattle.pep440_version.specs.Record.{Record, epoch_and_release}
 use Rattle.pyver_requirements.specs.MarkerGrammar.{Marker}
 use Rattle.pyver_requirements.specs.MarkerSteps.{Step}
 use Rattle.pyver_requirements.specs.MarkerTerms.{marker_operator_text}
@@ -31,19 +30,15 @@ use Rattle.pyver_markers.specs.declared.text_condition.Operand.TheVariants.{Left
 abbrev pub HasVersion : Environment → List ℕ → Type 0
 HasVersion e name = (text : List ℕ) × (v : Record) × (e name ≡ Some (Text text)) × (ascii_version text ≡ Some v)
 
--- the version has no pre-release, post-release or dev part
-abbrev pub is_plain_release : Record → Bool
-is_plain_release v = not (any_prerelease v || is_some v.post)
-
--- the variable is such a version
-abbrev pub HasPlainRelease : Environment → List ℕ → Type 0
-HasPlainRelease e name = (text : List ℕ) × (v : Record) × (e name ≡ Some (Text text)) × (ascii_version text ≡ Some v) × (is_plain_release v ≡ true)
-
 -- the first two numbers of a release; those that are not written are 0
 abbrev pub first_two : List ℕ → List ℕ
 first_two [] = 0 ∷ 0 ∷ []
 first_two (a ∷ []) = a ∷ 0 ∷ []
 first_two (a ∷ b ∷ rest) = a ∷ b ∷ []
+
+-- the version of the first two numbers, of the same epoch and with no other part
+abbrev pub short_version : Record → Record
+short_version v = epoch_and_release v.epoch (first_two v.release)
 
 -- the version that a variable is
 abbrev pub setting_version : Option Setting → Option Record
@@ -55,11 +50,11 @@ variable_version e name = setting_version (e name)
 
 -- one variable is the first two numbers of the other, where both are versions
 abbrev pub AreLinked : Environment → List ℕ → List ℕ → Type 0
-AreLinked e short full = (v w : Record) → variable_version e short ≡ Some v → variable_version e full ≡ Some w → v.release ≡ first_two w.release
+AreLinked e short full = (v w : Record) → variable_version e short ≡ Some v → variable_version e full ≡ Some w → v ≡ short_version w
 
 -- the versions of Python: the first two numbers, and all
 pub record HasPython (e : Environment) : Type 0 where
-  pub short : HasPlainRelease e (codes "python_version")
+  pub short : HasVersion e (codes "python_version")
   pub full : HasVersion e (codes "python_full_version")
   pub linked : AreLinked e (codes "python_version") (codes "python_full_version")
 
@@ -135,20 +130,26 @@ abbrev pub HoldsVersionsOf : List ℕ → Box → Segments → Type 0
 HoldsVersionsOf name box set = (e : Environment) (x : List ℕ) (v : Record) → e name ≡ Some (Text x) → ascii_version x ≡ Some v → in_box e box ≡ true
     → contains record_cmp set v ≡ true
 
--- ---- releases
+-- ---- versions of two numbers
 
--- the set has what matches either specifier
-abbrev pub HoldsEither : Spec → Spec → Segments → Type 0
-HoldsEither one other set = (v : Record) → IsDenoted v
-    → contains record_cmp set v ≡ (matches_literally one.operator one.version v || matches_literally other.operator other.version v)
+-- the set has the versions of which the first two numbers match
+abbrev pub HoldsShortMatchesOf : Spec → Segments → Type 0
+HoldsShortMatchesOf s set = (w : Record) → IsDenoted w → contains record_cmp set w ≡ matches_literally s.operator s.version (short_version w)
 
--- the set has all versions without such parts
-abbrev pub HoldsReleases : Segments → Type 0
-HoldsReleases set = (v : Record) → IsDenoted v → is_plain_release v ≡ true → contains record_cmp set v ≡ true
+-- where the variable is the first two numbers of a version, the condition is met exactly if the set has that version
+abbrev pub HoldsShortMet : List ℕ → Condition → Segments → Type 0
+HoldsShortMet name c set = (e : Environment) (x : List ℕ) (w : Record) → e name ≡ Some (Text x) → ascii_version x ≡ Some (short_version w) → IsDenoted w
+    → meets e c ≡ contains record_cmp set w
 
--- the second set has those of the first one
-abbrev pub KeepsReleases : Segments → Segments → Type 0
-KeepsReleases set kept = (v : Record) → IsDenoted v → is_plain_release v ≡ true → contains record_cmp set v ≡ true → contains record_cmp kept v ≡ true
+-- the second set has what is in the first one where the condition is met by the first two numbers
+abbrev pub NarrowsByShort : List ℕ → Condition → Segments → Segments → Type 0
+NarrowsByShort name c set narrowed = (e : Environment) (x : List ℕ) (w : Record) → e name ≡ Some (Text x) → ascii_version x ≡ Some (short_version w) → IsDenoted w
+    → meets e c ≡ true → contains record_cmp set w ≡ true → contains record_cmp narrowed w ≡ true
+
+-- so it has where the box has an environment
+abbrev pub NarrowsByAllShort : List ℕ → Box → Segments → Segments → Type 0
+NarrowsByAllShort name box set narrowed = (e : Environment) (x : List ℕ) (w : Record) → e name ≡ Some (Text x) → ascii_version x ≡ Some (short_version w) → IsDenoted w
+    → in_box e box ≡ true → contains record_cmp set w ≡ true → contains record_cmp narrowed w ≡ true
 
 -- ---- contradictions
 

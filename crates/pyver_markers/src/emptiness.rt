@@ -7,7 +7,7 @@ ghost use Rattle.pyver_markers.specs.Conditions.{HasNoEnvironment, IsEnvironment
 ghost use Rattle.pyver_markers.specs.Environments.{Environment};
 
 use crate::environment_box::{Condition, EnvironmentBox};
-use crate::release_condition::excludes_releases;
+use crate::python_condition::excludes_python;
 use crate::text_condition::lacks_text;
 use crate::version_condition::{excludes_versions, lacks_version};
 use std::alloc::{AllocError, Global};
@@ -52,10 +52,7 @@ fn lacks_any_text(alloc: Global, conditions: &[Condition<'_>]) -> Result<bool, A
 fn excludes_any_version(alloc: Global, conditions: &[Condition<'_>]) -> Result<bool, AllocError>
     ensures { IfOk result (λ b. b ≡ true → HasNoEnvironment (map condition_of conditions.now)) }
 {
-    if excludes_releases(alloc, "python_version".as_bytes(), conditions)? {
-        return Ok(true);
-    }
-    if excludes_versions(alloc, "python_full_version".as_bytes(), conditions)? {
+    if excludes_python(alloc, conditions)? {
         return Ok(true);
     }
     let last = excludes_versions(alloc, "implementation_version".as_bytes(), conditions)?;

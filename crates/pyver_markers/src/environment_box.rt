@@ -22,7 +22,8 @@ pub struct Condition<'a> {
     pub wanted: bool,
 }
 
-/// A set of environments: those in which each of its comparisons gives what is wanted. What one variable is says nothing of what another one is.
+/// A set of environments: those in which each of its comparisons gives what is wanted. What one variable is says nothing of what another one is, but for the
+/// versions of Python.
 #[derive(Drop)]
 pub struct EnvironmentBox<'a> {
     conditions: Vec<Condition<'a>>,
@@ -46,7 +47,7 @@ impl<'a> EnvironmentBox<'a> {
         self.conditions.as_slice()
     }
 
-    /// Whether it is known that no environment is in the box: a variable would have to be two strings, or a version of Python or its
+    /// Whether it is known that no environment is in the box: a variable would have to be two strings, or the version of Python or of its
     /// implementation would have to be in sets without a common version. Otherwise the box may still be empty.
     ///
     /// Allocates.

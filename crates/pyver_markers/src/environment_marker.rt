@@ -173,7 +173,8 @@ impl<'a> EnvironmentMarker<'a> {
     }
 
     /// Whether it is known that the marker has the wanted value in no environment. In each, `python_version`, `python_full_version` and
-    /// `implementation_version` are versions, the first of them the first two numbers of the second; what else variables are is independent.
+    /// `implementation_version` are versions, the first of them the first two numbers of the second, of its epoch and with no other part; what else variables
+    /// are is independent.
     ///
     /// Allocates.
     pub fn is_never(&self, alloc: Global, wanted: bool) -> Result<bool, AllocError>

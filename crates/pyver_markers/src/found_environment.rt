@@ -1,7 +1,7 @@
 //! Environments in which all conditions are met.
 ghost use Rattle.std.specs.Prelude.{◌≡◌, ◌==◌, IfOk, map, option_map, true};
 ghost use Rattle.std.specs.List.{list_all, list_any};
-ghost use Rattle.pyver_markers.specs.Conditions.{AreLinked, HasPlainRelease, HasPython, HasVersion, IsEnvironment, first_two, is_plain_release, variable_version};
+ghost use Rattle.pyver_markers.specs.Conditions.{AreLinked, HasPython, HasVersion, IsEnvironment, first_two, short_version, variable_version};
 ghost use Rattle.pyver_markers.specs.EnvironmentViews.{assignment_of, environment_of, found_environment};
 ghost use Rattle.pyver_markers.specs.Environments.{Text};
 ghost use Rattle.pyver_markers.specs.Extents.{is_writable};
@@ -9,6 +9,7 @@ ghost use Rattle.pyver_markers.specs.Extents.{is_writable};
 use crate::environment::{Setting, Variable};
 use crate::environment_box::Condition;
 use crate::marker_comparison::is_version_variable;
+use crate::python_condition::first_two;
 use crate::text_condition::{Operand, find_operand, is_met_at};
 use crate::version::{ascii_version, find_specifier};
 use crate::version_condition::{specifier_set, variable_set};
@@ -61,16 +62,9 @@ struct PythonVersions {
     full: Vec<u8>,
 }
 
-// Whether the version has no pre-release, post-release or dev part.
-fn is_plain_release(version: &Version) -> bool
-    ensures { result ≡ is_plain_release version.now }
-{
-    !(version.any_prerelease() || version.is_post())
-}
-
 // Whether it is a version of two numbers and no other part.
 fn has_two_numbers(version: &Version) -> bool {
-    is_plain_release(version) && version.release().len() == 2
+    version.is_release_only() && version.release().len() == 2
 }
 
 // Whether the variable may be this string.
@@ -181,6 +175,11 @@ fn find_operand_text(
     Ok(None)
 }
 
+// Whether its left operand is to be in the string.
+fn is_to_contain(condition: &Condition<'_>) -> bool {
+    condition.wanted && matches!(condition.operator, MarkerOperator::In)
+}
+
 // A string that has all that is to be in it, and is longer than each other one.
 fn find_long_text(
     alloc: Global,
@@ -190,7 +189,7 @@ fn find_long_text(
     let mut text = vec![in alloc; b'x']?;
     for condition in conditions {
         match find_operand(name, condition) {
-            Some(Operand::Left(part)) if condition.wanted => text.extend_from_slice(part)?,
+            Some(Operand::Left(part)) if is_to_contain(condition) => text.extend_from_slice(part)?,
             Some(Operand::Right(other)) => {
                 for _ in other {
                     text.push(b'x')?;
@@ -353,15 +352,6 @@ fn find_at(
     };
     let short = Vec::from_slice(alloc, short)?;
     Ok(Some(PythonVersions { short, full }))
-}
-
-// The first two numbers of a release.
-fn first_two(release: &[u64]) -> (u64, u64) {
-    match release {
-        [] => (0, 0),
-        [major] => (*major, 0),
-        [major, minor, ..] => (*major, *minor),
-    }
 }
 
 // The versions of Python near this one.
@@ -538,16 +528,6 @@ fn has_version(alloc: Global, found: &[FoundVariable<'_>], name: &[u8]) -> Resul
     Ok(version.is_some())
 }
 
-#[tactic(auto, using(crate::proofs::FoundEnvironments::release_there))]
-fn has_release(alloc: Global, found: &[FoundVariable<'_>], name: &[u8]) -> Result<bool, AllocError>
-    ensures { IfOk result (λ b. b ≡ true → HasPlainRelease (found_environment found.now) name.now) }
-{
-    match version_by_name(alloc, found, name)? {
-        Some(version) => Ok(is_plain_release(&version)),
-        None => Ok(false),
-    }
-}
-
 // Whether the release is the first two numbers of the other.
 fn is_first_two(short: &[u64], release: &[u64]) -> bool
     ensures { result ≡ true → short.now ≡ first_two release.now }
@@ -558,6 +538,19 @@ fn is_first_two(short: &[u64], release: &[u64]) -> bool
         ([a, b], []) => *a == 0 && *b == 0,
         _ => false,
     }
+}
+
+// Whether the version is that of the first two numbers of the other, which has no epoch.
+fn is_short_version(short: &Version, version: &Version) -> bool
+    ensures { result ≡ true → short.now ≡ short_version version.now }
+{
+    if version.epoch() != 0 {
+        return false;
+    }
+    if !short.is_release_only() {
+        return false;
+    }
+    is_first_two(short.release(), version.release())
 }
 
 #[tactic(auto, using(crate::proofs::FoundEnvironments::linked))]
@@ -576,7 +569,7 @@ fn are_linked(
     let Some(other) = version_by_name(alloc, found, full)? else {
         return Ok(false);
     };
-    Ok(is_first_two(one.release(), other.release()))
+    Ok(is_short_version(&one, &other))
 }
 
 // Whether the versions of Python are versions, one within the other.
@@ -585,7 +578,7 @@ fn has_python(alloc: Global, found: &[FoundVariable<'_>]) -> Result<bool, AllocE
 {
     let short = "python_version".as_bytes();
     let full = "python_full_version".as_bytes();
-    if !has_release(alloc, found, short)? {
+    if !has_version(alloc, found, short)? {
         return Ok(false);
     }
     if !has_version(alloc, found, full)? {

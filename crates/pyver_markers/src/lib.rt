@@ -1,7 +1,7 @@
 //! Environment markers in environments, and as sets of them.
 //!
 //! In the order in which to read it: `environment`, what variables are and how they are written; `text` and `version`, how two strings compare; `marker_comparison`;
-//! `environment_box`, sets of environments, with `emptiness`, by `text_condition`, `version_condition` and `release_condition`; `marker_boxes`, from steps;
+//! `environment_box`, sets of environments, with `emptiness`, by `text_condition`, `version_condition` and `python_condition`; `marker_boxes`, from steps;
 //! `found_environment`; `environment_marker`, which reads markers and asks all this.
 #![tactic(auto)]
 
@@ -12,7 +12,7 @@ mod environment_marker;
 mod found_environment;
 mod marker_boxes;
 mod marker_comparison;
-mod release_condition;
+mod python_condition;
 mod text;
 mod text_condition;
 mod version;
