@@ -302,15 +302,19 @@ module _ (parts : List ℕ → LineParts) where
       set_right set lines environment k (variables, asked, system, written) =
           let these = under_any set lines in
           let named = All-filter (counts_with set) IsNamed lines k in
-          right_by (HoldUnder parts environment) (IsRightPair parts read) (Some environment) (λ conflict together right. right) these named
-          (variables, record {
-            name = name;
-            ask = mapped (AsksFor parts name) IsNamed asks_for (smallest these) (all_smallest IsNamed these named);
-            environment = asked.environment;
-            known = asked.known;
-            has = asked.has;
-            count = λ e extends. under_count e set lines k (asked.ask e extends);
-          }, system, written)
+          right_by (HoldUnder parts environment) (IsRightPair parts read) (Some environment) (λ conflict together right. right) these named (
+            variables,
+            record {
+              name = name;
+              ask = mapped (AsksFor parts name) IsNamed asks_for (smallest these) (all_smallest IsNamed these named);
+              environment = asked.environment;
+              known = asked.known;
+              has = asked.has;
+              count = λ e extends. under_count e set lines k (asked.ask e extends);
+            },
+            system,
+            written,
+          )
 
       none_right : (fs : List Finding) → fs ≡ [] → All (IsRightPair parts read) fs
       none_right fs none = subst (All (IsRightPair parts read)) (sym none) (All-nil (IsRightPair parts read))

@@ -1,5 +1,5 @@
 -- Steps of loops over lists that make something of each element.
-use Rattle.std.proofs.Common.{◌≡◌, ◌+◌, ◌<◌, ◌∙◌, ℕ, List, [], ◌∷◌, ◌++◌, Bool, IfOk, Result, true, false, length, get_or, take, drop, map, refl, sym, ap, if◌then◌else◌}
+use Rattle.std.proofs.Common.{◌≡◌, ◌+◌, ◌<◌, ◌∙◌, ◌||◌, ℕ, List, [], ◌∷◌, ◌++◌, Bool, IfOk, Result, true, false, length, get_or, take, drop, map, refl, sym, ap, if◌then◌else◌}
 use Rattle.std.proofs.lemmas.List.{append-nil, append_assoc, drop_more, map-append, take_more}
 use Rattle.std.proofs.lemmas.List.Concat.{flat_map-append}
 use Rattle.std.proofs.lemmas.Result.{IfOk-weaker}
@@ -18,6 +18,11 @@ pub one_more : {X A B : Type 0} (view : X → A) (f : A → List B) (xs : List X
 one_more view f xs i x old new total inside is more so =
     ap (λ n. n ++ flat_map f (map view (drop (i + 1) xs))) more ∙ append_assoc old (f (view x)) (flat_map f (map view (drop (i + 1) xs)))
     ∙ ap (λ r. old ++ flat_map f (map view r)) (sym (rest_at xs i x inside is)) ∙ so
+
+-- one is so of what is seen of some
+pub any_viewed : {X Y : Type 0} (p : Y → Bool) (view : X → Y) (xs : List X) → list_any p (map view xs) ≡ list_any (λ x. p (view x)) xs
+any_viewed p view [] = refl
+any_viewed p view (x ∷ xs) = ap (λ b. p (view x) || b) (any_viewed p view xs)
 
 -- ---- first mentions
 

@@ -5,7 +5,7 @@ ghost use Rattle.std.specs.List.{All, list_all, list_any};
 ghost use Rattle.std.specs.Option.{option_map_or};
 ghost use Rattle.pyver_findings.specs.Conflicts.{have_none};
 ghost use Rattle.pyver_findings.specs.Demands.{IsSound};
-ghost use Rattle.pyver_findings.specs.MarkerPairs.{AreJoined, FindsDecided, FindsOfEach, FindsOfName, FindsOfNames, FindsOfSet, HasDenoted, HoldsUnder, IsDenotedBySteps, IsDecision, KnowsSteps, are_of_system, few_first_lines, is_named, is_of_system, is_one_system, lines_to_pair, names_system_once, open_lines, with_first};
+ghost use Rattle.pyver_findings.specs.MarkerPairs.{AreJoined, FindsDecided, FindsOfEach, FindsOfName, FindsOfNames, FindsOfSet, HasDenoted, HoldsUnder, IsDenotedBySteps, IsDecision, KnowsSteps, are_of_system, few_first_lines, is_of_system, is_one_system, lines_to_pair, names_system_once, open_lines, with_first};
 ghost use Rattle.pyver_findings.specs.Views.{AddsFound, demand_of, demands_at, demands_of_group, demands_of_sets};
 ghost use Rattle.pyver_findings.specs.declared.cause.Cause.TheVariants as cause;
 ghost use Rattle.pyver_markers.specs.EnvironmentViews.{assignment_of};
@@ -76,16 +76,9 @@ fn are_of_system(variables: &[FoundVariable<'_>], os: &str, sys: &str, platform:
 }
 
 fn is_named(variables: &[FoundVariable<'_>], name: &[u8]) -> bool
-    ensures { result ≡ is_named name.now (map assignment_of variables.now) }
+    ensures { result ≡ list_any (λ v. bytes_eq v.name.now name.now) variables.now }
 {
-    let mut rest = variables;
-    while let [variable, later @ ..] = rest {
-        if variable.name == name {
-            return true;
-        }
-        rest = later;
-    }
-    false
+    variables.iter().any(|variable| variable.name == name)
 }
 
 // Whether two are, or all three.
@@ -205,10 +198,7 @@ fn find_on(
 }
 
 // Where the marker holds on one of the systems.
-fn find_on_any(
-    alloc: Global,
-    marker: &EnvironmentMarker<'_>,
-) -> Result<Option<Vec<u8>>, AllocError>
+fn find_on_any(alloc: Global, marker: &EnvironmentMarker<'_>) -> Result<Option<Vec<u8>>, AllocError>
     ensures { IfOk result (λ found. IfSome found (λ environment. HoldsUnder marker.now environment.items)) }
 {
     for system in SYSTEMS {
@@ -220,10 +210,7 @@ fn find_on_any(
 }
 
 // Where the marker holds, with all variables of the system if it names several.
-fn find_where(
-    alloc: Global,
-    marker: &EnvironmentMarker<'_>,
-) -> Result<Option<Vec<u8>>, AllocError>
+fn find_where(alloc: Global, marker: &EnvironmentMarker<'_>) -> Result<Option<Vec<u8>>, AllocError>
     ensures { IfOk result (λ found. IfSome found (λ environment. HoldsUnder marker.now environment.items)) }
 {
     if let Some(environment) = find_environment(alloc, marker)? {

@@ -207,10 +207,9 @@ checks_once read a b c readable (q, d, hq, hd, is) (p, e, hp, he, so) decided al
     let found : without_environments (without_ignored (joined_report q d)) ≡ without_environments (without_ignored (joined_report p e)) =
     ignored_alike (joined_report q d)
     ∙ ap without_ignored (joined_alike q d ∙ (λ j. joined_report (of_lines j) (of_documents j)) ∙ sym (joined_alike p e))
-    ∙ sym (ignored_alike (joined_report p e)) in
-    (
+    ∙ sym (ignored_alike (joined_report p e)) in (
       ap (λ (c : CheckResult). without_environments c.report) is ∙ joined_alike a.report (without_ignored (joined_report q d))
-      ∙ ap (joined_report (without_environments a.report)) found
-      ∙ sym (joined_alike a.report (without_ignored (joined_report p e))) ∙ sym (ap (λ (c : CheckResult). without_environments c.report) so),
+          ∙ ap (joined_report (without_environments a.report)) found
+          ∙ sym (joined_alike a.report (without_ignored (joined_report p e))) ∙ sym (ap (λ (c : CheckResult). without_environments c.report) so),
       ap (λ (c : CheckResult). c.unopened) is ∙ sym (ap (λ (c : CheckResult). c.unopened) so),
     )
