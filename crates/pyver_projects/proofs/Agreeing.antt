@@ -65,12 +65,12 @@ lock_read file kind l x (text, e) (inr (again, inl (m, f, is))) =
     subst (λ (c : LockContents). IsLockReading file.name c x) equal is
 
 -- nothing is found of a string, which always asks for this
-not_compared : (kind : LockKind) (parts : List (List ℕ)) (ys : List LockedReading) (a : Demand) (section : Section) (x : StringReading) → x.section ≡ section → x.meaning ≡ Asks a → is_locked section ≡ true → compared kind parts ys x ≡ [] → compared_demand kind parts ys section a ≡ []
-not_compared kind parts ys a section x same is counts e =
-    let here : (if is_locked section then flat_map (compared_demand kind parts ys section) (demands_in (Asks a)) else []) ≡ [] =
-    (λ j. if is_locked (sym same j) then flat_map (compared_demand kind parts ys (sym same j)) (demands_in (sym is j)) else []) ∙ e in
-    let counted : flat_map (compared_demand kind parts ys section) (demands_in (Asks a)) ≡ [] = ap (λ (b : Bool). if b then flat_map (compared_demand kind parts ys section) (demands_in (Asks a)) else []) (sym counts) ∙ here in
-    left_nil (compared_demand kind parts ys section a) [] counted
+not_compared : (kind : LockKind) (parts names : List (List ℕ)) (ys : List LockedReading) (a : Demand) (section : Section) (x : StringReading) → x.section ≡ section → x.meaning ≡ Asks a → is_locked section ≡ true → compared kind parts names ys x ≡ [] → compared_demand kind parts names ys section a ≡ []
+not_compared kind parts names ys a section x same is counts e =
+    let here : (if is_locked section then flat_map (compared_demand kind parts names ys section) (demands_in (Asks a)) else []) ≡ [] =
+    (λ j. if is_locked (sym same j) then flat_map (compared_demand kind parts names ys (sym same j)) (demands_in (sym is j)) else []) ∙ e in
+    let counted : flat_map (compared_demand kind parts names ys section) (demands_in (Asks a)) ≡ [] = ap (λ (b : Bool). if b then flat_map (compared_demand kind parts names ys section) (demands_in (Asks a)) else []) (sym counts) ∙ here in
+    left_nil (compared_demand kind parts names ys section a) [] counted
 
 counted : (b : Bool) (found : List Finding) → b ≡ true → (if b then found else []) ≡ [] → found ≡ []
 counted true found is none = none
@@ -88,12 +88,12 @@ all_contained documents zs h found file lock kind l s p n v (t, ((k, inside, at)
     let nothing : found_beside (Lock kind) x y ≡ [] =
     counted (is_beside documents project locked) (found_beside (Lock kind) x y) beside
     (nil_at (found_in_pair documents (project, x)) pairs (locked, y) b in_y is_y (nil_at (beside_all documents pairs) pairs (project, x) a in_x is_x found)) in
-    let compares : flat_map (compared kind l.parts ys) xs ≡ [] = (λ e. found_beside (Lock kind) (sym is_project e) (sym is_lock e)) ∙ nothing in
+    let compares : flat_map (compared kind l.parts (project_names t) ys) xs ≡ [] = (λ e. found_beside (Lock kind) (sym is_project e) (sym is_lock e)) ∙ nothing in
     let (z, (c, in_z, is_z), rz) = beside_it (IsStringReading (groups t) file) (sources t) xs s i within here g in
     let meaning = asks_always (string_line file s) n asks.0 asks.1 asks.2 asks.3 (groups t) s.text s.section z.meaning counts rz.1 in
     let asked = line_demand (string_line file s) None n in
-    let both : missing kind l.parts ys s.section asked ++ excluded asked ys ≡ [] = not_compared kind l.parts ys asked s.section z rz.0 meaning counts (nil_at (compared kind l.parts ys) xs z c in_z is_z compares) in
-    not_excluded lock.name l.packages (string_line file s) n ys q p j under this v locks (right_nil (missing kind l.parts ys s.section asked) (excluded asked ys) both)
+    let both : missing kind l.parts (project_names t) ys s.section asked ++ excluded asked ys ≡ [] = not_compared kind l.parts (project_names t) ys asked s.section z rz.0 meaning counts (nil_at (compared kind l.parts (project_names t) ys) xs z c in_z is_z compares) in
+    not_excluded lock.name l.packages (string_line file s) n ys q p j under this v locks (right_nil (missing kind l.parts (project_names t) ys s.section asked) (excluded asked ys) both)
 
 -- a requirement asks for its list
 asks_for : (file : List ℕ) (q : LockedRequirement) (list : List Spec) (m : LineMeaning) → DerivesList q.list list → IsRequirementReading file q m → m ≡ Asks (line_demand (requirement_line file q) None (record { name = q.name; extras = []; specifiers = list }))

@@ -1,6 +1,6 @@
 -- Each finding of a report of documents is right, as are requirements of a project that have no version in common; documents that were read have
 -- lists that strings can give; and requirements that count always.
-use Rattle.std.proofs.Common.{Bool, Err, List, None, Ok, Option, Result, Some, [], ap, codes, false, if◌then◌else◌, inl, inr, length, map, option_map, refl, subst, sym, true, ℕ, ◌++◌, ◌+◌, ◌∙◌, ◌∷◌, ◌≡◌}
+use Rattle.std.proofs.Common.{Bool, Err, List, None, Ok, Option, Result, Some, [], ap, bytes_eq, codes, false, if◌then◌else◌, inl, inr, length, map, option_map, refl, subst, sym, true, ℕ, ◌++◌, ◌+◌, ◌∙◌, ◌∷◌, ◌≡◌}
 use Rattle.std.proofs.lemmas.Bool.{true≢false}
 use Rattle.std.proofs.lemmas.List.{append-nil, append_assoc}
 use Rattle.std.proofs.lemmas.List.Elements.{All-append, All-cons, All-contains_itself, All-head, All-map, All-nil, All-tail, All-weaker}
@@ -18,7 +18,7 @@ use Rattle.toml.specs.Data.{Members}
 use Rattle.toml.specs.Parse.{parse_document}
 use Rattle.pyver_projects.specs.Together.{FindsOfPart, FindsOfParts, demand_in_part, has_group, holds_in, part_conflicts, part_demands, parts, project_conflicts, same_finding, sections, with_new}
 use Rattle.pyver_projects.proofs.Walks.{all_flat, pairs_each, zip_each}
-use Rattle.pyver_projects.specs.Comparing.{FindsOfReading, absent, beside_all, compared, compared_demand, documents_report, excluded, found_beside, found_in_pair, has_name, invalid_package, invalid_string, is_beside, is_excused, is_locked, is_needed, lacking, outside, own_report, partly_locked, taken_packages, unlocked, unmet, with_own_reports}
+use Rattle.pyver_projects.specs.Comparing.{FindsOfReading, absent, beside_all, compared, compared_demand, documents_report, excluded, found_beside, found_in_pair, has_name, invalid_package, invalid_string, is_beside, is_excused, is_installer, is_locked, is_needed, lacking, outside, own_report, partly_locked, taken_packages, unlocked, unmet, with_own_reports}
 use Rattle.pyver_projects.specs.Documents.{has_group_tool, locked, project_names, sources}
 use Rattle.pyver_projects.specs.Groups.{Groups, Inclusion, groups, inclusions, no_group}
 use Rattle.pyver_projects.proofs.LockedPackages.{IsLackHere, IsOutsideHere, excluded_right, none_named, partly_right}
@@ -429,36 +429,40 @@ module _ (documents : List Document) where
           missing_right false needs = All-nil Right
           missing_right true needs = All-append Right (absent ys asked) (partly_locked (string_line file s) (taken_packages ys asked)) (absent_here (list_any (has_name asked) ys) needs refl) (partly_missing needs)
 
-          always_right : All Right (compared_demand kind u.parts ys s.section asked)
+          unless : (b : Bool) (fs : List Finding) → All Right fs → All Right (if b then [] else fs)
+          unless true fs right = All-nil Right
+          unless false fs right = right
+
+          always_right : All Right (compared_demand kind u.parts (project_names t) ys s.section asked)
           always_right =
-              All-append Right _ (excluded asked ys) (missing_right (is_needed kind u.parts s.section) refl)
+              All-append Right _ (excluded asked ys) (unless (is_installer asked.name) _ (unless (list_any (bytes_eq asked.name) (project_names t)) _ (missing_right (is_needed kind u.parts s.section) refl)))
               (All-weaker (IsOutsideHere lock.name u.packages (string_line file s) n) Right excludes (excluded asked ys) (excluded_right lock.name u.packages (string_line file s) n ys h))
 
       module _ (ys : List LockedReading) (h : AllZip (IsLockedReading lock.name) u.packages ys) where
-        by_marker : (a : Demand) (k : AsksFor (string_line file s) (line_parts s.text) a) (marker : Option (List ℕ)) → (marker ≡ None → (line_parts s.text).marker ≡ None) → All Right (compared_demand kind u.parts ys s.section (line_demand (string_line file s) marker k.needed))
+        by_marker : (a : Demand) (k : AsksFor (string_line file s) (line_parts s.text) a) (marker : Option (List ℕ)) → (marker ≡ None → (line_parts s.text).marker ≡ None) → All Right (compared_demand kind u.parts (project_names t) ys s.section (line_demand (string_line file s) marker k.needed))
         by_marker a k None unmarked = always_right k.needed (k.text, k.derives, unmarked refl, k.url) ys h
         by_marker a k (Some m) unmarked = All-nil Right
 
-        of_asked : (a : Demand) → AsksFor (string_line file s) (line_parts s.text) a → All Right (compared_demand kind u.parts ys s.section a)
-        of_asked a k = subst (λ (b : Demand). All Right (compared_demand kind u.parts ys s.section b)) (sym k.is) (by_marker a k k.marker k.always)
+        of_asked : (a : Demand) → AsksFor (string_line file s) (line_parts s.text) a → All Right (compared_demand kind u.parts (project_names t) ys s.section a)
+        of_asked a k = subst (λ (b : Demand). All Right (compared_demand kind u.parts (project_names t) ys s.section b)) (sym k.is) (by_marker a k k.marker k.always)
 
-        of_meaning : (m : LineMeaning) → IsSectionMeaning (groups t) s.section (string_line file s) s.text m → All Right (flat_map (compared_demand kind u.parts ys s.section) (demands_in m))
-        of_meaning (Asks a) is = All-append Right (compared_demand kind u.parts ys s.section a) [] (of_asked a (of_section (groups t) (string_line file s) s.text a s.section is)) (All-nil Right)
+        of_meaning : (m : LineMeaning) → IsSectionMeaning (groups t) s.section (string_line file s) s.text m → All Right (flat_map (compared_demand kind u.parts (project_names t) ys s.section) (demands_in m))
+        of_meaning (Asks a) is = All-append Right (compared_demand kind u.parts (project_names t) ys s.section a) [] (of_asked a (of_section (groups t) (string_line file s) s.text a s.section is)) (All-nil Right)
         of_meaning (IsNone f) is = All-nil Right
         of_meaning (LeftOut c) is = All-nil Right
         of_meaning AsksNothing is = All-nil Right
 
-        by_section : (b : Bool) (m : LineMeaning) → IsSectionMeaning (groups t) s.section (string_line file s) s.text m → All Right (if b then flat_map (compared_demand kind u.parts ys s.section) (demands_in m) else [])
+        by_section : (b : Bool) (m : LineMeaning) → IsSectionMeaning (groups t) s.section (string_line file s) s.text m → All Right (if b then flat_map (compared_demand kind u.parts (project_names t) ys s.section) (demands_in m) else [])
         by_section true m is = of_meaning m is
         by_section false m is = All-nil Right
 
-        compared_right : (x : StringReading) → IsStringReading (groups t) file s x → All Right (compared kind u.parts ys x)
+        compared_right : (x : StringReading) → IsStringReading (groups t) file s x → All Right (compared kind u.parts (project_names t) ys x)
         compared_right x (same, is) =
-            subst (λ section. All Right (if is_locked section then flat_map (compared_demand kind u.parts ys section) (demands_in x.meaning) else [])) (sym same) (by_section (is_locked s.section) x.meaning is)
+            subst (λ section. All Right (if is_locked section then flat_map (compared_demand kind u.parts (project_names t) ys section) (demands_in x.meaning) else [])) (sym same) (by_section (is_locked s.section) x.meaning is)
 
-    pub pair_right : (xs : List StringReading) (ys : List LockedReading) → AllZip (IsStringReading (groups t) file) (sources t) xs → AllZip (IsLockedReading lock.name) u.packages ys → All Right (flat_map (compared kind u.parts ys) xs)
+    pub pair_right : (xs : List StringReading) (ys : List LockedReading) → AllZip (IsStringReading (groups t) file) (sources t) xs → AllZip (IsLockedReading lock.name) u.packages ys → All Right (flat_map (compared kind u.parts (project_names t) ys) xs)
     pair_right xs ys g h =
-        all_flat Right (compared kind u.parts ys) xs (zip_each (IsStringReading (groups t) file) (Contains (sources t)) (λ x. All Right (compared kind u.parts ys x)) (λ s x at r. compared_right s at ys h x r) (sources t) xs (All-contains_itself (sources t)) g)
+        all_flat Right (compared kind u.parts (project_names t) ys) xs (zip_each (IsStringReading (groups t) file) (Contains (sources t)) (λ x. All Right (compared kind u.parts (project_names t) ys x)) (λ s x at r. compared_right s at ys h x r) (sources t) xs (All-contains_itself (sources t)) g)
 
   -- ---- a document beside another
 

@@ -119,6 +119,11 @@ folder_is (b ∷ rest) = by (folder_is rest) (has_slash (b ∷ rest))
         ap (λ n. take n (b ∷ rest)) less ∙ ap (λ front. b ∷ front) is
     by is false = let none : suc (length rest) - suc (length rest) ≡ 0 = omega arith in ap (λ n. take n (b ∷ rest)) none
 
+-- a name is among one name
+pub or_none : (b : Bool) → b ≡ (b || false)
+or_none true = refl
+or_none false = refl
+
 -- some element of a list that was made of another
 pub any_of : {X Y : Type 0} (p : Y → Bool) (f : X → Y) (xs : List X) → list_any p (map f xs) ≡ list_any (λ x. p (f x)) xs
 any_of p f [] = refl

@@ -181,10 +181,11 @@ is_locked (Extra name) = true
 is_locked (Group name) = true
 is_locked _ = false
 
-module _ (kind : LockKind) (parts : List (List ℕ)) where
-  -- a lock has the package, if it needs it
+module _ (kind : LockKind) (parts : List (List ℕ)) (names : List (List ℕ)) where
+  -- a lock has the package, if it needs it; but not installers, nor the project itself, which by these names may ask for extras of its own
   abbrev pub missing : List LockedReading → Section → Demand → List Finding
-  missing ys section a = if is_needed kind parts section then unlocked ys a else []
+  missing ys section a =
+      if is_installer a.name then [] else (if list_any (bytes_eq a.name) names then [] else (if is_needed kind parts section then unlocked ys a else []))
 
   -- a requirement beside the lock, which counts if it has no marker
   abbrev pub compared_demand : List LockedReading → Section → Demand → List Finding
@@ -196,7 +197,7 @@ module _ (kind : LockKind) (parts : List (List ℕ)) where
 
 -- the first document beside the second, of this kind, if that is a project and this a lock
 abbrev pub found_beside : DocumentKind → DocumentReading → DocumentReading → List Finding
-found_beside (Lock kind) (IsProject together names xs) (IsLock parts ys ms fs) = flat_map (compared kind parts ys) xs
+found_beside (Lock kind) (IsProject together names xs) (IsLock parts ys ms fs) = flat_map (compared kind parts names ys) xs
 found_beside kind x y = []
 
 -- ---- which lock is compared with which project

@@ -247,7 +247,7 @@ pub(crate) fn read_document(
     let text = document.file.text.as_slice();
     match std::str::from_utf8(text) {
         Ok(text) => read_text(alloc, document.kind, name, text),
-        Err(_) => reject_document(alloc, name, text, 0, "not UTF-8"),
+        Err(error) => reject_document(alloc, name, text, error.valid_up_to(), "not UTF-8"),
     }
 }
 

@@ -78,12 +78,14 @@ impl<'a> PackageIndex<'a> {
     }
 }
 
-// A lock, its groups, and its packages by their names.
+// A lock beside a project: its groups, and its packages by their names.
 #[derive(Drop)]
 struct IndexedLock<'a> {
     kind: LockKind,
     // The groups that it has, in their normal form.
     parts: &'a [Vec<u8>],
+    // The name of the project beside it, in its normal form.
+    project: &'a Option<Vec<u8>>,
     packages: PackageIndex<'a>,
 }
 
@@ -582,6 +584,17 @@ pub(crate) fn push_unmet_requirements(
     push_unmet_in_index(alloc, findings, projects, &packages, requirements)
 }
 
+#[tactic(auto, using(crate::proofs::Walks::or_none))]
+// Whether the project has this name.
+fn is_project_name(project: &Option<Vec<u8>>, name: &[u8]) -> bool
+    ensures { result ≡ list_any (bytes_eq name.now) (option_to_list (option_map (λ n. n.items) project.now)) }
+{
+    match project {
+        Some(project) => name == project.as_slice(),
+        None => false,
+    }
+}
+
 fn push_missing(
     alloc: Global,
     findings: &mut Vec<Finding>,
@@ -590,8 +603,14 @@ fn push_missing(
     demand: &Demand,
 ) -> Result<(), AllocError>
     requires { IsIndex lock.now.packages }
-    ensures { IfOk result (λ _. map finding_of findings.new.items ≡ map finding_of findings.old.items ++ missing lock.now.kind (map (λ n. n.items) lock.now.parts.now) (packages_of lock.now.packages) (section_of section.now) (demand_of demand.now)) }
+    ensures { IfOk result (λ _. map finding_of findings.new.items ≡ map finding_of findings.old.items ++ missing lock.now.kind (map (λ n. n.items) lock.now.parts.now) (option_to_list (option_map (λ n. n.items) lock.now.project.now)) (packages_of lock.now.packages) (section_of section.now) (demand_of demand.now)) }
 {
+    if is_installer(demand.name.as_slice()) {
+        return Ok(());
+    }
+    if is_project_name(lock.project, demand.name.as_slice()) {
+        return Ok(());
+    }
     if !is_needed(lock.kind, lock.parts, section) {
         return Ok(());
     }
@@ -606,7 +625,7 @@ fn push_compared_demand(
     demand: &Demand,
 ) -> Result<(), AllocError>
     requires { IsIndex lock.now.packages }
-    ensures { IfOk result (λ _. map finding_of findings.new.items ≡ map finding_of findings.old.items ++ compared_demand lock.now.kind (map (λ n. n.items) lock.now.parts.now) (packages_of lock.now.packages) (section_of section.now) (demand_of demand.now)) }
+    ensures { IfOk result (λ _. map finding_of findings.new.items ≡ map finding_of findings.old.items ++ compared_demand lock.now.kind (map (λ n. n.items) lock.now.parts.now) (option_to_list (option_map (λ n. n.items) lock.now.project.now)) (packages_of lock.now.packages) (section_of section.now) (demand_of demand.now)) }
 {
     if demand.marker.is_some() {
         return Ok(());
@@ -623,7 +642,7 @@ fn push_compared_meaning(
     meaning: &LineMeaning,
 ) -> Result<(), AllocError>
     requires { IsIndex lock.now.packages }
-    ensures { IfOk result (λ _. map finding_of findings.new.items ≡ map finding_of findings.old.items ++ flat_map (compared_demand lock.now.kind (map (λ n. n.items) lock.now.parts.now) (packages_of lock.now.packages) (section_of section.now)) (demands_in (line_meaning_of meaning.now))) }
+    ensures { IfOk result (λ _. map finding_of findings.new.items ≡ map finding_of findings.old.items ++ flat_map (compared_demand lock.now.kind (map (λ n. n.items) lock.now.parts.now) (option_to_list (option_map (λ n. n.items) lock.now.project.now)) (packages_of lock.now.packages) (section_of section.now)) (demands_in (line_meaning_of meaning.now))) }
 {
     match meaning {
         LineMeaning::Asks(demand) => {
@@ -640,7 +659,7 @@ fn push_compared(
     string: &StringReading,
 ) -> Result<(), AllocError>
     requires { IsIndex lock.now.packages }
-    ensures { IfOk result (λ _. map finding_of findings.new.items ≡ map finding_of findings.old.items ++ compared lock.now.kind (map (λ n. n.items) lock.now.parts.now) (packages_of lock.now.packages) (string_reading_of string.now)) }
+    ensures { IfOk result (λ _. map finding_of findings.new.items ≡ map finding_of findings.old.items ++ compared lock.now.kind (map (λ n. n.items) lock.now.parts.now) (option_to_list (option_map (λ n. n.items) lock.now.project.now)) (packages_of lock.now.packages) (string_reading_of string.now)) }
 {
     if !is_locked(&string.section) {
         return Ok(());
@@ -655,7 +674,7 @@ fn push_all_compared(
     strings: &[StringReading],
 ) -> Result<(), AllocError>
     requires { IsIndex lock.now.packages }
-    ensures { IfOk result (λ _. map finding_of findings.new.items ≡ map finding_of findings.old.items ++ flat_map (compared lock.now.kind (map (λ n. n.items) lock.now.parts.now) (packages_of lock.now.packages)) (map string_reading_of strings.now)) }
+    ensures { IfOk result (λ _. map finding_of findings.new.items ≡ map finding_of findings.old.items ++ flat_map (compared lock.now.kind (map (λ n. n.items) lock.now.parts.now) (option_to_list (option_map (λ n. n.items) lock.now.project.now)) (packages_of lock.now.packages)) (map string_reading_of strings.now)) }
 {
     for string in strings {
         push_compared(alloc, findings, lock, string)?;
@@ -664,12 +683,12 @@ fn push_all_compared(
 }
 
 // What is found in the first document beside the second, of this kind.
-fn push_beside(
+fn push_beside<'a>(
     alloc: Global,
     findings: &mut Vec<Finding>,
     kind: DocumentKind,
-    document: &DocumentReading,
-    other: &DocumentReading,
+    document: &'a DocumentReading,
+    other: &'a DocumentReading,
 ) -> Result<(), AllocError>
     ensures { IfOk result (λ _. map finding_of findings.new.items ≡ map finding_of findings.old.items ++ found_beside kind (document_reading_of document.now) (document_reading_of other.now)) }
 {
@@ -687,6 +706,7 @@ fn push_beside(
     let lock = IndexedLock {
         kind,
         parts,
+        project: &project.name,
         packages,
     };
     push_all_compared(alloc, findings, &lock, project.strings.as_slice())
