@@ -6,7 +6,7 @@ use Rattle.std.proofs.lemmas.List.Folds.{list_all-append, list_any-append}
 use Rattle.std.specs.Prelude.{IfSome, map, nat_lt, if◌then◌else◌}
 use Rattle.pyver_requirements.specs.MarkerGrammar.{Both, Comparison, Either, Marker}
 use Rattle.pyver_markers.specs.Boxes.{Box, Condition, HasValueInBoxes, agrees, both_boxes, boxes, either_boxes, in_box, in_boxes, is_met, meets, products}
-use Rattle.pyver_markers.specs.Conditions.{IsEnvironment, IsNever}
+use Rattle.pyver_markers.specs.Conditions.{Domain, IsEnvironment, IsNever}
 use Rattle.pyver_markers.specs.Environments.{Environment}
 use Rattle.pyver_markers.specs.MarkerComparisons.{compare}
 use Rattle.pyver_markers.specs.MarkerValues.{both_hold, either_holds, value}
@@ -169,5 +169,6 @@ same_agree true = refl
 same_agree false = refl
 
 -- where no environment is in the boxes, none gives the value
-pub never : (wanted : Bool) (m : Marker) (all : List Box) → HasValueInBoxes wanted m all → ((e : Environment) → IsEnvironment e → in_boxes e all ≡ false) → IsNever wanted m
-never wanted m all holds empty e known has = true≢false (sym (holds e wanted has ∙ same_agree wanted) ∙ empty e known)
+pub never : (d : Domain) (wanted : Bool) (m : Marker) (all : List Box) → HasValueInBoxes wanted m all
+    → ((e : Environment) → IsEnvironment d e → in_boxes e all ≡ false) → IsNever d wanted m
+never d wanted m all holds empty e known has = true≢false (sym (holds e wanted has ∙ same_agree wanted) ∙ empty e known)

@@ -3,13 +3,14 @@ use Rattle.std.proofs.Common.{◌≡◌, ◌≢◌, ◌∙◌, ◌++◌, ◌-◌
 use Rattle.std.proofs.lemmas.Bool.{true≢false}
 use Rattle.std.specs.List.{find, list_all}
 use Rattle.std.specs.Prelude.{bytes_eq, codes, cond, is_some, map, option_map}
+use Rattle.pep440_rs.specs.Bounds.{Segments}
 use Rattle.pep440_version.specs.Record.{Record}
 use Rattle.pyver_requirements.specs.MarkerGrammar.{Both, Comparison, Either, Marker}
 use Rattle.pyver_requirements.specs.MarkerTokens as tokens
 use Rattle.pyver_requirements.specs.MarkerTokens.{Side}
 use Rattle.pyver_requirements.specs.declared.marker_operator.MarkerOperator.{MarkerOperator}
 use Rattle.pyver_markers.proofs.BoxLaws.{first_and_rest, parts_of_both, parts_of_either}
-use Rattle.pyver_markers.specs.Conditions.{AreLinked, HasNoText, HasPython, HasVersion, IsEnvironment, IsNever, setting_version, short_version, variable_version}
+use Rattle.pyver_markers.specs.Conditions.{AreLinked, Domain, HasAllowed, HasNoText, HasPython, HasVersion, IsAllowed, IsEnvironment, IsNever, setting_version, short_version, variable_version}
 use Rattle.pyver_markers.specs.Environments.{Assignment, Environment, Extends, Names, Setting, Text}
 use Rattle.pyver_markers.specs.EnvironmentViews.{assignment_of, environment_of, found_environment, setting_of}
 use Rattle.pyver_markers.specs.Extents.{IsAlways, IsExample, is_writable}
@@ -110,15 +111,17 @@ python_there e short full is so one other same = record {
   linked = subst (λ n. AreLinked e n (codes "python_full_version")) is (subst (AreLinked e short) so same);
 }
 
-pub known_there : {X Y : Type 0} (view : X → Setting) (other : Y → Setting) (e : Environment) (o : Option X) (p : Option Y) (version extras groups : List ℕ)
-    → version ≡ codes "implementation_version" → extras ≡ codes "extras" → groups ≡ codes "dependency_groups" → is_some o ≡ false → option_map view o ≡ e extras
-    → is_some p ≡ false → option_map other p ≡ e groups → HasPython e → HasVersion e version → IsEnvironment e
-known_there view other e o p version extras groups is so also none has empty have python known = record {
-  python = python;
-  implementation_version = subst (HasVersion e) is known;
-  extras = subst (HasNoText e) so (no_text view o (e extras) none has);
-  dependency_groups = subst (HasNoText e) also (no_text other p (e groups) empty have);
-}
+pub unset : {X : Type 0} (view : X → Setting) (e : Environment) (o : Option X) (name wanted : List ℕ) → name ≡ wanted → is_some o ≡ false → option_map view o ≡ e name
+    → HasNoText e wanted
+unset view e o name wanted is none has = subst (HasNoText e) is (no_text view o (e name) none has)
+
+pub allowed_there : (e : Environment) (allowed : Option Segments) (name : List ℕ) (v : Record) → name ≡ codes "python_full_version" → Some v ≡ variable_version e name
+    → IsAllowed allowed v → HasAllowed allowed e
+allowed_there e allowed name v is reads may w also = subst (IsAllowed allowed) (cc (reads, subst (λ n. variable_version e n ≡ Some w) (sym is) also)) may
+
+pub text_there : {X : Type 0} (view : X → Setting) (e : Environment) (name wanted : List ℕ) (o : Option X) (x : X) → name ≡ wanted → o ≡ Some x → option_map view o ≡ e name
+    → e wanted ≡ Some (view x)
+text_there view e name wanted o x is found has = ap e (sym is) ∙ sym has ∙ ap (option_map view) found
 
 -- ---- environments that have more
 
@@ -165,9 +168,9 @@ value_stays e whole more (Either a b) v is =
     let (x, y, first, second, joined) = parts_of_either (value e a) (value e b) v is in
     ap (λ p. either_holds p (value whole b)) (value_stays e whole more a x first) ∙ ap (λ p. either_holds (Some x) p) (value_stays e whole more b y second) ∙ ap Some joined
 
-pub example : (m : Marker) (n : ℕ) (all kept : List FoundVariable) → kept ≡ take n all → IsEnvironment (found_environment all)
-    → list_all (λ (v : Assignment). is_writable v.text) (map assignment_of kept) ≡ true → value (found_environment kept) m ≡ Some true → IsExample m (map assignment_of kept)
-example m n all kept is known writable holds = record {
+pub example : (d : Domain) (m : Marker) (n : ℕ) (all kept : List FoundVariable) → kept ≡ take n all → IsEnvironment d (found_environment all)
+    → list_all (λ (v : Assignment). is_writable v.text) (map assignment_of kept) ≡ true → value (found_environment kept) m ≡ Some true → IsExample d m (map assignment_of kept)
+example d m n all kept is known writable holds = record {
   environment = found_environment all;
   known = known;
   has = subst (λ l. Extends (found_environment l) (found_environment all)) (sym is) (in_front n all);
@@ -175,5 +178,5 @@ example m n all kept is known writable holds = record {
   writable = writable;
 }
 
-pub always : (m : Marker) (variables : List Assignment) → IsExample m variables → IsNever false m → IsAlways m
-always m variables it never = (it.environment, it.known, it.holds it.environment it.has, never)
+pub always : (d : Domain) (m : Marker) (variables : List Assignment) → IsExample d m variables → IsNever d false m → IsAlways d m
+always d m variables it never = (it.environment, it.known, it.holds it.environment it.has, never)

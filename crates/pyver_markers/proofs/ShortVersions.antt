@@ -1,5 +1,5 @@
 -- Versions, and those of their first two numbers.
-use Rattle.std.proofs.Common.{◌≡◌, ◌∙◌, ◌==◌, ◌&&◌, ◌||◌, ◌-◌, ◌<◌, ◌≤◌, ℕ, List, [], ◌∷◌, Bool, true, false, not, Some, None, ap, arith, drop, get_or, length, refl, subst, sym, take}
+use Rattle.std.proofs.Common.{◌≡◌, ◌∙◌, ◌==◌, ◌&&◌, ◌||◌, ◌-◌, ◌<◌, ◌≤◌, ℕ, List, [], ◌∷◌, Bool, true, false, not, Option, Some, None, ap, arith, drop, get_or, length, refl, subst, sym, take}
 use Rattle.std.proofs.lemmas.Bool.Decides.{nat_tests}
 use Rattle.std.proofs.lemmas.Bool.{and_from, and_parts, false_from_ne_true, true≢false}
 use Rattle.std.proofs.lemmas.List.Elements.{All-cons, All-head, All-nil, All-tail}
@@ -26,7 +26,7 @@ use Rattle.pep440_version.specs.Record.{Fits, Record, epoch_and_release}
 use Rattle.pyver_markers.proofs.BoxLaws.{first_and_rest}
 use Rattle.pyver_markers.proofs.Versions.{is_denoted, met_so, unwanted_so, wanted_so}
 use Rattle.pyver_markers.specs.Boxes.{Box, Condition, in_box, meets}
-use Rattle.pyver_markers.specs.Conditions.{ComparesAs, HasPython, HoldsMatchesOf, HoldsShortMatchesOf, HoldsShortMet, HoldsVersionsOf, NarrowsByAllShort, NarrowsByShort, first_two, setting_version, short_version}
+use Rattle.pyver_markers.specs.Conditions.{ComparesAs, HasAllowed, HasPython, HoldsMatchesOf, HoldsShortMatchesOf, HoldsShortMet, HoldsVersionsOf, IsAllowed, NarrowsByAllShort, NarrowsByShort, first_two, setting_version, short_version}
 use Rattle.pyver_markers.specs.Environments.{Environment, Text}
 use Rattle.pyver_markers.specs.MarkerComparisons.{ascii_version, compare, compare_left, is_version_variable}
 
@@ -323,16 +323,18 @@ one_more_narrowed f name all rest c set narrowed more long so_far narrows_it =
     narrowed_so_far name all (f (get_or rest 0 c)) (map f later) set narrowed more
     (subst (λ r. NarrowsSoFar name all r set narrowed) (ap (map f) (first_and_rest rest c long)) so_far) narrows_it
 
-pub no_python : (short full : List ℕ) (all : Box) (set narrowed : Segments) → short ≡ codes "python_version" → full ≡ codes "python_full_version"
-    → HoldsVersionsOf full all set → NarrowsByAllShort short all set narrowed → HasNoVersion narrowed → (e : Environment) → HasPython e → in_box e all ≡ false
-no_python short full all set narrowed is so holds narrows none e known =
+pub no_python : (short full : List ℕ) (all : Box) (allowed : Option Segments) (set within narrowed : Segments) → short ≡ codes "python_version"
+    → full ≡ codes "python_full_version" → HoldsVersionsOf full all set
+    → ((v : Record) → IsAllowed allowed v → contains record_cmp set v ≡ true → contains record_cmp within v ≡ true) → NarrowsByAllShort short all within narrowed
+    → HasNoVersion narrowed → (e : Environment) → HasPython e → HasAllowed allowed e → in_box e all ≡ false
+no_python short full all allowed set within narrowed is so holds keeps narrows none e known may =
     let (x, v, has, reads) = known.short in
     let (y, w, has_full, reads_full) = known.full in
     let linked : v ≡ short_version w = known.linked v w (ap setting_version has ∙ reads) (ap setting_version has_full ∙ reads_full) in
     let d = is_denoted y w reads_full in
     false_from_ne_true (in_box e all) (λ inside.
-    let within = holds e y w (ap e so ∙ has_full) reads_full inside in
-    true≢false (sym (narrows e x w (ap e is ∙ has) (reads ∙ ap Some linked) d inside within) ∙ none w d))
+    let kept = keeps w (may w (ap setting_version has_full ∙ reads_full)) (holds e y w (ap e so ∙ has_full) reads_full inside) in
+    true≢false (sym (narrows e x w (ap e is ∙ has) (reads ∙ ap Some linked) d inside kept) ∙ none w d))
 
 -- ---- specifiers
 

@@ -10,7 +10,7 @@ use Rattle.pyver_requirements.specs.MarkerTokens.{Constant, Invalid, Side, Varia
 use Rattle.pyver_requirements.specs.declared.marker_operator.MarkerOperator.{MarkerOperator}
 use Rattle.pyver_requirements.specs.declared.marker_operator.MarkerOperator.TheVariants as operator
 use Rattle.pyver_markers.specs.Boxes.{Box, Condition, in_box, is_met, meets}
-use Rattle.pyver_markers.specs.Conditions.{HasNoEnvironment, IsOperand, asked_text, beside_variable, comparable, compare_operand, first_asked, is_met_at, lacks_any_text, lacks_platform_text, lacks_text, right_of, wants_equal}
+use Rattle.pyver_markers.specs.Conditions.{Domain, HasNoEnvironment, IsOperand, asked_text, beside_variable, comparable, compare_operand, first_asked, is_met_at, lacks_any_text, lacks_platform_text, lacks_text, right_of, wants_equal}
 use Rattle.pyver_markers.specs.Environments.{Assignment, Environment, Names, Setting, Text, assigned}
 use Rattle.pyver_markers.specs.declared.text_condition.Operand.{Operand}
 use Rattle.pyver_markers.specs.declared.text_condition.Operand.TheVariants.{Left, Right}
@@ -167,13 +167,15 @@ pub met_beside : (name text : List ℕ) (c : Condition) (operand : Operand) → 
 met_beside name text c (Right right) asks = ap (is_met c.wanted) (sym (asks (Alone name text) ∙ ap (compare_left name c.operator right.now) (is_alone name text)))
 met_beside name text c (Left left) asks = ap (is_met c.wanted) (sym (asks (Alone name text) ∙ ap (compare_right left.now c.operator name) (is_alone name text)))
 
-module _ (name x text : List ℕ) (e : Environment) (is : is_version_variable name ≡ false) (has : e name ≡ Some (Text x)) (same : comparable name x ≡ comparable name text) where
+-- comparisons see no difference between the two strings
+module _ (name x text : List ℕ) (e : Environment) (left : (t : List ℕ) (o : MarkerOperator) → compare_texts name x o t ≡ compare_texts name text o t)
+    (right : (t : List ℕ) (o : MarkerOperator) → compare_texts name t o x ≡ compare_texts name t o text) (has : e name ≡ Some (Text x)) where
   met_alone : (c : Condition) (t : List ℕ) → IsBeside name c.left c.operator c.right t → meets (Alone name text) c ≡ meets e c
   met_alone c t beside = elim beside [
     | inl asks ↦ ap (is_met c.wanted) (asks (Alone name text) ∙ ap (compare_left name c.operator t) (is_alone name text)
-        ∙ sym (asks e ∙ ap (compare_left name c.operator t) has ∙ same_left name x text t c.operator is same))
+        ∙ sym (asks e ∙ ap (compare_left name c.operator t) has ∙ left t c.operator))
     | inr asks ↦ ap (is_met c.wanted) (asks (Alone name text) ∙ ap (compare_right t c.operator name) (is_alone name text)
-        ∙ sym (asks e ∙ ap (compare_right t c.operator name) has ∙ same_right name x text t c.operator is same))
+        ∙ sym (asks e ∙ ap (compare_right t c.operator name) has ∙ right t c.operator))
   ]
 
   met_at : (c : Condition) → meets e c ≡ true → is_met_at name text c ≡ true
@@ -211,7 +213,7 @@ without_string name box is lacks e = false_from_ne_true (in_box e box) (λ insid
     by_first inside None first none = true≢false (sym none)
     by_first inside (Some t) first none =
         let (x, has, same) = first_fixes name t e is box first inside in
-        true≢false (sym none ∙ ap not (all_met_at name x t e is has same box inside))
+        true≢false (sym none ∙ ap not (all_met_at name x t e (λ u o. same_left name x t u o is same) (λ u o. same_right name x t u o is same) has box inside))
 
 pub either_is : (a b : Bool) → (a || b) ≡ true → (a ≡ true) ⊎ (b ≡ true)
 either_is true b e = inl refl
@@ -235,9 +237,28 @@ module _ (box : Box) (e : Environment) where
   of_others = or_later (codes "platform_python_implementation") _ refl (or_later (codes "implementation_name") _ refl (last (codes "extra") refl))
 
 -- no environment is in a box in which a variable is to be another string
-pub without_text : (box : Box) → lacks_any_text box ≡ true → HasNoEnvironment box
-without_text box lacks e known =
+pub without_text : (d : Domain) (box : Box) → lacks_any_text box ≡ true → HasNoEnvironment d box
+without_text d box lacks e known =
     elim (either_is (lacks_platform_text box) (lacks_text (codes "platform_python_implementation") box || (lacks_text (codes "implementation_name") box || lacks_text (codes "extra") box)) lacks) [
       | inl here ↦ of_platform box e here
       | inr there ↦ of_others box e there
     ]
+
+-- ---- one string
+
+-- a box in which not all conditions are met where the variable is this string has no environment in which it is
+pub text_excluded : (name text : List ℕ) (box : Box) → not (list_all (is_met_at name text) box) ≡ true → (e : Environment) → e name ≡ Some (Text text) → in_box e box ≡ false
+text_excluded name text box unmet e has =
+    false_from_ne_true (in_box e box) (λ inside. true≢false (sym unmet ∙ ap not (all_met_at name text text e (λ t o. refl) (λ t o. refl) has box inside)))
+
+as_it_is : (name y : List ℕ) → is_name_variable name ≡ false → comparable name y ≡ y
+as_it_is name y is = ap (λ b. if b then normal y else y) is
+
+-- so has a box that asks for another string
+pub asked_differs : (name t text : List ℕ) (box : Box) → is_version_variable name ≡ false → is_name_variable name ≡ false → first_asked name box ≡ Some t
+    → bytes_eq text t ≡ false → (e : Environment) → e name ≡ Some (Text text) → in_box e box ≡ false
+asked_differs name t text box is plain first differs e has =
+    false_from_ne_true (in_box e box) (λ inside.
+    let (x, there, same) = first_fixes name t e is box first inside in
+    let here : x ≡ text = cc (there, has) in
+    true≢false (sym ((bytes_eq-Decides text t).1 (sym here ∙ sym (as_it_is name x plain) ∙ same ∙ as_it_is name t plain)) ∙ differs))

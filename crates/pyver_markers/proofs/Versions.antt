@@ -32,7 +32,7 @@ use Rattle.pyver_markers.proofs.BoxLaws.{first_and_rest, hold_in_boxes, never}
 use Rattle.pyver_markers.proofs.Steps.{last_is_boxes}
 use Rattle.pyver_markers.proofs.Texts.{chosen_some, either_is, right_asks, without_text}
 use Rattle.pyver_markers.specs.Boxes.{Box, Condition, agrees, boxes, in_box, in_boxes, is_met, meets}
-use Rattle.pyver_markers.specs.Conditions.{ComparesAs, HasNoEnvironment, HasVersion, HoldsMatchesOf, HoldsMet, HoldsVersionsOf, IsEnvironment, IsNever, Narrows, asked_specifier, asked_specifiers, is_contradiction, is_contradictory, lacks_any_text, lacks_any_version, lacks_version, right_of, written_specifier}
+use Rattle.pyver_markers.specs.Conditions.{ComparesAs, Domain, HasNoEnvironment, HasVersion, HoldsMatchesOf, HoldsMet, HoldsVersionsOf, IsEnvironment, IsNever, Narrows, asked_specifier, asked_specifiers, is_contradiction, is_contradictory, lacks_any_text, lacks_any_version, lacks_version, right_of, written_specifier}
 use Rattle.pyver_markers.specs.Environments.{Environment, Text}
 use Rattle.pyver_markers.specs.MarkerComparisons.{ascii_specifier, ascii_version, compare, compare_left, compare_spelled, compare_strings, compare_texts, compare_versions, compare_with, compare_written, if_read, is_name_variable, is_version_variable, matches_specifier, spelling_in}
 
@@ -191,8 +191,8 @@ without_version name box is_version none e (x, v, has, reads) =
     let (denotable, matched) = all_fit e name x v is_version has reads box inside in
     none_in_common (asked_specifiers name box) denotable (is_nothing (common_version (asked_specifiers name box)) none) v (is_denoted x v reads) matched)
 
-without_any_version : (box : Box) → lacks_any_version box ≡ true → HasNoEnvironment box
-without_any_version box is e known =
+without_any_version : (d : Domain) (box : Box) → lacks_any_version box ≡ true → HasNoEnvironment d box
+without_any_version d box is e known =
     let full = codes "python_full_version" in
     let implementation = codes "implementation_version" in
     elim (either_is (lacks_version (codes "python_version") box) (lacks_version full box || lacks_version implementation box) is) [
@@ -204,24 +204,24 @@ without_any_version box is e known =
     ]
 
 -- no environment is in a contradiction
-contradicted : (box : Box) → is_contradiction box ≡ true → HasNoEnvironment box
-contradicted box is = elim (either_is (lacks_any_text box) (lacks_any_version box) is) [
-  | inl none ↦ without_text box none
-  | inr none ↦ without_any_version box none
+contradicted : (d : Domain) (box : Box) → is_contradiction box ≡ true → HasNoEnvironment d box
+contradicted d box is = elim (either_is (lacks_any_text box) (lacks_any_version box) is) [
+  | inl none ↦ without_text d box none
+  | inr none ↦ without_any_version d box none
 ]
 
-all_contradicted : (all : List Box) → list_all is_contradiction all ≡ true → (e : Environment) → IsEnvironment e → in_boxes e all ≡ false
-all_contradicted [] is e known = refl
-all_contradicted (box ∷ all) is e known =
+all_contradicted : (d : Domain) (all : List Box) → list_all is_contradiction all ≡ true → (e : Environment) → IsEnvironment d e → in_boxes e all ≡ false
+all_contradicted d [] is e known = refl
+all_contradicted d (box ∷ all) is e known =
     let (first, later) = and_parts (is_contradiction box) (list_all is_contradiction all) is in
-    let here : in_box e box ≡ false = contradicted box first e known in
-    let rest : in_boxes e all ≡ false = all_contradicted all later e known in
+    let here : in_box e box ≡ false = contradicted d box first e known in
+    let rest : in_boxes e all ≡ false = all_contradicted d all later e known in
     (λ j. here j || rest j)
 
 -- a contradictory marker holds in no environment
-pub contradictory_never : (m : Marker) → is_contradictory (steps m) ≡ true → IsNever true m
-contradictory_never m is = by_boxes (boxes true m) refl (ap (λ found. option_map_or (list_all is_contradiction) found false) (sym (last_is_boxes true m (steps m) refl)) ∙ is)
+pub contradictory_never : (d : Domain) (m : Marker) → is_contradictory (steps m) ≡ true → IsNever d true m
+contradictory_never d m is = by_boxes (boxes true m) refl (ap (λ found. option_map_or (list_all is_contradiction) found false) (sym (last_is_boxes true m (steps m) refl)) ∙ is)
   where
-    by_boxes : (found : Option (List Box)) → found ≡ boxes true m → option_map_or (list_all is_contradiction) found false ≡ true → IsNever true m
+    by_boxes : (found : Option (List Box)) → found ≡ boxes true m → option_map_or (list_all is_contradiction) found false ≡ true → IsNever d true m
     by_boxes None same e = cc e
-    by_boxes (Some all) same e = never true m all (hold_in_boxes true m (Some all) same) (all_contradicted all e)
+    by_boxes (Some all) same e = never d true m all (hold_in_boxes true m (Some all) same) (all_contradicted d all e)

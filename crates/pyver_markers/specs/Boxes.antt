@@ -1,5 +1,4 @@
--- Markers as sets of environments: boxes, each with the environments that meet all of its conditions. What one variable is says nothing of what another one
--- is, but for the versions of Python.
+-- Markers as sets of environments: boxes, each with the environments that meet all of its conditions.
 use Rattle.std.specs.Prelude.{◌≡◌, ◌+◌, ◌*◌, List, [], ◌∷◌, ◌++◌, Bool, true, false, not, Option, Some, None, length, map, nat_lt, if◌then◌else◌}
 use Rattle.std.specs.List.{list_all, list_any}
 use Rattle.pyver_requirements.specs.MarkerGrammar.{Both, Comparison, Either, Marker}

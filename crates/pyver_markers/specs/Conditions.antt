@@ -1,5 +1,5 @@
 -- What conditions say of one variable, and boxes in which no environment is.
-use Rattle.std.specs.Prelude.{◌≡◌, ◌≢◌, ℕ, List, [], ◌∷◌, ◌++◌, Bool, true, false, not, Option, Some, None, ◌||◌, bytes_eq, codes, is_none, option_to_list, if◌then◌else◌}
+use Rattle.std.specs.Prelude.{◌≡◌, ◌≢◌, ⊤, ℕ, List, [], ◌∷◌, ◌++◌, Bool, true, false, not, Option, Some, None, ◌||◌, bytes_eq, codes, is_none, option_to_list, if◌then◌else◌}
 use Rattle.std.specs.List.{flat_map, list_all}
 use Rattle.std.specs.Option.{option_map_or, option_or}
 use Rattle.pep440_pick.specs.Names.{normal}
@@ -18,7 +18,7 @@ use Rattle.pyver_requirements.specs.MarkerTokens.{Constant, Side, Variable}
 use Rattle.pyver_requirements.specs.declared.marker_operator.MarkerOperator.{MarkerOperator}
 use Rattle.pyver_requirements.specs.declared.marker_operator.MarkerOperator.TheVariants as operator
 use Rattle.pyver_markers.specs.Boxes.{Box, Condition, comparison_boxes, in_box, join_boxes, meets}
-use Rattle.pyver_markers.specs.Environments.{Environment, Setting, Text, assigned}
+use Rattle.pyver_markers.specs.Environments.{Environment, HasSystem, IsOn, Setting, System, Text, assigned}
 use Rattle.pyver_markers.specs.MarkerComparisons.{ascii_specifier, ascii_version, compare, compare_left, compare_right, compare_texts, compare_versions, is_name_variable, matches_specifier, spelling_in}
 use Rattle.pyver_markers.specs.MarkerValues.{after_steps, last_value, value}
 use Rattle.pyver_markers.specs.declared.text_condition.Operand.{Operand}
@@ -62,20 +62,44 @@ pub record HasPython (e : Environment) : Type 0 where
 abbrev pub HasNoText : Environment → List ℕ → Type 0
 HasNoText e name = (text : List ℕ) → e name ≢ Some (Text text)
 
--- Python and its implementation have versions; extras and dependency groups are names, where they are
-pub record IsEnvironment (e : Environment) : Type 0 where
+-- which environments are considered: whether the variables of the system are linked, and the versions that Python may have, or all
+pub record Domain : Type 0 where
+  pub linked : Bool
+  pub python : Option Segments
+
+-- the version is one of these
+abbrev pub IsAllowed : Option Segments → Record → Type 0
+IsAllowed None v = ⊤
+IsAllowed (Some set) v = contains record_cmp set v ≡ true
+
+-- Python has such a version, if it has one
+abbrev pub HasAllowed : Option Segments → Environment → Type 0
+HasAllowed versions e = (v : Record) → variable_version e (codes "python_full_version") ≡ Some v → IsAllowed versions v
+
+-- Python and its implementation have versions, and the system its names; extras and dependency groups are names, where they are
+pub record IsEnvironment (d : Domain) (e : Environment) : Type 0 where
   pub python : HasPython e
+  pub allowed : HasAllowed d.python e
   pub implementation_version : HasVersion e (codes "implementation_version")
+  pub system : d.linked ≡ true → HasSystem e
   pub extras : HasNoText e (codes "extras")
   pub dependency_groups : HasNoText e (codes "dependency_groups")
 
 -- no environment is in the box
-abbrev pub HasNoEnvironment : Box → Type 0
-HasNoEnvironment box = (e : Environment) → IsEnvironment e → in_box e box ≡ false
+abbrev pub HasNoEnvironment : Domain → Box → Type 0
+HasNoEnvironment d box = (e : Environment) → IsEnvironment d e → in_box e box ≡ false
+
+-- no environment on the system is in the box
+abbrev pub LacksSystem : Box → System → Type 0
+LacksSystem box s = (e : Environment) → IsOn e s → in_box e box ≡ false
+
+-- so is none on a system that has none of these names
+abbrev pub LacksOthers : Box → (System → Bool) → Type 0
+LacksOthers box has_name = (s : System) → has_name s ≡ false → LacksSystem box s
 
 -- the marker has the wanted value in no environment
-abbrev pub IsNever : Bool → Marker → Type 0
-IsNever wanted m = (e : Environment) → IsEnvironment e → value e m ≢ Some wanted
+abbrev pub IsNever : Domain → Bool → Marker → Type 0
+IsNever d wanted m = (e : Environment) → IsEnvironment d e → value e m ≢ Some wanted
 
 -- ---- one condition
 

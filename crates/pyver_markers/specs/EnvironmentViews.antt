@@ -8,10 +8,13 @@ use Rattle.pyver_markers.specs.Boxes.{Box}
 use Rattle.pyver_markers.specs.Environments as environments
 use Rattle.pyver_markers.specs.Environments.{Assignment, Environment, assigned}
 use Rattle.pyver_markers.specs.Extents.{Always, Extent, Nowhere, Somewhere, Undecided}
+use Rattle.pyver_markers.specs.Conditions as conditions
+use Rattle.pyver_markers.specs.declared.environment.Domain.{Domain}
 use Rattle.pyver_markers.specs.declared.environment.Setting.{Setting}
 use Rattle.pyver_markers.specs.declared.environment.Setting.TheVariants as setting
 use Rattle.pyver_markers.specs.declared.environment.Variable.{Variable}
 use Rattle.pyver_markers.specs.declared.environment_box.Condition.{Condition}
+use Rattle.pyver_markers.specs.declared.system.System.{System}
 use Rattle.pyver_markers.specs.declared.found_environment.FoundVariable.{FoundVariable}
 use Rattle.pyver_markers.specs.declared.environment_marker.MarkerExtent.{MarkerExtent}
 use Rattle.pyver_markers.specs.declared.environment_marker.MarkerExtent.TheVariants as extent
@@ -36,6 +39,12 @@ extent_of extent.Nowhere = Nowhere
 extent_of extent.Always = Always
 extent_of (extent.Somewhere variables) = Somewhere (map assignment_of variables.items)
 extent_of extent.Undecided = Undecided
+
+abbrev pub system_of : System → environments.System
+system_of s = record { os = s.os.now; sys = s.sys.now; platform = s.platform.now }
+
+abbrev pub domain_of : Domain → conditions.Domain
+domain_of d = record { linked = d.linked; python = option_map (λ set. set.now) d.python }
 
 abbrev pub condition_of : Condition → boxes.Condition
 condition_of c = record { left = side_of c.left; operator = c.operator; right = side_of c.right; wanted = c.wanted }

@@ -1,5 +1,5 @@
 -- Environments: what the variables of markers are (PEP 508, "Environment Markers").
-use Rattle.std.specs.Prelude.{◌≡◌, ℕ, ◌==◌, List, [], ◌∷◌, ◌++◌, Option, Some, bytes_eq, codes, option_map, if◌then◌else◌}
+use Rattle.std.specs.Prelude.{◌≡◌, ℕ, ◌==◌, ◌&&◌, ◌||◌, List, [], ◌∷◌, ◌++◌, Bool, Option, Some, bytes_eq, codes, not, option_map, true, if◌then◌else◌}
 use Rattle.std.specs.List.{find, flat_map, list_any}
 
 -- a string; or names, as of `extras` and `dependency_groups`
@@ -23,6 +23,53 @@ assigned variables name = option_map (λ (v : Assignment). Text v.text) (find (�
 -- what one environment has, the other has, too
 abbrev pub Extends : Environment → Environment → Type 0
 Extends e whole = (name : List ℕ) (s : Setting) → e name ≡ Some s → whole name ≡ Some s
+
+-- ---- systems
+
+-- what `os_name`, `sys_platform` and `platform_system` are together
+pub record System : Type 0 where
+  pub os : List ℕ
+  pub sys : List ℕ
+  pub platform : List ℕ
+
+abbrev pub system : (os sys platform : List ℕ) → System
+system os sys platform = record { os = os; sys = sys; platform = platform }
+
+abbrev pub same_system : System → System → Bool
+same_system a b = bytes_eq a.os b.os && (bytes_eq a.sys b.sys && bytes_eq a.platform b.platform)
+
+-- Linux, Windows, macOS, Android and iOS
+abbrev pub is_known_system : System → Bool
+is_known_system s = same_system s (system (codes "posix") (codes "linux") (codes "Linux"))
+    || (same_system s (system (codes "nt") (codes "win32") (codes "Windows"))
+    || (same_system s (system (codes "posix") (codes "darwin") (codes "Darwin"))
+    || (same_system s (system (codes "posix") (codes "android") (codes "Android"))
+    || same_system s (system (codes "posix") (codes "ios") (codes "iOS")))))
+
+-- it has the second or the third of these names
+abbrev pub is_named : System → (sys platform : List ℕ) → Bool
+is_named s sys platform = bytes_eq s.sys sys || bytes_eq s.platform platform
+
+abbrev pub is_named_windows : System → Bool
+is_named_windows s = bytes_eq s.os (codes "nt") || is_named s (codes "win32") (codes "Windows")
+
+-- it has a name of one of those but `posix`, which is that of many
+abbrev pub has_known_name : System → Bool
+has_known_name s = is_named s (codes "linux") (codes "Linux") || (is_named_windows s || (is_named s (codes "darwin") (codes "Darwin")
+    || (is_named s (codes "android") (codes "Android") || is_named s (codes "ios") (codes "iOS"))))
+
+-- one of those, or one that has none of their names
+abbrev pub is_system : System → Bool
+is_system s = is_known_system s || not (has_known_name s)
+
+-- the environment is on this system
+pub record IsOn (e : Environment) (s : System) : Type 0 where
+  pub os : e (codes "os_name") ≡ Some (Text s.os)
+  pub sys : e (codes "sys_platform") ≡ Some (Text s.sys)
+  pub platform : e (codes "platform_system") ≡ Some (Text s.platform)
+
+abbrev pub HasSystem : Environment → Type 0
+HasSystem e = (s : System) × IsOn e s × (is_system s ≡ true)
 
 -- ---- as markers
 

@@ -1,13 +1,15 @@
 //! Boxes without environments.
 ghost use Rattle.std.specs.Prelude.{◌≡◌, IfOk, false, map, true};
 ghost use Rattle.std.specs.List.{list_all};
-ghost use Rattle.pyver_markers.specs.EnvironmentViews.{condition_of};
+ghost use Rattle.pyver_markers.specs.EnvironmentViews.{condition_of, domain_of};
 ghost use Rattle.pyver_markers.specs.Boxes.{in_boxes};
 ghost use Rattle.pyver_markers.specs.Conditions.{HasNoEnvironment, IsEnvironment, is_contradiction, lacks_any_text, lacks_any_version, lacks_platform_text};
 ghost use Rattle.pyver_markers.specs.Environments.{Environment};
 
+use crate::environment::Domain;
 use crate::environment_box::{Condition, EnvironmentBox};
 use crate::python_condition::excludes_python;
+use crate::system::excludes_systems;
 use crate::text_condition::lacks_text;
 use crate::version_condition::{excludes_versions, lacks_version};
 use std::alloc::{AllocError, Global};
@@ -49,34 +51,62 @@ fn lacks_any_text(alloc: Global, conditions: &[Condition<'_>]) -> Result<bool, A
     Ok(last)
 }
 
-fn excludes_any_version(alloc: Global, conditions: &[Condition<'_>]) -> Result<bool, AllocError>
-    ensures { IfOk result (λ b. b ≡ true → HasNoEnvironment (map condition_of conditions.now)) }
+fn excludes_any_version(
+    alloc: Global,
+    conditions: &[Condition<'_>],
+    domain: Domain<'_>,
+) -> Result<bool, AllocError>
+    ensures { IfOk result (λ b. b ≡ true → HasNoEnvironment (domain_of domain.entry) (map condition_of conditions.now)) }
 {
-    if excludes_python(alloc, conditions)? {
+    if excludes_python(alloc, conditions, domain.python)? {
         return Ok(true);
     }
     let last = excludes_versions(alloc, "implementation_version".as_bytes(), conditions)?;
     Ok(last)
 }
 
+fn excludes_any_system(
+    alloc: Global,
+    conditions: &[Condition<'_>],
+    domain: Domain<'_>,
+) -> Result<bool, AllocError>
+    ensures { IfOk result (λ b. b ≡ true → HasNoEnvironment (domain_of domain.entry) (map condition_of conditions.now)) }
+{
+    if domain.linked {
+        return excludes_systems(alloc, conditions);
+    }
+    Ok(false)
+}
+
 #[tactic(auto, using(crate::proofs::Texts::without_text))]
 // Whether it is known that no environment is in the box.
-pub(crate) fn excludes_all(alloc: Global, conditions: &[Condition<'_>]) -> Result<bool, AllocError>
-    ensures { IfOk result (λ b. b ≡ true → HasNoEnvironment (map condition_of conditions.now)) }
+pub(crate) fn excludes_all(
+    alloc: Global,
+    conditions: &[Condition<'_>],
+    domain: Domain<'_>,
+) -> Result<bool, AllocError>
+    ensures { IfOk result (λ b. b ≡ true → HasNoEnvironment (domain_of domain.entry) (map condition_of conditions.now)) }
 {
     if lacks_any_text(alloc, conditions)? {
         return Ok(true);
     }
-    excludes_any_version(alloc, conditions)
+    if excludes_any_version(alloc, conditions, domain)? {
+        return Ok(true);
+    }
+    excludes_any_system(alloc, conditions, domain)
 }
 
 // Whether it is known that no environment is in any of the boxes.
-pub(crate) fn are_empty(alloc: Global, boxes: &[EnvironmentBox<'_>]) -> Result<bool, AllocError>
-    ensures { IfOk result (λ b. b ≡ true → (e : Environment) → IsEnvironment e → in_boxes e boxes.now ≡ false) }
+pub(crate) fn are_empty(
+    alloc: Global,
+    boxes: &[EnvironmentBox<'_>],
+    domain: Domain<'_>,
+) -> Result<bool, AllocError>
+    ensures { IfOk result (λ b. b ≡ true → (e : Environment) → IsEnvironment (domain_of domain.entry) e → in_boxes e boxes.now ≡ false) }
 {
     let mut rest = boxes;
     while let [first, later @ ..] = rest {
-        if !first.is_empty(alloc)? {
+        if !first.is_empty(alloc, domain)? {
             return Ok(false);
         }
         rest = later;

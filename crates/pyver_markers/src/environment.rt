@@ -5,6 +5,7 @@ ghost use Rattle.pyver_markers.specs.EnvironmentViews.{assignment_of, environmen
 ghost use Rattle.pyver_markers.specs.Environments.{assignment_text, environment_text, quoted_text};
 
 use crate::found_environment::FoundVariable;
+use pep440_sets::VersionSet;
 use std::alloc::AllocError;
 
 /// What a variable is in an environment.
@@ -23,6 +24,17 @@ pub struct Variable<'a> {
     pub name: &'a [u8],
     /// What it is.
     pub setting: Setting<'a>,
+}
+
+/// Which environments are considered. In each, `python_version`, `python_full_version` and `implementation_version` are versions, the first of them the first
+/// two numbers of the second, of its epoch and with no other part.
+#[derive(Clone, Copy)]
+pub struct Domain<'a> {
+    /// Whether `os_name`, `sys_platform` and `platform_system` are those of Linux, Windows, macOS, Android or iOS, or of a system that has none of their
+    /// names but `posix`; otherwise they say nothing of each other.
+    pub linked: bool,
+    /// The versions that Python may have, or all.
+    pub python: Option<&'a VersionSet>,
 }
 
 // What the variable of this name is, if there is one.

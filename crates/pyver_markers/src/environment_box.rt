@@ -1,11 +1,12 @@
 //! Boxes of environments, and the conditions that make them.
 ghost use Rattle.std.specs.Prelude.{◌≡◌, ◌++◌, IfOk, map, true};
 ghost use Rattle.pyver_markers.specs.Boxes.{Box, both_boxes, comparison_boxes, either_boxes, join_boxes, products};
-ghost use Rattle.pyver_markers.specs.EnvironmentViews.{boxes_of, condition_of};
+ghost use Rattle.pyver_markers.specs.EnvironmentViews.{boxes_of, condition_of, domain_of};
 ghost use Rattle.pyver_markers.specs.Conditions.{HasNoEnvironment};
 ghost use Rattle.pyver_requirements.specs.MarkerViews.{side_of};
 
 use crate::emptiness::excludes_all;
+use crate::environment::Domain;
 use pyver_requirements::{MarkerOperator, Side};
 use std::alloc::{AllocError, Global};
 use std::marker::Model;
@@ -22,8 +23,7 @@ pub struct Condition<'a> {
     pub wanted: bool,
 }
 
-/// A set of environments: those in which each of its comparisons gives what is wanted. What one variable is says nothing of what another one is, but for the
-/// versions of Python.
+/// A set of environments: those in which each of its comparisons gives what is wanted.
 #[derive(Drop)]
 pub struct EnvironmentBox<'a> {
     conditions: Vec<Condition<'a>>,
@@ -47,14 +47,14 @@ impl<'a> EnvironmentBox<'a> {
         self.conditions.as_slice()
     }
 
-    /// Whether it is known that no environment is in the box: a variable would have to be two strings, or the version of Python or of its
-    /// implementation would have to be in sets without a common version. Otherwise the box may still be empty.
+    /// Whether it is known that no environment of the domain is in the box: a variable would have to be two strings, variables would have to be of two
+    /// systems, or the version of Python or of its implementation would have to be in sets without a common version. Otherwise the box may still be empty.
     ///
     /// Allocates.
-    pub fn is_empty(&self, alloc: Global) -> Result<bool, AllocError>
-        ensures { IfOk result (λ b. b ≡ true → HasNoEnvironment self.now) }
+    pub fn is_empty(&self, alloc: Global, domain: Domain<'_>) -> Result<bool, AllocError>
+        ensures { IfOk result (λ b. b ≡ true → HasNoEnvironment (domain_of domain.entry) self.now) }
     {
-        excludes_all(alloc, self.conditions())
+        excludes_all(alloc, self.conditions(), domain)
     }
 }
 

@@ -2,7 +2,7 @@
 ghost use Rattle.std.specs.Prelude.{◌≡◌, [], IfErr, IfOk, IfSome, map, true};
 ghost use Rattle.pyver_markers.specs.Boxes.{HasValueInBoxes, boxes};
 ghost use Rattle.pyver_markers.specs.Conditions.{IsNever, is_contradictory};
-ghost use Rattle.pyver_markers.specs.EnvironmentViews.{assignment_of, boxes_of, environment_of, extent_of, found_environment};
+ghost use Rattle.pyver_markers.specs.EnvironmentViews.{assignment_of, boxes_of, domain_of, environment_of, extent_of, found_environment};
 ghost use Rattle.pyver_markers.specs.Extents.{IsExample, IsExtent};
 ghost use Rattle.pyver_markers.specs.MarkerComparisons.{compare};
 ghost use Rattle.pyver_markers.specs.MarkerValues.{after_step, after_steps, both_hold, earlier_values, either_holds, join_values, last_value, value};
@@ -12,7 +12,7 @@ ghost use Rattle.pyver_requirements.specs.MarkerStepViews.{step_of};
 ghost use Rattle.pyver_requirements.specs.MarkerViews.{IsMarkerFault};
 
 use crate::emptiness::{are_contradictions, are_empty};
-use crate::environment::Variable;
+use crate::environment::{Domain, Variable};
 use crate::environment_box::EnvironmentBox;
 use crate::found_environment::{
     FoundVariable, are_writable, borrow_variables, find_variables, is_environment,
@@ -172,16 +172,19 @@ impl<'a> EnvironmentMarker<'a> {
         Ok(found)
     }
 
-    /// Whether it is known that the marker has the wanted value in no environment. In each, `python_version`, `python_full_version` and
-    /// `implementation_version` are versions, the first of them the first two numbers of the second, of its epoch and with no other part; what else variables
-    /// are is independent.
+    /// Whether it is known that the marker has the wanted value in no environment of the domain.
     ///
     /// Allocates.
-    pub fn is_never(&self, alloc: Global, wanted: bool) -> Result<bool, AllocError>
-        ensures { (m : Marker) → self.now ≡ steps m → IfOk result (λ b. b ≡ true → IsNever wanted m) }
+    pub fn is_never(
+        &self,
+        alloc: Global,
+        wanted: bool,
+        domain: Domain<'_>,
+    ) -> Result<bool, AllocError>
+        ensures { (m : Marker) → self.now ≡ steps m → IfOk result (λ b. b ≡ true → IsNever (domain_of domain.entry) wanted m) }
     {
         match self.to_boxes(alloc, wanted)? {
-            Some(boxes) => are_empty(alloc, boxes.as_slice()),
+            Some(boxes) => are_empty(alloc, boxes.as_slice(), domain),
             None => Ok(false),
         }
     }
@@ -200,20 +203,22 @@ impl<'a> EnvironmentMarker<'a> {
         }
     }
 
-    /// What the variables of the marker are in an environment in which it holds, or `None` if none was found. It holds wherever they are so.
+    /// What the variables of the marker are in an environment of the domain in which it holds, or `None` if none was found. It holds wherever they are so.
     ///
     /// Allocates.
     pub fn find_environment(
         &self,
         alloc: Global,
+        domain: Domain<'_>,
     ) -> Result<Option<Vec<FoundVariable<'a>>>, AllocError>
-        ensures { (m : Marker) → self.now ≡ steps m → IfOk result (λ found. IfSome found (λ v. IsExample m (map assignment_of v.items))) }
+        ensures { (m : Marker) → self.now ≡ steps m
+            → IfOk result (λ found. IfSome found (λ v. IsExample (domain_of domain.entry) m (map assignment_of v.items))) }
     {
         let Some(boxes) = self.to_boxes(alloc, true)? else {
             return Ok(None);
         };
         for one in &boxes {
-            if let Some(found) = self.find_in_box(alloc, one)? {
+            if let Some(found) = self.find_in_box(alloc, one, domain)? {
                 return Ok(Some(found));
             }
         }
@@ -221,19 +226,24 @@ impl<'a> EnvironmentMarker<'a> {
     }
 
     #[tactic(auto, using(crate::proofs::FoundEnvironments::always))]
-    /// The environments in which the marker holds, as far as they are known: none, some while it is false in none, or those with the variables found.
+    /// The environments of the domain in which the marker holds, as far as they are known: none, some while it is false in none, or those with the variables
+    /// found.
     ///
     /// Allocates.
-    pub fn find_extent(&self, alloc: Global) -> Result<MarkerExtent<'a>, AllocError>
-        ensures { (m : Marker) → self.now ≡ steps m → IfOk result (λ x. IsExtent m (extent_of x)) }
+    pub fn find_extent(
+        &self,
+        alloc: Global,
+        domain: Domain<'_>,
+    ) -> Result<MarkerExtent<'a>, AllocError>
+        ensures { (m : Marker) → self.now ≡ steps m → IfOk result (λ x. IsExtent (domain_of domain.entry) m (extent_of x)) }
     {
-        if self.is_never(alloc, true)? {
+        if self.is_never(alloc, true, domain)? {
             return Ok(MarkerExtent::Nowhere);
         }
-        let Some(variables) = self.find_environment(alloc)? else {
+        let Some(variables) = self.find_environment(alloc, domain)? else {
             return Ok(MarkerExtent::Undecided);
         };
-        if self.is_never(alloc, false)? {
+        if self.is_never(alloc, false, domain)? {
             return Ok(MarkerExtent::Always);
         }
         Ok(MarkerExtent::Somewhere(variables))
@@ -266,14 +276,16 @@ impl<'a> EnvironmentMarker<'a> {
         &self,
         alloc: Global,
         one: &EnvironmentBox<'a>,
+        domain: Domain<'_>,
     ) -> Result<Option<Vec<FoundVariable<'a>>>, AllocError>
-        ensures { (m : Marker) → self.now ≡ steps m → IfOk result (λ found. IfSome found (λ v. IsExample m (map assignment_of v.items))) }
+        ensures { (m : Marker) → self.now ≡ steps m
+            → IfOk result (λ found. IfSome found (λ v. IsExample (domain_of domain.entry) m (map assignment_of v.items))) }
     {
-        let found = find_variables(alloc, self.steps.as_slice(), one.conditions())?;
+        let found = find_variables(alloc, self.steps.as_slice(), one.conditions(), domain)?;
         let Some((mut variables, asked)) = found else {
             return Ok(None);
         };
-        if !is_environment(alloc, variables.as_slice())? {
+        if !is_environment(alloc, variables.as_slice(), domain)? {
             return Ok(None);
         }
         variables.truncate(asked);

@@ -1,18 +1,19 @@
 //! Environments in which all conditions are met.
-ghost use Rattle.std.specs.Prelude.{◌≡◌, ◌==◌, IfOk, map, option_map, true};
+ghost use Rattle.std.specs.Prelude.{◌≡◌, ◌==◌, IfOk, codes, map, option_map, true};
 ghost use Rattle.std.specs.List.{list_all, list_any};
-ghost use Rattle.pyver_markers.specs.Conditions.{AreLinked, HasPython, HasVersion, IsEnvironment, first_two, short_version, variable_version};
-ghost use Rattle.pyver_markers.specs.EnvironmentViews.{assignment_of, environment_of, found_environment};
-ghost use Rattle.pyver_markers.specs.Environments.{Text};
+ghost use Rattle.pyver_markers.specs.Conditions.{AreLinked, HasAllowed, HasNoText, HasPython, HasVersion, IsAllowed, IsEnvironment, first_two, short_version, variable_version};
+ghost use Rattle.pyver_markers.specs.EnvironmentViews.{assignment_of, domain_of, environment_of, found_environment};
+ghost use Rattle.pyver_markers.specs.Environments.{HasSystem, Text};
 ghost use Rattle.pyver_markers.specs.Extents.{is_writable};
 
-use crate::environment::{Setting, Variable};
+use crate::environment::{Domain, Setting, Variable};
 use crate::environment_box::Condition;
+use crate::found_python::{PythonVersions, find_python};
 use crate::marker_comparison::is_version_variable;
-use crate::python_condition::first_two;
+use crate::system::{System, is_system};
 use crate::text_condition::{Operand, find_operand, is_met_at};
-use crate::version::{ascii_version, find_specifier};
-use crate::version_condition::{specifier_set, variable_set};
+use crate::version::ascii_version;
+use crate::version_condition::variable_set;
 use pep440_rs::Version;
 use pep440_sets::VersionSet;
 use pyver_requirements::{MarkerOperator, Side, Step};
@@ -25,16 +26,33 @@ pub struct FoundVariable<'a> {
     pub text: Vec<u8>,
 }
 
+// What is searched: where these conditions are met, in an environment of the domain.
+#[derive(Clone, Copy)]
+pub(crate) struct Search<'s, 'a> {
+    pub(crate) conditions: &'s [Condition<'a>],
+    pub(crate) domain: Domain<'s>,
+}
+
 // The variables that each environment has.
-const VERSIONS: [&str; 3] = [
+const REQUIRED: [&str; 6] = [
     "python_version",
     "python_full_version",
     "implementation_version",
+    "os_name",
+    "sys_platform",
+    "platform_system",
 ];
 
-// What `python_version` is by preference.
-const PYTHONS: [&str; 10] = [
-    "3.13", "3.12", "3.11", "3.10", "3.9", "3.8", "3.7", "3.6", "2.7", "0.1",
+// What `os_name`, `sys_platform` and `platform_system` are together, by preference.
+const SYSTEMS: [(&str, &str, &str); 8] = [
+    ("posix", "linux", "Linux"),
+    ("nt", "win32", "Windows"),
+    ("posix", "darwin", "Darwin"),
+    ("posix", "android", "Android"),
+    ("posix", "ios", "iOS"),
+    ("posix", "cygwin", "CYGWIN_NT-10.0"),
+    ("java", "java11", "Java"),
+    ("posix", "freebsd14", "FreeBSD"),
 ];
 
 // What other variables are by preference.
@@ -55,40 +73,44 @@ const USUAL: [(&str, &str); 14] = [
     ("implementation_name", "pypy"),
 ];
 
-// What the versions of Python are, of two numbers and of all.
-#[derive(Drop)]
-struct PythonVersions {
-    short: Vec<u8>,
-    full: Vec<u8>,
-}
-
 // Whether it is a version of two numbers and no other part.
 fn has_two_numbers(version: &Version) -> bool {
     version.is_release_only() && version.release().len() == 2
 }
 
+// Whether the variable may be this version.
+fn may_be_version(name: &[u8], version: &Version, domain: Domain<'_>) -> bool {
+    if name == "python_version".as_bytes() {
+        return has_two_numbers(version);
+    }
+    if name == "python_full_version".as_bytes() {
+        return is_allowed(version, domain.python);
+    }
+    true
+}
+
 // Whether the variable may be this string.
-fn may_be(alloc: Global, name: &[u8], text: &[u8]) -> Result<bool, AllocError> {
+fn may_be(alloc: Global, name: &[u8], text: &[u8], domain: Domain<'_>) -> Result<bool, AllocError> {
     if !is_version_variable(name) {
         return Ok(true);
     }
     match ascii_version(alloc, text)? {
-        Some(version) => Ok(name != "python_version".as_bytes() || has_two_numbers(&version)),
+        Some(version) => Ok(may_be_version(name, &version, domain)),
         None => Ok(false),
     }
 }
 
 // Whether the variable may be this string, and all conditions are met where it is.
-fn suits(
+pub(crate) fn suits(
     alloc: Global,
     name: &[u8],
     text: &[u8],
-    conditions: &[Condition<'_>],
+    search: Search<'_, '_>,
 ) -> Result<bool, AllocError> {
-    if !may_be(alloc, name, text)? {
+    if !may_be(alloc, name, text, search.domain)? {
         return Ok(false);
     }
-    for condition in conditions {
+    for condition in search.conditions {
         if !is_met_at(alloc, name, text, condition)? {
             return Ok(false);
         }
@@ -99,11 +121,11 @@ fn suits(
 fn find_usual(
     alloc: Global,
     name: &[u8],
-    conditions: &[Condition<'_>],
+    search: Search<'_, '_>,
 ) -> Result<Option<Vec<u8>>, AllocError> {
     for (known, text) in USUAL {
         let text = text.as_bytes();
-        if known.as_bytes() == name && suits(alloc, name, text, conditions)? {
+        if known.as_bytes() == name && suits(alloc, name, text, search)? {
             return Ok(Some(Vec::from_slice(alloc, text)?));
         }
     }
@@ -111,17 +133,17 @@ fn find_usual(
 }
 
 // A version of the set that all conditions allow.
-fn find_in_set(
+pub(crate) fn find_in_set(
     alloc: Global,
     name: &[u8],
     set: &VersionSet,
-    conditions: &[Condition<'_>],
+    search: Search<'_, '_>,
 ) -> Result<Option<Vec<u8>>, AllocError> {
     let Some(version) = set.find_version(alloc)? else {
         return Ok(None);
     };
     let text = Vec::from_slice(alloc, version.to_string(alloc)?.as_bytes())?;
-    if suits(alloc, name, text.as_slice(), conditions)? {
+    if suits(alloc, name, text.as_slice(), search)? {
         return Ok(Some(text));
     }
     Ok(None)
@@ -131,13 +153,13 @@ fn find_in_set(
 fn find_version(
     alloc: Global,
     name: &[u8],
-    conditions: &[Condition<'_>],
+    search: Search<'_, '_>,
 ) -> Result<Option<Vec<u8>>, AllocError> {
     if !is_version_variable(name) {
         return Ok(None);
     }
-    let set = variable_set(alloc, name, conditions)?;
-    find_in_set(alloc, name, &set, conditions)
+    let set = variable_set(alloc, name, search.conditions)?;
+    find_in_set(alloc, name, &set, search)
 }
 
 // The string, or a word of it.
@@ -145,13 +167,13 @@ fn find_word(
     alloc: Global,
     name: &[u8],
     text: &[u8],
-    conditions: &[Condition<'_>],
+    search: Search<'_, '_>,
 ) -> Result<Option<Vec<u8>>, AllocError> {
-    if suits(alloc, name, text, conditions)? {
+    if suits(alloc, name, text, search)? {
         return Ok(Some(Vec::from_slice(alloc, text)?));
     }
     for word in text.split(|byte| *byte == b' ' || *byte == b',') {
-        if suits(alloc, name, word, conditions)? {
+        if suits(alloc, name, word, search)? {
             return Ok(Some(Vec::from_slice(alloc, word)?));
         }
     }
@@ -162,11 +184,11 @@ fn find_word(
 fn find_operand_text(
     alloc: Global,
     name: &[u8],
-    conditions: &[Condition<'_>],
+    search: Search<'_, '_>,
 ) -> Result<Option<Vec<u8>>, AllocError> {
-    for condition in conditions {
+    for condition in search.conditions {
         if let Some(Operand::Right(text) | Operand::Left(text)) = find_operand(name, condition) {
-            let found = find_word(alloc, name, text, conditions)?;
+            let found = find_word(alloc, name, text, search)?;
             if found.is_some() {
                 return Ok(found);
             }
@@ -184,10 +206,10 @@ fn is_to_contain(condition: &Condition<'_>) -> bool {
 fn find_long_text(
     alloc: Global,
     name: &[u8],
-    conditions: &[Condition<'_>],
+    search: Search<'_, '_>,
 ) -> Result<Option<Vec<u8>>, AllocError> {
     let mut text = vec![in alloc; b'x']?;
-    for condition in conditions {
+    for condition in search.conditions {
         match find_operand(name, condition) {
             Some(Operand::Left(part)) if is_to_contain(condition) => text.extend_from_slice(part)?,
             Some(Operand::Right(other)) => {
@@ -198,7 +220,7 @@ fn find_long_text(
             _ => {}
         }
     }
-    if suits(alloc, name, text.as_slice(), conditions)? {
+    if suits(alloc, name, text.as_slice(), search)? {
         return Ok(Some(text));
     }
     Ok(None)
@@ -208,214 +230,19 @@ fn find_long_text(
 fn find_text(
     alloc: Global,
     name: &[u8],
-    conditions: &[Condition<'_>],
+    search: Search<'_, '_>,
 ) -> Result<Option<Vec<u8>>, AllocError> {
-    let mut found = find_usual(alloc, name, conditions)?;
+    let mut found = find_usual(alloc, name, search)?;
     if found.is_none() {
-        found = find_version(alloc, name, conditions)?;
+        found = find_version(alloc, name, search)?;
     }
     if found.is_none() {
-        found = find_operand_text(alloc, name, conditions)?;
+        found = find_operand_text(alloc, name, search)?;
     }
     if found.is_none() {
-        found = find_long_text(alloc, name, conditions)?;
+        found = find_long_text(alloc, name, search)?;
     }
     Ok(found)
-}
-
-// The string without `.*` at its end.
-fn without_star(text: &[u8]) -> &[u8] {
-    match text {
-        [start @ .., b'.', b'*'] => start,
-        _ => text,
-    }
-}
-
-// The third number of a release.
-fn third(release: &[u64]) -> u64 {
-    match release {
-        [_, _, third, ..] => *third,
-        _ => 0,
-    }
-}
-
-// The version of two numbers with this one more, if all conditions are met there.
-fn find_with_third(
-    alloc: Global,
-    short: &[u8],
-    third: u64,
-    conditions: &[Condition<'_>],
-) -> Result<Option<Vec<u8>>, AllocError> {
-    let mut text = Vec::from_slice(alloc, short)?;
-    text.push(b'.')?;
-    text.extend_from_slice(third.to_string(alloc)?.as_bytes())?;
-    if suits(
-        alloc,
-        "python_full_version".as_bytes(),
-        text.as_slice(),
-        conditions,
-    )? {
-        return Ok(Some(text));
-    }
-    Ok(None)
-}
-
-// The version of three numbers, within that of two, near those that are named in the string.
-fn find_third(
-    alloc: Global,
-    short: &[u8],
-    text: &[u8],
-    conditions: &[Condition<'_>],
-) -> Result<Option<Vec<u8>>, AllocError> {
-    for word in text.split(|byte| *byte == b' ' || *byte == b',') {
-        let Some(version) = ascii_version(alloc, without_star(word))? else {
-            continue;
-        };
-        let last = third(version.release());
-        for near in [last, last.saturating_add(1), last.saturating_sub(1)] {
-            let found = find_with_third(alloc, short, near, conditions)?;
-            if found.is_some() {
-                return Ok(found);
-            }
-        }
-    }
-    Ok(None)
-}
-
-// The version of three numbers, within that of two.
-fn find_release(
-    alloc: Global,
-    short: &[u8],
-    conditions: &[Condition<'_>],
-) -> Result<Option<Vec<u8>>, AllocError> {
-    let mut found = find_with_third(alloc, short, 0, conditions)?;
-    for condition in conditions {
-        if found.is_some() {
-            return Ok(found);
-        }
-        if let Some(Operand::Right(text) | Operand::Left(text)) = find_operand(
-            "python_full_version".as_bytes(),
-            condition,
-        ) {
-            found = find_third(alloc, short, text, conditions)?;
-        }
-    }
-    Ok(found)
-}
-
-// A version that all conditions allow, within that of two numbers.
-fn find_within(
-    alloc: Global,
-    short: &[u8],
-    conditions: &[Condition<'_>],
-) -> Result<Option<Vec<u8>>, AllocError> {
-    let name = "python_full_version".as_bytes();
-    if !is_version_variable(name) {
-        return Ok(None);
-    }
-    let mut pattern = Vec::from_slice(alloc, short)?;
-    pattern.extend_from_slice(b".*")?;
-    let Some(within) = find_specifier(alloc, MarkerOperator::Equal, pattern.as_slice())? else {
-        return Ok(None);
-    };
-    let Some(versions) = specifier_set(alloc, within)? else {
-        return Ok(None);
-    };
-    let set = variable_set(alloc, name, conditions)?.intersection(alloc, &versions)?;
-    find_in_set(alloc, name, &set, conditions)
-}
-
-// The version of all numbers, within that of two.
-fn find_full_version(
-    alloc: Global,
-    short: &[u8],
-    conditions: &[Condition<'_>],
-) -> Result<Option<Vec<u8>>, AllocError> {
-    let found = find_release(alloc, short, conditions)?;
-    if found.is_some() {
-        return Ok(found);
-    }
-    find_within(alloc, short, conditions)
-}
-
-// The versions of Python, of which this is that of two numbers.
-fn find_at(
-    alloc: Global,
-    short: &[u8],
-    conditions: &[Condition<'_>],
-) -> Result<Option<PythonVersions>, AllocError> {
-    if !suits(alloc, "python_version".as_bytes(), short, conditions)? {
-        return Ok(None);
-    }
-    let Some(full) = find_full_version(alloc, short, conditions)? else {
-        return Ok(None);
-    };
-    let short = Vec::from_slice(alloc, short)?;
-    Ok(Some(PythonVersions { short, full }))
-}
-
-// The versions of Python near this one.
-fn find_near(
-    alloc: Global,
-    version: &Version,
-    conditions: &[Condition<'_>],
-) -> Result<Option<PythonVersions>, AllocError> {
-    let (major, minor) = first_two(version.release());
-    let near = [
-        (major, minor),
-        (major, minor.saturating_add(1)),
-        (major, minor.saturating_sub(1)),
-        (major.saturating_add(1), 0),
-    ];
-    for (major, minor) in near {
-        let short = format!(in alloc; "{major}.{minor}")?;
-        let found = find_at(alloc, short.as_bytes(), conditions)?;
-        if found.is_some() {
-            return Ok(found);
-        }
-    }
-    Ok(None)
-}
-
-// The versions of Python near those that are named in the string.
-fn find_near_any(
-    alloc: Global,
-    text: &[u8],
-    conditions: &[Condition<'_>],
-) -> Result<Option<PythonVersions>, AllocError> {
-    for word in text.split(|byte| *byte == b' ' || *byte == b',') {
-        if let Some(version) = ascii_version(alloc, without_star(word))? {
-            let found = find_near(alloc, &version, conditions)?;
-            if found.is_some() {
-                return Ok(found);
-            }
-        }
-    }
-    Ok(None)
-}
-
-// The versions of Python where all conditions are met.
-fn find_python(
-    alloc: Global,
-    conditions: &[Condition<'_>],
-) -> Result<Option<PythonVersions>, AllocError> {
-    for short in PYTHONS {
-        let found = find_at(alloc, short.as_bytes(), conditions)?;
-        if found.is_some() {
-            return Ok(found);
-        }
-    }
-    for condition in conditions {
-        if let (Side::Variable(_), Side::Constant(text))
-        | (Side::Constant(text), Side::Variable(_)) = (condition.left, condition.right)
-        {
-            let found = find_near_any(alloc, text, conditions)?;
-            if found.is_some() {
-                return Ok(found);
-            }
-        }
-    }
-    Ok(None)
 }
 
 // The variable of a step.
@@ -431,34 +258,103 @@ fn has_variable(variables: &[FoundVariable<'_>], name: &[u8]) -> bool {
     variables.iter().any(|variable| variable.name == name)
 }
 
-// What the variable is, with these versions of Python.
-fn find_value(
+// What is chosen first: the versions of Python, and the system, of which each name holds unless a condition on it is not met.
+#[derive(Drop)]
+struct Choice {
+    python: PythonVersions,
+    system: (&'static str, &'static str, &'static str),
+}
+
+// Whether all conditions are met on the system.
+fn suits_system(
+    alloc: Global,
+    system: (&str, &str, &str),
+    search: Search<'_, '_>,
+) -> Result<bool, AllocError> {
+    let (os, sys, platform) = system;
+    Ok(
+        suits(alloc, "os_name".as_bytes(), os.as_bytes(), search)?
+            && suits(alloc, "sys_platform".as_bytes(), sys.as_bytes(), search)?
+            && suits(
+                alloc,
+                "platform_system".as_bytes(),
+                platform.as_bytes(),
+                search,
+            )?,
+    )
+}
+
+// The first system where all conditions are met, or else the last one.
+fn find_system(
+    alloc: Global,
+    search: Search<'_, '_>,
+) -> Result<(&'static str, &'static str, &'static str), AllocError> {
+    let mut last = ("posix", "freebsd14", "FreeBSD");
+    for system in SYSTEMS {
+        if suits_system(alloc, system, search)? {
+            return Ok(system);
+        }
+        last = system;
+    }
+    Ok(last)
+}
+
+// What the variable is on the system.
+fn system_text(
+    name: &[u8],
+    system: (&'static str, &'static str, &'static str),
+) -> Option<&'static [u8]> {
+    let (os, sys, platform) = system;
+    if name == "os_name".as_bytes() {
+        return Some(os.as_bytes());
+    }
+    if name == "sys_platform".as_bytes() {
+        return Some(sys.as_bytes());
+    }
+    if name == "platform_system".as_bytes() {
+        return Some(platform.as_bytes());
+    }
+    None
+}
+
+// What the variable is by the choice, if it says so and all conditions are met there.
+fn find_chosen(
     alloc: Global,
     name: &[u8],
-    conditions: &[Condition<'_>],
-    python: &PythonVersions,
+    search: Search<'_, '_>,
+    choice: &Choice,
 ) -> Result<Option<Vec<u8>>, AllocError> {
     if name == "python_version".as_bytes() {
-        return Ok(Some(Vec::from_slice(alloc, python.short.as_slice())?));
+        return Ok(Some(Vec::from_slice(alloc, choice.python.short.as_slice())?));
     }
     if name == "python_full_version".as_bytes() {
-        return Ok(Some(Vec::from_slice(alloc, python.full.as_slice())?));
+        return Ok(Some(Vec::from_slice(alloc, choice.python.full.as_slice())?));
     }
-    find_text(alloc, name, conditions)
+    if !search.domain.linked {
+        return Ok(None);
+    }
+    match system_text(name, choice.system) {
+        Some(text) if suits(alloc, name, text, search)? => Ok(Some(Vec::from_slice(alloc, text)?)),
+        _ => Ok(None),
+    }
 }
 
 // Adds the variable, unless it is there. Whether it can be something where all conditions are met.
 fn add_variable<'a>(
     alloc: Global,
     name: &'a [u8],
-    conditions: &[Condition<'a>],
-    python: &PythonVersions,
+    search: Search<'_, 'a>,
+    choice: &Choice,
     variables: &mut Vec<FoundVariable<'a>>,
 ) -> Result<bool, AllocError> {
     if has_variable(variables.as_slice(), name) {
         return Ok(true);
     }
-    let Some(text) = find_value(alloc, name, conditions, python)? else {
+    let mut found = find_chosen(alloc, name, search, choice)?;
+    if found.is_none() {
+        found = find_text(alloc, name, search)?;
+    }
+    let Some(text) = found else {
         return Ok(false);
     };
     variables.push(FoundVariable { name, text })?;
@@ -471,22 +367,28 @@ pub(crate) fn find_variables<'a>(
     alloc: Global,
     steps: &[Step<'a>],
     conditions: &[Condition<'a>],
+    domain: Domain<'_>,
 ) -> Result<Option<(Vec<FoundVariable<'a>>, usize)>, AllocError> {
-    let Some(python) = find_python(alloc, conditions)? else {
+    let search = Search { conditions, domain };
+    let Some(python) = find_python(alloc, search)? else {
         return Ok(None);
+    };
+    let choice = Choice {
+        python,
+        system: find_system(alloc, search)?,
     };
     let mut variables = Vec::new(alloc);
     for step in steps {
         let Some(name) = step_variable(*step) else {
             continue;
         };
-        if !add_variable(alloc, name, conditions, &python, &mut variables)? {
+        if !add_variable(alloc, name, search, &choice, &mut variables)? {
             return Ok(None);
         }
     }
     let asked = variables.len();
-    for name in VERSIONS {
-        if !add_variable(alloc, name.as_bytes(), conditions, &python, &mut variables)? {
+    for name in REQUIRED {
+        if !add_variable(alloc, name.as_bytes(), search, &choice, &mut variables)? {
             return Ok(None);
         }
     }
@@ -588,21 +490,103 @@ fn has_python(alloc: Global, found: &[FoundVariable<'_>]) -> Result<bool, AllocE
     Ok(last)
 }
 
-// Whether the variables that each environment has are as they have to be, and no names are a string.
-pub(crate) fn is_environment(alloc: Global, found: &[FoundVariable<'_>]) -> Result<bool, AllocError>
-    ensures { IfOk result (λ b. b ≡ true → IsEnvironment (found_environment found.now)) }
+// Whether the version is one of these.
+fn is_allowed(version: &Version, allowed: Option<&VersionSet>) -> bool
+    ensures { result ≡ true → IsAllowed (option_map (λ s. s.now) allowed.entry) version.now }
+{
+    match allowed {
+        Some(allowed) => allowed.contains(version),
+        None => true,
+    }
+}
+
+#[tactic(auto, using(crate::proofs::FoundEnvironments::allowed_there))]
+// Whether Python has a version that is allowed.
+fn has_allowed(
+    alloc: Global,
+    found: &[FoundVariable<'_>],
+    allowed: Option<&VersionSet>,
+) -> Result<bool, AllocError>
+    ensures { IfOk result (λ b. b ≡ true → HasAllowed (option_map (λ s. s.now) allowed.entry) (found_environment found.now)) }
+{
+    match version_by_name(alloc, found, "python_full_version".as_bytes())? {
+        Some(version) => Ok(is_allowed(&version, allowed)),
+        None => Ok(false),
+    }
+}
+
+// Whether the variables of the system are those of one.
+fn has_system(found: &[FoundVariable<'_>]) -> bool
+    ensures { result ≡ true → HasSystem (found_environment found.now) }
+{
+    let Some(os) = find_by_name(found, "os_name".as_bytes()) else {
+        return false;
+    };
+    let Some(sys) = find_by_name(found, "sys_platform".as_bytes()) else {
+        return false;
+    };
+    let Some(platform) = find_by_name(found, "platform_system".as_bytes()) else {
+        return false;
+    };
+    is_system(System { os, sys, platform })
+}
+
+// So they are, if they are linked.
+fn has_linked_system(found: &[FoundVariable<'_>], linked: bool) -> bool
+    ensures { result ≡ true → linked ≡ true → HasSystem (found_environment found.now) }
+{
+    if linked {
+        return has_system(found);
+    }
+    true
+}
+
+// Whether no names are a string.
+fn lacks_names(found: &[FoundVariable<'_>]) -> bool
+    ensures extras { result ≡ true → HasNoText (found_environment found.now) (codes "extras") }
+    ensures dependency_groups { result ≡ true → HasNoText (found_environment found.now) (codes "dependency_groups") }
 {
     if find_by_name(found, "extras".as_bytes()).is_some() {
-        return Ok(false);
+        return false;
     }
-    if find_by_name(found, "dependency_groups".as_bytes()).is_some() {
-        return Ok(false);
-    }
+    find_by_name(found, "dependency_groups".as_bytes()).is_none()
+}
+
+// Whether the versions are versions, and that of Python is allowed.
+fn has_versions(
+    alloc: Global,
+    found: &[FoundVariable<'_>],
+    allowed: Option<&VersionSet>,
+) -> Result<bool, AllocError>
+    ensures python { IfOk result (λ b. b ≡ true → HasPython (found_environment found.now)) }
+    ensures allowed { IfOk result (λ b. b ≡ true → HasAllowed (option_map (λ s. s.now) allowed.entry) (found_environment found.now)) }
+    ensures implementation { IfOk result (λ b. b ≡ true → HasVersion (found_environment found.now) (codes "implementation_version")) }
+{
     if !has_python(alloc, found)? {
+        return Ok(false);
+    }
+    if !has_allowed(alloc, found, allowed)? {
         return Ok(false);
     }
     let last = has_version(alloc, found, "implementation_version".as_bytes())?;
     Ok(last)
+}
+
+// Whether the variables are those of an environment of the domain.
+pub(crate) fn is_environment(
+    alloc: Global,
+    found: &[FoundVariable<'_>],
+    domain: Domain<'_>,
+) -> Result<bool, AllocError>
+    ensures { IfOk result (λ b. b ≡ true → IsEnvironment (domain_of domain.entry) (found_environment found.now)) }
+{
+    if !lacks_names(found) {
+        return Ok(false);
+    }
+    if !has_linked_system(found, domain.linked) {
+        return Ok(false);
+    }
+    has_versions(alloc, found, domain.python)
 }
 
 fn has_byte(text: &[u8], wanted: u8) -> bool

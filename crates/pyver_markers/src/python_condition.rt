@@ -1,10 +1,13 @@
 //! The versions of Python that meet conditions on their first two numbers, which `python_version` is.
-ghost use Rattle.std.specs.Prelude.{◌≡◌, ◌∷◌, [], IfOk, IfSome, false, map, true};
+ghost use Rattle.std.specs.Prelude.{◌≡◌, ◌∷◌, [], IfOk, IfSome, false, map, option_map, true};
+ghost use Rattle.pep440_ranges.specs.RangeSegments.{contains};
 ghost use Rattle.pep440_rs.specs.Denoted.{IsDenotable};
 ghost use Rattle.pep440_sets.specs.Sets.{is_exact};
+ghost use Rattle.pep440_version.specs.Key.{record_cmp};
+ghost use Rattle.pep440_version.specs.Record.{Record};
 ghost use Rattle.pyver_markers.specs.EnvironmentViews.{condition_of};
 ghost use Rattle.pyver_markers.specs.Boxes.{in_box};
-ghost use Rattle.pyver_markers.specs.Conditions.{HasPython, HoldsShortMatchesOf, HoldsShortMet, NarrowsByAllShort, NarrowsByShort, first_two, short_version};
+ghost use Rattle.pyver_markers.specs.Conditions.{HasAllowed, HasPython, IsAllowed, HoldsShortMatchesOf, HoldsShortMet, NarrowsByAllShort, NarrowsByShort, first_two, short_version};
 ghost use Rattle.pyver_markers.specs.Environments.{Environment};
 ghost use Rattle.pyver_markers.specs.MarkerComparisons.{is_version_variable};
 
@@ -126,16 +129,34 @@ fn narrow_by_all_short(
     Ok(narrowed)
 }
 
-// Whether Python cannot have a version where all conditions are met.
+// The versions of the set that are allowed.
+fn narrow_to_allowed(
+    alloc: Global,
+    set: VersionSet,
+    allowed: Option<&VersionSet>,
+) -> Result<VersionSet, AllocError>
+    ensures { IfOk result (λ both. (v : Record) → IsAllowed (option_map (λ s. s.now) allowed.entry) v → contains record_cmp set v ≡ true
+        → contains record_cmp both v ≡ true) }
+{
+    match allowed {
+        Some(allowed) => set.intersection(alloc, allowed),
+        None => Ok(set),
+    }
+}
+
+// Whether Python cannot have a version that is allowed where all conditions are met.
 pub(crate) fn excludes_python(
     alloc: Global,
     conditions: &[Condition<'_>],
+    allowed: Option<&VersionSet>,
 ) -> Result<bool, AllocError>
-    ensures { IfOk result (λ b. b ≡ true → (e : Environment) → HasPython e → in_box e (map condition_of conditions.now) ≡ false) }
+    ensures { IfOk result (λ b. b ≡ true → (e : Environment) → HasPython e → HasAllowed (option_map (λ s. s.now) allowed.entry) e
+        → in_box e (map condition_of conditions.now) ≡ false) }
 {
     let short = "python_version".as_bytes();
     let full = "python_full_version".as_bytes();
     let set = variable_set(alloc, full, conditions)?;
-    let narrowed = narrow_by_all_short(alloc, short, conditions, set)?;
+    let within = narrow_to_allowed(alloc, set, allowed)?;
+    let narrowed = narrow_by_all_short(alloc, short, conditions, within)?;
     Ok(narrowed.is_empty())
 }

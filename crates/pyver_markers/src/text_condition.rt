@@ -69,7 +69,7 @@ fn find_asked_text<'a>(name: &[u8], condition: &Condition<'a>) -> Option<&'a [u8
 }
 
 // The first such string.
-fn find_first_text<'a>(name: &[u8], conditions: &[Condition<'a>]) -> Option<&'a [u8]>
+pub(crate) fn find_first_text<'a>(name: &[u8], conditions: &[Condition<'a>]) -> Option<&'a [u8]>
     ensures { option_map (λ text. text.now) result ≡ first_asked name.now (map condition_of conditions.now) }
 {
     for condition in conditions {
@@ -122,7 +122,7 @@ pub(crate) fn is_met_at(
     Ok(is_met(condition.wanted, value))
 }
 
-fn are_met_at(
+pub(crate) fn are_met_at(
     alloc: Global,
     name: &[u8],
     text: &[u8],
