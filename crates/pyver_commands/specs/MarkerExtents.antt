@@ -1,9 +1,10 @@
 -- `marker MARKER [MARKER]`: an environment in which the marker holds, or both do.
-use Rattle.std.specs.Prelude.{◌≡◌, ◌⊎◌, ◌+◌, ℕ, List, [], ◌++◌, Option, Some, None, Err, codes, length, min}
+use Rattle.std.specs.Prelude.{◌≡◌, ◌⊎◌, ◌+◌, ℕ, List, [], ◌++◌, Bool, Option, Some, None, Err, codes, length, min}
 use Rattle.std.specs.Fmt.{decimal}
 use Rattle.cli_io.specs.Escapes.{escaped}
 use Rattle.cli_io.specs.Runs.{Outcome}
 use Rattle.pyver_commands.specs.Outcomes.{message_outcome}
+use Rattle.pyver_markers.specs.Conditions.{Domain}
 use Rattle.pyver_markers.specs.Environments.{environment_text}
 use Rattle.pyver_markers.specs.Extents.{Always, Extent, IsExtent, Nowhere, Somewhere, Undecided}
 use Rattle.pyver_requirements.specs.MarkerGrammar.{Both, DenotesMarker, Marker}
@@ -39,18 +40,23 @@ FailsAsMarker word o = (f : Misfit) × (marker_steps word ≡ Err f) × (o ≡ m
 abbrev pub DenoteBoth : List ℕ → List ℕ → Marker → Type 0
 DenoteBoth word other m = (a : Marker) × (b : Marker) × DenotesMarker word a × DenotesMarker other b × (m ≡ Both a b)
 
+-- environments with any version of Python, on one system if its variables are linked
+abbrev pub for_any_python : Bool → Domain
+for_any_python linked = record { linked = linked; python = None }
+
 -- the outcome of the marker that is denoted so
-abbrev pub PrintsExtent : (Marker → Type 0) → Outcome → Type 0
-PrintsExtent Is o = (x : Extent) × ((m : Marker) × Is m) × ((m : Marker) → Is m → IsExtent m x) × (o ≡ extent_outcome x)
+abbrev pub PrintsExtent : Bool → (Marker → Type 0) → Outcome → Type 0
+PrintsExtent linked Is o =
+    (x : Extent) × ((m : Marker) × Is m) × ((m : Marker) → Is m → IsExtent (for_any_python linked) m x) × (o ≡ extent_outcome x)
 
 -- the outcome of `marker`: of one word, or of two
-abbrev pub FindsExtent : List ℕ → Option (List ℕ) → Outcome → Type 0
-FindsExtent word None o = FailsAsMarker word o ⊎ PrintsExtent (DenotesMarker word) o
-FindsExtent word (Some other) o = FailsAsMarker word o ⊎ (FailsAsMarker other o ⊎ PrintsExtent (DenoteBoth word other) o)
+abbrev pub FindsExtent : Bool → List ℕ → Option (List ℕ) → Outcome → Type 0
+FindsExtent linked word None o = FailsAsMarker word o ⊎ PrintsExtent linked (DenotesMarker word) o
+FindsExtent linked word (Some other) o = FailsAsMarker word o ⊎ (FailsAsMarker other o ⊎ PrintsExtent linked (DenoteBoth word other) o)
 
 -- the outcome of a marker with these steps
-abbrev pub PrintsSteps : List Step → Outcome → Type 0
-PrintsSteps all o = (x : Extent) × ((m : Marker) → all ≡ steps m → IsExtent m x) × (o ≡ extent_outcome x)
+abbrev pub PrintsSteps : Bool → List Step → Outcome → Type 0
+PrintsSteps linked all o = (x : Extent) × ((m : Marker) → all ≡ steps m → IsExtent (for_any_python linked) m x) × (o ≡ extent_outcome x)
 
 -- the marker that is denoted so has these steps
 abbrev pub HasSteps : (Marker → Type 0) → List Step → Type 0
@@ -60,4 +66,5 @@ HasSteps Is all = ((m : Marker) × Is m) × ((m : Marker) → Is m → all ≡ s
 
 -- of the same words it is never printed both that they hold nowhere and where they hold
 abbrev pub HoldsOrNot : Type 0
-HoldsOrNot = (word : List ℕ) (other : Option (List ℕ)) (a b : Outcome) → FindsExtent word other a → FindsExtent word other b → a.status ≡ 1 → ¬ (b.status ≡ 0)
+HoldsOrNot = (linked : Bool) (word : List ℕ) (other : Option (List ℕ)) (a b : Outcome) → FindsExtent linked word other a → FindsExtent linked word other b → a.status ≡ 1
+    → ¬ (b.status ≡ 0)

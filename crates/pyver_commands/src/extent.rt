@@ -12,7 +12,7 @@ ghost use Rattle.pyver_requirements.specs.MarkerViews.{IsMarkerFault};
 use crate::answer::Answer;
 use crate::version_json::push_text;
 use cli_io::push_escaped;
-use pyver_markers::{EnvironmentMarker, FoundVariable, MarkerExtent, push_environment};
+use pyver_markers::{Domain, EnvironmentMarker, FoundVariable, MarkerExtent, push_environment};
 use pyver_requirements::{MarkerError, MarkerFault};
 use std::alloc::{AllocError, Global};
 
@@ -111,10 +111,15 @@ fn print_extent(alloc: Global, extent: &MarkerExtent<'_>) -> Result<Answer, Allo
     }
 }
 
-fn print_marker(alloc: Global, marker: &EnvironmentMarker<'_>) -> Result<Answer, AllocError>
-    ensures { IfOk result (λ a. PrintsSteps marker.now (outcome_of a)) }
+fn print_marker(
+    alloc: Global,
+    linked: bool,
+    marker: &EnvironmentMarker<'_>,
+) -> Result<Answer, AllocError>
+    ensures { IfOk result (λ a. PrintsSteps linked marker.now (outcome_of a)) }
 {
-    let extent = marker.find_extent(alloc)?;
+    let python = None;
+    let extent = marker.find_extent(alloc, Domain { linked, python })?;
     let answer = print_extent(alloc, &extent)?;
     Ok(answer)
 }
@@ -122,14 +127,15 @@ fn print_marker(alloc: Global, marker: &EnvironmentMarker<'_>) -> Result<Answer,
 // Where both markers hold.
 fn print_both(
     alloc: Global,
+    linked: bool,
     marker: EnvironmentMarker<'_>,
     second: &EnvironmentMarker<'_>,
 ) -> Result<Answer, AllocError>
     ensures { (word other : List ℕ) → HasSteps (DenotesMarker word) marker.entry → HasSteps (DenotesMarker other) second.now
-        → IfOk result (λ a. FindsExtent word (Some other) (outcome_of a)) }
+        → IfOk result (λ a. FindsExtent linked word (Some other) (outcome_of a)) }
 {
     let both = marker.and(second)?;
-    let answer = print_marker(alloc, &both)?;
+    let answer = print_marker(alloc, linked, &both)?;
     Ok(answer)
 }
 
@@ -137,13 +143,14 @@ fn print_both(
 // Where the marker of the first word and that of the other both hold.
 fn find_both(
     alloc: Global,
+    linked: bool,
     marker: EnvironmentMarker<'_>,
     other: &str,
 ) -> Result<Answer, AllocError>
-    ensures { (word : List ℕ) → HasSteps (DenotesMarker word) marker.entry → IfOk result (λ a. FindsExtent word (Some other.now) (outcome_of a)) }
+    ensures { (word : List ℕ) → HasSteps (DenotesMarker word) marker.entry → IfOk result (λ a. FindsExtent linked word (Some other.now) (outcome_of a)) }
 {
     match EnvironmentMarker::parse(alloc, other.as_bytes()) {
-        Ok(second) => print_both(alloc, marker, &second),
+        Ok(second) => print_both(alloc, linked, marker, &second),
         Err(error) => {
             let answer = report_error(alloc, other, error)?;
             Ok(answer)
@@ -153,38 +160,48 @@ fn find_both(
 
 #[tactic(auto, using(crate::proofs::MarkerExtents::found_one))]
 // Where the marker of the first word holds.
-fn find_one(alloc: Global, marker: &EnvironmentMarker<'_>) -> Result<Answer, AllocError>
-    ensures { (word : List ℕ) → HasSteps (DenotesMarker word) marker.now → IfOk result (λ a. FindsExtent word None (outcome_of a)) }
+fn find_one(
+    alloc: Global,
+    linked: bool,
+    marker: &EnvironmentMarker<'_>,
+) -> Result<Answer, AllocError>
+    ensures { (word : List ℕ) → HasSteps (DenotesMarker word) marker.now → IfOk result (λ a. FindsExtent linked word None (outcome_of a)) }
 {
-    let answer = print_marker(alloc, marker)?;
+    let answer = print_marker(alloc, linked, marker)?;
     Ok(answer)
 }
 
 // Where the marker of the first word, and that of the other if there is one, hold.
 fn find_with(
     alloc: Global,
+    linked: bool,
     marker: EnvironmentMarker<'_>,
     other: Option<&str>,
 ) -> Result<Answer, AllocError>
     ensures { (word : List ℕ) → HasSteps (DenotesMarker word) marker.entry
-        → IfOk result (λ a. FindsExtent word (option_map (λ w. w.now) other.entry) (outcome_of a)) }
+        → IfOk result (λ a. FindsExtent linked word (option_map (λ w. w.now) other.entry) (outcome_of a)) }
 {
     match other {
-        Some(other) => find_both(alloc, marker, other),
-        None => find_one(alloc, &marker),
+        Some(other) => find_both(alloc, linked, marker, other),
+        None => find_one(alloc, linked, &marker),
     }
 }
 
 #[tactic(auto, using(crate::proofs::MarkerExtents::first_fails, crate::proofs::MarkerExtents::parsed))]
-/// `marker MARKER [MARKER]`: an environment in which the marker holds, or both do, as a marker, `always` or `nowhere`. The status is 0, 1 if
-/// there is none, and 2 if a word is no marker, or if it is undecided.
+/// `marker MARKER [MARKER]`: an environment in which the marker holds, or both do, as a marker, `always` or `nowhere`; on one system if its variables are
+/// `linked`. The status is 0, 1 if there is none, and 2 if a word is no marker, or if it is undecided.
 ///
 /// Allocates.
-pub fn find_extent(alloc: Global, word: &str, other: Option<&str>) -> Result<Answer, AllocError>
-    ensures { IfOk result (λ a. FindsExtent word.now (option_map (λ w. w.now) other.entry) (outcome_of a)) }
+pub fn find_extent(
+    alloc: Global,
+    linked: bool,
+    word: &str,
+    other: Option<&str>,
+) -> Result<Answer, AllocError>
+    ensures { IfOk result (λ a. FindsExtent linked word.now (option_map (λ w. w.now) other.entry) (outcome_of a)) }
 {
     match EnvironmentMarker::parse(alloc, word.as_bytes()) {
-        Ok(marker) => find_with(alloc, marker, other),
+        Ok(marker) => find_with(alloc, linked, marker, other),
         Err(error) => {
             let answer = report_error(alloc, word, error)?;
             Ok(answer)

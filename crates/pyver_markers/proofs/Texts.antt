@@ -10,7 +10,7 @@ use Rattle.pyver_requirements.specs.MarkerTokens.{Constant, Invalid, Side, Varia
 use Rattle.pyver_requirements.specs.declared.marker_operator.MarkerOperator.{MarkerOperator}
 use Rattle.pyver_requirements.specs.declared.marker_operator.MarkerOperator.TheVariants as operator
 use Rattle.pyver_markers.specs.Boxes.{Box, Condition, in_box, is_met, meets}
-use Rattle.pyver_markers.specs.Conditions.{Domain, HasNoEnvironment, IsOperand, asked_text, beside_variable, comparable, compare_operand, first_asked, is_met_at, lacks_any_text, lacks_platform_text, lacks_text, right_of, wants_equal}
+use Rattle.pyver_markers.specs.Conditions.{IsOperand, asked_text, beside_variable, comparable, compare_operand, first_asked, is_met_at, lacks_any_text, lacks_platform_text, lacks_text, right_of, wants_equal}
 use Rattle.pyver_markers.specs.Environments.{Assignment, Environment, Names, Setting, Text, assigned}
 use Rattle.pyver_markers.specs.declared.text_condition.Operand.{Operand}
 use Rattle.pyver_markers.specs.declared.text_condition.Operand.TheVariants.{Left, Right}
@@ -237,8 +237,8 @@ module _ (box : Box) (e : Environment) where
   of_others = or_later (codes "platform_python_implementation") _ refl (or_later (codes "implementation_name") _ refl (last (codes "extra") refl))
 
 -- no environment is in a box in which a variable is to be another string
-pub without_text : (d : Domain) (box : Box) → lacks_any_text box ≡ true → HasNoEnvironment d box
-without_text d box lacks e known =
+pub without_text : (box : Box) → lacks_any_text box ≡ true → (e : Environment) → in_box e box ≡ false
+without_text box lacks e =
     elim (either_is (lacks_platform_text box) (lacks_text (codes "platform_python_implementation") box || (lacks_text (codes "implementation_name") box || lacks_text (codes "extra") box)) lacks) [
       | inl here ↦ of_platform box e here
       | inr there ↦ of_others box e there

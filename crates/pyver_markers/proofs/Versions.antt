@@ -206,7 +206,7 @@ without_any_version d box is e known =
 -- no environment is in a contradiction
 contradicted : (d : Domain) (box : Box) → is_contradiction box ≡ true → HasNoEnvironment d box
 contradicted d box is = elim (either_is (lacks_any_text box) (lacks_any_version box) is) [
-  | inl none ↦ without_text d box none
+  | inl none ↦ λ e known. without_text box none e
   | inr none ↦ without_any_version d box none
 ]
 

@@ -14,7 +14,7 @@ use Rattle.pyver_markers.specs.declared.environment.Setting.{Setting}
 use Rattle.pyver_markers.specs.declared.environment.Setting.TheVariants as setting
 use Rattle.pyver_markers.specs.declared.environment.Variable.{Variable}
 use Rattle.pyver_markers.specs.declared.environment_box.Condition.{Condition}
-use Rattle.pyver_markers.specs.declared.system.System.{System}
+use Rattle.pyver_markers.specs.declared.system.SystemNames.{SystemNames}
 use Rattle.pyver_markers.specs.declared.found_environment.FoundVariable.{FoundVariable}
 use Rattle.pyver_markers.specs.declared.environment_marker.MarkerExtent.{MarkerExtent}
 use Rattle.pyver_markers.specs.declared.environment_marker.MarkerExtent.TheVariants as extent
@@ -40,7 +40,7 @@ extent_of extent.Always = Always
 extent_of (extent.Somewhere variables) = Somewhere (map assignment_of variables.items)
 extent_of extent.Undecided = Undecided
 
-abbrev pub system_of : System → environments.System
+abbrev pub system_of : SystemNames → environments.System
 system_of s = record { os = s.os.now; sys = s.sys.now; platform = s.platform.now }
 
 abbrev pub domain_of : Domain → conditions.Domain

@@ -47,16 +47,16 @@ is_known_system s = same_system s (system (codes "posix") (codes "linux") (codes
     || same_system s (system (codes "posix") (codes "ios") (codes "iOS")))))
 
 -- it has the second or the third of these names
-abbrev pub is_named : System → (sys platform : List ℕ) → Bool
-is_named s sys platform = bytes_eq s.sys sys || bytes_eq s.platform platform
+abbrev pub has_either_name : System → (sys platform : List ℕ) → Bool
+has_either_name s sys platform = bytes_eq s.sys sys || bytes_eq s.platform platform
 
-abbrev pub is_named_windows : System → Bool
-is_named_windows s = bytes_eq s.os (codes "nt") || is_named s (codes "win32") (codes "Windows")
+abbrev pub has_windows_name : System → Bool
+has_windows_name s = bytes_eq s.os (codes "nt") || has_either_name s (codes "win32") (codes "Windows")
 
--- it has a name of one of those but `posix`, which is that of many
+-- it has a name of one of those but `posix`, which many have
 abbrev pub has_known_name : System → Bool
-has_known_name s = is_named s (codes "linux") (codes "Linux") || (is_named_windows s || (is_named s (codes "darwin") (codes "Darwin")
-    || (is_named s (codes "android") (codes "Android") || is_named s (codes "ios") (codes "iOS"))))
+has_known_name s = has_either_name s (codes "linux") (codes "Linux") || (has_windows_name s || (has_either_name s (codes "darwin") (codes "Darwin")
+    || (has_either_name s (codes "android") (codes "Android") || has_either_name s (codes "ios") (codes "iOS"))))
 
 -- one of those, or one that has none of their names
 abbrev pub is_system : System → Bool

@@ -30,8 +30,8 @@ pub struct Variable<'a> {
 /// two numbers of the second, of its epoch and with no other part.
 #[derive(Clone, Copy)]
 pub struct Domain<'a> {
-    /// Whether `os_name`, `sys_platform` and `platform_system` are those of Linux, Windows, macOS, Android or iOS, or of a system that has none of their
-    /// names but `posix`; otherwise they say nothing of each other.
+    /// Whether `os_name`, `sys_platform` and `platform_system` are the names of one system: of Linux, Windows, macOS, Android or iOS, or of another one, which
+    /// has no name of these but `posix`; otherwise they say nothing of each other.
     pub linked: bool,
     /// The versions that Python may have, or all.
     pub python: Option<&'a VersionSet>,

@@ -10,7 +10,7 @@ use crate::environment::{Domain, Setting, Variable};
 use crate::environment_box::Condition;
 use crate::found_python::{PythonVersions, find_python};
 use crate::marker_comparison::is_version_variable;
-use crate::system::{System, is_system};
+use crate::system::{SystemNames, is_system};
 use crate::text_condition::{Operand, find_operand, is_met_at};
 use crate::version::ascii_version;
 use crate::version_condition::variable_set;
@@ -500,7 +500,6 @@ fn is_allowed(version: &Version, allowed: Option<&VersionSet>) -> bool
     }
 }
 
-#[tactic(auto, using(crate::proofs::FoundEnvironments::allowed_there))]
 // Whether Python has a version that is allowed.
 fn has_allowed(
     alloc: Global,
@@ -509,10 +508,11 @@ fn has_allowed(
 ) -> Result<bool, AllocError>
     ensures { IfOk result (λ b. b ≡ true → HasAllowed (option_map (λ s. s.now) allowed.entry) (found_environment found.now)) }
 {
-    match version_by_name(alloc, found, "python_full_version".as_bytes())? {
-        Some(version) => Ok(is_allowed(&version, allowed)),
-        None => Ok(false),
-    }
+    let full = "python_full_version".as_bytes();
+    let Some(version) = version_by_name(alloc, found, full)? else {
+        return Ok(false);
+    };
+    Ok(is_allowed(&version, allowed))
 }
 
 // Whether the variables of the system are those of one.
@@ -528,7 +528,7 @@ fn has_system(found: &[FoundVariable<'_>]) -> bool
     let Some(platform) = find_by_name(found, "platform_system".as_bytes()) else {
         return false;
     };
-    is_system(System { os, sys, platform })
+    is_system(SystemNames { os, sys, platform })
 }
 
 // So they are, if they are linked.

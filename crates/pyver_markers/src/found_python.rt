@@ -1,4 +1,4 @@
-//! The versions of Python where all conditions are met.
+//! The versions of Python that meet all conditions.
 use crate::found_environment::{Search, find_in_set, suits};
 use crate::marker_comparison::is_version_variable;
 use crate::python_condition::first_two;

@@ -2,16 +2,16 @@
 ghost use Rattle.std.specs.Prelude.{◌≡◌, IfOk, Some, false, map, true};
 ghost use Rattle.pyver_markers.specs.Boxes.{in_box};
 ghost use Rattle.pyver_markers.specs.Conditions.{LacksOthers, LacksSystem, first_asked};
-ghost use Rattle.pyver_markers.specs.Environments.{Environment, HasSystem, Text, has_known_name, is_known_system, is_named, is_named_windows, is_system, same_system, system};
+ghost use Rattle.pyver_markers.specs.Environments.{Environment, HasSystem, Text, has_known_name, is_known_system, has_either_name, has_windows_name, is_system, same_system, system};
 ghost use Rattle.pyver_markers.specs.EnvironmentViews.{condition_of, system_of};
 
 use crate::environment_box::Condition;
 use crate::text_condition::{are_met_at, find_first_text};
 use std::alloc::{AllocError, Global};
 
-// What the variables of a system are.
+// The names of a system, as variables of markers have them.
 #[derive(Clone, Copy)]
-pub(crate) struct System<'a> {
+pub(crate) struct SystemNames<'a> {
     pub(crate) os: &'a [u8],
     pub(crate) sys: &'a [u8],
     pub(crate) platform: &'a [u8],
@@ -19,13 +19,13 @@ pub(crate) struct System<'a> {
 
 // ---- systems
 
-fn is_same(one: System<'_>, os: &str, sys: &str, platform: &str) -> bool
+fn is_same(one: SystemNames<'_>, os: &str, sys: &str, platform: &str) -> bool
     ensures { result ≡ same_system (system_of one.entry) (system os.now sys.now platform.now) }
 {
     one.os == os.as_bytes() && one.sys == sys.as_bytes() && one.platform == platform.as_bytes()
 }
 
-fn is_known_system(one: System<'_>) -> bool
+fn is_known_system(one: SystemNames<'_>) -> bool
     ensures { result ≡ is_known_system (system_of one.entry) }
 {
     is_same(one, "posix", "linux", "Linux")
@@ -35,31 +35,31 @@ fn is_known_system(one: System<'_>) -> bool
         || is_same(one, "posix", "ios", "iOS")
 }
 
-fn is_named(one: System<'_>, sys: &str, platform: &str) -> bool
-    ensures { result ≡ is_named (system_of one.entry) sys.now platform.now }
+fn has_either_name(one: SystemNames<'_>, sys: &str, platform: &str) -> bool
+    ensures { result ≡ has_either_name (system_of one.entry) sys.now platform.now }
 {
     one.sys == sys.as_bytes() || one.platform == platform.as_bytes()
 }
 
-fn is_named_windows(one: System<'_>) -> bool
-    ensures { result ≡ is_named_windows (system_of one.entry) }
+fn has_windows_name(one: SystemNames<'_>) -> bool
+    ensures { result ≡ has_windows_name (system_of one.entry) }
 {
-    one.os == "nt".as_bytes() || is_named(one, "win32", "Windows")
+    one.os == "nt".as_bytes() || has_either_name(one, "win32", "Windows")
 }
 
 // Whether it has a name of a known system but `posix`.
-fn has_known_name(one: System<'_>) -> bool
+fn has_known_name(one: SystemNames<'_>) -> bool
     ensures { result ≡ has_known_name (system_of one.entry) }
 {
-    is_named(one, "linux", "Linux")
-        || is_named_windows(one)
-        || is_named(one, "darwin", "Darwin")
-        || is_named(one, "android", "Android")
-        || is_named(one, "ios", "iOS")
+    has_either_name(one, "linux", "Linux")
+        || has_windows_name(one)
+        || has_either_name(one, "darwin", "Darwin")
+        || has_either_name(one, "android", "Android")
+        || has_either_name(one, "ios", "iOS")
 }
 
 // Whether there is such a system, as far as is known.
-pub(crate) fn is_system(one: System<'_>) -> bool
+pub(crate) fn is_system(one: SystemNames<'_>) -> bool
     ensures { result ≡ is_system (system_of one.entry) }
 {
     is_known_system(one) || !has_known_name(one)
@@ -112,9 +112,10 @@ fn is_asked(name: &str, text: &str, conditions: &[Condition<'_>]) -> bool
     }
 }
 
+#[tactic(auto, using(crate::proofs::Systems::platform_asked, crate::proofs::Systems::sys_asked))]
 // Whether a variable is to be equal to one of these names.
 fn asks_name(sys: &str, platform: &str, conditions: &[Condition<'_>]) -> bool
-    ensures { result ≡ true → LacksOthers (map condition_of conditions.now) (λ s. is_named s sys.now platform.now) }
+    ensures { result ≡ true → LacksOthers (map condition_of conditions.now) (λ s. has_either_name s sys.now platform.now) }
 {
     if is_asked("sys_platform", sys, conditions) {
         return true;
@@ -122,8 +123,9 @@ fn asks_name(sys: &str, platform: &str, conditions: &[Condition<'_>]) -> bool
     is_asked("platform_system", platform, conditions)
 }
 
+#[tactic(auto, using(crate::proofs::Systems::os_asked, crate::proofs::Systems::windows_named))]
 fn asks_windows_name(conditions: &[Condition<'_>]) -> bool
-    ensures { result ≡ true → LacksOthers (map condition_of conditions.now) is_named_windows }
+    ensures { result ≡ true → LacksOthers (map condition_of conditions.now) has_windows_name }
 {
     if is_asked("os_name", "nt", conditions) {
         return true;
@@ -131,6 +133,7 @@ fn asks_windows_name(conditions: &[Condition<'_>]) -> bool
     asks_name("win32", "Windows", conditions)
 }
 
+#[tactic(auto, using(crate::proofs::Systems::linux_asked, crate::proofs::Systems::windows_asked, crate::proofs::Systems::macos_asked, crate::proofs::Systems::android_asked, crate::proofs::Systems::ios_asked))]
 // Whether not all conditions are met on a system that is not known.
 fn excludes_others(conditions: &[Condition<'_>]) -> bool
     ensures { result ≡ true → LacksOthers (map condition_of conditions.now) has_known_name }
@@ -150,6 +153,7 @@ fn excludes_others(conditions: &[Condition<'_>]) -> bool
     asks_name("ios", "iOS", conditions)
 }
 
+#[tactic(auto, using(crate::proofs::Systems::all_lack))]
 // Whether not all conditions are met on any system.
 pub(crate) fn excludes_systems(
     alloc: Global,

@@ -1,10 +1,20 @@
 //! Markers as steps, and as sets of environments.
 use crate::environments::parse_marker;
-use pyver_markers::{Condition, EnvironmentBox, EnvironmentMarker, FoundVariable, MarkerExtent};
+use pep440_rs::VersionSpecifiers;
+use pep440_sets::VersionSet;
+use pyver_markers::{
+    Condition, Domain, EnvironmentBox, EnvironmentMarker, FoundVariable, MarkerExtent,
+};
 use pyver_requirements::{MarkerError, MarkerOperator, Side, Step, parse_steps};
 use std::alloc::Global;
 use std::str;
 use testing::CaseError;
+
+// Variables of systems are independent, and Python may have any version.
+const ANYWHERE: Domain<'static> = Domain {
+    linked: false,
+    python: None,
+};
 
 fn side_text(side: Side<'_>) -> Result<&str, CaseError> {
     match side {
@@ -98,7 +108,7 @@ pub fn print_boxes(alloc: Global, wanted: &str, marker: &str) -> Result<String, 
 /// Whether it is known that the marker never has the wanted value.
 pub fn print_never(alloc: Global, wanted: &str, marker: &str) -> Result<String, CaseError> {
     let marker = parse_marker(alloc, marker)?;
-    let never = marker.is_never(alloc, parse_wanted(wanted)?)?;
+    let never = marker.is_never(alloc, parse_wanted(wanted)?, ANYWHERE)?;
     Ok(String::from_str(alloc, if never { "never" } else { "unknown" })?)
 }
 
@@ -129,22 +139,54 @@ fn print_variables(alloc: Global, variables: &[FoundVariable<'_>]) -> Result<Str
 /// What the variables of the marker are in an environment in which it holds.
 pub fn print_environment(alloc: Global, marker: &str) -> Result<String, CaseError> {
     let marker = parse_marker(alloc, marker)?;
-    match marker.find_environment(alloc)? {
+    match marker.find_environment(alloc, ANYWHERE)? {
         Some(variables) => print_variables(alloc, variables.as_slice()),
         None => Ok(String::from_str(alloc, "none")?),
     }
 }
 
-/// Environments in which the marker and the others hold.
-pub fn print_extent(alloc: Global, marker: &str, others: &[String]) -> Result<String, CaseError> {
-    let mut all = parse_marker(alloc, marker)?;
-    for other in others {
-        all = all.and(&parse_marker(alloc, other)?)?;
-    }
-    match all.find_extent(alloc)? {
+fn extent_text(
+    alloc: Global,
+    marker: &EnvironmentMarker<'_>,
+    domain: Domain<'_>,
+) -> Result<String, CaseError> {
+    match marker.find_extent(alloc, domain)? {
         MarkerExtent::Nowhere => Ok(String::from_str(alloc, "nowhere")?),
         MarkerExtent::Always => Ok(String::from_str(alloc, "always")?),
         MarkerExtent::Somewhere(variables) => print_variables(alloc, variables.as_slice()),
         MarkerExtent::Undecided => Ok(String::from_str(alloc, "undecided")?),
     }
+}
+
+/// Environments in which the marker and the others hold, on one system if its variables are linked.
+pub fn print_extent(
+    alloc: Global,
+    linked: bool,
+    marker: &str,
+    others: &[String],
+) -> Result<String, CaseError> {
+    let mut all = parse_marker(alloc, marker)?;
+    for other in others {
+        all = all.and(&parse_marker(alloc, other)?)?;
+    }
+    let python = None;
+    extent_text(alloc, &all, Domain { linked, python })
+}
+
+/// Environments in which the marker holds and Python has a version that the list contains.
+pub fn print_extent_for(alloc: Global, list: &str, marker: &str) -> Result<String, CaseError> {
+    let list = VersionSpecifiers::from_str(alloc, list).map_err(|_| CaseError::Unreadable)?;
+    let versions = VersionSet::from_specifiers(alloc, list.as_slice()).map_err(
+        |_| CaseError::Unreadable,
+    )?;
+    let marker = parse_marker(alloc, marker)?;
+    let python = Some(&versions);
+    extent_text(
+        alloc,
+        &marker,
+        Domain {
+            linked: false,
+            python,
+        },
+    )
 }

@@ -6,7 +6,8 @@ mod boxes;
 mod environments;
 
 use boxes::{
-    print_boxes, print_contradictory, print_environment, print_extent, print_never, print_steps,
+    print_boxes, print_contradictory, print_environment, print_extent, print_extent_for,
+    print_never, print_steps,
 };
 use environments::print_value;
 use std::alloc::Global;
@@ -23,7 +24,15 @@ impl Calls for MarkerCalls {
             ("boxes", [wanted, marker]) => print_boxes(alloc, wanted.as_str(), marker.as_str()),
             ("never", [wanted, marker]) => print_never(alloc, wanted.as_str(), marker.as_str()),
             ("contradictory", [marker]) => print_contradictory(alloc, marker.as_str()),
-            ("extent", [marker, others @ ..]) => print_extent(alloc, marker.as_str(), others),
+            ("extent", [marker, others @ ..]) => {
+                print_extent(alloc, false, marker.as_str(), others)
+            }
+            ("linked", [marker, others @ ..]) => {
+                print_extent(alloc, true, marker.as_str(), others)
+            }
+            ("python", [list, marker]) => {
+                print_extent_for(alloc, list.as_str(), marker.as_str())
+            }
             ("environment", [marker]) => print_environment(alloc, marker.as_str()),
             _ => Err(CaseError::Unreadable),
         }

@@ -183,7 +183,7 @@ outcomes_once (Show format words) input a b few h k = show_once format words a b
 outcomes_once (Bump to parts None) input a b few h k = of_versions_once bare_line_options (BumpsOnly to parts) (λ lines a b is so. is ∙ sym so) input a b h k
 outcomes_once (Bump to parts (Some word)) input a b few h k = bump_once to parts word a b h k
 outcomes_once (Range json words) input a b few h k = common_once json words a b h k
-outcomes_once (Marker marker other) input a b few h k = absurd (few tt)
+outcomes_once (Marker linked marker other) input a b few h k = absurd (few tt)
 outcomes_once (Check options names) input a b few h k = absurd h
 outcomes_once (Misused message) input a b few h k = h ∙ sym k
 

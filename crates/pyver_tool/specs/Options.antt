@@ -1,7 +1,7 @@
 -- The options of each command, as the tables of the program have them, and the kinds of files: by their names, or else by `--format`.
 use Rattle.std.specs.Prelude.{Bool, List, None, Option, Some, bytes_eq, codes, false, if◌then◌else◌, map, not, option_map, true, ℕ, ◌&&◌}
 use Rattle.pyver_tool.specs.declared.help.Topic.{Topic}
-use Rattle.pyver_tool.specs.declared.options.TheConstants.{BUMP_OPTIONS, CHECK_OPTIONS, COMPARE_OPTIONS, FILTER_OPTIONS, MATCH_OPTIONS, NEWEST_OPTIONS, RANGE_OPTIONS, SHOW_OPTIONS, SORT_OPTIONS}
+use Rattle.pyver_tool.specs.declared.options.TheConstants.{BUMP_OPTIONS, CHECK_OPTIONS, COMPARE_OPTIONS, FILTER_OPTIONS, MARKER_OPTIONS, MATCH_OPTIONS, NEWEST_OPTIONS, RANGE_OPTIONS, SHOW_OPTIONS, SORT_OPTIONS}
 use Rattle.pyver_projects.specs.Documents.{is_document_path, kind_of_path, kind_of_word}
 use Rattle.pyver_projects.specs.declared.document_kind.DocumentKind.{DocumentKind}
 use Rattle.pyver_projects.specs.declared.document_kind.DocumentKind.TheVariants.{Lock}
@@ -35,7 +35,7 @@ options topic.Newest = rows_of (λ s. s.now) (λ t. t.now) NEWEST_OPTIONS.now
 options topic.Show = rows_of (λ s. s.now) (λ t. t.now) SHOW_OPTIONS.now
 options topic.Bump = rows_of (λ s. s.now) (λ t. t.now) BUMP_OPTIONS.now
 options topic.Range = rows_of (λ s. s.now) (λ t. t.now) RANGE_OPTIONS.now
-options topic.Marker = rows_of (λ s. s.now) (λ t. t.now) COMPARE_OPTIONS.now
+options topic.Marker = rows_of (λ s. s.now) (λ t. t.now) MARKER_OPTIONS.now
 options topic.Check = rows_of (λ s. s.now) (λ t. t.now) CHECK_OPTIONS.now
 
 -- the value of `--format`: `requirements`, or the word of a document's kind

@@ -57,13 +57,14 @@ with_line_option lines name value =
     else if bytes_eq name (codes "--invalid") then option_map (λ i. record lines { invalid = i }) (invalid_lines_of value)
     else None
 
--- what an option of `check` or of lines sets, if its value is right
+-- what an option of `check`, of `marker` or of lines sets, if its value is right
 unfoldable pub with_check_option : Settings → List ℕ → List ℕ → Option Settings
 with_check_option settings name value =
     if bytes_eq name (codes "--each") then Some (record settings { each = true })
     else if bytes_eq name (codes "--format") then option_map (λ kind. record settings { kind = kind }) (file_kind_of value)
     else if bytes_eq name (codes "--output") then option_map (λ form. record settings { output = form }) (output_form_of value)
     else if bytes_eq name (codes "--no-lock") then Some (record settings { seeks_locks = false })
+    else if bytes_eq name (codes "--any-system") then Some (record settings { linked = false })
     else option_map (λ lines. record settings { lines = lines }) (with_line_option settings.lines name value)
 
 -- what an option sets, if its value is right
@@ -83,7 +84,7 @@ with_option settings name value =
 
 -- without an option
 abbrev pub no_settings : Settings
-no_settings = record { quiet = false; prereleases = prereleases.Listed; inverted = false; reversed = false; unique = false; last = None; lines = no_line_options; format = format.Normal; to = None; each = false; kind = unknown_kind; output = output_form.Text; seeks_locks = true }
+no_settings = record { quiet = false; prereleases = prereleases.Listed; inverted = false; reversed = false; unique = false; last = None; lines = no_line_options; format = format.Normal; to = None; each = false; kind = unknown_kind; output = output_form.Text; seeks_locks = true; linked = true }
 
 -- what options set, or the first of them with a wrong value
 pub data Effect : Type 0 where

@@ -106,7 +106,7 @@ task (command.Newest options specifiers names) = Newest options specifiers.now (
 task (command.Show asked versions) = Show asked (map string_bytes versions.now)
 task (command.Bump to parts version) = bump_from_words to [] (map string_bytes parts.now) (option_map (λ v. v.now) version)
 task (command.Range options lists) = Range options (map string_bytes lists.now)
-task (command.Marker marker other) = Marker marker.now (option_map (λ w. w.now) other)
+task (command.Marker linked marker other) = Marker linked marker.now (option_map (λ w. w.now) other)
 task (command.Check options names) = Check options (map string_bytes names.now)
 task (command.Misused why) = Misused (misuse_message why)
 

@@ -52,7 +52,7 @@ pub data Task : Type 0 where
   Show : ShowFormat → List (List ℕ) → Task
   Bump : Option ℕ → List BumpPart → Option (List ℕ) → Task
   Range : Bool → List (List ℕ) → Task
-  Marker : List ℕ → Option (List ℕ) → Task
+  Marker : Bool → List ℕ → Option (List ℕ) → Task
   Check : CheckOptions → List (List ℕ) → Task
   Misused : List ℕ → Task
 
@@ -194,8 +194,8 @@ task_with settings topic.Newest (specifiers ∷ names) = Newest (record { prerel
 task_with settings topic.Show (word ∷ words) = Show settings.format (word ∷ words)
 task_with settings topic.Bump words = bump_operands settings.to words
 task_with settings topic.Range (word ∷ words) = Range (is_json settings.format) (word ∷ words)
-task_with settings topic.Marker (marker ∷ []) = Marker marker None
-task_with settings topic.Marker (marker ∷ other ∷ []) = Marker marker (Some other)
+task_with settings topic.Marker (marker ∷ []) = Marker settings.linked marker None
+task_with settings topic.Marker (marker ∷ other ∷ []) = Marker settings.linked marker (Some other)
 task_with settings topic.Check names = Check (record { output = settings.output; each = settings.each; quiet = settings.quiet; kind = settings.kind; seeks_locks = settings.seeks_locks }) names
 task_with settings topic _ = Misused (wrong_count topic)
 
@@ -256,7 +256,7 @@ IsOutcome (Show asked words) input o = Shows asked words o
 IsOutcome (Bump to parts None) input o = BumpsInput to parts input o
 IsOutcome (Bump to parts (Some word)) input o = Bumps to parts word o
 IsOutcome (Range options words) input o = FindsCommon options words o
-IsOutcome (Marker marker other) input o = FindsExtent marker other o
+IsOutcome (Marker linked marker other) input o = FindsExtent linked marker other o
 IsOutcome (Check options names) input o = ⊥
 IsOutcome (Misused message) input o = o ≡ message_outcome message
 
@@ -283,7 +283,7 @@ IsStream (Filter options specifiers names) = ⊤
 IsStream _ = ⊥
 
 abbrev pub IsOneOfMany : Task → Type 0
-IsOneOfMany (Marker marker other) = ⊤
+IsOneOfMany (Marker linked marker other) = ⊤
 IsOneOfMany _ = ⊥
 
 -- another task and what is read have at most one outcome

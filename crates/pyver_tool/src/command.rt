@@ -36,7 +36,7 @@ pub(crate) enum Command<'a> {
     // The number of the last part, the names of the parts, and the version if it is among the words.
     Bump(Option<u64>, &'a [String], Option<&'a str>),
     Range(bool, &'a [String]),
-    Marker(&'a str, Option<&'a str>),
+    Marker(bool, &'a str, Option<&'a str>),
     // How, and the names of the files.
     Check(CheckOptions, &'a [String]),
     Misused(Misuse<'a>),
@@ -150,12 +150,14 @@ fn parse_range<'a>(settings: Settings, words: &'a [String]) -> Command<'a>
     Command::Range(is_json(settings.format), words)
 }
 
-fn parse_marker<'a>(words: &'a [String]) -> Command<'a>
-    ensures { (settings : Settings) → task result ≡ task_with settings Topic.Marker (map string_bytes words.now) }
+fn parse_marker<'a>(settings: Settings, words: &'a [String]) -> Command<'a>
+    ensures { task result ≡ task_with settings Topic.Marker (map string_bytes words.now) }
 {
     match words {
-        [marker] => Command::Marker(marker.as_str(), None),
-        [marker, other] => Command::Marker(marker.as_str(), Some(other.as_str())),
+        [marker] => Command::Marker(settings.linked, marker.as_str(), None),
+        [marker, other] => {
+            Command::Marker(settings.linked, marker.as_str(), Some(other.as_str()))
+        },
         _ => Command::Misused(Misuse::Count(Topic::Marker)),
     }
 }
@@ -254,7 +256,7 @@ fn parse_operands<'a>(topic: Topic, settings: Settings, words: &'a [String]) -> 
         Topic::Show => parse_show(settings, words),
         Topic::Bump => parse_bump(settings.to, words),
         Topic::Range => parse_range(settings, words),
-        Topic::Marker => parse_marker(words),
+        Topic::Marker => parse_marker(settings, words),
         Topic::Check => parse_check(settings, words),
     }
 }
@@ -348,8 +350,8 @@ impl<'a> Command<'a> {
             }
             Command::Bump(to, names, version) => start_bump(alloc, to, names, version),
             Command::Range(json, words) => { Ok(Work::Answer(find_common(alloc, json, words)?)) }
-            Command::Marker(marker, other) => {
-                Ok(Work::Answer(find_extent(alloc, marker, other)?))
+            Command::Marker(linked, marker, other) => {
+                Ok(Work::Answer(find_extent(alloc, linked, marker, other)?))
             }
             Command::Check(options, names) => Ok(Work::Check(options, names)),
             Command::Misused(misuse) => Ok(Work::Answer(report_misuse(alloc, misuse)?)),

@@ -39,7 +39,7 @@ const BUMP_USAGE: &str = "pyver bump [--to N] PART.. [V]";
 
 const RANGE_USAGE: &str = "pyver range [--json] SPECS..";
 
-const MARKER_USAGE: &str = "pyver marker MARKER [MARKER]";
+const MARKER_USAGE: &str = "pyver marker [--any-system] MARKER [MARKER]";
 
 const CHECK_USAGE: &str =
     "pyver check [-q] [--each] [--no-lock] [--format KIND] [--output FORM | --json] [FILE..]";
@@ -258,7 +258,7 @@ options:
   --      end of options
 ";
 
-const MARKER_HELP: &str = "usage: pyver marker MARKER [MARKER]
+const MARKER_HELP: &str = "usage: pyver marker [--any-system] MARKER [MARKER]
 
 examples:
   pyver marker 'python_version >= \"3.8\" and python_version < \"3.8\"'
@@ -268,11 +268,12 @@ Prints an environment in which the environment marker holds, or both do, as a ma
 variables are so, they hold. Otherwise 'always' is printed, if they hold in some environment and are
 false in none, or 'nowhere', and the exit status is 1. If a word is no marker, or if nothing of this
 could be shown, standard error says so, and the exit status is 2.
-In an environment python_version is the first two numbers of python_full_version; what other
-variables are is independent.
+In an environment python_version is the first two numbers of python_full_version, and os_name,
+sys_platform and platform_system are the names of one system; other variables are independent.
 
 options:
-  --  end of options
+  --any-system  os_name, sys_platform and platform_system are independent, too
+  --            end of options
 ";
 
 const CHECK_HELP: &str =

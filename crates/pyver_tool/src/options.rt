@@ -68,6 +68,8 @@ const EACH: OptionRow = ("", "--each", "", &[]);
 
 const NO_LOCK: OptionRow = ("", "--no-lock", "", &[]);
 
+const ANY_SYSTEM: OptionRow = ("", "--any-system", "", &[]);
+
 const FORMAT: OptionRow = (
     "",
     "--format",
@@ -110,6 +112,8 @@ const BUMP_OPTIONS: &[OptionRow] = &[HELP, TO];
 
 const RANGE_OPTIONS: &[OptionRow] = &[HELP, JSON];
 
+const MARKER_OPTIONS: &[OptionRow] = &[HELP, ANY_SYSTEM];
+
 const CHECK_OPTIONS: &[OptionRow] = &[HELP, QUIET, EACH, NO_LOCK, FORMAT, OUTPUT, JSON];
 
 // The options of the command.
@@ -126,7 +130,7 @@ pub(crate) fn options(topic: Topic) -> &'static [OptionRow]
         Topic::Show => SHOW_OPTIONS,
         Topic::Bump => BUMP_OPTIONS,
         Topic::Range => RANGE_OPTIONS,
-        Topic::Marker => COMPARE_OPTIONS,
+        Topic::Marker => MARKER_OPTIONS,
         Topic::Check => CHECK_OPTIONS,
     }
 }

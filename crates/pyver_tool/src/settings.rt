@@ -33,6 +33,7 @@ pub(crate) struct Settings {
     pub(crate) kind: FileKind,
     pub(crate) output: OutputForm,
     pub(crate) seeks_locks: bool,
+    pub(crate) linked: bool,
 }
 
 // The form that the word names.
@@ -102,11 +103,12 @@ impl Settings {
             kind: FileKind::unknown(),
             output: OutputForm::Text,
             seeks_locks: true,
+            linked: true,
         }
     }
 
     #[tactic(auto, unfolding(crate::specs::Settings::with_check_option))]
-    // With this option of `check` or of lines, if the value is one of it.
+    // With this option of `check`, of `marker` or of lines, if the value is one of it.
     fn with_check_option(self, name: &str, value: &str) -> Option<Settings>
         ensures { result ≡ with_check_option self name.now value.now }
     {
@@ -116,6 +118,7 @@ impl Settings {
             "--format" => settings.kind = parse_file_kind(value)?,
             "--output" => settings.output = parse_output_form(value)?,
             "--no-lock" => settings.seeks_locks = false,
+            "--any-system" => settings.linked = false,
             _ => settings.lines = with_line_option(settings.lines, name, value)?,
         }
         Some(settings)

@@ -4,7 +4,7 @@ use Rattle.pyver_markers.proofs.FoundEnvironments.{allowed_there}
 use Rattle.pyver_markers.specs.EnvironmentViews.{found_environment}
 use Rattle.pyver_markers.proofs.found_environment.has_allowed.Goals as goal
 
-pub returns-in-Some : goal.returns-in-Some
-returns-in-Some c is =
-    allowed_there (found_environment c.args.found.now) (option_map (λ s. s.now) c.args.allowed) _ _ c.as_bytes.ensures.value (sym c.in-Some.is ∙ c.in_ok-version.ensures)
-    (c.is_allowed.ensures is)
+pub returns : goal.returns
+returns c is =
+    allowed_there (found_environment c.args.found.now) (option_map (λ s. s.now) c.args.allowed) _ _ c.as_bytes-full.ensures.value
+    (sym c.in-Some.is ∙ c.in_ok-version.ensures) (c.is_allowed.ensures is)

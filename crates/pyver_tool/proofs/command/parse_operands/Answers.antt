@@ -2,6 +2,3 @@ use Rattle.pyver_tool.proofs.command.parse_operands.Goals as goal
 
 pub returns-in-Compare : goal.returns-in-Compare
 returns-in-Compare c = rw c.in-Compare.is (c.parse_compare.ensures c.args.settings)
-
-pub returns-in-Marker : goal.returns-in-Marker
-returns-in-Marker c = rw c.in-Marker.is (c.parse_marker.ensures c.args.settings)
