@@ -15,7 +15,7 @@ use Rattle.pyver_findings.specs.FileLines.{Conflicting, File, FileLine, Finding,
 use Rattle.pyver_findings.specs.NamedFiles.{constraints_files}
 use Rattle.pyver_findings.specs.FindingLaws.{ConflictsHaveFindings, FitsUrl, HasMarker, HaveNone, InvalidLinesHaveFindings, IsAlone, IsAmong, IsRequirementLine, IsWrongConstraint, LacksRequirement, MeaningsOnce, ReportsOnce, WrongConstraintsHaveFindings, without_environment, without_environments}
 use Rattle.pyver_findings.specs.LineMeanings.{IsKindMeaning, IsMeaning, IsNone, IsPartsMeaning, IsPlain, LeftOut, LineMeaning, constraint_faults, has_extras, has_right_url, invalid_line, kind_faults, not_plain, rejection_meaning, requirement_meaning, under_marker, with_marker, with_url}
-use Rattle.pyver_findings.specs.MarkerPairs.{FindsOfNames}
+use Rattle.pyver_findings.specs.MarkerPairs.{FindsOfNames, everywhere}
 use Rattle.pyver_findings.specs.Views.{AddsFindings, AddsFound, KeepsReadings, demand_of, finding_of}
 use Rattle.pyver_findings.specs.Reports.{IsReport, Report, both_counts, constraint_findings, demands_in, found_in, invalid_in, is_ignored, joined_report, left_out_in, without_ignored}
 use Rattle.pyver_findings.specs.declared.cause.Cause.{Cause}
@@ -67,10 +67,10 @@ pub reports_once : ReportsOnce
 reports_once files r s (xs, h, fs, cs, finds, a) (ys, k, gs, ds, also, b) decided again =
     let same = of_lines (all_lines files) xs ys h k in
     let asked : flat_map demands_in ys ≡ flat_map demands_in xs = ap (flat_map demands_in) (sym same) in
-    let none = no_causes (flat_map left_out_in xs) cs (names_tell (flat_map demands_in xs) fs cs finds) (λ known. decided (subst (λ (q : Report). Contains q.left_out cause.Undecided) (sym a) known)) in
-    let nothing = no_causes (flat_map left_out_in ys) ds (names_tell (flat_map demands_in ys) gs ds also) (λ known. again (subst (λ (q : Report). Contains q.left_out cause.Undecided) (sym b) known)) in
+    let none = no_causes (flat_map left_out_in xs) cs (names_tell everywhere (flat_map demands_in xs) fs cs finds) (λ known. decided (subst (λ (q : Report). Contains q.left_out cause.Undecided) (sym a) known)) in
+    let nothing = no_causes (flat_map left_out_in ys) ds (names_tell everywhere (flat_map demands_in ys) gs ds also) (λ known. again (subst (λ (q : Report). Contains q.left_out cause.Undecided) (sym b) known)) in
     let found : map without_environment fs ≡ map without_environment gs =
-    names_once (flat_map demands_in xs) fs gs (subst (FindsOfNames (flat_map demands_in xs) fs) none finds) (subst (FindsOfNames (flat_map demands_in xs) gs) nothing (subst (λ demands. FindsOfNames demands gs ds) asked also)) in
+    names_once everywhere (flat_map demands_in xs) fs gs (subst (FindsOfNames everywhere (flat_map demands_in xs) fs) none finds) (subst (FindsOfNames everywhere (flat_map demands_in xs) gs) nothing (subst (λ demands. FindsOfNames everywhere demands gs ds) asked also)) in
     let left : cs ≡ ds = none ∙ sym nothing in
     let all : map without_environment (found_in files xs ++ fs) ≡ map without_environment (found_in files ys ++ gs) =
     map-append without_environment (found_in files xs) fs ∙ (λ j. map without_environment (found_in files (same j)) ++ found j) ∙ sym (map-append without_environment (found_in files ys) gs) in
@@ -231,7 +231,7 @@ conflicts_have_findings files r lines a marker (xs, h, fs, cs, finds, is) (ys, k
 
 -- what was read and found of the files, step by step
 pub is_report : (files : List File) (kept : Readings) (one two all : List FindingValue) (left : List Cause) (r : Report) → KeepsReadings (all_lines files) kept → AddsFindings kept.invalid.items one (constraint_findings (constraints_files files))
-    → AddsFindings one two (conflicts (map demand_of kept.demands.items)) → AddsFound (FindsOfNames (map demand_of kept.demands.items)) two all kept.left_out.items left
+    → AddsFindings one two (conflicts (map demand_of kept.demands.items)) → AddsFound (FindsOfNames everywhere (map demand_of kept.demands.items)) two all kept.left_out.items left
     → r ≡ record { findings = map finding_of all; ignored = []; lines = length (all_lines files); files = length files; left_out = left } → IsReport files r
 is_report files kept one two all left r (xs, h, invalid, demands, left_out) constraints together (fs, cs, finds, adds, also) is =
     let first = flat_map invalid_in xs in
@@ -240,4 +240,4 @@ is_report files kept one two all left r (xs, h, invalid, demands, left_out) cons
     let found : map finding_of all ≡ found_in files xs ++ fs =
     adds ∙ ap (λ l. l ++ fs) (together ∙ (λ j. (constraints ∙ ap (λ l. l ++ second) invalid) j ++ conflicts (demands j)) ∙ append_assoc first second third) in
     let rest : left ≡ flat_map left_out_in xs ++ cs = also ∙ ap (λ l. l ++ cs) left_out in
-    (xs, h, fs, cs, subst (λ d. FindsOfNames d fs cs) demands finds, is ∙ (λ j. record { findings = found j; ignored = []; lines = length (all_lines files); files = length files; left_out = rest j }))
+    (xs, h, fs, cs, subst (λ d. FindsOfNames everywhere d fs cs) demands finds, is ∙ (λ j. record { findings = found j; ignored = []; lines = length (all_lines files); files = length files; left_out = rest j }))

@@ -19,7 +19,7 @@ use Rattle.pyver_findings.specs.FileLines.{Conflicting, File, FileLine, Finding,
 use Rattle.pyver_findings.specs.NamedFiles.{constraints_files}
 use Rattle.pyver_findings.specs.FindingLaws.{AreNeeded, AreRightBy, AsksFor, CountTogether, CountsIn, CountsUnder, FindingsHold, FitsConflict, HasMarker, HoldUnder, IsRight, IsRightConflict, IsRightConstraint, IsRightPair, LineAllows, NamesVersion}
 use Rattle.pyver_findings.specs.LineMeanings.{IsNone, LeftOut, LineMeaning, AsksNothing, IsKindMeaning, IsMeaning, constraint_faults, has_extras, has_right_url, kind_faults, requirement_meaning, has_scheme, names_file, under_marker, with_marker, with_url}
-use Rattle.pyver_findings.specs.MarkerPairs.{AskUnder, AsksIn, FindsDecided, FindsOfEach, FindsOfFirsts, FindsOfName, FindsOfNames, FindsOfSet, FindsOfSets, IsDecision, conflicting_sets, counts_with, few_first_lines, lines_to_pair, under_any}
+use Rattle.pyver_findings.specs.MarkerPairs.{AskUnder, AsksIn, FindsDecided, FindsOfEach, FindsOfFirsts, FindsOfName, FindsOfNames, FindsOfSet, FindsOfSets, IsDecision, conflicting_sets, counts_with, everywhere, few_first_lines, lines_to_pair, under_any}
 use Rattle.pyver_findings.proofs.Found.{marker_yes}
 use Rattle.pyver_findings.proofs.SmallestLists.{Allows, IsSpared, all_smallest, none_allowed, smallest_none, smallest_right}
 use Rattle.pyver_findings.proofs.Rejecting.{invalid_right}
@@ -30,6 +30,7 @@ use Rattle.pyver_findings.specs.declared.finding.Conflict.{Conflict}
 use Rattle.pyver_findings.specs.declared.finding.Conflict.TheVariants.{NoVersion, PinOutside, TwoPins}
 use Rattle.pyver_findings.specs.declared.marker_pairs.Decision.{Decision}
 use Rattle.pyver_findings.specs.declared.marker_pairs.Decision.TheVariants.{Apart, Together, Unknown}
+use Rattle.pyver_markers.specs.Conditions.{Domain}
 use Rattle.pyver_markers.specs.Environments.{Environment}
 use Rattle.pyver_requirements.specs.LineKinds.{ConstraintsFile, Editable, Invalid, LineKind, Location, PipOption, Requirement, RequirementsFile, Variable, has_variable, line_kind}
 use Rattle.pyver_requirements.specs.LineParts.{LineParts, pip_parts}
@@ -298,11 +299,11 @@ module _ (parts : List ℕ → LineParts) where
           let asking = both IsNamed (AsksIn e) these named (All-weaker (λ c. counts_with set c ≡ true) (AsksIn e) (asks_beside e set ask) these (filter_passes (counts_with set) lines)) in
           mapped (CountsIn parts e) (IsAsking e) (in_environment e) (smallest these) (all_smallest (IsAsking e) these asking)
 
-      set_right : (set lines : List Demand) (environment : List ℕ) → All IsNamed lines → AskUnder set environment → All (IsRightPair parts read) (of_all (Some environment) (under_any set lines))
-      set_right set lines environment k (variables, asked, system, written) =
+      set_right : (d : Domain) (set lines : List Demand) (environment : List ℕ) → All IsNamed lines → AskUnder d set environment → All (IsRightPair parts d read) (of_all (Some environment) (under_any set lines))
+      set_right d set lines environment k (variables, asked, written) =
           let these = under_any set lines in
           let named = All-filter (counts_with set) IsNamed lines k in
-          right_by (HoldUnder parts environment) (IsRightPair parts read) (Some environment) (λ conflict together right. right) these named (
+          right_by (HoldUnder parts d environment) (IsRightPair parts d read) (Some environment) (λ conflict together right. right) these named (
             variables,
             record {
               name = name;
@@ -310,37 +311,37 @@ module _ (parts : List ℕ → LineParts) where
               environment = asked.environment;
               known = asked.known;
               has = asked.has;
+              writable = asked.writable;
               count = λ e extends. under_count e set lines k (asked.ask e extends);
             },
-            system,
             written,
           )
 
-      none_right : (fs : List Finding) → fs ≡ [] → All (IsRightPair parts read) fs
-      none_right fs none = subst (All (IsRightPair parts read)) (sym none) (All-nil (IsRightPair parts read))
+      none_right : (d : Domain) (fs : List Finding) → fs ≡ [] → All (IsRightPair parts d read) fs
+      none_right d fs none = subst (All (IsRightPair parts d read)) (sym none) (All-nil (IsRightPair parts d read))
 
-      decided_right : (d : Decision) (set lines : List Demand) → All IsNamed lines → IsDecision set d → (fs : List Finding) (cs : List Cause) → FindsDecided d (under_any set lines) fs cs → All (IsRightPair parts read) fs
-      decided_right (Together environment) set lines k decided fs cs (is, also) = subst (All (IsRightPair parts read)) (sym is) (set_right set lines environment.items k decided)
-      decided_right Apart set lines k decided fs cs (is, also) = none_right fs is
-      decided_right Unknown set lines k decided fs cs (is, also) = none_right fs is
+      decided_right : (d : Domain) (x : Decision) (set lines : List Demand) → All IsNamed lines → IsDecision d set x → (fs : List Finding) (cs : List Cause) → FindsDecided x (under_any set lines) fs cs → All (IsRightPair parts d read) fs
+      decided_right d (Together environment) set lines k decided fs cs (is, also) = subst (All (IsRightPair parts d read)) (sym is) (set_right d set lines environment.items k decided)
+      decided_right d Apart set lines k decided fs cs (is, also) = none_right d fs is
+      decided_right d Unknown set lines k decided fs cs (is, also) = none_right d fs is
 
-      each_set_right : (lines : List Demand) (sets : List (List Demand)) → All IsNamed lines → (fs : List Finding) (cs : List Cause) → FindsOfEach (FindsOfSet lines) sets fs cs → All (IsRightPair parts read) fs
-      each_set_right lines sets k = found_each (IsRightPair parts read) (FindsOfSet lines) (λ set fs cs finds. decided_right finds.0 set lines k finds.1 fs cs finds.2) sets
+      each_set_right : (d : Domain) (lines : List Demand) (sets : List (List Demand)) → All IsNamed lines → (fs : List Finding) (cs : List Cause) → FindsOfEach (FindsOfSet d lines) sets fs cs → All (IsRightPair parts d read) fs
+      each_set_right d lines sets k = found_each (IsRightPair parts d read) (FindsOfSet d lines) (λ set fs cs finds. decided_right d finds.0 set lines k finds.1 fs cs finds.2) sets
 
-      sets_right : (lines : List Demand) (sets : List (List Demand)) (whole : Bool) → All IsNamed lines → (fs : List Finding) (cs : List Cause) → FindsOfSets lines sets whole fs cs → All (IsRightPair parts read) fs
-      sets_right lines sets true k fs cs finds = each_set_right lines sets k fs cs finds
-      sets_right lines sets false k fs cs (told, finds, also) = each_set_right lines sets k fs told finds
+      sets_right : (d : Domain) (lines : List Demand) (sets : List (List Demand)) (whole : Bool) → All IsNamed lines → (fs : List Finding) (cs : List Cause) → FindsOfSets d lines sets whole fs cs → All (IsRightPair parts d read) fs
+      sets_right d lines sets true k fs cs finds = each_set_right d lines sets k fs cs finds
+      sets_right d lines sets false k fs cs (told, finds, also) = each_set_right d lines sets k fs told finds
 
-      firsts_right : (lines : List Demand) → All IsNamed lines → (firsts : Option (List Demand)) (fs : List Finding) (cs : List Cause) → FindsOfFirsts lines firsts fs cs → All (IsRightPair parts read) fs
-      firsts_right lines k None fs cs (is, also) = none_right fs is
-      firsts_right lines k (Some firsts) fs cs finds =
+      firsts_right : (d : Domain) (lines : List Demand) → All IsNamed lines → (firsts : Option (List Demand)) (fs : List Finding) (cs : List Cause) → FindsOfFirsts d lines firsts fs cs → All (IsRightPair parts d read) fs
+      firsts_right d lines k None fs cs (is, also) = none_right d fs is
+      firsts_right d lines k (Some firsts) fs cs finds =
           let found = conflicting_sets lines (lines_to_pair lines firsts) in
-          sets_right lines found.sets found.whole k fs cs finds
+          sets_right d lines found.sets found.whole k fs cs finds
 
-    pub pairs_of_names_right : (lines : List Demand) → All (IsAsked parts read) lines → (fs : List Finding) (cs : List Cause) → FindsOfNames lines fs cs → All (IsRightPair parts read) fs
-    pairs_of_names_right lines k =
-        found_each (IsRightPair parts read) (λ (a : Demand). FindsOfName (filter (has_same_name a) lines))
-        (λ a fs cs finds. let these = filter (has_same_name a) lines in firsts_right a.name these (both (IsAsked parts read) (λ b. has_same_name a b ≡ true) these (All-filter (has_same_name a) (IsAsked parts read) lines k) (filter_passes (has_same_name a) lines)) (few_first_lines these) fs cs finds)
+    pub pairs_of_names_right : (d : Domain) (lines : List Demand) → All (IsAsked parts read) lines → (fs : List Finding) (cs : List Cause) → FindsOfNames d lines fs cs → All (IsRightPair parts d read) fs
+    pairs_of_names_right d lines k =
+        found_each (IsRightPair parts d read) (λ (a : Demand). FindsOfName d (filter (has_same_name a) lines))
+        (λ a fs cs finds. let these = filter (has_same_name a) lines in firsts_right a.name d these (both (IsAsked parts read) (λ b. has_same_name a b ≡ true) these (All-filter (has_same_name a) (IsAsked parts read) lines k) (filter_passes (has_same_name a) lines)) (few_first_lines these) fs cs finds)
         (first_mentions has_same_name [] lines)
 
     pub conflicts_right : (lines : List Demand) → All (IsAsked parts read) lines → All (IsRightConflict parts read) (conflicts lines)
@@ -355,7 +356,7 @@ rightly : (lines : List FileLine) (f : Finding) → IsRightConflict pip_parts li
 rightly lines (NoRequirement l reason column) right = absurd right
 rightly lines (Conflicting conflict together environment) right = inl right
 
-paired : (lines : List FileLine) (f : Finding) → IsRightPair pip_parts lines f → IsRight lines f
+paired : (lines : List FileLine) (f : Finding) → IsRightPair pip_parts everywhere lines f → IsRight lines f
 paired lines (NoRequirement l reason column) right = absurd right
 paired lines (Conflicting conflict together environment) right = inr right
 
@@ -392,4 +393,4 @@ findings_hold files r (xs, h, fs, cs, finds, is) =
     (All-append P (flat_map constraint_faults some) (conflicts (flat_map demands_in xs))
     (All-weaker (IsRightConstraint files) P (λ f right. inr right) (flat_map constraint_faults some) (constraints_right files some (All-contains_itself some)))
     (All-weaker (IsRightConflict pip_parts lines) P (λ f right. inl (rightly lines f right)) (conflicts (flat_map demands_in xs)) (conflicts_right pip_parts lines (flat_map demands_in xs) asked))))
-    (All-weaker (IsRightPair pip_parts lines) P (λ f right. inl (paired lines f right)) fs (pairs_of_names_right pip_parts lines (flat_map demands_in xs) asked fs cs finds)))
+    (All-weaker (IsRightPair pip_parts everywhere lines) P (λ f right. inl (paired lines f right)) fs (pairs_of_names_right pip_parts lines everywhere (flat_map demands_in xs) asked fs cs finds)))

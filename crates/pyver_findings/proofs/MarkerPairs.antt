@@ -5,13 +5,12 @@ use Rattle.std.proofs.lemmas.List.Elements.{All-cons, All-head, All-nil, All-tai
 use Rattle.std.proofs.lemmas.List.{append-nil, drop_all, length-append, length-map, map-append, take_all, take_more}
 use Rattle.std.specs.Global.{Vec}
 use Rattle.std.specs.List.{All, Contains, filter, list_any}
-use Rattle.std.specs.Prelude.{IfSome}
 use Rattle.pyver_findings.proofs.Steps.{rest_at}
 use Rattle.pyver_findings.specs.Conflicts.{conflict_kind, first_mentions, has_same_marker, has_same_name, have_none, holds_nowhere, is_read_contradictory, of_all, smallest}
 use Rattle.pyver_findings.specs.Demands.{Demand}
 use Rattle.pyver_findings.specs.FileLines.{Conflicting, FileLine, Finding}
 use Rattle.pyver_findings.specs.FindingLaws.{HeldMarkersCount, without_environment}
-use Rattle.pyver_findings.specs.MarkerPairs.{AreJoined, AsksIn, ConflictingSets, FindsDecided, FindsNothing, FindsOfEach, FindsOfFirsts, FindsOfName, FindsOfNames, FindsOfSet, FindsOfSets, HasDenoted, HoldsUnder, IsDenotedBySteps, IsDecision, KnowsSteps, conflicting_sets, few_first_lines, first_lines, lines_to_pair, under_any, with_first}
+use Rattle.pyver_findings.specs.MarkerPairs.{AreJoined, AsksIn, ConflictingSets, FindsDecided, FindsNothing, FindsOfEach, FindsOfFirsts, FindsOfName, FindsOfNames, FindsOfSet, FindsOfSets, HasDenoted, IsDenotedBySteps, IsDecision, KnowsSteps, conflicting_sets, few_first_lines, first_lines, lines_to_pair, under_any, with_first}
 use Rattle.pyver_findings.specs.Views.{AddsFindings, AddsFound, finding_of}
 use Rattle.pyver_findings.specs.declared.cause.Cause.{Cause}
 use Rattle.pyver_findings.specs.declared.cause.Cause.TheVariants as cause
@@ -20,9 +19,8 @@ use Rattle.pyver_findings.specs.declared.finding.Finding.{Finding as FindingValu
 use Rattle.pyver_findings.specs.declared.marker_pairs.Decision.{Decision}
 use Rattle.pyver_findings.specs.declared.marker_pairs.Decision.TheVariants.{Apart, Together, Unknown}
 use Rattle.pyver_markers.proofs.Versions.{contradictory_never}
-use Rattle.pyver_markers.specs.Conditions.{is_contradictory}
-use Rattle.pyver_markers.specs.Environments.{Assignment, Environment}
-use Rattle.pyver_markers.specs.Extents.{IsExample}
+use Rattle.pyver_markers.specs.Conditions.{Domain, is_contradictory}
+use Rattle.pyver_markers.specs.Environments.{Environment}
 use Rattle.pyver_markers.specs.MarkerValues.{both_hold, value}
 use Rattle.pyver_requirements.specs.MarkerGrammar.{Both, DenotesMarker, Marker}
 use Rattle.pyver_requirements.proofs.MarkerStepReadings.{steps_are_read}
@@ -37,9 +35,9 @@ pub none_read : (f : Misfit) (found : Result (List Step) Misfit) → found ≡ E
 none_read f found is = ap is_read_contradictory (sym is)
 
 pub held_markers_count : HeldMarkersCount
-held_markers_count e text known (m, denoted, holds) =
+held_markers_count d e text known (m, denoted, holds) =
     false_from_ne_true (holds_nowhere (Some text)) (λ nowhere.
-    contradictory_never m (ap is_read_contradictory (sym (steps_are_read text m denoted)) ∙ nowhere) e known holds)
+    contradictory_never d m (ap is_read_contradictory (sym (steps_are_read text m denoted)) ∙ nowhere) e known holds)
 
 -- ---- joined markers
 
@@ -71,22 +69,6 @@ both_true (Some a) None e = cc e
 both_true None (Some b) e = cc e
 both_true None None e = cc e
 
--- where both markers hold, the second one does
-of_second : (m n : Marker) (variables : List Assignment) → IsExample (Both m n) variables → IsExample n variables
-of_second m n variables x = record {
-  environment = x.environment;
-  known = x.known;
-  has = x.has;
-  holds = λ e extends. (both_true (value e m) (value e n) (x.holds e extends)).1;
-  writable = x.writable;
-}
-
-pub found_on_system : (Is : Marker → Type 0) (system all joined : List Step) (found : Option (Vec ℕ)) → IsDenotedBySteps Is system → ((m n : Marker) → system ≡ steps m → all ≡ steps n → joined ≡ steps (Both m n))
-    → IfSome found (λ e. HoldsUnder joined e.items) → IfSome found (λ e. HoldsUnder all e.items)
-found_on_system Is system all joined None has join holds = tt
-found_on_system Is system all joined (Some environment) ((m, is), only) join (variables, example, one, written) =
-    (variables, (λ n e. of_second m n variables (example (Both m n) (join m n (only m is) e))), one, written)
-
 -- where the joined marker holds, all lines ask
 all_ask : (e : Environment) (set : List Demand) (m : Marker) → AreJoined set m → value e m ≡ Some true → All (AsksIn e) set
 all_ask e [] m are holds = absurd are
@@ -108,12 +90,12 @@ all_held e (a ∷ (b ∷ rest)) m (x, y, has, are, is) ask =
     let (l, others, hold) = all_held e (b ∷ rest) y are (All-tail (AsksIn e) a (b ∷ rest) ask) in
     (Both n l, (n, l, first, others, refl), (λ i. both_hold (holds i) (hold i)))
 
-pub known : (set : List Demand) (all : List Step) (d : Decision) → IsDenotedBySteps (AreJoined set) all → KnowsSteps all d → IsDecision set d
-known set all (Together environment) ((m, is), only) (variables, example, system, written) =
+pub known : (d : Domain) (set : List Demand) (all : List Step) (x : Decision) → IsDenotedBySteps (AreJoined set) all → KnowsSteps d all x → IsDecision d set x
+known d set all (Together environment) ((m, is), only) (variables, example, written) =
     let x = example m (only m is) in
-    (variables, record { environment = x.environment; known = x.known; has = x.has; ask = λ e extends. all_ask e set m is (x.holds e extends) }, system, written)
-known set all Apart ((m, is), only) never = λ e one ask. let held = all_held e set m is ask in never held.0 (only held.0 held.1) e one held.2
-known set all Unknown has knows = tt
+    (variables, record { environment = x.environment; known = x.known; has = x.has; ask = λ e extends. all_ask e set m is (x.holds e extends); writable = x.writable }, written)
+known d set all Apart ((m, is), only) never = λ e one ask. let held = all_held e set m is ask in never held.0 (only held.0 held.1) e one held.2
+known d set all Unknown has knows = tt
 
 -- ---- what is found, one after another
 
@@ -158,35 +140,35 @@ module _ (lines : List Demand) (old new : List FindingValue) (before after : Lis
       subst (λ e. AddsFound (FindsDecided e lines) old new before after) (sym is)
       ([], cause.Undecided ∷ [], (refl, ap (λ n. if n then cause.Undecided ∷ [] else []) (sym none)), ap (map finding_of) same ∙ sym (append-nil (map finding_of old)), also)
 
-module _ (lines set : List Demand) (old new : List FindingValue) (before after : List Cause) where
+module _ (d : Domain) (lines set : List Demand) (old new : List FindingValue) (before after : List Cause) where
   -- they have a version in common
-  pub set_shared : have_none (under_any set lines) ≡ false → new ≡ old → after ≡ before → AddsFound (FindsOfSet lines set) old new before after
+  pub set_shared : have_none (under_any set lines) ≡ false → new ≡ old → after ≡ before → AddsFound (FindsOfSet d lines set) old new before after
   set_shared some same also =
-      nothing_found (FindsOfSet lines set) old new before after (Unknown, tt, (refl, ap (λ n. if n then cause.Undecided ∷ [] else []) (sym some))) same also
+      nothing_found (FindsOfSet d lines set) old new before after (Unknown, tt, (refl, ap (λ n. if n then cause.Undecided ∷ [] else []) (sym some))) same also
 
-  pub set_decided : (d : Decision) → IsDecision set d → AddsFound (FindsDecided d (under_any set lines)) old new before after → AddsFound (FindsOfSet lines set) old new before after
-  set_decided d k (fs, cs, finds, adds, also) = (fs, cs, (d, k, finds), adds, also)
+  pub set_decided : (x : Decision) → IsDecision d set x → AddsFound (FindsDecided x (under_any set lines)) old new before after → AddsFound (FindsOfSet d lines set) old new before after
+  set_decided x k (fs, cs, finds, adds, also) = (fs, cs, (x, k, finds), adds, also)
 
-module _ (lines : List Demand) (sets : List (List Demand)) (old new : List FindingValue) (before after : List Cause) where
-  pub sets_whole : (whole : Bool) → whole ≡ true → AddsFound (FindsOfEach (FindsOfSet lines) sets) old new before after → AddsFound (FindsOfSets lines sets whole) old new before after
-  sets_whole whole is adds = subst (λ b. AddsFound (FindsOfSets lines sets b) old new before after) (sym is) adds
+module _ (d : Domain) (lines : List Demand) (sets : List (List Demand)) (old new : List FindingValue) (before after : List Cause) where
+  pub sets_whole : (whole : Bool) → whole ≡ true → AddsFound (FindsOfEach (FindsOfSet d lines) sets) old new before after → AddsFound (FindsOfSets d lines sets whole) old new before after
+  sets_whole whole is adds = subst (λ b. AddsFound (FindsOfSets d lines sets b) old new before after) (sym is) adds
 
   -- there may be others
-  pub sets_cut : (whole : Bool) (last : List Cause) → whole ≡ false → last ≡ after ++ cause.Undecided ∷ [] → AddsFound (FindsOfEach (FindsOfSet lines) sets) old new before after → AddsFound (FindsOfSets lines sets whole) old new before last
+  pub sets_cut : (whole : Bool) (last : List Cause) → whole ≡ false → last ≡ after ++ cause.Undecided ∷ [] → AddsFound (FindsOfEach (FindsOfSet d lines) sets) old new before after → AddsFound (FindsOfSets d lines sets whole) old new before last
   sets_cut whole last is more (fs, cs, finds, adds, also) =
-      subst (λ b. AddsFound (FindsOfSets lines sets b) old new before last) (sym is)
+      subst (λ b. AddsFound (FindsOfSets d lines sets b) old new before last) (sym is)
       (fs, cs ++ cause.Undecided ∷ [], (cs, finds, refl), adds, more ∙ ap (λ l. l ++ cause.Undecided ∷ []) also ∙ append_assoc before cs (cause.Undecided ∷ []))
 
 -- of lines of one name, by their markers
-module _ (lines : List Demand) (old new : List FindingValue) (before after : List Cause) where
-  pub name_undecided : None ≡ few_first_lines lines → new ≡ old → after ≡ before ++ cause.Undecided ∷ [] → AddsFound (FindsOfName lines) old new before after
+module _ (d : Domain) (lines : List Demand) (old new : List FindingValue) (before after : List Cause) where
+  pub name_undecided : None ≡ few_first_lines lines → new ≡ old → after ≡ before ++ cause.Undecided ∷ [] → AddsFound (FindsOfName d lines) old new before after
   name_undecided many same also =
-      ([], cause.Undecided ∷ [], subst (λ (f : Option (List Demand)). FindsOfFirsts lines f [] (cause.Undecided ∷ [])) many (refl, refl), ap (map finding_of) same ∙ sym (append-nil (map finding_of old)), also)
+      ([], cause.Undecided ∷ [], subst (λ (f : Option (List Demand)). FindsOfFirsts d lines f [] (cause.Undecided ∷ [])) many (refl, refl), ap (map finding_of) same ∙ sym (append-nil (map finding_of old)), also)
 
-  pub name_searched : (firsts : List Demand) (found : ConflictingSets) → Some firsts ≡ few_first_lines lines → found ≡ conflicting_sets lines (lines_to_pair lines firsts) → AddsFound (FindsOfSets lines found.sets found.whole) old new before after
-      → AddsFound (FindsOfName lines) old new before after
+  pub name_searched : (firsts : List Demand) (found : ConflictingSets) → Some firsts ≡ few_first_lines lines → found ≡ conflicting_sets lines (lines_to_pair lines firsts) → AddsFound (FindsOfSets d lines found.sets found.whole) old new before after
+      → AddsFound (FindsOfName d lines) old new before after
   name_searched firsts found few is (fs, cs, finds, adds, also) =
-      (fs, cs, subst (λ (f : Option (List Demand)). FindsOfFirsts lines f fs cs) few (subst (λ (f : ConflictingSets). FindsOfSets lines f.sets f.whole fs cs) is finds), adds, also)
+      (fs, cs, subst (λ (f : Option (List Demand)). FindsOfFirsts d lines f fs cs) few (subst (λ (f : ConflictingSets). FindsOfSets d lines f.sets f.whole fs cs) is finds), adds, also)
 
 -- ---- lists
 
@@ -225,25 +207,25 @@ module _ (P : Demand → List Finding → List Cause → Type 0) where
   joined false x rest Group empty one f g c d p r = (f, g, c, d, one refl f c p, r, refl, refl)
 
 -- what is found of a group that is taken
-pub of_taken : (b : Bool) (lines group : List Demand) → group ≡ (if b then [] else lines) → (f : List Finding) (c : List Cause) → FindsOfName group f c → b ≡ true → FindsNothing f c
-of_taken true lines group is f c finds e = subst (λ g. FindsOfName g f c) is finds
-of_taken false lines group is f c finds e = absurd (true≢false (sym e))
+pub of_taken : (d : Domain) (b : Bool) (lines group : List Demand) → group ≡ (if b then [] else lines) → (f : List Finding) (c : List Cause) → FindsOfName d group f c → b ≡ true → FindsNothing f c
+of_taken d true lines group is f c finds e = subst (λ g. FindsOfName d g f c) is finds
+of_taken d false lines group is f c finds e = absurd (true≢false (sym e))
 
-pub of_first : (b : Bool) (lines group : List Demand) → group ≡ (if b then [] else lines) → (f : List Finding) (c : List Cause) → FindsOfName group f c → b ≡ false → FindsOfName lines f c
-of_first true lines group is f c finds e = absurd (true≢false e)
-of_first false lines group is f c finds e = subst (λ g. FindsOfName g f c) is finds
+pub of_first : (d : Domain) (b : Bool) (lines group : List Demand) → group ≡ (if b then [] else lines) → (f : List Finding) (c : List Cause) → FindsOfName d group f c → b ≡ false → FindsOfName d lines f c
+of_first d true lines group is f c finds e = absurd (true≢false e)
+of_first d false lines group is f c finds e = subst (λ g. FindsOfName d g f c) is finds
 
-abbrev pub of_name_of : List Demand → Demand → List Finding → List Cause → Type 0
-of_name_of lines a = FindsOfName (filter (has_same_name a) lines)
+abbrev pub of_name_of : Domain → List Demand → Demand → List Finding → List Cause → Type 0
+of_name_of d lines a = FindsOfName d (filter (has_same_name a) lines)
 
 -- one line more, which is a first mention of its name or none
-pub names_more : {Y : Type 0} (view : Y → Demand) (lines group : List Demand) (xs : List Y) (i : ℕ) (x : Y) (old new more : List FindingValue) (before after last : List Cause) → i < length xs → x ≡ get_or xs i x
+pub names_more : {Y : Type 0} (d : Domain) (view : Y → Demand) (lines group : List Demand) (xs : List Y) (i : ℕ) (x : Y) (old new more : List FindingValue) (before after last : List Cause) → i < length xs → x ≡ get_or xs i x
     → group ≡ (if list_any (has_same_name (view x)) (map view (take i xs)) then [] else filter (has_same_name (view x)) lines)
-    → AddsFound (FindsOfName group) new more after last
-    → AddsFound (Continues (FindsOfEach (of_name_of lines) (first_mentions has_same_name (map view (take i xs)) (map view (drop i xs)))) (FindsOfEach (of_name_of lines) (first_mentions has_same_name [] (map view xs)))) old new before after
-    → AddsFound (Continues (FindsOfEach (of_name_of lines) (first_mentions has_same_name (map view (take (i + 1) xs)) (map view (drop (i + 1) xs)))) (FindsOfEach (of_name_of lines) (first_mentions has_same_name [] (map view xs)))) old more before last
-names_more view lines group xs i x old new more before after last inside is taken adds so_far =
-    let P = of_name_of lines in
+    → AddsFound (FindsOfName d group) new more after last
+    → AddsFound (Continues (FindsOfEach (of_name_of d lines) (first_mentions has_same_name (map view (take i xs)) (map view (drop i xs)))) (FindsOfEach (of_name_of d lines) (first_mentions has_same_name [] (map view xs)))) old new before after
+    → AddsFound (Continues (FindsOfEach (of_name_of d lines) (first_mentions has_same_name (map view (take (i + 1) xs)) (map view (drop (i + 1) xs)))) (FindsOfEach (of_name_of d lines) (first_mentions has_same_name [] (map view xs)))) old more before last
+names_more d view lines group xs i x old new more before after last inside is taken adds so_far =
+    let P = of_name_of d lines in
     let Whole = FindsOfEach P (first_mentions has_same_name [] (map view xs)) in
     let front = map view (take i xs) in
     let behind = map view (drop (i + 1) xs) in
@@ -251,17 +233,17 @@ names_more view lines group xs i x old new more before after last inside is take
     let longer : map view (take (i + 1) xs) ≡ front ++ view x ∷ [] = ap (map view) (take_more xs i x inside ∙ ap (λ y. take i xs ++ y ∷ []) (sym is)) ∙ map-append view (take i xs) (x ∷ []) in
     let later = first_mentions has_same_name (front ++ view x ∷ []) behind in
     subst (λ l. AddsFound (Continues (FindsOfEach P (first_mentions has_same_name l behind)) Whole) old more before last) (sym longer)
-    (found_more (FindsOfEach P ((if any then [] else view x ∷ []) ++ later)) (FindsOfEach P later) Whole (FindsOfName group) old new more before after last
-    (joined P any (view x) later (FindsOfName group) (λ e f c finds. of_taken any (filter (has_same_name (view x)) lines) group taken f c finds e) (λ e f c finds. of_first any (filter (has_same_name (view x)) lines) group taken f c finds e))
+    (found_more (FindsOfEach P ((if any then [] else view x ∷ []) ++ later)) (FindsOfEach P later) Whole (FindsOfName d group) old new more before after last
+    (joined P any (view x) later (FindsOfName d group) (λ e f c finds. of_taken d any (filter (has_same_name (view x)) lines) group taken f c finds e) (λ e f c finds. of_first d any (filter (has_same_name (view x)) lines) group taken f c finds e))
     adds
     (subst (λ l. AddsFound (Continues (FindsOfEach P (first_mentions has_same_name front (map view l))) Whole) old new before after) (rest_at xs i x inside is) so_far))
 
-pub names_done : {Y : Type 0} (view : Y → Demand) (lines : List Demand) (xs : List Y) (i : ℕ) (front : List Demand) (Whole : List Finding → List Cause → Type 0) (old new : List FindingValue) (before after : List Cause) → length xs ≤ i
-    → AddsFound (Continues (FindsOfEach (of_name_of lines) (first_mentions has_same_name front (map view (drop i xs)))) Whole) old new before after → AddsFound Whole old new before after
-names_done view lines xs i front Whole old new before after behind so_far =
+pub names_done : {Y : Type 0} (d : Domain) (view : Y → Demand) (lines : List Demand) (xs : List Y) (i : ℕ) (front : List Demand) (Whole : List Finding → List Cause → Type 0) (old new : List FindingValue) (before after : List Cause) → length xs ≤ i
+    → AddsFound (Continues (FindsOfEach (of_name_of d lines) (first_mentions has_same_name front (map view (drop i xs)))) Whole) old new before after → AddsFound Whole old new before after
+names_done d view lines xs i front Whole old new before after behind so_far =
     let none : drop i xs ≡ [] = drop_all i xs behind in
-    finish (FindsOfEach (of_name_of lines) []) Whole old new before after (refl, refl)
-    (subst (λ l. AddsFound (Continues (FindsOfEach (of_name_of lines) (first_mentions has_same_name front (map view l))) Whole) old new before after) none so_far)
+    finish (FindsOfEach (of_name_of d lines) []) Whole old new before after (refl, refl)
+    (subst (λ l. AddsFound (Continues (FindsOfEach (of_name_of d lines) (first_mentions has_same_name front (map view l))) Whole) old new before after) none so_far)
 
 -- ---- first lines
 
@@ -352,18 +334,18 @@ decided_told (Together environment) lines fs cs (is, also) = inl also
 decided_told Apart lines fs cs (is, also) = inl also
 decided_told Unknown lines fs cs (is, also) = undecided_told (have_none lines) cs also
 
-sets_told : (lines : List Demand) (sets : List (List Demand)) (whole : Bool) (fs : List Finding) (cs : List Cause) → FindsOfSets lines sets whole fs cs → IsTold cs
-sets_told lines sets true fs cs finds = each_told (FindsOfSet lines) (λ set fs cs finds. decided_told finds.0 (under_any set lines) fs cs finds.2) sets fs cs finds
-sets_told lines sets false fs cs (told, finds, is) = inr (subst Tells (sym is) (tells_right told (cause.Undecided ∷ []) (inl refl)))
+sets_told : (d : Domain) (lines : List Demand) (sets : List (List Demand)) (whole : Bool) (fs : List Finding) (cs : List Cause) → FindsOfSets d lines sets whole fs cs → IsTold cs
+sets_told d lines sets true fs cs finds = each_told (FindsOfSet d lines) (λ set fs cs finds. decided_told finds.0 (under_any set lines) fs cs finds.2) sets fs cs finds
+sets_told d lines sets false fs cs (told, finds, is) = inr (subst Tells (sym is) (tells_right told (cause.Undecided ∷ []) (inl refl)))
 
-firsts_told : (lines : List Demand) (firsts : Option (List Demand)) (fs : List Finding) (cs : List Cause) → FindsOfFirsts lines firsts fs cs → IsTold cs
-firsts_told lines None fs cs (is, also) = inr (subst Tells (sym also) (inl refl))
-firsts_told lines (Some firsts) fs cs finds =
+firsts_told : (d : Domain) (lines : List Demand) (firsts : Option (List Demand)) (fs : List Finding) (cs : List Cause) → FindsOfFirsts d lines firsts fs cs → IsTold cs
+firsts_told d lines None fs cs (is, also) = inr (subst Tells (sym also) (inl refl))
+firsts_told d lines (Some firsts) fs cs finds =
     let found = conflicting_sets lines (lines_to_pair lines firsts) in
-    sets_told lines found.sets found.whole fs cs finds
+    sets_told d lines found.sets found.whole fs cs finds
 
-pub names_tell : (lines : List Demand) (fs : List Finding) (cs : List Cause) → FindsOfNames lines fs cs → IsTold cs
-names_tell lines = each_told (of_name_of lines) (λ a fs cs finds. firsts_told (filter (has_same_name a) lines) (few_first_lines (filter (has_same_name a) lines)) fs cs finds) (first_mentions has_same_name [] lines)
+pub names_tell : (d : Domain) (lines : List Demand) (fs : List Finding) (cs : List Cause) → FindsOfNames d lines fs cs → IsTold cs
+names_tell d lines = each_told (of_name_of d lines) (λ a fs cs finds. firsts_told d (filter (has_same_name a) lines) (few_first_lines (filter (has_same_name a) lines)) fs cs finds) (first_mentions has_same_name [] lines)
 
 -- ---- where nothing is undecided, one thing is found
 
@@ -399,35 +381,35 @@ wherever : (one other : Option (List ℕ)) (b : Bool) (kind : Conflict) (some : 
 wherever one other true kind some = refl
 wherever one other false kind some = refl
 
-apart_and_together : (set : List Demand) (environment : Vec ℕ) → IsDecision set (Together environment) → IsDecision set Apart → ⊥
-apart_and_together set environment (variables, asked, system, written) apart = apart asked.environment asked.known (asked.ask asked.environment asked.has)
+apart_and_together : (d : Domain) (set : List Demand) (environment : Vec ℕ) → IsDecision d set (Together environment) → IsDecision d set Apart → ⊥
+apart_and_together d set environment (variables, asked, written) apart = apart asked.environment asked.known (asked.ask asked.environment asked.has)
 
-decided_once : (d e : Decision) (set lines : List Demand) (fs gs : List Finding) → IsDecision set d → IsDecision set e → FindsDecided d lines fs [] → FindsDecided e lines gs [] → map without_environment fs ≡ map without_environment gs
-decided_once (Together one) (Together other) set lines fs gs k l (is, _) (so, _) =
+decided_once : (d : Domain) (x y : Decision) (set lines : List Demand) (fs gs : List Finding) → IsDecision d set x → IsDecision d set y → FindsDecided x lines fs [] → FindsDecided y lines gs [] → map without_environment fs ≡ map without_environment gs
+decided_once d (Together one) (Together other) set lines fs gs k l (is, _) (so, _) =
     same_findings fs (of_all (Some one.items) lines) is
     ∙ wherever (Some one.items) (Some other.items) (have_none lines) (conflict_kind (smallest lines)) (map (λ (a : Demand). a.line) (smallest lines))
     ∙ same_findings (of_all (Some other.items) lines) gs (sym so)
-decided_once (Together one) Apart set lines fs gs k l finds found = absurd (apart_and_together set one k l)
-decided_once (Together one) Unknown set lines fs gs k l (is, _) (so, told) = same_findings fs gs (is ∙ of_none (Some one.items) lines (have_none lines) refl told ∙ sym so)
-decided_once Apart (Together other) set lines fs gs k l finds found = absurd (apart_and_together set other l k)
-decided_once Apart Apart set lines fs gs k l (is, _) (so, _) = same_findings fs gs (is ∙ sym so)
-decided_once Apart Unknown set lines fs gs k l (is, _) (so, _) = same_findings fs gs (is ∙ sym so)
-decided_once Unknown (Together other) set lines fs gs k l (is, told) (so, _) = same_findings fs gs (is ∙ sym (of_none (Some other.items) lines (have_none lines) refl told) ∙ sym so)
-decided_once Unknown Apart set lines fs gs k l (is, _) (so, _) = same_findings fs gs (is ∙ sym so)
-decided_once Unknown Unknown set lines fs gs k l (is, _) (so, _) = same_findings fs gs (is ∙ sym so)
+decided_once d (Together one) Apart set lines fs gs k l finds found = absurd (apart_and_together d set one k l)
+decided_once d (Together one) Unknown set lines fs gs k l (is, _) (so, told) = same_findings fs gs (is ∙ of_none (Some one.items) lines (have_none lines) refl told ∙ sym so)
+decided_once d Apart (Together other) set lines fs gs k l finds found = absurd (apart_and_together d set other l k)
+decided_once d Apart Apart set lines fs gs k l (is, _) (so, _) = same_findings fs gs (is ∙ sym so)
+decided_once d Apart Unknown set lines fs gs k l (is, _) (so, _) = same_findings fs gs (is ∙ sym so)
+decided_once d Unknown (Together other) set lines fs gs k l (is, told) (so, _) = same_findings fs gs (is ∙ sym (of_none (Some other.items) lines (have_none lines) refl told) ∙ sym so)
+decided_once d Unknown Apart set lines fs gs k l (is, _) (so, _) = same_findings fs gs (is ∙ sym so)
+decided_once d Unknown Unknown set lines fs gs k l (is, _) (so, _) = same_findings fs gs (is ∙ sym so)
 
-set_once : (lines set : List Demand) → IsOnce (FindsOfSet lines set)
-set_once lines set fs gs (d, k, finds) (e, l, found) = decided_once d e set (under_any set lines) fs gs k l finds found
+set_once : (d : Domain) (lines set : List Demand) → IsOnce (FindsOfSet d lines set)
+set_once d lines set fs gs (x, k, finds) (y, l, found) = decided_once d x y set (under_any set lines) fs gs k l finds found
 
-sets_once : (lines : List Demand) (sets : List (List Demand)) (whole : Bool) → IsOnce (FindsOfSets lines sets whole)
-sets_once lines sets true fs gs finds found = each_once (FindsOfSet lines) (set_once lines) sets fs gs finds found
-sets_once lines sets false fs gs (told, finds, is) found = let none = (both_nil told (cause.Undecided ∷ []) is).1 in cc none
+sets_once : (d : Domain) (lines : List Demand) (sets : List (List Demand)) (whole : Bool) → IsOnce (FindsOfSets d lines sets whole)
+sets_once d lines sets true fs gs finds found = each_once (FindsOfSet d lines) (set_once d lines) sets fs gs finds found
+sets_once d lines sets false fs gs (told, finds, is) found = let none = (both_nil told (cause.Undecided ∷ []) is).1 in cc none
 
-firsts_once : (lines : List Demand) (firsts : Option (List Demand)) → IsOnce (FindsOfFirsts lines firsts)
-firsts_once lines None fs gs (is, _) (so, _) = same_findings fs gs (is ∙ sym so)
-firsts_once lines (Some firsts) fs gs finds found =
+firsts_once : (d : Domain) (lines : List Demand) (firsts : Option (List Demand)) → IsOnce (FindsOfFirsts d lines firsts)
+firsts_once d lines None fs gs (is, _) (so, _) = same_findings fs gs (is ∙ sym so)
+firsts_once d lines (Some firsts) fs gs finds found =
     let all = conflicting_sets lines (lines_to_pair lines firsts) in
-    sets_once lines all.sets all.whole fs gs finds found
+    sets_once d lines all.sets all.whole fs gs finds found
 
-pub names_once : (lines : List Demand) → IsOnce (FindsOfNames lines)
-names_once lines = each_once (of_name_of lines) (λ a. firsts_once (filter (has_same_name a) lines) (few_first_lines (filter (has_same_name a) lines))) (first_mentions has_same_name [] lines)
+pub names_once : (d : Domain) (lines : List Demand) → IsOnce (FindsOfNames d lines)
+names_once d lines = each_once (of_name_of d lines) (λ a. firsts_once d (filter (has_same_name a) lines) (few_first_lines (filter (has_same_name a) lines))) (first_mentions has_same_name [] lines)

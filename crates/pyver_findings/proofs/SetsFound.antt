@@ -12,13 +12,13 @@ use Rattle.pyver_findings.specs.Conflicts.{conflict_kind, conflicts, counts_unde
 use Rattle.pyver_findings.specs.Demands.{Demand, IsSound}
 use Rattle.pyver_findings.specs.FileLines.{Conflicting, FileLine, Finding, NoRequirement, all_lines}
 use Rattle.pyver_findings.specs.FindingLaws.{IsAmong, IsAmongIn, IsOneIn, IsUndecided, SetsHaveFindings}
-use Rattle.pyver_findings.specs.MarkerPairs.{AsksIn, FindsDecided, FindsOfEach, FindsOfFirsts, FindsOfName, FindsOfNames, FindsOfSet, FindsOfSets, IsDecision, conflicting_sets, counts_with, first_lines, lines_to_pair, open_lines, under_any, Branch, ConflictingSets, branches, branches_of, conflicting_pair, conflicting_pairs, has_all, others_than, search_branches, set_among, smallest_set, with_first, with_set}
+use Rattle.pyver_findings.specs.MarkerPairs.{AsksIn, FindsDecided, FindsOfEach, FindsOfFirsts, FindsOfName, FindsOfNames, FindsOfSet, FindsOfSets, IsDecision, conflicting_sets, counts_with, everywhere, first_lines, lines_to_pair, open_lines, under_any, Branch, ConflictingSets, branches, branches_of, conflicting_pair, conflicting_pairs, has_all, others_than, search_branches, set_among, smallest_set, with_first, with_set}
 use Rattle.pyver_findings.specs.Reports.{Report, demands_in, found_in, left_out_in}
 use Rattle.pyver_findings.specs.declared.cause.Cause.{Cause}
 use Rattle.pyver_findings.specs.declared.cause.Cause.TheVariants as cause
 use Rattle.pyver_findings.specs.declared.marker_pairs.Decision.{Decision}
 use Rattle.pyver_findings.specs.declared.marker_pairs.Decision.TheVariants.{Apart, Together, Unknown}
-use Rattle.pyver_markers.specs.Conditions.{IsEnvironment}
+use Rattle.pyver_markers.specs.Conditions.{Domain, IsEnvironment}
 use Rattle.pyver_markers.specs.Environments.{Environment}
 use Rattle.std.proofs.lemmas.List.Folds.{list_any-append}
 use Rattle.std.specs.Prelude.{⊤, is_some, slice_index_or}
@@ -501,7 +501,7 @@ module _ (P : Finding → Type 0) (Q : Demand → Type 0) (so : (kind : _) (envi
       subst (λ b. Some_is P (if b then Conflicting (conflict_kind (smallest some)) (map (λ (b : Demand). b.line) (smallest some)) environment ∷ [] else [])) (sym none)
       (inl (so (conflict_kind (smallest some)) environment (smallest some) (some_lines (smallest some) (smallest_none some none)) (all_smallest Q some k)))
 
-  module _ (e : Environment) (is_one : IsEnvironment e) (lines : List Demand) (sound : All IsSound lines) (asks : (c : Demand) → Contains lines c → AsksIn e c → Q c)
+  module _ (d : Domain) (e : Environment) (is_one : IsEnvironment d e) (lines : List Demand) (sound : All IsSound lines) (asks : (c : Demand) → Contains lines c → AsksIn e c → Q c)
       (asking : List Demand) (known : All (Contains lines) asking) (none : have_none asking ≡ true) (ask : All (AsksIn e) asking) where
     asks_marked : (x : Demand) (ts : List Demand) → All (AsksIn e) ts → Marks x.marker ts → AsksIn e x
     asks_marked x [] k h = absurd h
@@ -518,17 +518,17 @@ module _ (P : Finding → Type 0) (Q : Demand → Type 0) (so : (kind : _) (envi
         let inside = All-filter (counts_with set) (Contains lines) lines (All-contains_itself lines) in
         All-weaker (λ c. Contains lines c × (counts_with set c ≡ true)) Q (λ c h. asks c h.0 (asks_beside e set k c h.1)) these (both (Contains lines) (λ c. counts_with set c ≡ true) these inside (filter_passes (counts_with set) lines))
 
-    decided_found : (d : Decision) (set : List Demand) → Hits lines sound asking known none set → IsDecision set d → (fs : List Finding) (cs : List Cause) → FindsDecided d (under_any set lines) fs cs → FindsOrTells P fs cs
+    decided_found : (x : Decision) (set : List Demand) → Hits lines sound asking known none set → IsDecision d set x → (fs : List Finding) (cs : List Cause) → FindsDecided x (under_any set lines) fs cs → FindsOrTells P fs cs
     decided_found (Together environment) set (w, apart) k fs cs (is, also) = inl (subst (Some_is P) (sym is) (all_reported (Some environment.items) (under_any set lines) (under_asks set (set_asks set w)) apart))
     decided_found Apart set (w, apart) k fs cs finds = absurd (k e is_one (set_asks set w))
     decided_found Unknown set (w, apart) k fs cs (is, also) = inr (subst Tells (sym (also ∙ ap (λ b. if b then cause.Undecided ∷ [] else []) apart)) (inl refl))
 
-    hit_found : (sets : List (List Demand)) → Some_of (Hits lines sound asking known none) sets → (fs : List Finding) (cs : List Cause) → FindsOfEach (FindsOfSet lines) sets fs cs → FindsOrTells P fs cs
+    hit_found : (sets : List (List Demand)) → Some_of (Hits lines sound asking known none) sets → (fs : List Finding) (cs : List Cause) → FindsOfEach (FindsOfSet d lines) sets fs cs → FindsOrTells P fs cs
     hit_found [] h fs cs finds = absurd h
-    hit_found (set ∷ sets) (inl hit) fs cs (f, g, c, d, (x, k, here), later, eq, also) = before_others P fs f g cs c d eq also (decided_found x set hit k f c here)
-    hit_found (set ∷ sets) (inr h) fs cs (f, g, c, d, here, later, eq, also) = behind_others P fs f g cs c d eq also (hit_found sets h g d later)
+    hit_found (set ∷ sets) (inl hit) fs cs (f, g, c, o, (x, k, here), later, eq, also) = before_others P fs f g cs c o eq also (decided_found x set hit k f c here)
+    hit_found (set ∷ sets) (inr h) fs cs (f, g, c, o, here, later, eq, also) = behind_others P fs f g cs c o eq also (hit_found sets h g o later)
 
-    reached_found : (sets : List (List Demand)) (whole : Bool) → (whole ≡ false) ⊎ Some_of (Hits lines sound asking known none) sets → (fs : List Finding) (cs : List Cause) → FindsOfSets lines sets whole fs cs → FindsOrTells P fs cs
+    reached_found : (sets : List (List Demand)) (whole : Bool) → (whole ≡ false) ⊎ Some_of (Hits lines sound asking known none) sets → (fs : List Finding) (cs : List Cause) → FindsOfSets d lines sets whole fs cs → FindsOrTells P fs cs
     reached_found sets false h fs cs (told, finds, is) = inr (subst Tells (sym is) (tells_right told (cause.Undecided ∷ []) (inl refl)))
     reached_found sets true (inl cut) fs cs finds = absurd (true≢false cut)
     reached_found sets true (inr hit) fs cs finds = hit_found sets hit fs cs finds
@@ -556,13 +556,13 @@ module _ (P : Finding → Type 0) (Q : Demand → Type 0) (so : (kind : _) (envi
       paired : (firsts : List Demand) → Covers asking firsts → lines_to_pair lines firsts ≡ open_lines lines firsts
       paired firsts covers = (λ j. if several firsts covers j || always j then [] else open_lines lines firsts)
 
-      few_found : (b : Bool) (firsts : List Demand) → Covers asking firsts → (fs : List Finding) (cs : List Cause) → FindsOfFirsts lines (if b then None else Some firsts) fs cs → FindsOrTells P fs cs
+      few_found : (b : Bool) (firsts : List Demand) → Covers asking firsts → (fs : List Finding) (cs : List Cause) → FindsOfFirsts d lines (if b then None else Some firsts) fs cs → FindsOrTells P fs cs
       few_found true firsts covers fs cs (is, also) = inr (subst Tells (sym also) (inl refl))
       few_found false firsts covers fs cs finds =
           let pair = open_lines lines firsts in
           let found = conflicting_sets lines pair in
           reached_found found.sets found.whole (sets_found lines sound asking known none pair nothing_shared (open_marked firsts covers)) fs cs
-          (subst (λ (l : List Demand). FindsOfSets lines (conflicting_sets lines l).sets (conflicting_sets lines l).whole fs cs) (paired firsts covers) finds)
+          (subst (λ (l : List Demand). FindsOfSets d lines (conflicting_sets lines l).sets (conflicting_sets lines l).whole fs cs) (paired firsts covers) finds)
 
       asked_marks : (m : Option (List ℕ)) (ts : List Demand) → All (Contains lines) ts → Marks m ts → Marks m lines
       asked_marks m [] k h = absurd h
@@ -570,17 +570,17 @@ module _ (P : Finding → Type 0) (Q : Demand → Type 0) (so : (kind : _) (envi
       asked_marks m (t ∷ ts) k (inr h) = asked_marks m ts (All-tail (Contains lines) t ts k) h
 
       -- some of the lines of one name that ask are found
-      pub name_found : (fs : List Finding) (cs : List Cause) → FindsOfName lines fs cs → FindsOrTells P fs cs
+      pub name_found : (fs : List Finding) (cs : List Cause) → FindsOfName d lines fs cs → FindsOrTells P fs cs
       name_found = few_found (nat_lt 32 (length (first_lines [] lines))) (first_lines [] lines) (λ m h. first_found m [] lines (asked_marks (Some m) asking known h))
 
 -- ---- all names
 
-names_found : (P : Finding → Type 0) (a : Demand) (lines : List Demand) → Contains lines a → ((fs : List Finding) (cs : List Cause) → FindsOfName (filter (has_same_name a) lines) fs cs → FindsOrTells P fs cs)
-    → (fs : List Finding) (cs : List Cause) → FindsOfNames lines fs cs → FindsOrTells P fs cs
-names_found P a lines (k, inside, is) found fs cs finds =
+names_found : (d : Domain) (P : Finding → Type 0) (a : Demand) (lines : List Demand) → Contains lines a → ((fs : List Finding) (cs : List Cause) → FindsOfName d (filter (has_same_name a) lines) fs cs → FindsOrTells P fs cs)
+    → (fs : List Finding) (cs : List Cause) → FindsOfNames d lines fs cs → FindsOrTells P fs cs
+names_found d P a lines (k, inside, is) found fs cs finds =
     let name = λ (x : Demand). x.name in
-    each_reached P name a.name (of_name_of lines)
-    (λ x so fs cs one. found fs cs (subst (λ n. FindsOfName (filter (λ (c : Demand). bytes_eq n c.name) lines) fs cs) so one))
+    each_reached P name a.name (of_name_of d lines)
+    (λ x so fs cs one. found fs cs (subst (λ n. FindsOfName d (filter (λ (c : Demand). bytes_eq n c.name) lines) fs cs) so one))
     (first_mentions has_same_name [] lines)
     (mentioned name has_same_name name_yes name_alike a [] lines refl (contains_key name a lines k inside is)) fs cs finds
 
@@ -600,14 +600,14 @@ open_or : (e : Environment) (lines ts : List Demand) → All (AsksIn e) ts → (
 open_or e lines [] k = inr (λ m h. absurd h)
 open_or e lines (t ∷ ts) k = open_by e lines t ts (have_none (under t.marker lines)) refl (All-head (AsksIn e) t ts k) (open_or e lines ts (All-tail (AsksIn e) t ts k))
 
-held : (e : Environment) → IsEnvironment e → (t : Demand) → AsksIn e t → holds_nowhere t.marker ≡ false
-held e known t (inl none) = ap holds_nowhere none
-held e known t (inr (text, is, holds)) = ap holds_nowhere is ∙ held_markers_count e text known holds
+held : (d : Domain) (e : Environment) → IsEnvironment d e → (t : Demand) → AsksIn e t → holds_nowhere t.marker ≡ false
+held d e known t (inl none) = ap holds_nowhere none
+held d e known t (inr (text, is, holds)) = ap holds_nowhere is ∙ held_markers_count d e text known holds
 
 asks_under : (e : Environment) (t c : Demand) → AsksIn e t → counts_under t.marker c ≡ true → AsksIn e c
 asks_under e t c ask counts = asks_beside e (t ∷ []) (All-cons (AsksIn e) t [] ask (All-nil (AsksIn e))) c (or_one c.marker t.marker ∙ counts)
 
-module _ (e : Environment) (is_one : IsEnvironment e) (a : Demand) (lines : List Demand) (inside : Contains lines a) where
+module _ (d : Domain) (e : Environment) (is_one : IsEnvironment d e) (a : Demand) (lines : List Demand) (inside : Contains lines a) where
   abbrev Named : List Demand
   Named = filter (has_same_name a) lines
 
@@ -643,11 +643,11 @@ module _ (e : Environment) (is_one : IsEnvironment e) (a : Demand) (lines : List
       let asking : All (IsOneIn e a lines) these =
       All-weaker (λ c. Contains Named c × (counts_under t.marker c ≡ true)) (IsOneIn e a lines) (λ c h. one_in c h.0 (asks_under e t c ask h.1)) these
       (both (Contains Named) (λ c. counts_under t.marker c ≡ true) these outside (filter_passes (counts_under t.marker) Named)) in
-      some_among known (mapped Line (IsOneIn e a lines) (λ b one. (b, one, refl)) these asking) (conflicts lines) (some_found known lines a t.marker (held e is_one t ask) (ones_of these) inside none)
+      some_among known (mapped Line (IsOneIn e a lines) (λ b one. (b, one, refl)) these asking) (conflicts lines) (some_found known lines a t.marker (held d e is_one t ask) (ones_of these) inside none)
 
   -- what is found of all lines
   abbrev Finds : Type 0
-  Finds = Some_is Is (conflicts lines) ⊎ ((fs : List Finding) (cs : List Cause) → FindsOfNames lines fs cs → FindsOrTells Is fs cs)
+  Finds = Some_is Is (conflicts lines) ⊎ ((fs : List Finding) (cs : List Cause) → FindsOfNames d lines fs cs → FindsOrTells Is fs cs)
 
   module _ (sound : All IsSound Named) (asking : List Demand) (known : All (Contains Named) asking) (ask : All (AsksIn e) asking) (none : have_none asking ≡ true) where
     -- lines without a marker ask like this one
@@ -658,7 +658,7 @@ module _ (e : Environment) (is_one : IsEnvironment e) (a : Demand) (lines : List
     by_always true always = inl (alone_found unmarked (inl refl) always)
     by_always false always = elim (open_or e Named asking ask) [
       | inl one ↦ inl (alone_found one.0 one.1 one.2)
-      | inr shared ↦ inr (names_found Is a lines inside (name_found Is (IsOneIn e a lines) among_so e is_one Named sound one_in asking known none ask always shared))
+      | inr shared ↦ inr (names_found d Is a lines inside (name_found Is (IsOneIn e a lines) among_so d e is_one Named sound one_in asking known none ask always shared))
     ]
 
     all_found_of : Finds
@@ -683,7 +683,7 @@ sets_have_findings files r lines a e asking (xs, h, fs, cs, finds, is) (ys, k, a
     let known = named_ones e a lines asking ones in
     let so = All-weaker (Contains (filter (has_same_name a) lines)) IsSound (λ b is. All-contains IsSound (filter (has_same_name a) lines) b named is) asking known in
     let ask = All-weaker (IsOneIn e a lines) (AsksIn e) (λ b one. one.2) asking ones in
-    elim (all_found_of e is_one a lines inside named asking known ask (none_found asking so none)) [
+    elim (all_found_of everywhere e is_one a lines inside named asking known ask (none_found asking so none)) [
       | inl some ↦ inl (any_is P r.findings (subst (Some_is P) (sym (ap (λ (q : Report). q.findings) is)) (in_conflicts P files xs fs (subst (λ (demands : List Demand). Some_is P (conflicts demands)) same some))))
-      | inr all ↦ in_report P r (found_in files xs) fs (flat_map left_out_in xs) cs (ap (λ (q : Report). q.findings) is) (ap (λ (q : Report). q.left_out) is) (all fs cs (subst (λ demands. FindsOfNames demands fs cs) (sym same) finds))
+      | inr all ↦ in_report P r (found_in files xs) fs (flat_map left_out_in xs) cs (ap (λ (q : Report). q.findings) is) (ap (λ (q : Report). q.left_out) is) (all fs cs (subst (λ demands. FindsOfNames everywhere demands fs cs) (sym same) finds))
     ]

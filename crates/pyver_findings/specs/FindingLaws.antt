@@ -13,13 +13,14 @@ use Rattle.pyver_findings.specs.Demands.{Demand, is_pinned}
 use Rattle.pyver_findings.specs.FileLines.{Conflicting, File, FileLine, Finding, NoRequirement, all_lines}
 use Rattle.pyver_findings.specs.NamedFiles.{constraints_files}
 use Rattle.pyver_findings.specs.LineMeanings.{IsMeaning, IsNone, IsPlain, LineMeaning, has_extras, has_right_url}
-use Rattle.pyver_findings.specs.MarkerPairs.{AsksIn, HoldsIn, is_one_system}
+use Rattle.pyver_findings.specs.MarkerPairs.{AsksIn, HoldsIn, everywhere}
 use Rattle.pyver_findings.specs.Reports.{IsReport, Report, demands_in}
 use Rattle.pyver_findings.specs.declared.cause.Cause.TheVariants as cause
 use Rattle.pyver_findings.specs.declared.finding.Conflict.{Conflict}
 use Rattle.pyver_findings.specs.declared.finding.Conflict.TheVariants.{NoVersion, PinOutside, TwoPins}
-use Rattle.pyver_markers.specs.Conditions.{IsEnvironment}
+use Rattle.pyver_markers.specs.Conditions.{Domain, IsEnvironment}
 use Rattle.pyver_markers.specs.Environments.{Assignment, Environment, Extends, assigned, environment_text}
+use Rattle.pyver_markers.specs.Extents.{is_writable}
 use Rattle.pyver_requirements.specs.LineKinds.{Editable, Invalid, Requirement, line_kind}
 use Rattle.pyver_requirements.specs.LineParts.{LineParts, pip_parts, is_blank_byte, is_url_byte, line_parts}
 use Rattle.pyver_requirements.specs.MarkerReading.{marker}
@@ -90,19 +91,19 @@ module _ (parts : List ℕ → LineParts) where
   abbrev pub CountsIn : Environment → FileLine → Type 0
   CountsIn e l = HasMarker (parts l.text) None ⊎ ((m : List ℕ) × HasMarker (parts l.text) (Some m) × HoldsIn e m)
 
-  -- where the variables are so, the lines ask for one name
-  pub record HoldTogether (variables : List Assignment) (together : List FileLine) : Type 0 where
+  -- where the variables are so, as they are in an environment of the domain, the lines ask for one name
+  pub record HoldTogether (d : Domain) (variables : List Assignment) (together : List FileLine) : Type 0 where
     pub name : List ℕ
     pub ask : All (AsksFor name) together
     pub environment : Environment
-    pub known : IsEnvironment environment
+    pub known : IsEnvironment d environment
     pub has : Extends (assigned variables) environment
     pub count : (e : Environment) → Extends (assigned variables) e → All (CountsIn e) together
+    pub writable : list_all (λ (v : Assignment). is_writable v.text) variables ≡ true
 
-  -- so it is where the marker says, of one system
-  abbrev pub HoldUnder : List ℕ → List FileLine → Type 0
-  HoldUnder environment together = (variables : List Assignment) × HoldTogether variables together × (is_one_system variables ≡ true)
-      × (environment ≡ environment_text variables)
+  -- so it is where the marker says
+  abbrev pub HoldUnder : Domain → List ℕ → List FileLine → Type 0
+  HoldUnder d environment together = (variables : List Assignment) × HoldTogether d variables together × (environment ≡ environment_text variables)
 
   -- lines that are reported together are some of these, count so, no version is allowed by all, and without any one of them some version is
   abbrev pub AreRightBy : (List FileLine → Type 0) → List FileLine → Conflict → List FileLine → Type 0
@@ -116,9 +117,9 @@ module _ (parts : List ℕ → LineParts) where
   IsRightConflict lines f = ⊥
 
   -- their markers hold in the environment that is named
-  abbrev pub IsRightPair : List FileLine → Finding → Type 0
-  IsRightPair lines (Conflicting conflict together (Some environment)) = AreRightBy (HoldUnder environment) lines conflict together
-  IsRightPair lines f = ⊥
+  abbrev pub IsRightPair : Domain → List FileLine → Finding → Type 0
+  IsRightPair d lines (Conflicting conflict together (Some environment)) = AreRightBy (HoldUnder d environment) lines conflict together
+  IsRightPair d lines f = ⊥
 
 -- ---- requirements files
 
@@ -127,7 +128,7 @@ module _ (parts : List ℕ → LineParts) where
 abbrev pub IsRight : List FileLine → Finding → Type 0
 IsRight lines (NoRequirement l reason column) = Contains lines l × (¬ IsRequirementLine l) × IsMeaning l (IsNone (NoRequirement l reason column))
 IsRight lines (Conflicting conflict together environment) =
-    IsRightConflict pip_parts lines (Conflicting conflict together environment) ⊎ IsRightPair pip_parts lines (Conflicting conflict together environment)
+    IsRightConflict pip_parts lines (Conflicting conflict together environment) ⊎ IsRightPair pip_parts everywhere lines (Conflicting conflict together environment)
 
 -- the line is of a file that a line names after `-c`
 abbrev pub IsConstraint : List File → FileLine → Type 0
@@ -176,9 +177,9 @@ AreDemands files demands = (xs : List LineMeaning) × AllZip IsMeaning (all_line
 abbrev pub HaveNone : List Demand → Type 0
 HaveNone lines = (v : Record) → IsDenoted v → ¬ All (λ a. IsTrue (list_matches_literally a.specifiers v)) lines
 
--- a marker that holds in an environment is not contradictory
+-- a marker that holds in an environment, of any domain, is not contradictory
 abbrev pub HeldMarkersCount : Type 0
-HeldMarkersCount = (e : Environment) (text : List ℕ) → IsEnvironment e → HoldsIn e text → holds_nowhere (Some text) ≡ false
+HeldMarkersCount = (d : Domain) (e : Environment) (text : List ℕ) → IsEnvironment d e → HoldsIn e text → holds_nowhere (Some text) ≡ false
 
 -- where the lines of a name that count under a marker, which is not contradictory, have no version in common, some of these lines are reported
 -- together
@@ -204,7 +205,7 @@ IsAmongIn e a lines (Conflicting conflict reported environment) =
 -- something is said to be undecided
 abbrev pub SetsHaveFindings : Type 0
 SetsHaveFindings = (files : List File) (r : Report) (lines : List Demand) (a : Demand) (e : Environment) (asking : List Demand) → IsReport files r → AreDemands files lines
-    → Contains lines a → IsEnvironment e → All (IsOneIn e a lines) asking → HaveNone asking → Any (IsAmongIn e a lines) r.findings ⊎ IsUndecided r
+    → Contains lines a → IsEnvironment everywhere e → All (IsOneIn e a lines) asking → HaveNone asking → Any (IsAmongIn e a lines) r.findings ⊎ IsUndecided r
 
 -- a line has at most one meaning
 abbrev pub MeaningsOnce : Type 0

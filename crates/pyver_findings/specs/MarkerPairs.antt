@@ -1,5 +1,5 @@
--- Lines of one name with different markers that no version can satisfy together, where all these markers hold in one environment.
-use Rattle.std.specs.Prelude.{◌≡◌, ◌⊎◌, ⊤, ℕ, ◌&&◌, ◌||◌, List, [], ◌∷◌, ◌++◌, Bool, true, false, not, Option, None, Some, bytes_eq, codes, is_none, length, nat_lt, suc, zero, if◌then◌else◌}
+-- Lines of one name with different markers that no version can satisfy together, where all these markers hold in one environment of a domain.
+use Rattle.std.specs.Prelude.{◌≡◌, ◌⊎◌, ⊤, ℕ, ◌&&◌, ◌||◌, List, [], ◌∷◌, ◌++◌, Bool, true, false, not, Option, None, Some, is_none, length, nat_lt, suc, zero, if◌then◌else◌}
 use Rattle.std.specs.List.{All, filter, flat_map, list_all, list_any}
 use Rattle.pyver_findings.specs.Conflicts.{first_mentions, has_same_marker, has_same_name, have_none, of_all, smallest, under}
 use Rattle.pyver_findings.specs.Demands.{Demand}
@@ -8,38 +8,18 @@ use Rattle.pyver_findings.specs.declared.cause.Cause.{Cause}
 use Rattle.pyver_findings.specs.declared.cause.Cause.TheVariants as cause
 use Rattle.pyver_findings.specs.declared.marker_pairs.Decision.{Decision}
 use Rattle.pyver_findings.specs.declared.marker_pairs.Decision.TheVariants.{Apart, Together, Unknown}
-use Rattle.pyver_markers.specs.Conditions.{IsEnvironment, IsNever}
+use Rattle.pyver_markers.specs.Conditions.{Domain, IsEnvironment, IsNever}
 use Rattle.pyver_markers.specs.Environments.{Assignment, Environment, Extends, assigned, environment_text}
-use Rattle.pyver_markers.specs.Extents.{IsExample}
+use Rattle.pyver_markers.specs.Extents.{IsExample, is_writable}
 use Rattle.pyver_markers.specs.MarkerValues.{value}
 use Rattle.pyver_requirements.specs.MarkerGrammar.{Both, DenotesMarker, Marker}
 use Rattle.pyver_requirements.specs.MarkerSteps.{Step, steps}
 
--- ---- systems
+-- ---- environments
 
--- the system has the variable so
-abbrev pub is_of_system : (os sys platform : List ℕ) → Assignment → Bool
-is_of_system os sys platform v = if bytes_eq v.name (codes "os_name") then bytes_eq v.text os
-    else (if bytes_eq v.name (codes "sys_platform") then bytes_eq v.text sys
-    else (if bytes_eq v.name (codes "platform_system") then bytes_eq v.text platform else true))
-
-abbrev pub are_of_system : (os sys platform : List ℕ) → List Assignment → Bool
-are_of_system os sys platform variables = list_all (is_of_system os sys platform) variables
-
--- the variable is among these
-abbrev pub is_named : List ℕ → List Assignment → Bool
-is_named name variables = list_any (λ (v : Assignment). bytes_eq v.name name) variables
-
--- of the variables that name the system, these have at most one
-abbrev pub names_system_once : List Assignment → Bool
-names_system_once variables = not ((is_named (codes "os_name") variables && is_named (codes "sys_platform") variables)
-    || (is_named (codes "platform_system") variables && (is_named (codes "os_name") variables || is_named (codes "sys_platform") variables)))
-
--- the variables are those of one system
-abbrev pub is_one_system : List Assignment → Bool
-is_one_system variables = names_system_once variables || (are_of_system (codes "posix") (codes "linux") (codes "Linux") variables
-    || (are_of_system (codes "nt") (codes "win32") (codes "Windows") variables || (are_of_system (codes "posix") (codes "darwin") (codes "Darwin") variables
-    || (are_of_system (codes "posix") (codes "android") (codes "Android") variables || are_of_system (codes "posix") (codes "ios") (codes "iOS") variables))))
+-- all environments, each of one system
+abbrev pub everywhere : Domain
+everywhere = record { linked = true; python = None }
 
 -- ---- lines whose markers hold together
 
@@ -51,22 +31,23 @@ HoldsIn e text = (m : Marker) × DenotesMarker text m × (value e m ≡ Some tru
 abbrev pub AsksIn : Environment → Demand → Type 0
 AsksIn e a = (a.marker ≡ None) ⊎ ((m : List ℕ) × (a.marker ≡ Some m) × HoldsIn e m)
 
--- in some environment the variables are so, and wherever they are, all these lines ask
-pub record AskWhere (set : List Demand) (variables : List Assignment) : Type 0 where
+-- in some environment of the domain the variables are so, as a marker can name them, and wherever they are, all these lines ask
+pub record AskWhere (d : Domain) (set : List Demand) (variables : List Assignment) : Type 0 where
   pub environment : Environment
-  pub known : IsEnvironment environment
+  pub known : IsEnvironment d environment
   pub has : Extends (assigned variables) environment
   pub ask : (e : Environment) → Extends (assigned variables) e → All (AsksIn e) set
+  pub writable : list_all (λ (v : Assignment). is_writable v.text) variables ≡ true
 
--- the marker says what variables are, of one system, and wherever they are so, all these lines ask
-abbrev pub AskUnder : List Demand → List ℕ → Type 0
-AskUnder set environment = (variables : List Assignment) × AskWhere set variables × (is_one_system variables ≡ true) × (environment ≡ environment_text variables)
+-- the marker says what variables are, and wherever they are so, all these lines ask
+abbrev pub AskUnder : Domain → List Demand → List ℕ → Type 0
+AskUnder d set environment = (variables : List Assignment) × AskWhere d set variables × (environment ≡ environment_text variables)
 
--- of lines: all ask where this marker says; there is no environment in which all ask; nothing is known
-abbrev pub IsDecision : List Demand → Decision → Type 0
-IsDecision set (Together environment) = AskUnder set environment.items
-IsDecision set Apart = (e : Environment) → IsEnvironment e → ¬ All (AsksIn e) set
-IsDecision set Unknown = ⊤
+-- of lines: all ask where this marker says; there is no environment of the domain in which all ask; nothing is known
+abbrev pub IsDecision : Domain → List Demand → Decision → Type 0
+IsDecision d set (Together environment) = AskUnder d set environment.items
+IsDecision d set Apart = (e : Environment) → IsEnvironment d e → ¬ All (AsksIn e) set
+IsDecision d set Unknown = ⊤
 
 -- ---- joined markers
 
@@ -86,16 +67,15 @@ AreJoined (a ∷ (b ∷ rest)) m = (x : Marker) × (y : Marker) × HasDenoted a 
 abbrev pub IsDenotedBySteps : (Marker → Type 0) → List Step → Type 0
 IsDenotedBySteps Is all = ((m : Marker) × Is m) × ((m : Marker) → Is m → all ≡ steps m)
 
--- the marker with these steps holds where the other one says what variables are, of one system
-abbrev pub HoldsUnder : List Step → List ℕ → Type 0
-HoldsUnder all environment = (variables : List Assignment) × ((m : Marker) → all ≡ steps m → IsExample m variables) × (is_one_system variables ≡ true)
-    × (environment ≡ environment_text variables)
+-- the marker with these steps holds where the other one says what variables are
+abbrev pub HoldsUnder : Domain → List Step → List ℕ → Type 0
+HoldsUnder d all environment = (variables : List Assignment) × ((m : Marker) → all ≡ steps m → IsExample d m variables) × (environment ≡ environment_text variables)
 
 -- what is known of the marker that has these steps
-abbrev pub KnowsSteps : List Step → Decision → Type 0
-KnowsSteps all (Together environment) = HoldsUnder all environment.items
-KnowsSteps all Apart = (m : Marker) → all ≡ steps m → IsNever true m
-KnowsSteps all Unknown = ⊤
+abbrev pub KnowsSteps : Domain → List Step → Decision → Type 0
+KnowsSteps d all (Together environment) = HoldsUnder d all environment.items
+KnowsSteps d all Apart = (m : Marker) → all ≡ steps m → IsNever d true m
+KnowsSteps d all Unknown = ⊤
 
 -- ---- lines of one name
 
@@ -210,30 +190,30 @@ FindsOfEach P [] fs cs = FindsNothing fs cs
 FindsOfEach P (x ∷ rest) fs cs =
     (f : List Finding) × (g : List Finding) × (c : List Cause) × (d : List Cause) × P x f c × FindsOfEach P rest g d × (fs ≡ f ++ g) × (cs ≡ c ++ d)
 
--- of lines that have no version in common, if all their markers hold in one environment, which is named
+-- of lines that have no version in common, if all their markers hold in one environment of the domain, which is named
 abbrev pub FindsDecided : Decision → List Demand → List Finding → List Cause → Type 0
 FindsDecided (Together environment) lines fs cs = (fs ≡ of_all (Some environment.items) lines) × (cs ≡ [])
 FindsDecided Apart lines fs cs = FindsNothing fs cs
 FindsDecided Unknown lines fs cs = (fs ≡ []) × (cs ≡ (if have_none lines then cause.Undecided ∷ [] else []))
 
 -- of the lines under the markers of a set
-abbrev pub FindsOfSet : List Demand → List Demand → List Finding → List Cause → Type 0
-FindsOfSet lines set fs cs = (d : Decision) × IsDecision set d × FindsDecided d (under_any set lines) fs cs
+abbrev pub FindsOfSet : Domain → List Demand → List Demand → List Finding → List Cause → Type 0
+FindsOfSet d lines set fs cs = (decision : Decision) × IsDecision d set decision × FindsDecided decision (under_any set lines) fs cs
 
 -- of each of these sets; whether there are others may not be known
-abbrev pub FindsOfSets : List Demand → List (List Demand) → Bool → List Finding → List Cause → Type 0
-FindsOfSets lines sets true fs cs = FindsOfEach (FindsOfSet lines) sets fs cs
-FindsOfSets lines sets false fs cs = (told : List Cause) × FindsOfEach (FindsOfSet lines) sets fs told × (cs ≡ told ++ cause.Undecided ∷ [])
+abbrev pub FindsOfSets : Domain → List Demand → List (List Demand) → Bool → List Finding → List Cause → Type 0
+FindsOfSets d lines sets true fs cs = FindsOfEach (FindsOfSet d lines) sets fs cs
+FindsOfSets d lines sets false fs cs = (told : List Cause) × FindsOfEach (FindsOfSet d lines) sets fs told × (cs ≡ told ++ cause.Undecided ∷ [])
 
 -- of lines of one name; too many markers are not looked at
-abbrev pub FindsOfFirsts : List Demand → Option (List Demand) → List Finding → List Cause → Type 0
-FindsOfFirsts lines None fs cs = (fs ≡ []) × (cs ≡ cause.Undecided ∷ [])
-FindsOfFirsts lines (Some firsts) fs cs =
-    FindsOfSets lines (conflicting_sets lines (lines_to_pair lines firsts)).sets (conflicting_sets lines (lines_to_pair lines firsts)).whole fs cs
+abbrev pub FindsOfFirsts : Domain → List Demand → Option (List Demand) → List Finding → List Cause → Type 0
+FindsOfFirsts d lines None fs cs = (fs ≡ []) × (cs ≡ cause.Undecided ∷ [])
+FindsOfFirsts d lines (Some firsts) fs cs =
+    FindsOfSets d lines (conflicting_sets lines (lines_to_pair lines firsts)).sets (conflicting_sets lines (lines_to_pair lines firsts)).whole fs cs
 
-abbrev pub FindsOfName : List Demand → List Finding → List Cause → Type 0
-FindsOfName lines = FindsOfFirsts lines (few_first_lines lines)
+abbrev pub FindsOfName : Domain → List Demand → List Finding → List Cause → Type 0
+FindsOfName d lines = FindsOfFirsts d lines (few_first_lines lines)
 
 -- of each name, in the order in which they are first mentioned
-abbrev pub FindsOfNames : List Demand → List Finding → List Cause → Type 0
-FindsOfNames lines = FindsOfEach (λ (a : Demand). FindsOfName (filter (has_same_name a) lines)) (first_mentions has_same_name [] lines)
+abbrev pub FindsOfNames : Domain → List Demand → List Finding → List Cause → Type 0
+FindsOfNames d lines = FindsOfEach (λ (a : Demand). FindsOfName d (filter (has_same_name a) lines)) (first_mentions has_same_name [] lines)

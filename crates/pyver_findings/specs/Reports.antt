@@ -6,7 +6,7 @@ use Rattle.pyver_findings.specs.Conflicts.{conflicts}
 use Rattle.pyver_findings.specs.FileLines.{Conflicting, File, FileLine, Finding, NoRequirement, all_lines}
 use Rattle.pyver_findings.specs.NamedFiles.{constraints_files}
 use Rattle.pyver_findings.specs.LineMeanings.{Asks, IsNone, LeftOut, LineMeaning, AsksNothing, IsMeaning, constraint_faults, has_part}
-use Rattle.pyver_findings.specs.MarkerPairs.{FindsOfNames}
+use Rattle.pyver_findings.specs.MarkerPairs.{FindsOfNames, everywhere}
 use Rattle.pyver_findings.specs.declared.cause.Cause.{Cause}
 use Rattle.pyver_findings.specs.declared.finding.Conflict.{Conflict}
 use Rattle.pyver_findings.specs.declared.finding.Conflict.TheVariants.{NoVersion, PinOutside, TwoPins}
@@ -99,7 +99,7 @@ found_in files xs = flat_map invalid_in xs ++ (constraint_findings (constraints_
 -- the report of the files, whatever comments ignore: behind these findings those of lines under several markers
 abbrev pub IsReport : List File → Report → Type 0
 IsReport files r = (xs : List LineMeaning) × AllZip IsMeaning (all_lines files) xs
-    × (fs : List Finding) × (cs : List Cause) × FindsOfNames (flat_map demands_in xs) fs cs × (r ≡ record {
+    × (fs : List Finding) × (cs : List Cause) × FindsOfNames everywhere (flat_map demands_in xs) fs cs × (r ≡ record {
       findings = found_in files xs ++ fs;
       ignored = [];
       lines = length (all_lines files);

@@ -1,14 +1,14 @@
-//! Lines of one name under several different markers that hold in one environment.
-ghost use Rattle.std.specs.Prelude.{◌≡◌, ◌&&◌, ◌||◌, ◌∷◌, ◌++◌, [], IfOk, IfSome, List, bytes_eq, codes, map, option_map, true, ℕ};
+//! Lines of one name under several different markers that hold in one environment of a domain.
+ghost use Rattle.std.specs.Prelude.{◌≡◌, ◌∷◌, ◌++◌, [], IfOk, IfSome, List, bytes_eq, map, option_map, true, ℕ};
 ghost use Rattle.std.specs.HashMap.{get_by};
-ghost use Rattle.std.specs.List.{All, list_all, list_any};
+ghost use Rattle.std.specs.List.{All};
 ghost use Rattle.std.specs.Option.{option_map_or};
 ghost use Rattle.pyver_findings.specs.Conflicts.{have_none};
 ghost use Rattle.pyver_findings.specs.Demands.{IsSound};
-ghost use Rattle.pyver_findings.specs.MarkerPairs.{AreJoined, FindsDecided, FindsOfEach, FindsOfName, FindsOfNames, FindsOfSet, HasDenoted, HoldsUnder, IsDenotedBySteps, IsDecision, KnowsSteps, are_of_system, few_first_lines, is_of_system, is_one_system, lines_to_pair, names_system_once, open_lines, with_first};
+ghost use Rattle.pyver_findings.specs.MarkerPairs.{AreJoined, FindsDecided, FindsOfEach, FindsOfName, FindsOfNames, FindsOfSet, HasDenoted, HoldsUnder, IsDenotedBySteps, IsDecision, KnowsSteps, few_first_lines, lines_to_pair, open_lines, with_first};
 ghost use Rattle.pyver_findings.specs.Views.{AddsFound, demand_of, demands_at, demands_of_group, demands_of_sets};
 ghost use Rattle.pyver_findings.specs.declared.cause.Cause.TheVariants as cause;
-ghost use Rattle.pyver_markers.specs.EnvironmentViews.{assignment_of};
+ghost use Rattle.pyver_markers.specs.EnvironmentViews.{domain_of};
 ghost use Rattle.pyver_requirements.specs.MarkerGrammar.{DenotesMarker};
 
 use crate::cause::Cause;
@@ -19,98 +19,21 @@ use crate::group::push_of_all;
 use crate::marker::under;
 use crate::marker_sets::{find_conflicting_sets, have_same_marker, under_any};
 use crate::smallest::have_none;
-use pyver_markers::{EnvironmentMarker, FoundVariable, push_environment};
+use pyver_markers::{Domain, EnvironmentMarker, push_environment};
 use pyver_requirements::MarkerError;
 use std::alloc::{AllocError, Global};
 
 // The most markers of one name that are compared.
 const MOST: usize = 32;
 
-// Markers of systems.
-const SYSTEMS: [&str; 5] = [
-    "os_name == 'posix' and sys_platform == 'linux' and platform_system == 'Linux'",
-    "os_name == 'nt' and sys_platform == 'win32' and platform_system == 'Windows'",
-    "os_name == 'posix' and sys_platform == 'darwin' and platform_system == 'Darwin'",
-    "os_name == 'posix' and sys_platform == 'android' and platform_system == 'Android'",
-    "os_name == 'posix' and sys_platform == 'ios' and platform_system == 'iOS'",
-];
-
 // What is known of several markers.
 #[derive(Drop)]
 enum Decision {
-    // All hold in this environment of one system, as a marker.
+    // All hold in this environment, as a marker.
     Together(Vec<u8>),
-    // In no environment all hold.
+    // In no environment of the domain all hold.
     Apart,
     Unknown,
-}
-
-// Whether the system has the variable so.
-fn is_of_system(variable: &FoundVariable<'_>, os: &str, sys: &str, platform: &str) -> bool
-    ensures { result ≡ is_of_system os.now sys.now platform.now (assignment_of variable.now) }
-{
-    let text = variable.text.as_slice();
-    if variable.name == "os_name".as_bytes() {
-        return text == os.as_bytes();
-    }
-    if variable.name == "sys_platform".as_bytes() {
-        return text == sys.as_bytes();
-    }
-    if variable.name == "platform_system".as_bytes() {
-        return text == platform.as_bytes();
-    }
-    true
-}
-
-fn are_of_system(variables: &[FoundVariable<'_>], os: &str, sys: &str, platform: &str) -> bool
-    ensures { result ≡ are_of_system os.now sys.now platform.now (map assignment_of variables.now) }
-{
-    let mut rest = variables;
-    while let [variable, later @ ..] = rest {
-        if !is_of_system(variable, os, sys, platform) {
-            return false;
-        }
-        rest = later;
-    }
-    true
-}
-
-fn is_named(variables: &[FoundVariable<'_>], name: &[u8]) -> bool
-    ensures { result ≡ list_any (λ v. bytes_eq v.name.now name.now) variables.now }
-{
-    variables.iter().any(|variable| variable.name == name)
-}
-
-// Whether two are, or all three.
-fn are_several(one: bool, other: bool, third: bool) -> bool
-    ensures { result ≡ (one && other || third && (one || other)) }
-{
-    if one && other {
-        return true;
-    }
-    third && (one || other)
-}
-
-// Whether at most one of the variables names the system.
-fn names_system_once(variables: &[FoundVariable<'_>]) -> bool
-    ensures { result ≡ names_system_once (map assignment_of variables.now) }
-{
-    let os = is_named(variables, "os_name".as_bytes());
-    let sys = is_named(variables, "sys_platform".as_bytes());
-    let platform = is_named(variables, "platform_system".as_bytes());
-    !are_several(os, sys, platform)
-}
-
-// Whether the variables are those of one system.
-fn is_one_system(variables: &[FoundVariable<'_>]) -> bool
-    ensures { result ≡ is_one_system (map assignment_of variables.now) }
-{
-    names_system_once(variables)
-        || are_of_system(variables, "posix", "linux", "Linux")
-        || are_of_system(variables, "nt", "win32", "Windows")
-        || are_of_system(variables, "posix", "darwin", "Darwin")
-        || are_of_system(variables, "posix", "android", "Android")
-        || are_of_system(variables, "posix", "ios", "iOS")
 }
 
 #[tactic(auto, using(crate::proofs::MarkerPairs::parsed))]
@@ -163,70 +86,34 @@ fn join_markers<'a>(
     Ok(Some(marker.and(&joined)?))
 }
 
-// Where the marker holds, as a marker, if an environment of one system is found.
+// Where the marker holds, as a marker, if an environment of the domain is found.
 fn find_environment(
     alloc: Global,
     marker: &EnvironmentMarker<'_>,
+    domain: Domain<'_>,
 ) -> Result<Option<Vec<u8>>, AllocError>
-    ensures { IfOk result (λ found. IfSome found (λ environment. HoldsUnder marker.now environment.items)) }
+    ensures { IfOk result (λ found. IfSome found (λ environment. HoldsUnder (domain_of domain.entry) marker.now environment.items)) }
 {
-    let Some(variables) = marker.find_environment(alloc)? else {
+    let Some(variables) = marker.find_environment(alloc, domain)? else {
         return Ok(None);
     };
-    if !is_one_system(variables.as_slice()) {
-        return Ok(None);
-    }
     let mut environment = Vec::new(alloc);
     push_environment(&mut environment, variables.as_slice())?;
     Ok(Some(environment))
 }
 
-// Where the marker of the system holds, too.
-fn find_on(
-    alloc: Global,
-    marker: &EnvironmentMarker<'_>,
-    system: &str,
-) -> Result<Option<Vec<u8>>, AllocError>
-    ensures { IfOk result (λ found. IfSome found (λ environment. HoldsUnder marker.now environment.items)) }
-{
-    let Some(system) = parse_marker(alloc, system.as_bytes())? else {
-        return Ok(None);
-    };
-    let both = system.and(marker)?;
-    let found = find_environment(alloc, &both)?;
-    Ok(found)
-}
-
-// Where the marker holds on one of the systems.
-fn find_on_any(alloc: Global, marker: &EnvironmentMarker<'_>) -> Result<Option<Vec<u8>>, AllocError>
-    ensures { IfOk result (λ found. IfSome found (λ environment. HoldsUnder marker.now environment.items)) }
-{
-    for system in SYSTEMS {
-        if let Some(environment) = find_on(alloc, marker, system)? {
-            return Ok(Some(environment));
-        }
-    }
-    Ok(None)
-}
-
-// Where the marker holds, with all variables of the system if it names several.
-fn find_where(alloc: Global, marker: &EnvironmentMarker<'_>) -> Result<Option<Vec<u8>>, AllocError>
-    ensures { IfOk result (λ found. IfSome found (λ environment. HoldsUnder marker.now environment.items)) }
-{
-    if let Some(environment) = find_environment(alloc, marker)? {
-        return Ok(Some(environment));
-    }
-    find_on_any(alloc, marker)
-}
-
 // What is known of the marker that holds where all do.
-fn decide_marker(alloc: Global, joined: &EnvironmentMarker<'_>) -> Result<Decision, AllocError>
-    ensures { IfOk result (KnowsSteps joined.now) }
+fn decide_marker(
+    alloc: Global,
+    joined: &EnvironmentMarker<'_>,
+    domain: Domain<'_>,
+) -> Result<Decision, AllocError>
+    ensures { IfOk result (KnowsSteps (domain_of domain.entry) joined.now) }
 {
-    if joined.is_never(alloc, true)? {
+    if joined.is_never(alloc, true, domain)? {
         return Ok(Decision::Apart);
     }
-    match find_where(alloc, joined)? {
+    match find_environment(alloc, joined, domain)? {
         Some(environment) => Ok(Decision::Together(environment)),
         None => Ok(Decision::Unknown),
     }
@@ -234,11 +121,11 @@ fn decide_marker(alloc: Global, joined: &EnvironmentMarker<'_>) -> Result<Decisi
 
 #[tactic(auto, using(crate::proofs::MarkerPairs::known))]
 // What is known of the markers of these lines.
-fn decide(alloc: Global, set: &[&Demand]) -> Result<Decision, AllocError>
-    ensures { IfOk result (IsDecision (demands_at set.now)) }
+fn decide(alloc: Global, set: &[&Demand], domain: Domain<'_>) -> Result<Decision, AllocError>
+    ensures { IfOk result (IsDecision (domain_of domain.entry) (demands_at set.now)) }
 {
     match join_markers(alloc, set)? {
-        Some(joined) => decide_marker(alloc, &joined),
+        Some(joined) => decide_marker(alloc, &joined, domain),
         None => Ok(Decision::Unknown),
     }
 }
@@ -279,16 +166,17 @@ fn push_of_set(
     left_out: &mut Vec<Cause>,
     lines: &[&Demand],
     set: &[&Demand],
+    domain: Domain<'_>,
 ) -> Result<(), AllocError>
     requires { All IsSound (demands_at lines.now) }
-    ensures { IfOk result (λ _. AddsFound (FindsOfSet (demands_at lines.now) (demands_at set.now)) findings.old.items findings.new.items
+    ensures { IfOk result (λ _. AddsFound (FindsOfSet (domain_of domain.entry) (demands_at lines.now) (demands_at set.now)) findings.old.items findings.new.items
         left_out.old.items left_out.new.items) }
 {
     let together = under_any(alloc, set, lines)?;
     if !have_none(alloc, together.as_slice(), &[])? {
         return Ok(());
     }
-    let decision = decide(alloc, set)?;
+    let decision = decide(alloc, set, domain)?;
     push_by_decision(alloc, findings, left_out, decision, together.as_slice())?;
     Ok(())
 }
@@ -300,13 +188,14 @@ fn push_of_each_set(
     left_out: &mut Vec<Cause>,
     lines: &[&Demand],
     sets: &[Vec<&Demand>],
+    domain: Domain<'_>,
 ) -> Result<(), AllocError>
     requires { All IsSound (demands_at lines.now) }
-    ensures { IfOk result (λ _. AddsFound (FindsOfEach (FindsOfSet (demands_at lines.now)) (demands_of_sets sets.now)) findings.old.items
+    ensures { IfOk result (λ _. AddsFound (FindsOfEach (FindsOfSet (domain_of domain.entry) (demands_at lines.now)) (demands_of_sets sets.now)) findings.old.items
         findings.new.items left_out.old.items left_out.new.items) }
 {
     for set in sets {
-        push_of_set(alloc, findings, left_out, lines, set.as_slice())?;
+        push_of_set(alloc, findings, left_out, lines, set.as_slice(), domain)?;
     }
     Ok(())
 }
@@ -381,9 +270,10 @@ fn push_of_name(
     findings: &mut Vec<Finding>,
     left_out: &mut Vec<Cause>,
     lines: &[&Demand],
+    domain: Domain<'_>,
 ) -> Result<(), AllocError>
     requires { All IsSound (demands_at lines.now) }
-    ensures { IfOk result (λ _. AddsFound (FindsOfName (demands_at lines.now)) findings.old.items findings.new.items left_out.old.items
+    ensures { IfOk result (λ _. AddsFound (FindsOfName (domain_of domain.entry) (demands_at lines.now)) findings.old.items findings.new.items left_out.old.items
         left_out.new.items) }
 {
     let Some(firsts) = few_first_lines(alloc, lines)? else {
@@ -391,7 +281,14 @@ fn push_of_name(
     };
     let paired = lines_to_pair(alloc, lines, firsts.as_slice())?;
     let found = find_conflicting_sets(alloc, lines, paired.as_slice())?;
-    push_of_each_set(alloc, findings, left_out, lines, found.sets.as_slice())?;
+    push_of_each_set(
+        alloc,
+        findings,
+        left_out,
+        lines,
+        found.sets.as_slice(),
+        domain,
+    )?;
     if found.whole {
         return Ok(());
     }
@@ -404,20 +301,21 @@ fn push_of_group(
     findings: &mut Vec<Finding>,
     left_out: &mut Vec<Cause>,
     group: Option<Vec<&Demand>>,
+    domain: Domain<'_>,
 ) -> Result<(), AllocError>
     requires { All IsSound (demands_of_group group) }
-    ensures { IfOk result (λ _. AddsFound (FindsOfName (demands_of_group group.entry)) findings.old.items findings.new.items left_out.old.items
+    ensures { IfOk result (λ _. AddsFound (FindsOfName (domain_of domain.entry) (demands_of_group group.entry)) findings.old.items findings.new.items left_out.old.items
         left_out.new.items) }
 {
     match group {
-        Some(lines) => push_of_name(alloc, findings, left_out, lines.as_slice()),
+        Some(lines) => push_of_name(alloc, findings, left_out, lines.as_slice(), domain),
         None => Ok(()),
     }
 }
 
-/// Adds what is wrong with lines of one name under several different markers that hold in one environment, for each name, in the order in which
+/// Adds what is wrong with lines of one name under several different markers that hold in one environment of the domain, for each name, in the order in which
 /// names are first mentioned: first of each two markers whose lines have no version in common, and then of larger sets, if no two in them have none.
-/// In each environment, lines of a name that ask in it and have no version in common have a finding among them. A cause is added for each set
+/// In each of these environments, lines of a name that ask in it and have no version in common have a finding among them. A cause is added for each set
 /// of markers where it is not known whether they hold together, for a name with more than 32 markers, and for one with so many sets that
 /// a search of 1,000 steps does not find all. Fails if memory runs out; then findings of some names may have been added.
 ///
@@ -427,15 +325,16 @@ pub fn push_marker_conflicts(
     findings: &mut Vec<Finding>,
     left_out: &mut Vec<Cause>,
     lines: &[Demand],
+    domain: Domain<'_>,
 ) -> Result<(), AllocError>
     requires { All IsSound (map demand_of lines.now) }
-    ensures { IfOk result (λ _. AddsFound (FindsOfNames (map demand_of lines.now)) findings.old.items findings.new.items left_out.old.items
+    ensures { IfOk result (λ _. AddsFound (FindsOfNames (domain_of domain.entry) (map demand_of lines.now)) findings.old.items findings.new.items left_out.old.items
         left_out.new.items) }
 {
     let mut groups = group_by_name(alloc, lines)?;
     for line in lines {
         let group = groups.remove(line.name.as_slice());
-        push_of_group(alloc, findings, left_out, group)?;
+        push_of_group(alloc, findings, left_out, group, domain)?;
     }
     Ok(())
 }

@@ -12,6 +12,7 @@ use crate::file_line::{FileLine, SourceFile, all_lines};
 use crate::finding::Finding;
 use crate::line_meaning::{LineMeaning, parse_line};
 use crate::marker_pairs::push_marker_conflicts;
+use pyver_markers::Domain;
 use std::alloc::{AllocError, Global};
 
 /// What is wrong in requirements files, and how much of them was read.
@@ -28,6 +29,12 @@ pub struct Report {
     /// Of each line that was left out, why, and of each set of markers.
     pub left_out: Vec<Cause>,
 }
+
+// All environments, each of one system.
+const EVERYWHERE: Domain = Domain {
+    linked: true,
+    python: None,
+};
 
 // What the lines so far are.
 #[derive(Drop)]
@@ -94,7 +101,13 @@ pub fn find_problems(alloc: Global, files: &[SourceFile]) -> Result<Report, Allo
     push_constraint_findings(alloc, &mut findings, files, lines.as_slice())?;
     let demands = readings.demands;
     push_conflicts(alloc, &mut findings, demands.as_slice())?;
-    push_marker_conflicts(alloc, &mut findings, &mut left_out, demands.as_slice())?;
+    push_marker_conflicts(
+        alloc,
+        &mut findings,
+        &mut left_out,
+        demands.as_slice(),
+        EVERYWHERE,
+    )?;
     Ok(Report {
         findings,
         ignored: Vec::new(alloc),

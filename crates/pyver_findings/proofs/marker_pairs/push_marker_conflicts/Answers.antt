@@ -9,6 +9,7 @@ use Rattle.pyver_findings.specs.Conflicts.{first_mentions, has_same_name}
 use Rattle.pyver_findings.specs.Demands.{Demand}
 use Rattle.pyver_findings.specs.MarkerPairs.{FindsOfEach}
 use Rattle.pyver_findings.specs.Views.{demand_of}
+use Rattle.pyver_markers.specs.EnvironmentViews.{domain_of}
 use Rattle.pyver_findings.specs.declared.demand.Demand.{Demand as DemandValue}
 use Rattle.pyver_findings.proofs.marker_pairs.push_marker_conflicts.Goals as goal
 
@@ -31,7 +32,7 @@ loop-line-preserved c =
     let name = line.name.items in
     let key = c.as_slice.result.now in
     let same = c.as_slice.ensures.value in (
-      names_more demand_of (map demand_of lines) _ lines at line _ _ _ _ _ _ c.loop-line-test.true c.line-item.is
+      names_more _ demand_of (map demand_of lines) _ lines at line _ _ _ _ _ _ c.loop-line-test.true c.line-item.is
           (ap (λ g. map (λ (x : Bor DemandValue). demand_of x.now) (option_map_or (λ v. v.items) g []))
           (c.remove-group.ensures.value ∙ ap (λ n. get_by (λ k. bytes_eq n k.now) c.loop-line.groups) same) ∙ c.loop-line.invariant.1 name)
           c.in_ok-push_of_group.ensures
@@ -44,4 +45,4 @@ loop-line-preserved c =
 pub returns : goal.returns
 returns c =
     let lines = map demand_of c.args.lines.now in
-    names_done demand_of lines c.args.lines.now c.loop-line.line-index _ (FindsOfEach (of_name_of lines) (first_mentions has_same_name [] lines)) _ _ _ _ c.loop-line-test.false c.loop-line.invariant.0
+    names_done _ demand_of lines c.args.lines.now c.loop-line.line-index _ (FindsOfEach (of_name_of (domain_of c.args.domain) lines) (first_mentions has_same_name [] lines)) _ _ _ _ c.loop-line-test.false c.loop-line.invariant.0

@@ -7,11 +7,12 @@ use Rattle.pyver_findings.specs.Conflicts.{first_mentions, has_same_name}
 use Rattle.pyver_findings.specs.Demands.{Demand}
 use Rattle.pyver_findings.specs.MarkerPairs.{FindsOfEach}
 use Rattle.pyver_findings.specs.Views.{AddsFound, demand_of}
+use Rattle.pyver_markers.specs.EnvironmentViews.{domain_of}
 use Rattle.pyver_findings.proofs.marker_pairs.push_marker_conflicts.Given as goal
 
 abbrev pub invariant-loop-line : goal.invariant-loop-line
 invariant-loop-line l =
-    let found = FindsOfEach (of_name_of (map demand_of l.lines)) in
+    let found = FindsOfEach (of_name_of (domain_of l.domain) (map demand_of l.lines)) in
     AddsFound (Continues (found (first_mentions has_same_name (map demand_of (take l.line-index l.lines)) (map demand_of (drop l.line-index l.lines)))) (found (first_mentions has_same_name [] (map demand_of l.lines))))
     l.initial.findings.items l.findings.items l.initial.left_out.items l.left_out.items
     × ((q : List ℕ) → map (λ x. demand_of x.now) (option_map_or (λ g. g.items) (get_by (λ k. bytes_eq q k.now) l.groups) [])

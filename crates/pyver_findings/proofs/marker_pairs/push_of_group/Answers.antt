@@ -8,6 +8,7 @@ use Rattle.pyver_findings.specs.Demands.{IsSound}
 use Rattle.pyver_findings.specs.MarkerPairs.{FindsOfName}
 use Rattle.pyver_findings.specs.Views.{AddsFound, demand_of}
 use Rattle.pyver_findings.specs.declared.demand.Demand.{Demand as DemandValue}
+use Rattle.pyver_markers.specs.EnvironmentViews.{domain_of}
 use Rattle.pyver_findings.proofs.marker_pairs.push_of_group.Goals as goal
 
 pub push_of_name-requires : goal.push_of_name-requires
@@ -19,11 +20,11 @@ push_of_name-requires c =
 pub returns-in-Some : goal.returns-in-Some
 returns-in-Some c =
     let view = λ (x : Bor DemandValue). demand_of x.now in
-    subst (λ lines. IfOk c.push_of_name.result (λ _. AddsFound (FindsOfName lines) c.args.findings.now.items c.push_of_name.new.findings.items c.args.left_out.now.items c.push_of_name.new.left_out.items))
+    subst (λ lines. IfOk c.push_of_name.result (λ _. AddsFound (FindsOfName (domain_of c.args.domain) lines) c.args.findings.now.items c.push_of_name.new.findings.items c.args.left_out.now.items c.push_of_name.new.left_out.items))
     (ap (map view) c.as_slice.ensures.value ∙ sym (ap (λ g. map view (option_map_or (λ v. v.items) g [])) c.in-Some.is)) c.push_of_name.ensures
 
 pub returns-in-None : goal.returns-in-None
 returns-in-None c =
     let view = λ (x : Bor DemandValue). demand_of x.now in
-    subst (λ g. AddsFound (FindsOfName (map view (option_map_or (λ v. v.items) g []))) c.args.findings.now.items c.args.findings.now.items c.args.left_out.now.items c.args.left_out.now.items) (sym c.in-None.is)
-    (nothing_found (FindsOfName []) _ _ _ _ (refl, refl) refl refl)
+    subst (λ g. AddsFound (FindsOfName (domain_of c.args.domain) (map view (option_map_or (λ v. v.items) g []))) c.args.findings.now.items c.args.findings.now.items c.args.left_out.now.items c.args.left_out.now.items) (sym c.in-None.is)
+    (nothing_found (FindsOfName (domain_of c.args.domain) []) _ _ _ _ (refl, refl) refl refl)

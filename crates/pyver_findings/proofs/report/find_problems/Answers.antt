@@ -5,7 +5,7 @@ use Rattle.pyver_findings.proofs.Complete.{is_report, readings_sound}
 use Rattle.pyver_findings.specs.Conflicts.{conflicts}
 use Rattle.pyver_findings.specs.Demands.{IsSound}
 use Rattle.pyver_findings.specs.FileLines.{all_lines}
-use Rattle.pyver_findings.specs.MarkerPairs.{FindsOfNames}
+use Rattle.pyver_findings.specs.MarkerPairs.{FindsOfNames, everywhere}
 use Rattle.pyver_findings.specs.Views.{AddsFindings, AddsFound, KeepsReadings, demand_of, file_line_of, file_of, finding_of}
 use Rattle.pyver_findings.proofs.report.find_problems.Goals as goal
 
@@ -32,5 +32,5 @@ returns c =
     is_report files kept c.push_constraint_findings.new.findings.items c.push_conflicts.new.findings.items c.push_marker_conflicts.new.findings.items c.push_marker_conflicts.new.left_out.items _
     (subst (λ l. KeepsReadings l kept) same c.in_ok-readings.ensures) c.in_ok-push_constraint_findings.ensures
     (subst (λ l. AddsFindings c.push_constraint_findings.new.findings.items c.push_conflicts.new.findings.items (conflicts (map demand_of l))) c.as_slice-3.ensures.value c.in_ok-push_conflicts.ensures)
-    (subst (λ l. AddsFound (FindsOfNames (map demand_of l)) c.push_conflicts.new.findings.items c.push_marker_conflicts.new.findings.items kept.left_out.items c.push_marker_conflicts.new.left_out.items) c.as_slice-4.ensures.value c.in_ok-push_marker_conflicts.ensures)
+    (subst (λ l. AddsFound (FindsOfNames everywhere (map demand_of l)) c.push_conflicts.new.findings.items c.push_marker_conflicts.new.findings.items kept.left_out.items c.push_marker_conflicts.new.left_out.items) c.as_slice-4.ensures.value c.in_ok-push_marker_conflicts.ensures)
     (λ j. record { findings = map finding_of c.push_marker_conflicts.new.findings.items; ignored = map finding_of (c.new.ensures.items j); lines = lines j; files = count j; left_out = c.push_marker_conflicts.new.left_out.items })
