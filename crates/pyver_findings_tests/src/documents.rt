@@ -110,6 +110,24 @@ pub fn print_document_report(alloc: Global, files: &[String]) -> Result<String, 
     Ok(printed)
 }
 
+fn push_environment(printed: &mut String, finding: &Finding) -> Result<(), CaseError> {
+    if let Finding::Conflicting(_, _, Some(environment)) = finding {
+        write!(printed, "{}\n", text(environment.as_slice())?)?;
+    }
+    Ok(())
+}
+
+/// The environments that the findings in these documents name, a line each.
+pub fn print_environments(alloc: Global, files: &[String]) -> Result<String, CaseError> {
+    let documents = documents(alloc, files)?;
+    let report = find_document_problems(alloc, documents.as_slice())?;
+    let mut printed = String::new(alloc);
+    for finding in &report.findings {
+        push_environment(&mut printed, finding)?;
+    }
+    Ok(printed)
+}
+
 /// Whether the path has an ending of documents.
 pub fn print_document_path(path: &str) -> &'static str {
     if is_document_path(path.as_bytes()) {

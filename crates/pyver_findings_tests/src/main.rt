@@ -7,7 +7,8 @@ mod lines;
 mod reports;
 
 use documents::{
-    print_document_kind, print_document_path, print_document_report, print_named_kind,
+    print_document_kind, print_document_path, print_document_report, print_environments,
+    print_named_kind,
 };
 use lines::{
     print_kind, print_lines, print_marker, print_normal, print_parts, print_pip_parts,
@@ -41,6 +42,7 @@ impl Calls for FindingsCalls {
     fn answer(&self, alloc: Global, call: &str, arguments: &[String]) -> Result<String, CaseError> {
         match (call, arguments) {
             ("documents", files) => print_document_report(alloc, files),
+            ("environments", files) => print_environments(alloc, files),
             ("document-kind", [path]) => print_document_kind(alloc, path.as_str()),
             ("document-path", [path]) => {
                 Ok(String::from_str(alloc, print_document_path(path.as_str()))?)

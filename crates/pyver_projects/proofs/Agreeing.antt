@@ -38,11 +38,12 @@ use Rattle.pyver_findings.proofs.Found.{Some_is, ones_of, some_found}
 use Rattle.pyver_findings.specs.FindingLaws.{IsAmong}
 use Rattle.pyver_findings.specs.Conflicts.{conflict_kind, conflicts, counts_under, first_mentions, has_same_marker, has_same_name, have_none, holds_nowhere, of_all, of_marker, of_name, smallest, under}
 use Rattle.pyver_projects.proofs.Once.{one_string}
-use Rattle.pyver_projects.specs.Together.{FindsOfPart, FindsOfParts, all_demands, demand_in_part, has_group, holds_in, is_marked, part_conflicts, part_demands, parts, project_conflicts, same_finding, same_part, section_part, sections, with_new}
+use Rattle.pyver_projects.specs.Together.{FindsOfPart, FindsOfParts, all_demands, demand_in_part, has_group, holds_in, is_marked, part_conflicts, part_demands, parts, project_conflicts, project_domain, same_finding, same_part, section_part, sections, with_new}
 use Rattle.pyver_findings.proofs.SmallestLists.{Allows, more_none}
 use Rattle.pyver_findings.proofs.MarkerPairs.{of_name_of}
 use Rattle.pyver_findings.specs.MarkerPairs.{FindsOfEach, FindsOfFirsts, FindsOfName, FindsOfNames, few_first_lines, first_lines}
 use Rattle.pyver_findings.specs.Views.{AddsFound, finding_of}
+use Rattle.pyver_markers.specs.Conditions.{Domain}
 use Rattle.pyver_findings.specs.declared.cause.Cause.{Cause}
 use Rattle.pyver_findings.specs.declared.finding.Finding.{Finding as FindingValue}
 
@@ -448,13 +449,13 @@ nothing_each : {X : Type 0} (P : X → List Finding → List Cause → Type 0) �
 nothing_each P none [] = (refl, refl)
 nothing_each P none (x ∷ xs) = ([], [], [], [], none x, nothing_each P none xs, refl, refl)
 
-no_name : (lines : List Demand) → All Unmarked lines → FindsOfName lines [] []
-no_name lines k =
+no_name : (d : Domain) (lines : List Demand) → All Unmarked lines → FindsOfName d lines [] []
+no_name d lines k =
     let few : Some [] ≡ few_first_lines lines = ap (λ l. if nat_lt 32 (length l) then None else Some l) (sym (no_firsts lines k)) in
-    subst (λ (f : Option (List Demand)). FindsOfFirsts lines f [] []) few (refl, refl)
+    subst (λ (f : Option (List Demand)). FindsOfFirsts d lines f [] []) few (refl, refl)
 
-no_names : (lines : List Demand) → All Unmarked lines → FindsOfNames lines [] []
-no_names lines k = nothing_each (of_name_of lines) (λ a. no_name (filter (has_same_name a) lines) (All-filter (has_same_name a) Unmarked lines k)) (first_mentions has_same_name [] lines)
+no_names : (d : Domain) (lines : List Demand) → All Unmarked lines → FindsOfNames d lines [] []
+no_names d lines k = nothing_each (of_name_of d lines) (λ a. no_name d (filter (has_same_name a) lines) (All-filter (has_same_name a) Unmarked lines k)) (first_mentions has_same_name [] lines)
 
 -- nothing is found where no requirement has a marker
 pub no_parts : (together : Bool) (xs : List StringReading) → list_any is_marked (all_demands xs) ≡ false → FindsOfParts together xs [] []
@@ -463,7 +464,7 @@ no_parts together xs none =
     let unmarked = all_unmarked all none in (
       [],
       nothing_each (FindsOfPart together xs)
-          (λ part. no_names (part_demands together (inclusions (sections xs)) part xs)
+          (λ part. no_names (project_domain xs) (part_demands together (inclusions (sections xs)) part xs)
           (All-weaker (Contains all) Unmarked (λ a is. All-contains Unmarked all a unmarked is) (part_demands together (inclusions (sections xs)) part xs) (part_known together (inclusions (sections xs)) part xs)))
           (parts xs),
       refl,

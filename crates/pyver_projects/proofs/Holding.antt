@@ -16,14 +16,14 @@ use Rattle.pyver_findings.specs.Reports.{Report, demands_in, empty_report, inval
 use Rattle.pyver_requirements.specs.LineParts.{LineParts, line_parts}
 use Rattle.toml.specs.Data.{Members}
 use Rattle.toml.specs.Parse.{parse_document}
-use Rattle.pyver_projects.specs.Together.{FindsOfPart, FindsOfParts, demand_in_part, has_group, holds_in, part_conflicts, part_demands, parts, project_conflicts, same_finding, sections, with_new}
+use Rattle.pyver_projects.specs.Together.{FindsOfPart, FindsOfParts, demand_in_part, has_group, holds_in, part_conflicts, part_demands, parts, project_conflicts, project_domain, same_finding, sections, with_new}
 use Rattle.pyver_projects.proofs.Walks.{all_flat, pairs_each, zip_each}
 use Rattle.pyver_projects.specs.Comparing.{FindsOfReading, absent, beside_all, compared, compared_demand, documents_report, excluded, found_beside, found_in_pair, has_name, invalid_package, invalid_string, is_beside, is_excused, is_installer, is_locked, is_needed, lacking, outside, own_report, partly_locked, taken_packages, unlocked, unmet, with_own_reports}
 use Rattle.pyver_projects.specs.Documents.{has_group_tool, locked, project_names, sources}
 use Rattle.pyver_projects.specs.Groups.{Groups, Inclusion, groups, inclusions, no_group}
 use Rattle.pyver_projects.proofs.LockedPackages.{IsLackHere, IsOutsideHere, excluded_right, none_named, partly_right}
 use Rattle.pyver_projects.specs.Meanings.{Document, DocumentReading, IsBroken, IsBrokenReading, IsDocumentReading, IsFileReading, IsLock, IsLockedReading, IsProject, IsRequirementReading, IsSectionMeaning, IsSoundDocument, IsSoundString, IsStringReading, IsVersionReading, LockedReading, StringReading, fault_meaning, file_meaning, is_of_version, package_line, requirement_line, string_line}
-use Rattle.pyver_projects.specs.ProjectLaws.{AlwaysAsks, DocumentFindingsHold, HasLock, HasPackage, HasProject, IsDocumentFinding, IsReadable, IsReadableAs, line_in_part, part_lines}
+use Rattle.pyver_projects.specs.ProjectLaws.{AlwaysAsks, DocumentFindingsHold, HasLock, HasPackage, HasProject, IsDocumentFinding, IsReadable, IsReadableAs, IsRightPart, line_in_part, part_lines}
 use Rattle.pyver_projects.specs.ProjectStrings.{Build, Dependencies, Extra, Group, Include, Invalid, LockContents, LockFault, LockedFile, LockedPackage, LockedRequirement, ProjectString, Python, Section, Version}
 use Rattle.pyver_projects.specs.declared.document_kind.DocumentKind.{DocumentKind}
 use Rattle.pyver_projects.specs.declared.document_kind.DocumentKind.TheVariants.{Lock, Project}
@@ -133,7 +133,7 @@ asked_of all read line text section AsksNothing known is = All-nil (IsAsked line
 
 -- the lists of a string are sound
 pub sound_string : (all : Groups) (file : File) (s : ProjectString) (x : StringReading) → IsStringReading all file s x → IsSoundString x
-sound_string all file s x (same, is) =
+sound_string all file s x (same, is, python) =
     let line = string_line file s in
     All-weaker (IsAsked line_parts (line ∷ [])) IsSound (λ a asks. derived_sound line_parts a asks.1) (demands_in x.meaning)
     (asked_of all (line ∷ []) line s.text s.section x.meaning (All-head (Contains (line ∷ [])) line [] (All-contains_itself (line ∷ []))) is)
@@ -186,7 +186,7 @@ module _ (all : Groups) (file : File) (together : Bool) (has : List ℕ → Bool
   IsKnown s = All (Contains read) (line_in_part together has part file s)
 
   of_part_string : (s : ProjectString) (x : StringReading) (b : Bool) → holds_in together has part s.section ≡ b → IsKnown s → IsStringReading all file s x → All (IsAsked line_parts read) (if b then demands_in x.meaning else [])
-  of_part_string s x true e known (same, is) = asked_of all read (string_line file s) s.text s.section x.meaning (of_one (Contains read) (holds_in together has part s.section) (string_line file s) e known) is
+  of_part_string s x true e known (same, is, python) = asked_of all read (string_line file s) s.text s.section x.meaning (of_one (Contains read) (holds_in together has part s.section) (string_line file s) e known) is
   of_part_string s x false e known r = All-nil (IsAsked line_parts read)
 
   one_string : (s : ProjectString) (x : StringReading) → IsKnown s → IsStringReading all file s x → All (IsAsked line_parts read) (demand_in_part together has part x)
@@ -222,15 +222,16 @@ module _ (P : Finding → Type 0) (file : File) (t : Members) (so : (part : Sect
       with_new_all P [] (flat_map (part_conflicts (has_group_tool t) xs) (parts xs)) (All-nil P) (all_flat P (part_conflicts (has_group_tool t) xs) (parts xs) (everywhere (λ part. All P (part_conflicts (has_group_tool t) xs part)) (part_holds xs h) (parts xs)))
 
 -- what is found under several markers
-module _ (P : Finding → Type 0) (file : File) (t : Members) (so : (part : Section) (f : Finding) → IsRightPair line_parts (part_lines file t part) f → P f) where
+module _ (P : Finding → Type 0) (file : File) (t : Members) (so : (part : Section) (f : Finding) → IsRightPart file t (part_lines file t part) f → P f) where
   part_pairs_hold : (xs : List StringReading) → AllZip (IsStringReading (groups t) file) (sources t) xs → (part : Section) (fs : List Finding) (cs : List Cause) → FindsOfPart (has_group_tool t) xs part fs cs → All P fs
   part_pairs_hold xs h part fs cs finds =
       let read = part_lines file t part in
       let known = each_flat (Contains read) (line_in_part (has_group_tool t) (has_group (groups t).inclusions part) part file) (sources t) (All-contains_itself read) in
       let asks = in_part (groups t) file (has_group_tool t) (has_group (groups t).inclusions part) part read (sources t) xs known h in
       let same : inclusions (sections xs) ≡ (groups t).inclusions = ap inclusions (sections_same (groups t) file (sources t) xs h) in
-      All-weaker (IsRightPair line_parts read) P (so part) fs
-      (pairs_of_names_right line_parts read (part_demands (has_group_tool t) (inclusions (sections xs)) part xs) (subst (λ (is : List Inclusion). All (IsAsked line_parts read) (part_demands (has_group_tool t) is part xs)) (sym same) asks) fs cs finds)
+      let domain = project_domain xs in
+      All-weaker (IsRightPair line_parts domain read) P (λ f right. so part f (domain, (xs, h, refl), right)) fs
+      (pairs_of_names_right line_parts read domain (part_demands (has_group_tool t) (inclusions (sections xs)) part xs) (subst (λ (is : List Inclusion). All (IsAsked line_parts read) (part_demands (has_group_tool t) is part xs)) (sym same) asks) fs cs finds)
 
   pub pairs_hold : (xs : List StringReading) → AllZip (IsStringReading (groups t) file) (sources t) xs → (fs : List Finding) (cs : List Cause) → FindsOfParts (has_group_tool t) xs fs cs → All P fs
   pairs_hold xs h fs cs (found, finds, is) =
@@ -457,7 +458,7 @@ module _ (documents : List Document) where
         by_section false m is = All-nil Right
 
         compared_right : (x : StringReading) → IsStringReading (groups t) file s x → All Right (compared kind u.parts (project_names t) ys x)
-        compared_right x (same, is) =
+        compared_right x (same, is, python) =
             subst (λ section. All Right (if is_locked section then flat_map (compared_demand kind u.parts (project_names t) ys section) (demands_in x.meaning) else [])) (sym same) (by_section (is_locked s.section) x.meaning is)
 
     pub pair_right : (xs : List StringReading) (ys : List LockedReading) → AllZip (IsStringReading (groups t) file) (sources t) xs → AllZip (IsLockedReading lock.name) u.packages ys → All Right (flat_map (compared kind u.parts (project_names t) ys) xs)

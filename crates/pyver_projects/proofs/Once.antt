@@ -18,6 +18,7 @@ use Rattle.pyver_findings.proofs.Complete.{one_parts}
 use Rattle.pyver_findings.specs.Columns.{list_column}
 use Rattle.pyver_findings.specs.Demands.{line_demand}
 use Rattle.pyver_findings.specs.FileLines.{Conflicting, File, FileLine, Finding, NoRequirement}
+use Rattle.pep440_rs.specs.Bounds.{Segments}
 use Rattle.pyver_findings.specs.LineMeanings.{Asks, IsNone, LineMeaning, list_meaning}
 use Rattle.pyver_requirements.specs.LineParts.{line_parts}
 use Rattle.toml.specs.Data.{Members}
@@ -26,7 +27,7 @@ use Rattle.pyver_projects.specs.Comparing.{FindsOfReading, documents_report, wit
 use Rattle.pyver_projects.specs.Documents.{has_group_tool, project_names, sources}
 use Rattle.pyver_projects.specs.Groups.{Groups, groups, inclusions}
 use Rattle.pyver_projects.specs.KnownEnvironments.{ReadCondition}
-use Rattle.pyver_projects.specs.Meanings.{DocumentReading, IsBroken, IsConditionReading, IsDocumentReading, IsFileReading, IsLock, IsLockReading, IsLockedReading, IsProject, IsProjectReading, IsRequirementReading, IsSectionMeaning, IsStringReading, IsVersionReading, LockedReading, StringReading, fault_meaning, file_meaning, is_of_version, package_line, requirement_line, string_line}
+use Rattle.pyver_projects.specs.Meanings.{ArePythons, DocumentReading, IsBroken, IsConditionReading, IsDocumentReading, IsFileReading, IsLock, IsLockReading, IsLockedReading, IsProject, IsProjectReading, IsRequirementReading, IsSectionMeaning, IsStringReading, IsVersionReading, LockedReading, StringReading, fault_meaning, file_meaning, is_of_version, package_line, requirement_line, string_line, list_versions}
 use Rattle.pyver_projects.specs.ProjectLaws.{DocumentReportsOnce, IsReadable, IsReadableAs}
 use Rattle.pyver_projects.specs.ProjectStrings.{Build, Dependencies, Extra, Group, Include, Invalid, LockContents, LockedFile, LockedPackage, LockedRequirement, PackageCondition, Section, Python, ProjectString, Version}
 use Rattle.pyver_projects.specs.declared.document_kind.DocumentKind.{DocumentKind}
@@ -37,7 +38,7 @@ use Rattle.pyver_findings.specs.MarkerPairs.{FindsOfEach}
 use Rattle.pyver_findings.specs.Reports.{Report}
 use Rattle.pyver_findings.specs.declared.cause.Cause.{Cause}
 use Rattle.pyver_findings.specs.declared.cause.Cause.TheVariants as cause
-use Rattle.pyver_projects.specs.Together.{FindsOfPart, part_demands, parts, same_finding, sections, with_new}
+use Rattle.pyver_projects.specs.Together.{FindsOfPart, part_demands, parts, project_domain, same_finding, sections, with_new}
 
 one_meaning : (all : Groups) (line : FileLine) (text : List ℕ) (section : Section) (x y : LineMeaning) → IsSectionMeaning all section line text x → IsSectionMeaning all section line text y → x ≡ y
 one_meaning all line text Dependencies x y a b = one_parts line (line_parts line.text) x y a b
@@ -55,11 +56,25 @@ one_meaning all line text Version x y (inl (l, d, a)) (inr (f, r, b)) = absurd (
 one_meaning all line text Version x y (inr (f, r, a)) (inl (l, d, b)) = absurd (not_both text l f d r)
 one_meaning all line text Version x y (inr (f, r, a)) (inr (g, s, b)) = a ∙ ap (λ (h : Rejection). IsNone (NoRequirement line (rejection_text h) 0)) (one_refusal text f g r s) ∙ sym b
 
+one_python : (section : Section) (text : List ℕ) (p q : Option Segments) → ArePythons section text p → ArePythons section text q → p ≡ q
+one_python Python text p q (inl (l, d, a)) (inl (m, e, b)) = a ∙ ap list_versions (one_list text l m d e) ∙ sym b
+one_python Python text p q (inl (l, d, a)) (inr (f, r, b)) = absurd (not_both_list text l f d r)
+one_python Python text p q (inr (f, r, a)) (inl (l, d, b)) = absurd (not_both_list text l f d r)
+one_python Python text p q (inr (f, r, a)) (inr (g, s, b)) = a ∙ sym b
+one_python Version text p q a b = a ∙ sym b
+one_python Dependencies text p q a b = a ∙ sym b
+one_python (Extra name) text p q a b = a ∙ sym b
+one_python (Group name) text p q a b = a ∙ sym b
+one_python (Include group included) text p q a b = a ∙ sym b
+one_python (Invalid reason) text p q a b = a ∙ sym b
+one_python Build text p q a b = a ∙ sym b
+
 pub one_string : (all : Groups) (file : File) (s : ProjectString) (x y : StringReading) → IsStringReading all file s x → IsStringReading all file s y → x ≡ y
-one_string all file s x y (p, a) (q, b) =
+one_string all file s x y (p, a, v) (q, b, w) =
     let section = p ∙ sym q in
     let meaning = one_meaning all (string_line file s) s.text s.section x.meaning y.meaning a b in
-    λ j. record { section = section j; meaning = meaning j }
+    let python = one_python s.section s.text x.python y.python v w in
+    λ j. record { section = section j; meaning = meaning j; python = python j }
 
 one_version : (line : FileLine) (name : List ℕ) (c : Option ReadCondition) (v : Option (List ℕ)) (x y : LockedReading) → IsVersionReading line name c v x → IsVersionReading line name c v y → x ≡ y
 one_version line name c None x y a b = a ∙ sym b
@@ -130,7 +145,7 @@ one_document (Lock kind) file x y (ps, (text, e)) (inr (u, inl (ms, f, a))) (inr
 -- ---- under several markers
 
 part_told : (together : Bool) (xs : List StringReading) (part : Section) (fs : List Finding) (cs : List Cause) → FindsOfPart together xs part fs cs → IsTold cs
-part_told together xs part fs cs finds = names_tell (part_demands together (inclusions (sections xs)) part xs) fs cs finds
+part_told together xs part fs cs finds = names_tell (project_domain xs) (part_demands together (inclusions (sections xs)) part xs) fs cs finds
 
 reading_told : (x : DocumentReading) (fs : List Finding) (cs : List Cause) → FindsOfReading x fs cs → IsTold cs
 reading_told (IsProject together names xs) fs cs (found, finds, is) = each_told (FindsOfPart together xs) (part_told together xs) (parts xs) found cs finds
@@ -163,7 +178,7 @@ new_alike found (f ∷ fs) =
 reading_once : (x : DocumentReading) → IsOnce (FindsOfReading x)
 reading_once (IsProject together names xs) fs gs (found, finds, is) (others, also, so) =
     ap (map without_environment) is ∙ new_alike [] found
-    ∙ ap (with_new same_finding []) (each_once (FindsOfPart together xs) (λ part. names_once (part_demands together (inclusions (sections xs)) part xs)) (parts xs) found others finds also)
+    ∙ ap (with_new same_finding []) (each_once (FindsOfPart together xs) (λ part. names_once (project_domain xs) (part_demands together (inclusions (sections xs)) part xs)) (parts xs) found others finds also)
     ∙ sym (new_alike [] others) ∙ ap (map without_environment) (sym so)
 reading_once (IsLock parts ys ms files) fs gs (is, _) (so, _) = ap (map without_environment) (is ∙ sym so)
 reading_once (IsBroken f) fs gs (is, _) (so, _) = ap (map without_environment) (is ∙ sym so)

@@ -1,12 +1,14 @@
 -- What a string of `pyproject.toml`, a locked package and a document are to the check.
-use Rattle.std.specs.Prelude.{◌≡◌, ◌⊎◌, ℕ, ◌+◌, List, [], ◌++◌, Bool, true, false, Option, Some, None, codes, length, map, ⊤}
+use Rattle.std.specs.Prelude.{◌≡◌, ◌⊎◌, ℕ, ◌+◌, List, [], ◌++◌, Bool, true, false, Option, Some, None, codes, if◌then◌else◌, length, map, ⊤}
 use Rattle.std.specs.List.{AllZip, All}
 use Rattle.std.specs.Str.{IsUtf8}
 use Rattle.pep440_pick.specs.Names.{normal}
+use Rattle.pep440_rs.specs.Bounds.{Segments}
 use Rattle.pep440_rs.specs.Lists.ListGrammar.{DerivesList, PieceRejection, RejectsList}
 use Rattle.pep440_rs.specs.LiteralMatching.{matches_literally}
 use Rattle.pep440_rs.specs.Specifiers.{Spec}
 use Rattle.pep440_rs.specs.declared.specifier.operator.Operator.TheVariants.{Equal}
+use Rattle.pep440_sets.specs.Sets.{has_exact, list_set}
 use Rattle.pep440_version.specs.ErrorTexts.{rejection_text}
 use Rattle.pep440_version.specs.Grammar.{Derives}
 use Rattle.pep440_version.specs.Record.{Record}
@@ -48,13 +50,33 @@ IsSectionMeaning all (Include group included) line text x = x ≡ include_meanin
 IsSectionMeaning all (Invalid reason) line text x = x ≡ no_group line reason
 IsSectionMeaning all Build line text x = IsPartsMeaning line (line_parts line.text) x
 
--- a string that was read: its section, and what it is
+-- the versions that a list of specifiers contains, as a set, which one with `===` does not have
+abbrev pub list_versions : List Spec → Option Segments
+list_versions list = if has_exact list then None else Some (list_set list)
+
+-- the versions of the list that the string is, if it is one and has a set
+abbrev pub AreVersions : List ℕ → Option Segments → Type 0
+AreVersions text p = ((list : List Spec) × DerivesList text list × (p ≡ list_versions list)) ⊎ ((f : PieceRejection) × RejectsList text f × (p ≡ None))
+
+-- the versions of Python that the string, which is this text, bounds in this section
+abbrev pub ArePythons : Section → List ℕ → Option Segments → Type 0
+ArePythons Python text p = AreVersions text p
+ArePythons Version text p = p ≡ None
+ArePythons Dependencies text p = p ≡ None
+ArePythons (Extra name) text p = p ≡ None
+ArePythons (Group name) text p = p ≡ None
+ArePythons (Include group included) text p = p ≡ None
+ArePythons (Invalid reason) text p = p ≡ None
+ArePythons Build text p = p ≡ None
+
+-- a string that was read: its section, what it is, and which versions of Python there are by it, if it bounds them
 pub record StringReading : Type 0 where
   pub section : Section
   pub meaning : LineMeaning
+  pub python : Option Segments
 
 abbrev pub IsStringReading : Groups → File → ProjectString → StringReading → Type 0
-IsStringReading all file s x = (x.section ≡ s.section) × IsSectionMeaning all s.section (string_line file s) s.text x.meaning
+IsStringReading all file s x = (x.section ≡ s.section) × IsSectionMeaning all s.section (string_line file s) s.text x.meaning × ArePythons s.section s.text x.python
 
 -- ---- locked packages
 

@@ -19,6 +19,7 @@ use Rattle.pyver_findings.specs.FindingLaws.{AreAlike, HaveNone, IsRightConflict
 use Rattle.pyver_findings.specs.LineMeanings.{IsNone, IsPlain}
 use Rattle.pyver_findings.specs.Reports.{Report}
 use Rattle.pyver_findings.specs.declared.finding.Conflict.TheVariants.{PinOutside}
+use Rattle.pyver_markers.specs.Conditions.{Domain}
 use Rattle.pyver_markers.specs.Environments.{Environment}
 use Rattle.pyver_markers.specs.MarkerValues.{value}
 use Rattle.pyver_requirements.specs.LineParts.{line_parts}
@@ -31,7 +32,7 @@ use Rattle.pyver_projects.specs.Groups.{groups}
 use Rattle.pyver_projects.specs.KnownEnvironments.{known_environment, known_environments, python_record}
 use Rattle.pyver_projects.specs.Meanings.{Document, IsSectionMeaning, IsStringReading, StringReading, fault_meaning, file_meaning, is_of_version, package_line, requirement_line, string_line}
 use Rattle.pyver_projects.specs.ProjectStrings.{LockContents, LockFault, LockedFile, LockedPackage, LockedRequirement, PackageCondition, ProjectString, Section}
-use Rattle.pyver_projects.specs.Together.{has_group, holds_in, part_demands, section_part}
+use Rattle.pyver_projects.specs.Together.{has_group, holds_in, part_demands, project_domain, section_part}
 use Rattle.pyver_projects.specs.declared.document_kind.DocumentKind.{DocumentKind}
 use Rattle.pyver_projects.specs.declared.document_kind.DocumentKind.TheVariants.{Lock, Project}
 use Rattle.pyver_projects.specs.declared.document_kind.LockKind.{LockKind}
@@ -125,13 +126,21 @@ line_in_part together has part file s = if holds_in together has part s.section 
 abbrev pub part_lines : File → Members → Section → List FileLine
 part_lines file t part = flat_map (line_in_part (has_group_tool t) (has_group (groups t).inclusions part) part file) (sources t)
 
+-- the environments in which the project with this table is installed
+abbrev pub IsProjectDomain : File → Members → Domain → Type 0
+IsProjectDomain file t d = (xs : List StringReading) × AllZip (IsStringReading (groups t) file) (sources t) xs × (d ≡ project_domain xs)
+
+-- their markers hold in the one of these environments that is named
+abbrev pub IsRightPart : File → Members → List FileLine → Finding → Type 0
+IsRightPart file t lines f = (d : Domain) × IsProjectDomain file t d × IsRightPair line_parts d lines f
+
 -- lines that hold together in a part of a project have no version in common, as a finding of requirements files has none, under one marker or two
 pub record IsConflict (documents : List Document) (f : Finding) : Type 0 where
   pub file : File
   pub table : Members
   pub part : Section
   pub has : HasProject documents file table
-  pub right : IsRightConflict line_parts (part_lines file table part) f ⊎ IsRightPair line_parts (part_lines file table part) f
+  pub right : IsRightConflict line_parts (part_lines file table part) f ⊎ IsRightPart file table (part_lines file table part) f
 
 -- the version of the package is none
 pub record IsInvalidPackage (documents : List Document) (f : Finding) : Type 0 where

@@ -73,7 +73,7 @@ abbrev pub contents_of : ContentsValue → LockContents
 contents_of l = record { parts = map (λ n. n.items) l.parts.items; packages = map locked_of l.packages.items; requirements = map requirement_of l.requirements.items; files = map locked_file_of l.files.items; faults = map fault_of l.faults.items }
 
 abbrev pub string_reading_of : StringReadingValue → StringReading
-string_reading_of x = record { section = section_of x.section; meaning = line_meaning_of x.meaning }
+string_reading_of x = record { section = section_of x.section; meaning = line_meaning_of x.meaning; python = x.python }
 
 abbrev pub locked_reading_of : LockedReadingValue → LockedReading
 locked_reading_of y = record { line = file_line_of y.line; name = y.name.items; condition = option_map read_condition_of y.condition; version = y.version; invalid = option_map finding_of y.invalid }

@@ -1,13 +1,16 @@
 -- Requirements of a project that hold together: its dependencies; those of an extra with the dependencies; those of a group with the groups
 -- that it includes, and with the dependencies if `together` is true; and those of its build.
-use Rattle.std.specs.Prelude.{◌≡◌, ℕ, ◌&&◌, List, [], ◌∷◌, ◌++◌, Bool, true, false, bytes_eq, map, nat_eq, if◌then◌else◌, is_some}
+use Rattle.std.specs.Prelude.{◌≡◌, ℕ, ◌&&◌, List, [], ◌∷◌, ◌++◌, Bool, true, false, None, Option, bytes_eq, map, nat_eq, if◌then◌else◌, is_some}
 use Rattle.std.specs.List.{flat_map, list_any}
+use Rattle.std.specs.Option.{option_or}
+use Rattle.pep440_rs.specs.Bounds.{Segments}
 use Rattle.pyver_findings.specs.Conflicts.{conflicts}
 use Rattle.pyver_findings.specs.Demands.{Demand}
 use Rattle.pyver_findings.specs.FileLines.{Conflicting, FileLine, Finding, NoRequirement}
 use Rattle.pyver_findings.specs.MarkerPairs.{FindsOfEach, FindsOfNames}
 use Rattle.pyver_findings.specs.Reports.{demands_in}
 use Rattle.pyver_findings.specs.declared.cause.Cause.{Cause}
+use Rattle.pyver_markers.specs.Conditions.{Domain}
 use Rattle.pyver_projects.specs.Groups.{Inclusion, includes, inclusions}
 use Rattle.pyver_projects.specs.Meanings.{StringReading}
 use Rattle.pyver_projects.specs.ProjectStrings.{Build, Dependencies, Extra, Group, Include, Invalid, Python, Section, Version}
@@ -129,9 +132,18 @@ project_conflicts together xs = with_new same_finding [] (flat_map (part_conflic
 abbrev pub is_marked : Demand → Bool
 is_marked a = is_some a.marker
 
+-- the versions of Python that the project with these strings is for, or all: those of `requires-python`, if it has a set of versions
+abbrev pub project_python : List StringReading → Option Segments
+project_python [] = None
+project_python (x ∷ xs) = option_or x.python (project_python xs)
+
+-- the environments in which the project is installed, each of one system
+abbrev pub project_domain : List StringReading → Domain
+project_domain xs = record { linked = true; python = project_python xs }
+
 -- of the requirements of a part those that have no version in common under several markers that hold together
 abbrev pub FindsOfPart : Bool → List StringReading → Section → List Finding → List Cause → Type 0
-FindsOfPart together xs part = FindsOfNames (part_demands together (inclusions (sections xs)) part xs)
+FindsOfPart together xs part = FindsOfNames (project_domain xs) (part_demands together (inclusions (sections xs)) part xs)
 
 -- of each part, each finding once
 abbrev pub FindsOfParts : Bool → List StringReading → List Finding → List Cause → Type 0

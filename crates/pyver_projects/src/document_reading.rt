@@ -1,12 +1,13 @@
 //! What strings of a project and documents are to the check.
 ghost use Rattle.std.specs.Prelude.{◌≡◌, IfOk, IfSome, Some, map, string_bytes, is_none, false};
 ghost use Rattle.pyver_projects.specs.Documents.{locked, toml_contents};
-ghost use Rattle.pyver_projects.specs.Meanings.{IsBrokenReading, IsContentsReading, IsDocumentReading, IsLockReading, IsProjectReading, IsTextReading, IsSectionMeaning, IsStringReading, IsVersionMeaning};
+ghost use Rattle.pyver_projects.specs.Meanings.{ArePythons, AreVersions, IsBrokenReading, IsContentsReading, IsDocumentReading, IsLockReading, IsProjectReading, IsTextReading, IsSectionMeaning, IsStringReading, IsVersionMeaning, list_versions};
 ghost use Rattle.pyver_projects.specs.ProjectViews.{contents_of, document_of, document_reading_of, HasGroups, groups_of, project_string_of, section_of, string_reading_of};
 ghost use Rattle.pyver_projects.specs.declared.document_kind.DocumentKind.TheVariants as of_kind;
 ghost use Rattle.pyver_projects.specs.declared.document_kind.LockKind.TheVariants as lock_kind;
 ghost use Rattle.toml.specs.View.{table_view};
-ghost use Rattle.std.specs.List.{AllZip};
+ghost use Rattle.std.specs.List.{All, AllZip};
+ghost use Rattle.pep440_rs.specs.Denoted.{IsDenotable};
 ghost use Rattle.pep440_version.specs.Errors.{error_rejection};
 ghost use Rattle.pep440_version.specs.ErrorTexts.{error_text, rejection_text};
 ghost use Rattle.pep440_version.specs.Rejections.{Rejection};
@@ -27,7 +28,8 @@ use crate::pipfile_lock::pipfile_contents;
 use crate::place::{QuotedLines, position_of, read_quoted_lines, reject_document, string_line};
 use crate::project::{ProjectString, Section, project_strings};
 use crate::toml_lock::toml_contents;
-use pep440_rs::{ErrorKind, Version, VersionParseError};
+use pep440_rs::{ErrorKind, Version, VersionParseError, VersionSpecifiers};
+use pep440_sets::{SetError, VersionSet};
 use pyver_findings::{FileLine, Finding, LineMeaning, parse_requirement, parse_specifiers};
 use serde_json::Value;
 use std::alloc::{AllocError, Global};
@@ -256,6 +258,47 @@ pub(crate) fn read_document(
 pub(crate) struct StringReading {
     pub(crate) section: Section,
     pub(crate) meaning: LineMeaning,
+    // The versions of Python that there are by it, if it bounds them.
+    pub(crate) python: Option<VersionSet>,
+}
+
+// The versions that the list contains, unless it has `===`.
+fn list_versions(alloc: Global, list: &VersionSpecifiers) -> Result<Option<VersionSet>, AllocError>
+    requires { All IsDenotable list.now }
+    ensures { IfOk result (λ set. set ≡ list_versions list.now) }
+{
+    match VersionSet::from_specifiers(alloc, list.as_slice()) {
+        Ok(set) => Ok(Some(set)),
+        Err(SetError::ArbitraryEquality) => Ok(None),
+        Err(SetError::OutOfMemory) => Err(AllocError),
+    }
+}
+
+// The versions of the list that the string is, if it is one.
+fn parse_versions(alloc: Global, text: &str) -> Result<Option<VersionSet>, AllocError>
+    ensures { IfOk result (AreVersions text.now) }
+{
+    match VersionSpecifiers::from_str(alloc, text) {
+        Ok(list) => list_versions(alloc, &list),
+        Err(error) if error.is_out_of_memory() => Err(AllocError),
+        Err(_) => Ok(None),
+    }
+}
+
+// The versions of Python that the string bounds in this section.
+fn parse_python(
+    alloc: Global,
+    section: &Section,
+    text: &str,
+) -> Result<Option<VersionSet>, AllocError>
+    ensures { IfOk result (ArePythons (section_of section.now) text.now) }
+{
+    match section {
+        Section::Python => parse_versions(alloc, text),
+        Section::Version | Section::Dependencies | Section::Build => Ok(None),
+        Section::Extra(_) | Section::Group(_) => Ok(None),
+        Section::Include(_, _) | Section::Invalid(_) => Ok(None),
+    }
 }
 
 fn reject(line: &FileLine, reason: String) -> Result<LineMeaning, AllocError>
@@ -351,10 +394,13 @@ fn read_string(
     ensures { IfOk result (λ x. IsStringReading (groups_of groups.now) (record { name = name.now; text = lines.now.text.now }) (project_string_of string.now) (string_reading_of x)) }
 {
     let line = string_line(alloc, name, lines, string)?;
-    let meaning = parse_string(alloc, groups, &string.section, &line, string.text.as_str())?;
+    let text = string.text.as_str();
+    let meaning = parse_string(alloc, groups, &string.section, &line, text)?;
+    let python = parse_python(alloc, &string.section, text)?;
     Ok(StringReading {
         section: string.section.clone()?,
         meaning,
+        python,
     })
 }
 

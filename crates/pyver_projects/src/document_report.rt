@@ -31,6 +31,7 @@ fn push_string(report: &mut Report, string: StringReading) -> Result<(), AllocEr
     let StringReading {
         section: _section,
         meaning,
+        python: _python,
     } = string;
     match meaning {
         LineMeaning::IsNone(finding) => report.findings.push(finding)?,
@@ -292,7 +293,8 @@ fn read_documents<'a>(
 /// Then what is wrong in each project beside each lock in its folder, or in the nearest above that has one of its kind, and beside each
 /// lock for which that is no project: for each requirement, in order, whether the lock lacks a package of its name, or such an environment,
 /// and the lines of the locked versions of its name with the line of the requirement, if it contains none. Then the requirements of each project that hold
-/// together and have no version in common under several markers, as `pyver_findings` reports them.
+/// together and have no version in common under several markers, as `pyver_findings` reports them, in an environment with a version of Python that
+/// `project.requires-python` contains, if that is a list without `===`.
 ///
 /// Of `pyproject.toml` these are read: `project.dependencies`, `project.optional-dependencies`, `project.requires-python`,
 /// `project.version`, `dependency-groups` with the names of included groups, and `build-system.requires`; of a lock the names and

@@ -5,18 +5,21 @@ ghost use Rattle.pyver_findings.specs.Demands.{IsSound};
 ghost use Rattle.pyver_findings.specs.Reports.{demands_in};
 ghost use Rattle.pyver_findings.specs.MarkerPairs.{FindsOfEach};
 ghost use Rattle.pyver_findings.specs.Views.{AddsFound, demand_of, file_line_of, finding_of, line_meaning_of};
+ghost use Rattle.pyver_markers.specs.EnvironmentViews.{domain_of};
 ghost use Rattle.pyver_projects.specs.Groups.{inclusions as inclusions_in};
 ghost use Rattle.pyver_projects.specs.ProjectViews.{IsInclusionIndex, has_key, inclusions_of, section_of, string_reading_of};
 ghost use Rattle.pyver_projects.specs.Meanings.{IsSoundString};
-ghost use Rattle.pyver_projects.specs.Together.{FindsOfPart, FindsOfParts, all_demands, demand_in_part, has_dependencies, has_group, holds_in, is_build, is_extra, is_marked, part_conflicts, part_demands, parts, project_conflicts, same_finding, same_line, same_lines, same_part, section_part, sections, with_new};
+ghost use Rattle.pyver_projects.specs.Together.{FindsOfPart, FindsOfParts, all_demands, demand_in_part, has_dependencies, has_group, holds_in, is_build, is_extra, is_marked, part_conflicts, part_demands, parts, project_conflicts, project_domain, project_python, same_finding, same_line, same_lines, same_part, section_part, sections, with_new};
 ghost use Rattle.pyver_findings.specs.Conflicts.{conflicts};
 
 use crate::document_reading::StringReading;
 use crate::groups::{InclusionIndex, included_groups, inclusions};
 use crate::project::Section;
+use pep440_sets::VersionSet;
 use pyver_findings::{
     Cause, Demand, FileLine, Finding, LineMeaning, push_conflicts, push_marker_conflicts,
 };
+use pyver_markers::Domain;
 use std::alloc::{AllocError, Global};
 use std::collections::HashMap;
 
@@ -347,6 +350,30 @@ pub(crate) fn project_conflicts(
 
 // ---- under several markers
 
+// The versions of Python that the project with these strings is for, or all.
+fn project_python(strings: &[StringReading]) -> Option<&VersionSet>
+    ensures { option_map (λ set. set.now) result ≡ project_python (map string_reading_of strings.now) }
+{
+    let mut rest = strings;
+    while let [string, later @ ..] = rest {
+        if let Some(versions) = &string.python {
+            return Some(versions);
+        }
+        rest = later;
+    }
+    None
+}
+
+// The environments in which the project is installed.
+fn project_domain(strings: &[StringReading]) -> Domain<'_>
+    ensures { domain_of result ≡ project_domain (map string_reading_of strings.now) }
+{
+    Domain {
+        linked: true,
+        python: project_python(strings),
+    }
+}
+
 // Adds what is wrong with the requirements of the part under several markers.
 fn push_part_pairs(
     alloc: Global,
@@ -361,7 +388,8 @@ fn push_part_pairs(
     ensures { IfOk result (λ _. AddsFound (FindsOfPart project.now.together (map string_reading_of project.now.strings.now) (section_of part.now)) findings.old.items findings.new.items left_out.old.items left_out.new.items) }
 {
     let demands = part_demands(alloc, project, part)?;
-    push_marker_conflicts(alloc, findings, left_out, demands.as_slice())?;
+    let domain = project_domain(project.strings);
+    push_marker_conflicts(alloc, findings, left_out, demands.as_slice(), domain)?;
     Ok(())
 }
 
