@@ -95,7 +95,7 @@ of_section all line text a Dependencies is = of_parts line (line_parts line.text
 of_section all line text a (Extra name) is = of_parts line (line_parts line.text) a is
 of_section all line text a (Group name) is = of_parts line (line_parts line.text) a is
 of_section all line text a (Include group included) is = absurd (no_include a line _ _ _ _ is)
-of_section all line text a (Invalid reason) is = cc is
+of_section all line text a (Invalid table reason) is = cc is
 of_section all line text a Build is = of_parts line (line_parts line.text) a is
 
 module _ (line : FileLine) (n : Needed) (plain : IsPlain (line_parts line.text).requirement) (d : DerivesRequirement (line_parts line.text).requirement n) (marker : (line_parts line.text).marker ≡ None) (url : (line_parts line.text).url ≡ None) where
@@ -114,7 +114,7 @@ module _ (line : FileLine) (n : Needed) (plain : IsPlain (line_parts line.text).
   asks_always all text (Extra name) x counts is = of_its_requirement x is
   asks_always all text (Group name) x counts is = of_its_requirement x is
   asks_always all text (Include group included) x counts is = cc counts
-  asks_always all text (Invalid reason) x counts is = cc counts
+  asks_always all text (Invalid table reason) x counts is = cc counts
   asks_always all text Build x counts is = cc counts
   asks_always all text Python x counts is = cc counts
   asks_always all text Version x counts is = cc counts

@@ -19,40 +19,40 @@ use Rattle.pyver_projects.specs.declared.document_kind.LockKind.{LockKind}
 
 -- ---- `pyproject.toml`
 
--- the name of a value that is invalid for this reason
-abbrev pub invalid_name : List ℕ → List ℕ → List ProjectString
-invalid_name name reason = record { section = Invalid reason; text = name } ∷ []
+-- the name of a value in this table that is invalid for this reason
+abbrev pub invalid_name : List ℕ → List ℕ → List ℕ → List ProjectString
+invalid_name table name reason = record { section = Invalid table reason; text = name } ∷ []
 
 -- the name for this reason, unless it is right
-abbrev pub unless : Bool → List ℕ → List ℕ → List ProjectString
-unless is_right name reason = if is_right then [] else invalid_name name reason
+abbrev pub unless : Bool → List ℕ → List ℕ → List ℕ → List ProjectString
+unless is_right table name reason = if is_right then [] else invalid_name table name reason
 
 -- the string, or that the value at this name is none
-abbrev pub string_or : List ℕ → List ℕ → Section → Option (List ℕ) → List ProjectString
-string_or name reason section None = invalid_name name reason
-string_or name reason section (Some text) = record { section = section; text = text } ∷ []
+abbrev pub string_or : List ℕ → List ℕ → List ℕ → Section → Option (List ℕ) → List ProjectString
+string_or table name reason section None = invalid_name table name reason
+string_or table name reason section (Some text) = record { section = section; text = text } ∷ []
 
 -- the string at this name, if there is a value
-abbrev pub text_sources : List ℕ → Section → Option Data → List ProjectString
-text_sources name section None = []
-text_sources name section (Some d) = string_or name (codes "not a string") section (as_str d)
+abbrev pub text_sources : List ℕ → List ℕ → Section → Option Data → List ProjectString
+text_sources table name section None = []
+text_sources table name section (Some d) = string_or table name (codes "not a string") section (as_str d)
 
 -- an item of the array at this name, which is to be a string
-abbrev pub source_from : List ℕ → Section → Data → List ProjectString
-source_from name section d = string_or name (codes "not an array of strings") section (as_str d)
+abbrev pub source_from : List ℕ → List ℕ → Section → Data → List ProjectString
+source_from table name section d = string_or table name (codes "not an array of strings") section (as_str d)
 
 -- the strings of the array at this name
-abbrev pub array_sources : List ℕ → Section → Option Data → List ProjectString
-array_sources name section value = unless (is_array_or_none value) name (codes "not an array of strings") ++ flat_map (source_from name section) (listed value)
+abbrev pub array_sources : List ℕ → List ℕ → Section → Option Data → List ProjectString
+array_sources table name section value = unless (is_array_or_none value) table name (codes "not an array of strings") ++ flat_map (source_from table name section) (listed value)
 
 -- an item of `dynamic`, which is to name a field that the table does not have (PEP 621, "dynamic")
 abbrev pub dynamic_source : Option Data → Option (List ℕ) → List ProjectString
-dynamic_source project None = invalid_name (codes "dynamic") (codes "not an array of strings")
-dynamic_source project (Some name) = unless (is_none (inside name project)) name (codes "both dynamic and given")
+dynamic_source project None = invalid_name (codes "project.") (codes "dynamic") (codes "not an array of strings")
+dynamic_source project (Some name) = unless (is_none (inside name project)) (codes "project.dynamic.") name (codes "both dynamic and given")
 
 -- what is wrong with the fields that the table `project` says to be dynamic
 abbrev pub dynamic_sources : Option Data → List ProjectString
-dynamic_sources project = unless (is_array_or_none (inside (codes "dynamic") project)) (codes "dynamic") (codes "not an array of strings")
+dynamic_sources project = unless (is_array_or_none (inside (codes "dynamic") project)) (codes "project.") (codes "dynamic") (codes "not an array of strings")
     ++ flat_map (λ (d : Data). dynamic_source project (as_str d)) (listed (inside (codes "dynamic") project))
 
 -- ---- names
@@ -66,16 +66,16 @@ abbrev pub entry_names : List (List ℕ × Data) → List (List ℕ)
 entry_names es = map entry_name es
 
 -- the name for this reason, if another one of these is the same
-abbrev pub repeated_name : List ℕ → List (List ℕ) → List ℕ → List ProjectString
-repeated_name reason names name = if nat_lt 1 (count_by (bytes_eq (normal name)) names) then invalid_name name reason else []
+abbrev pub repeated_name : List ℕ → List ℕ → List (List ℕ) → List ℕ → List ProjectString
+repeated_name table reason names name = if nat_lt 1 (count_by (bytes_eq (normal name)) names) then invalid_name table name reason else []
 
 -- that the name is none (PEP 508, "Names"), or for this reason that another one of these is the same (PEP 685; PEP 735, "Specification")
-abbrev pub name_faults : List ℕ → List (List ℕ) → List ℕ → List ProjectString
-name_faults reason names name = unless (is_name name) name (codes "not a valid name") ++ repeated_name reason names name
+abbrev pub name_faults : List ℕ → List ℕ → List (List ℕ) → List ℕ → List ProjectString
+name_faults table reason names name = unless (is_name name) table name (codes "not a valid name") ++ repeated_name table reason names name
 
 -- the strings of the array of an extra, beside those with these names
 abbrev pub extra_sources : List (List ℕ) → List ℕ × Data → List ProjectString
-extra_sources names e = name_faults (codes "another extra has this name") names e.0 ++ array_sources e.0 (Extra (normal e.0)) (Some e.1)
+extra_sources names e = name_faults (codes "project.optional-dependencies.") (codes "another extra has this name") names e.0 ++ array_sources (codes "project.optional-dependencies.") e.0 (Extra (normal e.0)) (Some e.1)
 
 -- ---- groups
 
@@ -95,41 +95,41 @@ included_name d = if nat_eq (length (entries (Some d))) 1 then text_in (get (cod
 abbrev pub item_source : List ℕ → Option (List ℕ) → Option (List ℕ) → List ProjectString
 item_source name (Some text) included = record { section = Group (normal name); text = text } ∷ []
 item_source name None (Some included) = record { section = Include (normal name) (normal included); text = included } ∷ []
-item_source name None None = invalid_name name (codes "an item is neither a requirement nor an included group")
+item_source name None None = invalid_name (codes "dependency-groups.") name (codes "an item is neither a requirement nor an included group")
 
 abbrev pub item_sources : List ℕ → Data → List ProjectString
 item_sources name d = item_source name (as_str d) (included_name d)
 
 -- the strings of the array of a group, and the names of those that it includes
 abbrev pub group_items : List ℕ → Data → List ProjectString
-group_items name d = unless (is_array_or_none (Some d)) name (codes "not an array") ++ flat_map (item_sources name) (listed (Some d))
+group_items name d = unless (is_array_or_none (Some d)) (codes "dependency-groups.") name (codes "not an array") ++ flat_map (item_sources name) (listed (Some d))
 
 -- the same, beside these groups
 abbrev pub group_sources : List (List ℕ) → List ℕ × Data → List ProjectString
-group_sources names e = name_faults (codes "another group has this name") names e.0 ++ group_items e.0 e.1
+group_sources names e = name_faults (codes "dependency-groups.") (codes "another group has this name") names e.0 ++ group_items e.0 e.1
 
 -- ---- all strings
 
 -- that the value at this name is no table, if there is one
-abbrev pub table_fault : List ℕ → Option Data → List ProjectString
-table_fault name value = unless (is_table_or_none value) name (codes "not a table")
+abbrev pub table_fault : List ℕ → List ℕ → Option Data → List ProjectString
+table_fault table name value = unless (is_table_or_none value) table name (codes "not a table")
 
 -- the strings of the extras in this table
 abbrev pub optional_sources : Option Data → List ProjectString
-optional_sources extras = table_fault (codes "optional-dependencies") extras ++ flat_map (extra_sources (entry_names (entries extras))) (entries extras)
+optional_sources extras = table_fault (codes "project.") (codes "optional-dependencies") extras ++ flat_map (extra_sources (entry_names (entries extras))) (entries extras)
 
 -- the strings in the table `project`
 abbrev pub table_sources : Option Data → List ProjectString
-table_sources project = array_sources (codes "dependencies") Dependencies (inside (codes "dependencies") project)
+table_sources project = array_sources (codes "project.") (codes "dependencies") Dependencies (inside (codes "dependencies") project)
     ++ (optional_sources (inside (codes "optional-dependencies") project)
-    ++ (text_sources (codes "requires-python") Python (inside (codes "requires-python") project)
-    ++ text_sources (codes "version") Version (inside (codes "version") project)))
+    ++ (text_sources (codes "project.") (codes "requires-python") Python (inside (codes "requires-python") project)
+    ++ text_sources (codes "project.") (codes "version") Version (inside (codes "version") project)))
 
 -- the names of tables that are none
 abbrev pub table_faults : Members → List ProjectString
-table_faults document = table_fault (codes "project") (get_member (codes "project") document)
-    ++ (table_fault (codes "dependency-groups") (get_member (codes "dependency-groups") document)
-    ++ table_fault (codes "build-system") (get_member (codes "build-system") document))
+table_faults document = table_fault [] (codes "project") (get_member (codes "project") document)
+    ++ (table_fault [] (codes "dependency-groups") (get_member (codes "dependency-groups") document)
+    ++ table_fault [] (codes "build-system") (get_member (codes "build-system") document))
 
 -- the strings of `pyproject.toml`. Those of an included group stand in that group alone
 abbrev pub sources : Members → List ProjectString
@@ -137,7 +137,7 @@ sources document = table_faults document
     ++ (table_sources (get_member (codes "project") document)
     ++ (dynamic_sources (get_member (codes "project") document)
     ++ (flat_map (group_sources (group_names document)) (groups_table document)
-    ++ array_sources (codes "requires") Build (inside (codes "requires") (get_member (codes "build-system") document)))))
+    ++ array_sources (codes "build-system.") (codes "requires") Build (inside (codes "requires") (get_member (codes "build-system") document)))))
 
 -- the name of the project as it is written, by PEP 621 or as Poetry has it
 abbrev pub written_name : Members → Option (List ℕ)

@@ -18,7 +18,7 @@ inclusion (Include group included) = record { group = group; included = included
 inclusion Dependencies = []
 inclusion (Extra name) = []
 inclusion (Group name) = []
-inclusion (Invalid reason) = []
+inclusion (Invalid table reason) = []
 inclusion Build = []
 inclusion Python = []
 inclusion Version = []

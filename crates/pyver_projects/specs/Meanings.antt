@@ -24,7 +24,7 @@ use Rattle.pyver_projects.specs.Documents.{has_group_tool, locked, project_names
 use Rattle.pyver_projects.specs.Groups.{Groups, groups, include_meaning, no_group}
 use Rattle.pyver_projects.specs.KnownEnvironments.{ReadCondition}
 use Rattle.pyver_projects.specs.PackageRequirements.{package_text, requirement_text}
-use Rattle.pyver_projects.specs.ProjectStrings.{Build, Dependencies, Extra, Group, Include, Invalid, LockContents, LockFault, LockedFile, LockedPackage, LockedRequirement, PackageCondition, ProjectString, Python, Section, Version, first_line, number_or_one}
+use Rattle.pyver_projects.specs.ProjectStrings.{Build, Dependencies, Extra, Group, Include, Invalid, LockContents, LockFault, LockedFile, LockedPackage, LockedRequirement, PackageCondition, ProjectString, Python, Section, Version, string_number}
 use Rattle.pyver_projects.specs.declared.document_kind.DocumentKind.{DocumentKind}
 use Rattle.pyver_projects.specs.declared.document_kind.DocumentKind.TheVariants.{Lock, Project}
 use Rattle.pyver_findings.specs.Reports.{demands_in}
@@ -33,7 +33,7 @@ use Rattle.pyver_findings.specs.Reports.{demands_in}
 
 -- a string as a line of the file
 abbrev pub string_line : File → ProjectString → FileLine
-string_line file s = record { file = file.name; number = number_or_one (first_line file.text s.text); text = s.text; comment = [] }
+string_line file s = record { file = file.name; number = string_number file.text s.section s.text; text = s.text; comment = [] }
 
 -- what a string of this line is that is to be a version
 abbrev pub IsVersionMeaning : FileLine → List ℕ → LineMeaning → Type 0
@@ -47,7 +47,7 @@ IsSectionMeaning all Dependencies line text x = IsPartsMeaning line (line_parts 
 IsSectionMeaning all (Extra name) line text x = IsPartsMeaning line (line_parts line.text) x
 IsSectionMeaning all (Group name) line text x = IsPartsMeaning line (line_parts line.text) x
 IsSectionMeaning all (Include group included) line text x = x ≡ include_meaning all line group included
-IsSectionMeaning all (Invalid reason) line text x = x ≡ no_group line reason
+IsSectionMeaning all (Invalid table reason) line text x = x ≡ no_group line reason
 IsSectionMeaning all Build line text x = IsPartsMeaning line (line_parts line.text) x
 
 -- the versions that a list of specifiers contains, as a set, which one with `===` does not have

@@ -1,10 +1,12 @@
 -- What documents have: values of TOML that are tables, arrays or strings; strings that are to be requirements, lists of specifiers or versions,
 -- and locked packages; and where they stand.
-use Rattle.std.specs.Prelude.{Bool, List, None, Option, Some, [], bytes_eq, count_by, if◌then◌else◌, length, nat_eq, nat_lt, not, take, true, ℕ, ◌&&◌, ◌++◌, ◌+◌, ◌==◌, ◌||◌, ◌∷◌, ◌≡◌, is_some, option_and_then}
-use Rattle.std.specs.List.{prefix_len, starts_with}
+use Rattle.std.specs.Prelude.{Bool, List, None, Option, Some, [], bytes_eq, codes, count_by, drop, if◌then◌else◌, length, nat_eq, nat_lt, not, take, true, ℕ, ◌%◌, ◌&&◌, ◌++◌, ◌+◌, ◌==◌, ◌||◌, ◌∷◌, ◌≡◌, is_some, option_and_then}
+use Rattle.std.specs.List.{filter, prefix_len, starts_with}
+use Rattle.std.specs.Option.{option_or}
 use Rattle.std.specs.BTreeMap.{get_by}
 use Rattle.std.specs.Cmp.Lexicographic.{slice_cmp}
 use Rattle.std.specs.Ordering.{nat_cmp}
+use Rattle.pyver_projects.specs.declared.place.Places.{Places}
 use Rattle.pyver_projects.specs.declared.place.QuotedLines.{QuotedLines}
 use Rattle.toml.specs.Data.{Data, Items, Members, as_array, as_str, as_table, get, item, member, no_items, no_members}
 
@@ -53,13 +55,13 @@ abbrev pub is_table_or_none : Option Data → Bool
 is_table_or_none value = is_some_or as_table value
 
 -- where a string stands in `pyproject.toml`: extras and groups by the normal forms of their names, and for the name of a group that another
--- includes both; or, for the name of a group that is invalid, why it is
+-- includes both; or, for a key or a name that is invalid, the path of what it stands in, and why it is
 pub data Section : Type 0 where
   Dependencies : Section
   Extra : List ℕ → Section
   Group : List ℕ → Section
   Include : (group included : List ℕ) → Section
-  Invalid : (reason : List ℕ) → Section
+  Invalid : (table reason : List ℕ) → Section
   Build : Section
   Python : Section
   Version : Section
@@ -172,3 +174,102 @@ known_line lines string = get_by (λ k. slice_cmp nat_cmp string k.now) lines.nu
 -- each string has the number of its first line in the document
 abbrev pub HasQuotedLines : QuotedLines → Type 0
 HasQuotedLines lines = (string : List ℕ) → known_line lines string ≡ first_line lines.text.now string
+
+-- ---- keys, by paths, in which a dot is after each
+
+-- what counts in a key: all but blanks, quotes and `[`
+abbrev pub is_key_byte : ℕ → Bool
+is_key_byte b = not (b == 32 || (b == 9 || (b == 91 || is_string_quote b)))
+
+-- the path of a key in the table, or of the name of a table in another
+abbrev pub key_path : List ℕ → List ℕ → List ℕ
+key_path table key = table ++ (filter is_key_byte key ++ codes ".")
+
+-- what the text begins with, up to a newline
+abbrev pub line_at : List ℕ → List ℕ
+line_at text = take (others 10 text) text
+
+abbrev pub after_blanks : List ℕ → List ℕ
+after_blanks line = drop (prefix_len (λ b. b == 32 || b == 9) line) line
+
+-- the name of a table, if the line is its header
+abbrev pub header_name : List ℕ → Option (List ℕ)
+header_name line = if starts_with nat_eq (after_blanks line) (codes "[") then before_next 93 line else None
+
+abbrev pub unless_open : List ℕ → Option (List ℕ)
+unless_open key = if count_by is_string_quote key % 2 == 0 then Some key else None
+
+-- what the line has before `=`, unless that stands in quotes
+abbrev pub line_key : List ℕ → Option (List ℕ)
+line_key line = option_and_then unless_open (before_next 61 line)
+
+-- the path of a table whose keys are read
+abbrev pub read_table : List ℕ → Option (List ℕ)
+read_table path =
+    if bytes_eq path (codes "project.") then Some (codes "project.")
+    else if bytes_eq path (codes "project.optional-dependencies.") then Some (codes "project.optional-dependencies.")
+    else if bytes_eq path (codes "dependency-groups.") then Some (codes "dependency-groups.")
+    else if bytes_eq path (codes "build-system.") then Some (codes "build-system.")
+    else None
+
+-- the table that the lines after one with this header stand in, if it is read
+abbrev pub table_after : Option (List ℕ) → Option (List ℕ) → Option (List ℕ)
+table_after table None = table
+table_after table (Some name) = read_table (key_path [] name)
+
+pub record KeyLine : Type 0 where
+  pub path : List ℕ
+  pub line : ℕ
+
+abbrev pub key_on : ℕ → Option (List ℕ) → Option (List ℕ) → List KeyLine
+key_on number None key = []
+key_on number (Some table) None = []
+key_on number (Some table) (Some key) = record { path = key_path table key; line = number } ∷ []
+
+-- the key that the line with this number has, or the table of which it is the header
+abbrev pub line_keys : ℕ → Option (List ℕ) → List ℕ → Option (List ℕ) → List KeyLine
+line_keys number table line None = key_on number table (line_key line)
+line_keys number table line (Some name) = key_on number (Some []) (Some name)
+
+-- the keys of lines: of these bytes, the first of which is on the line with this number, at its start or not, in this table
+abbrev pub keys_from : Option (List ℕ) → Bool → ℕ → List ℕ → List KeyLine
+keys_from table starts number [] = []
+keys_from table starts number (b ∷ rest) =
+    (if starts then line_keys number table (line_at (b ∷ rest)) (header_name (line_at (b ∷ rest))) else [])
+    ++ keys_from (if starts then table_after table (header_name (line_at (b ∷ rest))) else table) (b == 10) (number_after number b) rest
+
+-- the keys of the lines of a document
+abbrev pub document_keys : List ℕ → List KeyLine
+document_keys text = keys_from (Some []) true 1 text
+
+abbrev pub first_key : List ℕ → List KeyLine → Option ℕ
+first_key path [] = None
+first_key path (k ∷ ks) = number_or path k.line (Some k.path) (first_key path ks)
+
+-- the number of the first line that has the key with this path
+abbrev pub key_line : List ℕ → List ℕ → Option ℕ
+key_line text path = first_key path (document_keys text)
+
+-- the path of what the strings of a section stand in
+abbrev pub section_path : Section → List ℕ
+section_path Dependencies = codes "project.dependencies."
+section_path (Extra name) = codes "project.optional-dependencies."
+section_path (Group name) = codes "dependency-groups."
+section_path (Include group included) = codes "dependency-groups."
+section_path (Invalid table reason) = table
+section_path Build = codes "build-system.requires."
+section_path Python = codes "project.requires-python."
+section_path Version = codes "project.version."
+
+-- the number of the line of a key that is invalid
+abbrev pub own_line : List ℕ → Section → List ℕ → Option ℕ
+own_line text (Invalid table reason) name = key_line text (key_path table name)
+own_line text section name = None
+
+-- the number of the line of a string: a key has its own, another string the first on which it opens, or that of what it stands in; or 1
+abbrev pub string_number : List ℕ → Section → List ℕ → ℕ
+string_number text section string = number_or_one (option_or (own_line text section string) (option_or (first_line text string) (key_line text (section_path section))))
+
+-- each path and string has the number of its first line in the document
+abbrev pub HasPlaces : Places → Type 0
+HasPlaces places = HasQuotedLines places.quoted × ((path : List ℕ) → get_by (λ k. slice_cmp nat_cmp path k.now) places.keys ≡ key_line places.quoted.text.now path)

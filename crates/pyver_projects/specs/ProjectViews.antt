@@ -5,7 +5,7 @@ use Rattle.pyver_findings.specs.Views.{file_line_of, file_of, finding_of, line_m
 use Rattle.pyver_projects.specs.Groups.{Inclusion, Groups}
 use Rattle.pyver_projects.specs.KnownEnvironments.{ReadCondition}
 use Rattle.pyver_projects.specs.Meanings.{Document, DocumentReading, IsBroken, IsLock, IsProject, LockedReading, StringReading}
-use Rattle.pyver_projects.specs.ProjectStrings.{Build, Dependencies, Extra, Group, Include, Invalid, LockContents, LockFault, LockedFile, LockedPackage, LockedRequirement, PackageCondition, Section, Python, ProjectString, Version}
+use Rattle.pyver_projects.specs.ProjectStrings.{Build, Dependencies, Extra, Group, Include, Invalid, KeyLine, LockContents, LockFault, LockedFile, LockedPackage, LockedRequirement, PackageCondition, Section, Python, ProjectString, Version}
 use Rattle.pyver_projects.specs.declared.document_kind.Document.{Document as DocumentValue}
 use Rattle.pyver_projects.specs.declared.document_reading.DocumentReading.{DocumentReading as DocumentReadingValue}
 use Rattle.pyver_projects.specs.declared.document_reading.ReadDocument.{ReadDocument as ReadDocumentValue}
@@ -19,6 +19,7 @@ use Rattle.pyver_projects.specs.declared.locked_package.LockedFile.{LockedFile a
 use Rattle.pyver_projects.specs.declared.locked_package.LockedPackage.{LockedPackage as LockedValue}
 use Rattle.pyver_projects.specs.declared.locked_package.LockedRequirement.{LockedRequirement as RequirementValue}
 use Rattle.pyver_projects.specs.declared.locked_reading.LockedReading.{LockedReading as LockedReadingValue}
+use Rattle.pyver_projects.specs.declared.place.KeyLine.{KeyLine as KeyLineValue}
 use Rattle.pyver_projects.specs.declared.project.ProjectString.{ProjectString as SourceValue}
 use Rattle.pyver_projects.specs.declared.project.Section.{Section as SectionValue}
 use Rattle.pyver_projects.specs.declared.project.Section.TheVariants as section
@@ -40,10 +41,13 @@ section_of section.Dependencies = Dependencies
 section_of (section.Extra name) = Extra name.items
 section_of (section.Group name) = Group name.items
 section_of (section.Include group included) = Include group.items included.items
-section_of (section.Invalid reason) = Invalid reason.now
+section_of (section.Invalid table reason) = Invalid table.now reason.now
 section_of section.Build = Build
 section_of section.Python = Python
 section_of section.Version = Version
+
+abbrev pub key_line_of : KeyLineValue → KeyLine
+key_line_of k = record { path = k.path.items; line = k.number }
 
 abbrev pub project_string_of : SourceValue → ProjectString
 project_string_of s = record { section = section_of s.section; text = string_bytes s.text }

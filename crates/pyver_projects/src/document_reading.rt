@@ -15,7 +15,7 @@ ghost use Rattle.pyver_findings.specs.FileLines.{NoRequirement};
 ghost use Rattle.pyver_findings.specs.LineMeanings.{IsNone};
 ghost use Rattle.pyver_findings.specs.Views.{file_line_of, line_meaning_of};
 ghost use Rattle.pyver_projects.specs.Groups.{include_meaning, no_group};
-ghost use Rattle.pyver_projects.specs.ProjectStrings.{HasQuotedLines};
+ghost use Rattle.pyver_projects.specs.ProjectStrings.{HasPlaces};
 
 use crate::document_kind::{Document, DocumentKind, LockKind};
 use crate::groups::{Groups, group_names, has_group_tool, string_inclusions};
@@ -25,7 +25,10 @@ use crate::locked_reading::{
     LockedReading, push_faults, read_files, read_packages, read_requirements,
 };
 use crate::pipfile_lock::pipfile_contents;
-use crate::place::{QuotedLines, position_of, read_quoted_lines, reject_document, string_line};
+use crate::place::{
+    Places, document_keys, position_of, read_places, read_quoted_lines, reject_document,
+    string_line,
+};
 use crate::project::{ProjectString, Section, project_strings};
 use crate::toml_lock::toml_contents;
 use pep440_rs::{ErrorKind, Version, VersionParseError, VersionSpecifiers};
@@ -85,8 +88,9 @@ fn read_project(
     let names = group_names(alloc, table)?;
     let inclusions = string_inclusions(alloc, strings.as_slice())?;
     let groups = Groups::new(alloc, names.as_slice(), inclusions.as_slice())?;
-    let lines = read_quoted_lines(alloc, text.as_bytes())?;
-    let strings = read_strings(alloc, &groups, name, &lines, strings.as_slice())?;
+    let keys = document_keys(alloc, text.as_bytes())?;
+    let places = read_places(alloc, text.as_bytes(), keys.as_slice())?;
+    let strings = read_strings(alloc, &groups, name, &places, strings.as_slice())?;
     let together = has_group_tool(table);
     let name = project_name(alloc, table)?;
     Ok(DocumentReading::Project(ProjectReading {
@@ -374,7 +378,7 @@ fn parse_string(
         Section::Extra(_) => parse_requirement(alloc, line),
         Section::Group(_) => parse_requirement(alloc, line),
         Section::Build => parse_requirement(alloc, line),
-        Section::Invalid(reason) => no_group(alloc, line, reason),
+        Section::Invalid(_, reason) => no_group(alloc, line, reason),
         Section::Include(group, included) => {
             include_meaning(alloc, groups, line, group.as_slice(), included.as_slice())
         }
@@ -386,17 +390,22 @@ fn read_string(
     alloc: Global,
     groups: &Groups<'_>,
     name: &[u8],
-    lines: &QuotedLines,
+    places: &Places,
     string: &ProjectString,
 ) -> Result<StringReading, AllocError>
-    requires lines { HasQuotedLines lines.now }
+    requires places { HasPlaces places.now }
     requires groups { HasGroups groups.now }
-    ensures { IfOk result (λ x. IsStringReading (groups_of groups.now) (record { name = name.now; text = lines.now.text.now }) (project_string_of string.now) (string_reading_of x)) }
+    ensures { IfOk result (λ x. IsStringReading (groups_of groups.now) (record { name = name.now; text = places.now.quoted.text.now }) (project_string_of string.now) (string_reading_of x)) }
 {
+<<<<<<< HEAD
     let line = string_line(alloc, name, lines, string)?;
     let text = string.text.as_str();
     let meaning = parse_string(alloc, groups, &string.section, &line, text)?;
     let python = parse_python(alloc, &string.section, text)?;
+=======
+    let line = string_line(alloc, name, places, string)?;
+    let meaning = parse_string(alloc, groups, &string.section, &line, string.text.as_str())?;
+>>>>>>> 07fcc622 (What is wrong with a key is shown on the line of the key)
     Ok(StringReading {
         section: string.section.clone()?,
         meaning,
@@ -409,16 +418,16 @@ pub(crate) fn read_strings(
     alloc: Global,
     groups: &Groups<'_>,
     name: &[u8],
-    lines: &QuotedLines,
+    places: &Places,
     strings: &[ProjectString],
 ) -> Result<Vec<StringReading>, AllocError>
-    requires lines { HasQuotedLines lines.now }
+    requires places { HasPlaces places.now }
     requires groups { HasGroups groups.now }
-    ensures { IfOk result (λ xs. AllZip (IsStringReading (groups_of groups.now) (record { name = name.now; text = lines.now.text.now })) (map project_string_of strings.now) (map string_reading_of xs.items)) }
+    ensures { IfOk result (λ xs. AllZip (IsStringReading (groups_of groups.now) (record { name = name.now; text = places.now.quoted.text.now })) (map project_string_of strings.now) (map string_reading_of xs.items)) }
 {
     let mut readings = Vec::new(alloc);
     for string in strings {
-        readings.push(read_string(alloc, groups, name, lines, string)?)?;
+        readings.push(read_string(alloc, groups, name, places, string)?)?;
     }
     Ok(readings)
 }

@@ -1,15 +1,16 @@
-//! Where strings and packages stand in a document.
-ghost use Rattle.std.specs.Prelude.{◌≡◌, IfOk, ◌≤◌, ◌==◌, ◌||◌, List, length, map, not, option_map, ℕ};
+//! Where keys, strings and packages stand in a document.
+ghost use Rattle.std.specs.Prelude.{◌≡◌, ◌++◌, IfOk, ◌≤◌, ◌==◌, ◌||◌, ◌%◌, List, count_by, length, map, not, option_map, ℕ};
 ghost use Rattle.pyver_findings.specs.Views.{file_line_of};
 ghost use Rattle.pyver_projects.specs.Meanings.{IsBrokenReading, string_line};
-ghost use Rattle.pyver_projects.specs.ProjectStrings.{header_lines, HasQuotedLines, before_next, first_line, is_string_quote, line_after, number_or, number_or_one, opened_string, others, known_line};
-ghost use Rattle.pyver_projects.specs.ProjectViews.{document_reading_of, project_string_of};
+ghost use Rattle.pyver_projects.specs.ProjectStrings.{HasPlaces, HasQuotedLines, after_blanks, before_next, document_keys, first_key, first_line, header_lines, header_name, is_key_byte, is_string_quote, key_line, key_on, key_path, known_line, line_after, line_at, line_key, line_keys, number_or, number_or_one, opened_string, others, own_line, read_table, section_path, string_number, table_after};
+ghost use Rattle.pyver_projects.specs.ProjectViews.{document_reading_of, key_line_of, project_string_of, section_of};
 ghost use Rattle.std.specs.BTreeMap.{get_by};
+ghost use Rattle.std.specs.List.{filter, prefix_len};
 ghost use Rattle.std.specs.Cmp.Lexicographic.{slice_cmp};
 ghost use Rattle.std.specs.Ordering.{nat_cmp};
 
 use crate::document_reading::DocumentReading;
-use crate::project::ProjectString;
+use crate::project::{ProjectString, Section};
 use pyver_findings::{FileLine, Finding};
 use std::alloc::{AllocError, Global};
 use std::collections::BTreeMap;
@@ -19,6 +20,21 @@ use std::collections::BTreeMap;
 pub(crate) struct QuotedLines<'a> {
     pub(crate) text: &'a [u8],
     numbers: BTreeMap<&'a [u8], usize>,
+}
+
+// A key of a line, or a table of which it is the header.
+#[derive(Drop)]
+pub(crate) struct KeyLine {
+    // With a dot after each key.
+    path: Vec<u8>,
+    number: usize,
+}
+
+// A document, and the numbers of the first lines of its strings and, by their paths, of its keys.
+#[derive(Drop)]
+pub(crate) struct Places<'a> {
+    pub(crate) quoted: QuotedLines<'a>,
+    keys: BTreeMap<&'a [u8], usize>,
 }
 
 fn is_string_quote(byte: u8) -> bool
@@ -103,19 +119,299 @@ pub(crate) fn line_number(lines: &QuotedLines, string: &[u8]) -> u64
     }
 }
 
+// ---- keys
+
+fn is_key_byte(byte: u8) -> bool
+    ensures { result ≡ is_key_byte byte }
+{
+    !(byte == b' ' || byte == b'\t' || byte == b'[' || is_string_quote(byte))
+}
+
+// What counts in a key.
+fn key_bytes(alloc: Global, key: &[u8]) -> Result<Vec<u8>, AllocError>
+    ensures { IfOk result (λ bytes. bytes.items ≡ filter is_key_byte key.now) }
+{
+    key.iter()
+        .copied()
+        .filter(|byte| is_key_byte(*byte))
+        .collect(alloc)
+}
+
+// The path of a key in the table, or of the name of a table in another.
+fn key_path(alloc: Global, table: &str, key: &[u8]) -> Result<Vec<u8>, AllocError>
+    ensures { IfOk result (λ path. path.items ≡ key_path table.now key.now) }
+{
+    let mut path = Vec::from_slice(alloc, table.as_bytes())?;
+    path.append(&mut key_bytes(alloc, key)?)?;
+    path.push(b'.')?;
+    Ok(path)
+}
+
+// What the text begins with, up to a newline.
+fn line_at(text: &[u8]) -> &[u8]
+    ensures { result.now ≡ line_at text.now }
+{
+    &text[..count_others(text, b'\n')]
+}
+
+fn count_blanks(line: &[u8]) -> usize
+    ensures count { result ≡ prefix_len (λ b. b == 32 || b == 9) line.now }
+    ensures inside { result ≤ length line.now }
+{
+    line.iter()
+        .take_while(|byte| **byte == b' ' || **byte == b'\t')
+        .count()
+}
+
+fn after_blanks(line: &[u8]) -> &[u8]
+    ensures { result.now ≡ after_blanks line.now }
+{
+    &line[count_blanks(line)..]
+}
+
+// The name of a table, if the line is its header.
+fn header_name(line: &[u8]) -> Option<&[u8]>
+    ensures { option_map (λ n. n.now) result ≡ header_name line.now }
+{
+    if after_blanks(line).starts_with(b"[") {
+        before_next(line, b']')
+    } else {
+        None
+    }
+}
+
+fn is_open(key: &[u8]) -> bool
+    ensures { result ≡ not (count_by is_string_quote key.now % 2 == 0) }
+{
+    key.iter().filter(|byte| is_string_quote(**byte)).count() % 2 != 0
+}
+
+// What the line has before `=`, unless that stands in quotes.
+fn line_key(line: &[u8]) -> Option<&[u8]>
+    ensures { option_map (λ k. k.now) result ≡ line_key line.now }
+{
+    match before_next(line, b'=') {
+        Some(key) if !is_open(key) => Some(key),
+        _ => None,
+    }
+}
+
+// The path of a table whose keys are read.
+fn read_table(path: &[u8]) -> Option<&'static str>
+    ensures { option_map (λ t. t.now) result ≡ read_table path.now }
+{
+    if path == b"project.".as_slice() {
+        Some("project.")
+    } else if path == b"project.optional-dependencies.".as_slice() {
+        Some("project.optional-dependencies.")
+    } else if path == b"dependency-groups.".as_slice() {
+        Some("dependency-groups.")
+    } else if path == b"build-system.".as_slice() {
+        Some("build-system.")
+    } else {
+        None
+    }
+}
+
+// The table that the lines after one with this header stand in, if it is read.
+fn table_after(
+    alloc: Global,
+    table: Option<&'static str>,
+    name: Option<&[u8]>,
+) -> Result<Option<&'static str>, AllocError>
+    ensures { IfOk result (λ after. option_map (λ t. t.now) after ≡ table_after (option_map (λ t. t.now) table.entry) (option_map (λ n. n.now) name.entry)) }
+{
+    match name {
+        Some(name) => Ok(read_table(key_path(alloc, "", name)?.as_slice())),
+        None => Ok(table),
+    }
+}
+
+fn push_key(
+    alloc: Global,
+    keys: &mut Vec<KeyLine>,
+    number: usize,
+    table: Option<&str>,
+    key: Option<&[u8]>,
+) -> Result<(), AllocError>
+    ensures { IfOk result (λ _. map key_line_of keys.new.items ≡ map key_line_of keys.old.items ++ key_on number (option_map (λ t. t.now) table.entry) (option_map (λ k. k.now) key.entry)) }
+{
+    match (table, key) {
+        (Some(table), Some(key)) => {
+            let path = key_path(alloc, table, key)?;
+            keys.push(KeyLine { path, number })?;
+            Ok(())
+        }
+        _ => Ok(()),
+    }
+}
+
+// Adds the key that the line has, or the table of which it is the header.
+fn push_line_keys(
+    alloc: Global,
+    keys: &mut Vec<KeyLine>,
+    number: usize,
+    table: Option<&str>,
+    line: &[u8],
+    name: Option<&[u8]>,
+) -> Result<(), AllocError>
+    ensures { IfOk result (λ _. map key_line_of keys.new.items ≡ map key_line_of keys.old.items ++ line_keys number (option_map (λ t. t.now) table.entry) line.now (option_map (λ n. n.now) name.entry)) }
+{
+    match name {
+        Some(name) => push_key(alloc, keys, number, Some(""), Some(name)),
+        None => push_key(alloc, keys, number, table, line_key(line)),
+    }
+}
+
+// Adds the keys of the line that starts here in the table, and returns that of the next line.
+fn read_line(
+    alloc: Global,
+    keys: &mut Vec<KeyLine>,
+    number: usize,
+    table: Option<&'static str>,
+    line: &[u8],
+) -> Result<Option<&'static str>, AllocError>
+    ensures keys { IfOk result (λ _. map key_line_of keys.new.items ≡ map key_line_of keys.old.items ++ line_keys number (option_map (λ t. t.now) table.entry) line.now (header_name line.now)) }
+    ensures table { IfOk result (λ after. option_map (λ t. t.now) after ≡ table_after (option_map (λ t. t.now) table.entry) (header_name line.now)) }
+{
+    let name = header_name(line);
+    push_line_keys(alloc, keys, number, table, line, name)?;
+    table_after(alloc, table, name)
+}
+
+// The keys of the lines of a document.
+pub(crate) fn document_keys(alloc: Global, text: &[u8]) -> Result<Vec<KeyLine>, AllocError>
+    ensures { IfOk result (λ keys. map key_line_of keys.items ≡ document_keys text.now) }
+{
+    let mut keys = Vec::new(alloc);
+    let mut table = Some("");
+    let mut starts = true;
+    let mut number: usize = 1;
+    for (at, byte) in text.iter().enumerate() {
+        if starts {
+            table = read_line(alloc, &mut keys, number, table, line_at(&text[at..]))?;
+        }
+        starts = *byte == b'\n';
+        if starts {
+            number += 1;
+        }
+    }
+    Ok(keys)
+}
+
+// The number of the first line of each key.
+fn number_keys(alloc: Global, keys: &[KeyLine]) -> Result<BTreeMap<&[u8], usize>, AllocError>
+    ensures { IfOk result (λ numbers. (path : List ℕ) → get_by (λ k. slice_cmp nat_cmp path k.now) numbers ≡ first_key path (map key_line_of keys.now)) }
+{
+    let mut numbers = BTreeMap::new(alloc);
+    for at in (0..keys.len()).rev() {
+        put_string(
+            &mut numbers,
+            Some(keys[at].path.as_slice()),
+            keys[at].number,
+        )?;
+    }
+    Ok(numbers)
+}
+
+// Where strings stand in a document, and these, its keys.
+pub(crate) fn read_places<'a>(
+    alloc: Global,
+    text: &'a [u8],
+    keys: &'a [KeyLine],
+) -> Result<Places<'a>, AllocError>
+    requires { map key_line_of keys.now ≡ document_keys text.now }
+    ensures text { IfOk result (λ places. places.quoted.text.now ≡ text.now) }
+    ensures places { IfOk result HasPlaces }
+{
+    let quoted = read_quoted_lines(alloc, text)?;
+    let keys = number_keys(alloc, keys)?;
+    Ok(Places { quoted, keys })
+}
+
+// The number of the line of the key with this path.
+fn key_line(places: &Places, path: &[u8]) -> Option<usize>
+    requires { HasPlaces places.now }
+    ensures { result ≡ key_line places.now.quoted.text.now path.now }
+{
+    places.keys.get(path).copied()
+}
+
+// The number of the line of a key that is invalid.
+fn own_line(
+    alloc: Global,
+    places: &Places,
+    section: &Section,
+    name: &[u8],
+) -> Result<Option<usize>, AllocError>
+    requires { HasPlaces places.now }
+    ensures { IfOk result (λ number. number ≡ own_line places.now.quoted.text.now (section_of section.now) name.now) }
+{
+    match section {
+        Section::Invalid(table, _) => {
+            let path = key_path(alloc, table, name)?;
+            Ok(key_line(places, path.as_slice()))
+        }
+        _ => Ok(None),
+    }
+}
+
+// The path of what the strings of a section stand in.
+fn section_path(section: &Section) -> &'static str
+    ensures { result.now ≡ section_path (section_of section.now) }
+{
+    match section {
+        Section::Dependencies => "project.dependencies.",
+        Section::Extra(_) => "project.optional-dependencies.",
+        Section::Group(_) => "dependency-groups.",
+        Section::Include(_, _) => "dependency-groups.",
+        Section::Invalid(table, _) => table,
+        Section::Build => "build-system.requires.",
+        Section::Python => "project.requires-python.",
+        Section::Version => "project.version.",
+    }
+}
+
+fn quoted_line(places: &Places, string: &[u8]) -> Option<usize>
+    requires { HasPlaces places.now }
+    ensures { result ≡ first_line places.now.quoted.text.now string.now }
+{
+    places.quoted.numbers.get(string).copied()
+}
+
+// The number of the line of a string: a key has its own, another string the first on which it opens, or that of what it stands in.
+fn string_number(
+    alloc: Global,
+    places: &Places,
+    section: &Section,
+    string: &[u8],
+) -> Result<u64, AllocError>
+    requires { HasPlaces places.now }
+    ensures { IfOk result (λ number. number ≡ string_number places.now.quoted.text.now (section_of section.now) string.now) }
+{
+    let own = own_line(alloc, places, section, string)?;
+    let found = own
+        .or(quoted_line(places, string))
+        .or(key_line(places, section_path(section).as_bytes()));
+    match found {
+        Some(number) => Ok(number as u64),
+        None => Ok(1),
+    }
+}
+
 // A string as a line of the file with this name.
 pub(crate) fn string_line(
     alloc: Global,
     name: &[u8],
-    lines: &QuotedLines,
+    places: &Places,
     string: &ProjectString,
 ) -> Result<FileLine, AllocError>
-    requires { HasQuotedLines lines.now }
-    ensures { IfOk result (λ line. file_line_of line ≡ string_line (record { name = name.now; text = lines.now.text.now }) (project_string_of string.now)) }
+    requires { HasPlaces places.now }
+    ensures { IfOk result (λ line. file_line_of line ≡ string_line (record { name = name.now; text = places.now.quoted.text.now }) (project_string_of string.now)) }
 {
     Ok(FileLine {
         file: Vec::from_slice(alloc, name)?,
-        number: line_number(lines, string.text.as_bytes()),
+        number: string_number(alloc, places, &string.section, string.text.as_bytes())?,
         text: Vec::from_slice(alloc, string.text.as_bytes())?,
         comment: Vec::new(alloc),
     })
@@ -149,16 +445,6 @@ fn last_line(text: &[u8]) -> &[u8] {
     match text.iter().rposition(|byte| *byte == b'\n') {
         Some(at) => &text[at + 1..],
         None => text,
-    }
-}
-
-// What stands before the first newline, or all.
-fn first_line(text: &[u8]) -> &[u8] {
-    let count = text.iter().take_while(|byte| **byte != b'\n').count();
-    if count <= text.len() {
-        &text[..count]
-    } else {
-        text
     }
 }
 
@@ -204,7 +490,7 @@ pub(crate) fn reject_document(
 {
     let before = text_before(text, position);
     let column = last_line(before).len();
-    let line = first_line(text_from(text, before.len().saturating_sub(column)));
+    let line = line_at(text_from(text, before.len().saturating_sub(column)));
     let line = FileLine {
         file: Vec::from_slice(alloc, name)?,
         number: line_after(before) as u64,

@@ -1,5 +1,5 @@
 //! What is read of `pyproject.toml`.
-ghost use Rattle.std.specs.Prelude.{◌≡◌, ◌∷◌, ◌++◌, [], IfOk, Some, length, map, nat_eq, option_map, string_bytes};
+ghost use Rattle.std.specs.Prelude.{◌≡◌, ◌∷◌, ◌++◌, [], IfOk, codes, Some, length, map, nat_eq, option_map, string_bytes};
 ghost use Rattle.std.specs.List.{flat_map};
 ghost use Rattle.pep440_pick.specs.Names.{normal};
 ghost use Rattle.pyver_projects.specs.Documents.{array_sources, dynamic_source, dynamic_sources, entry_names, extra_sources, group_items, group_names, group_sources, groups_table, included_name, item_source, item_sources, name_faults, optional_sources, repeated_name, source_from, sources, string_or, table_fault, table_faults, table_sources, text_sources, unless};
@@ -26,8 +26,8 @@ pub(crate) enum Section {
     Group(Vec<u8>),
     // There, as the name of a group that is included: this group includes that one.
     Include(Vec<u8>, Vec<u8>),
-    // As the name of a value that is invalid for this reason.
-    Invalid(&'static str),
+    // As the name of a value in the table with this path that is invalid for this reason.
+    Invalid(&'static str, &'static str),
     // In `build-system.requires`.
     Build,
     // `project.requires-python`.
@@ -54,7 +54,7 @@ impl Clone for Section {
             Section::Include(group, included) => {
                 Ok(Section::Include(group.clone()?, included.clone()?))
             }
-            Section::Invalid(reason) => Ok(Section::Invalid(*reason)),
+            Section::Invalid(table, reason) => Ok(Section::Invalid(*table, *reason)),
             Section::Build => Ok(Section::Build),
             Section::Python => Ok(Section::Python),
             Section::Version => Ok(Section::Version),
@@ -80,31 +80,33 @@ fn push_unless(
     alloc: Global,
     sources: &mut Vec<ProjectString>,
     is_right: bool,
+    table: &'static str,
     name: &str,
     reason: &'static str,
 ) -> Result<(), AllocError>
-    ensures { IfOk result (λ _. map project_string_of sources.new.items ≡ map project_string_of sources.old.items ++ unless is_right name.now reason.now) }
+    ensures { IfOk result (λ _. map project_string_of sources.new.items ≡ map project_string_of sources.old.items ++ unless is_right table.now name.now reason.now) }
 {
     if is_right {
         return Ok(());
     }
-    push_string(alloc, sources, Section::Invalid(reason), name)
+    push_string(alloc, sources, Section::Invalid(table, reason), name)
 }
 
 // Adds the string, or the name for this reason, if there is none.
 fn push_string_or(
     alloc: Global,
     sources: &mut Vec<ProjectString>,
+    table: &'static str,
     name: &str,
     reason: &'static str,
     section: &Section,
     text: Option<&str>,
 ) -> Result<(), AllocError>
-    ensures { IfOk result (λ _. map project_string_of sources.new.items ≡ map project_string_of sources.old.items ++ string_or name.now reason.now (section_of section.now) (option_map (λ t. t.now) text.entry)) }
+    ensures { IfOk result (λ _. map project_string_of sources.new.items ≡ map project_string_of sources.old.items ++ string_or table.now name.now reason.now (section_of section.now) (option_map (λ t. t.now) text.entry)) }
 {
     match text {
         Some(text) => push_string(alloc, sources, section.clone()?, text),
-        None => push_string(alloc, sources, Section::Invalid(reason), name),
+        None => push_string(alloc, sources, Section::Invalid(table, reason), name),
     }
 }
 
@@ -112,17 +114,19 @@ fn push_string_or(
 fn push_text(
     alloc: Global,
     sources: &mut Vec<ProjectString>,
+    table: &'static str,
     name: &str,
     section: &Section,
     value: Option<&Value>,
 ) -> Result<(), AllocError>
-    ensures { IfOk result (λ _. map project_string_of sources.new.items ≡ map project_string_of sources.old.items ++ text_sources name.now (section_of section.now) (option_map (λ v. view v.now) value.entry)) }
+    ensures { IfOk result (λ _. map project_string_of sources.new.items ≡ map project_string_of sources.old.items ++ text_sources table.now name.now (section_of section.now) (option_map (λ v. view v.now) value.entry)) }
 {
     match value {
         Some(value) => {
             push_string_or(
                 alloc,
                 sources,
+                table,
                 name,
                 "not a string",
                 section,
@@ -137,15 +141,16 @@ fn push_text(
 fn push_strings(
     alloc: Global,
     sources: &mut Vec<ProjectString>,
+    table: &'static str,
     name: &str,
     section: &Section,
     found: &[Value],
 ) -> Result<(), AllocError>
-    ensures { IfOk result (λ _. map project_string_of sources.new.items ≡ map project_string_of sources.old.items ++ flat_map (source_from name.now (section_of section.now)) (map view found.now)) }
+    ensures { IfOk result (λ _. map project_string_of sources.new.items ≡ map project_string_of sources.old.items ++ flat_map (source_from table.now name.now (section_of section.now)) (map view found.now)) }
 {
     let reason = "not an array of strings";
     for item in found {
-        push_string_or(alloc, sources, name, reason, section, item.as_str())?;
+        push_string_or(alloc, sources, table, name, reason, section, item.as_str())?;
     }
     Ok(())
 }
@@ -154,48 +159,65 @@ fn push_strings(
 fn push_array(
     alloc: Global,
     sources: &mut Vec<ProjectString>,
+    table: &'static str,
     name: &str,
     section: &Section,
     value: Option<&Value>,
 ) -> Result<(), AllocError>
-    ensures { IfOk result (λ _. map project_string_of sources.new.items ≡ map project_string_of sources.old.items ++ array_sources name.now (section_of section.now) (option_map (λ v. view v.now) value.entry)) }
+    ensures { IfOk result (λ _. map project_string_of sources.new.items ≡ map project_string_of sources.old.items ++ array_sources table.now name.now (section_of section.now) (option_map (λ v. view v.now) value.entry)) }
 {
     let is_right = is_array_or_none(value);
-    push_unless(alloc, sources, is_right, name, "not an array of strings")?;
-    push_strings(alloc, sources, name, section, items(value))
+    push_unless(
+        alloc,
+        sources,
+        is_right,
+        table,
+        name,
+        "not an array of strings",
+    )?;
+    push_strings(alloc, sources, table, name, section, items(value))
 }
 
 // Adds the name for this reason, if another one of these is the same.
 fn push_repeated(
     alloc: Global,
     sources: &mut Vec<ProjectString>,
+    table: &'static str,
     names: &NameIndex<'_>,
     name: &str,
     reason: &'static str,
 ) -> Result<(), AllocError>
     requires { IsNameIndex names.now }
-    ensures { IfOk result (λ _. map project_string_of sources.new.items ≡ map project_string_of sources.old.items ++ repeated_name reason.now (indexed_names names.now) name.now) }
+    ensures { IfOk result (λ _. map project_string_of sources.new.items ≡ map project_string_of sources.old.items ++ repeated_name table.now reason.now (indexed_names names.now) name.now) }
 {
     let normal = normalize_name(alloc, name)?;
     if !names.has_twice(normal.as_slice()) {
         return Ok(());
     }
-    push_string(alloc, sources, Section::Invalid(reason), name)
+    push_string(alloc, sources, Section::Invalid(table, reason), name)
 }
 
 // Adds the name, if it is none; and for this reason, if another one of these is the same.
 fn push_name_faults(
     alloc: Global,
     sources: &mut Vec<ProjectString>,
+    table: &'static str,
     names: &NameIndex<'_>,
     name: &str,
     reason: &'static str,
 ) -> Result<(), AllocError>
     requires { IsNameIndex names.now }
-    ensures { IfOk result (λ _. map project_string_of sources.new.items ≡ map project_string_of sources.old.items ++ name_faults reason.now (indexed_names names.now) name.now) }
+    ensures { IfOk result (λ _. map project_string_of sources.new.items ≡ map project_string_of sources.old.items ++ name_faults table.now reason.now (indexed_names names.now) name.now) }
 {
-    push_unless(alloc, sources, is_name(name), name, "not a valid name")?;
-    push_repeated(alloc, sources, names, name, reason)
+    push_unless(
+        alloc,
+        sources,
+        is_name(name),
+        table,
+        name,
+        "not a valid name",
+    )?;
+    push_repeated(alloc, sources, table, names, name, reason)
 }
 
 // Adds the strings of the extra with this name.
@@ -205,10 +227,17 @@ fn push_extra_items(
     name: &str,
     value: &Value,
 ) -> Result<(), AllocError>
-    ensures { IfOk result (λ _. map project_string_of sources.new.items ≡ map project_string_of sources.old.items ++ array_sources name.now (Extra (normal name.now)) (Some (view value.now))) }
+    ensures { IfOk result (λ _. map project_string_of sources.new.items ≡ map project_string_of sources.old.items ++ array_sources (codes "project.optional-dependencies.") name.now (Extra (normal name.now)) (Some (view value.now))) }
 {
     let section = Section::Extra(normalize_name(alloc, name)?);
-    push_array(alloc, sources, name, &section, Some(value))
+    push_array(
+        alloc,
+        sources,
+        "project.optional-dependencies.",
+        name,
+        &section,
+        Some(value),
+    )
 }
 
 fn push_extra(
@@ -222,7 +251,14 @@ fn push_extra(
     ensures { IfOk result (λ _. map project_string_of sources.new.items ≡ map project_string_of sources.old.items ++ extra_sources (indexed_names names.now) (string_bytes name.now, view value.now)) }
 {
     let reason = "another extra has this name";
-    push_name_faults(alloc, sources, names, name.as_str(), reason)?;
+    push_name_faults(
+        alloc,
+        sources,
+        "project.optional-dependencies.",
+        names,
+        name.as_str(),
+        reason,
+    )?;
     push_extra_items(alloc, sources, name.as_str(), value)
 }
 
@@ -240,6 +276,7 @@ fn include_section(alloc: Global, name: &str, included: &str) -> Result<Section,
 }
 
 // The table has one key.
+#[tactic(auto, using(crate::proofs::Walks::members_length))]
 fn has_one_key(table: &Table) -> bool
     ensures { result ≡ nat_eq (length (members_list (table_view table.now))) 1 }
 {
@@ -267,13 +304,14 @@ fn push_item_source(
     ensures { IfOk result (λ _. map project_string_of sources.new.items ≡ map project_string_of sources.old.items ++ item_source name.now (option_map (λ t. t.now) text.entry) (option_map (λ t. t.now) included.entry)) }
 {
     let reason = "an item is neither a requirement nor an included group";
+    let invalid = Section::Invalid("dependency-groups.", reason);
     match (text, included) {
         (Some(text), _) => push_string(alloc, sources, group_section(alloc, name)?, text),
         (None, Some(included)) => {
             let section = include_section(alloc, name, included)?;
             push_string(alloc, sources, section, included)
         }
-        (None, None) => push_string(alloc, sources, Section::Invalid(reason), name),
+        (None, None) => push_string(alloc, sources, invalid, name),
     }
 }
 
@@ -301,7 +339,14 @@ fn push_group_items(
     ensures { IfOk result (λ _. map project_string_of sources.new.items ≡ map project_string_of sources.old.items ++ group_items name.now (view value.now)) }
 {
     let is_right = is_array_or_none(Some(value));
-    push_unless(alloc, sources, is_right, name, "not an array")?;
+    push_unless(
+        alloc,
+        sources,
+        is_right,
+        "dependency-groups.",
+        name,
+        "not an array",
+    )?;
     push_items(alloc, sources, name, items(Some(value)))
 }
 
@@ -316,7 +361,14 @@ fn push_group(
     ensures { IfOk result (λ _. map project_string_of sources.new.items ≡ map project_string_of sources.old.items ++ group_sources (indexed_names names.now) (string_bytes name.now, view value.now)) }
 {
     let reason = "another group has this name";
-    push_name_faults(alloc, sources, names, name.as_str(), reason)?;
+    push_name_faults(
+        alloc,
+        sources,
+        "dependency-groups.",
+        names,
+        name.as_str(),
+        reason,
+    )?;
     push_group_items(alloc, sources, name.as_str(), value)
 }
 
@@ -394,12 +446,20 @@ fn push_all_groups(
 fn push_table_fault(
     alloc: Global,
     sources: &mut Vec<ProjectString>,
+    table: &'static str,
     name: &str,
     value: Option<&Value>,
 ) -> Result<(), AllocError>
-    ensures { IfOk result (λ _. map project_string_of sources.new.items ≡ map project_string_of sources.old.items ++ table_fault name.now (option_map (λ v. view v.now) value.entry)) }
+    ensures { IfOk result (λ _. map project_string_of sources.new.items ≡ map project_string_of sources.old.items ++ table_fault table.now name.now (option_map (λ v. view v.now) value.entry)) }
 {
-    push_unless(alloc, sources, is_table_or_none(value), name, "not a table")
+    push_unless(
+        alloc,
+        sources,
+        is_table_or_none(value),
+        table,
+        name,
+        "not a table",
+    )
 }
 
 // Adds the strings of the extras.
@@ -410,7 +470,7 @@ fn push_optional(
 ) -> Result<(), AllocError>
     ensures { IfOk result (λ _. map project_string_of sources.new.items ≡ map project_string_of sources.old.items ++ optional_sources (option_map (λ v. view v.now) extras.entry)) }
 {
-    push_table_fault(alloc, sources, "optional-dependencies", extras)?;
+    push_table_fault(alloc, sources, "project.", "optional-dependencies", extras)?;
     push_all_extras(alloc, sources, extras)
 }
 
@@ -426,15 +486,30 @@ fn push_project(
     push_array(
         alloc,
         sources,
+        "project.",
         name,
         &Section::Dependencies,
         inside(project, name),
     )?;
     push_optional(alloc, sources, inside(project, "optional-dependencies"))?;
     let python = inside(project, "requires-python");
-    push_text(alloc, sources, "requires-python", &Section::Python, python)?;
+    push_text(
+        alloc,
+        sources,
+        "project.",
+        "requires-python",
+        &Section::Python,
+        python,
+    )?;
     let version = inside(project, "version");
-    push_text(alloc, sources, "version", &Section::Version, version)
+    push_text(
+        alloc,
+        sources,
+        "project.",
+        "version",
+        &Section::Version,
+        version,
+    )
 }
 
 // Adds an item of `dynamic`, if it is no string, or names a field that the table has.
@@ -450,9 +525,21 @@ fn push_dynamic_item(
     match name {
         Some(name) => {
             let is_right = inside(project, name).is_none();
-            push_unless(alloc, sources, is_right, name, "both dynamic and given")
+            push_unless(
+                alloc,
+                sources,
+                is_right,
+                "project.dynamic.",
+                name,
+                "both dynamic and given",
+            )
         }
-        None => push_string(alloc, sources, Section::Invalid(reason), "dynamic"),
+        None => push_string(
+            alloc,
+            sources,
+            Section::Invalid("project.", reason),
+            "dynamic",
+        ),
     }
 }
 
@@ -484,6 +571,7 @@ fn push_dynamic(
         alloc,
         sources,
         is_right,
+        "project.",
         "dynamic",
         "not an array of strings",
     )?;
@@ -498,11 +586,11 @@ fn push_table_faults(
 ) -> Result<(), AllocError>
     ensures { IfOk result (λ _. map project_string_of sources.new.items ≡ map project_string_of sources.old.items ++ table_faults (table_view document.now)) }
 {
-    push_table_fault(alloc, sources, "project", top(document, "project"))?;
+    push_table_fault(alloc, sources, "", "project", top(document, "project"))?;
     let groups = top(document, "dependency-groups");
-    push_table_fault(alloc, sources, "dependency-groups", groups)?;
+    push_table_fault(alloc, sources, "", "dependency-groups", groups)?;
     let build = top(document, "build-system");
-    push_table_fault(alloc, sources, "build-system", build)
+    push_table_fault(alloc, sources, "", "build-system", build)
 }
 
 // The strings of `pyproject.toml`.
@@ -518,6 +606,13 @@ pub(crate) fn project_strings(
     push_dynamic(alloc, &mut found, top(document, "project"))?;
     push_all_groups(alloc, &mut found, document)?;
     let build = inside(top(document, "build-system"), "requires");
-    push_array(alloc, &mut found, "requires", &Section::Build, build)?;
+    push_array(
+        alloc,
+        &mut found,
+        "build-system.",
+        "requires",
+        &Section::Build,
+        build,
+    )?;
     Ok(found)
 }

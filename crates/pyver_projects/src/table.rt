@@ -8,6 +8,7 @@ use toml::value::Array;
 use toml::{Table, Value};
 
 // The value at a key of the document.
+#[tactic(auto, using(toml::proofs::Views::table_get))]
 pub(crate) fn top<'a>(document: &'a Table, key: &str) -> Option<&'a Value>
     ensures { option_map (λ v. view v.now) result ≡ get_member key.now (table_view document.now) }
 {

@@ -128,7 +128,7 @@ fn holds_in(together: bool, groups: &HashMap<&[u8], ()>, part: &Section, section
         Section::Extra(name) => is_extra(name.as_slice(), part),
         Section::Group(name) => groups.contains_key(name.as_slice()),
         Section::Build => is_build(part),
-        Section::Include(_, _) | Section::Invalid(_) | Section::Python | Section::Version => false,
+        Section::Include(_, _) | Section::Invalid(..) | Section::Python | Section::Version => false,
     }
 }
 

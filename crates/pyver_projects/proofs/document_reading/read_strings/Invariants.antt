@@ -5,4 +5,4 @@ use Rattle.pyver_projects.specs.ProjectViews.{groups_of, project_string_of, stri
 use Rattle.pyver_projects.proofs.document_reading.read_strings.Given as goal
 
 abbrev pub invariant-loop-string : goal.invariant-loop-string
-invariant-loop-string l = AllZip (IsStringReading (groups_of l.groups) (record { name = l.name; text = l.lines.text.now })) (map project_string_of (take l.string-index l.strings)) (map string_reading_of l.readings.items)
+invariant-loop-string l = AllZip (IsStringReading (groups_of l.groups) (record { name = l.name; text = l.places.quoted.text.now })) (map project_string_of (take l.string-index l.strings)) (map string_reading_of l.readings.items)

@@ -16,8 +16,8 @@ returns c =
     let middle = map project_string_of c.push_name_faults.new.sources.items in
     let new = map project_string_of c.push_extra_items.new.sources.items in
     let value = view c.args.value.now in
-    let faults = name_faults (codes "another extra has this name") names in
-    let array = λ (n : List ℕ). array_sources n (Extra (normal n)) (Some value) in
+    let faults = name_faults (codes "project.optional-dependencies.") (codes "another extra has this name") names in
+    let array = λ (n : List ℕ). array_sources (codes "project.optional-dependencies.") n (Extra (normal n)) (Some value) in
     let first : middle ≡ old ++ faults name = c.in_ok-push_name_faults.ensures ∙ ap (λ n. old ++ faults n) c.as_str.ensures.value in
     IfOk-weaker c.push_extra_items.result (λ _. new ≡ middle ++ array c.as_str-2.result.now) (λ _. new ≡ old ++ extra_sources names (name, value))
     (λ _ e. e ∙ ap (λ n. middle ++ array n) c.as_str-2.ensures.value ∙ ap (λ m. m ++ array name) first ∙ append_assoc old (faults name) (array name))

@@ -21,8 +21,8 @@ returns c =
     let three = map project_string_of c.push_text.new.sources.items in
     let four = map project_string_of c.push_text-2.new.sources.items in
     IfOk-weaker c.push_text-2.result _ _
-    (λ _ e. four_parts old _ _ _ _ one two three four (c.in_ok-push_array.ensures ∙ ap (λ (v : Option Data). old ++ array_sources (codes "dependencies") Dependencies v) c.inside.ensures)
+    (λ _ e. four_parts old _ _ _ _ one two three four (c.in_ok-push_array.ensures ∙ ap (λ (v : Option Data). old ++ array_sources (codes "project.") (codes "dependencies") Dependencies v) c.inside.ensures)
     (c.in_ok-push_optional.ensures ∙ ap (λ (v : Option Data). one ++ optional_sources v) c.inside-2.ensures)
-    (c.in_ok-push_text.ensures ∙ ap (λ (v : Option Data). two ++ text_sources (codes "requires-python") Python v) c.inside-python.ensures)
-    (e ∙ ap (λ (v : Option Data). three ++ text_sources (codes "version") Version v) c.inside-version.ensures))
+    (c.in_ok-push_text.ensures ∙ ap (λ (v : Option Data). two ++ text_sources (codes "project.") (codes "requires-python") Python v) c.inside-python.ensures)
+    (e ∙ ap (λ (v : Option Data). three ++ text_sources (codes "project.") (codes "version") Version v) c.inside-version.ensures))
     c.push_text-2.ensures

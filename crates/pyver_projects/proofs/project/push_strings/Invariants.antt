@@ -7,5 +7,5 @@ use Rattle.pyver_projects.proofs.project.push_strings.Given as goal
 
 abbrev pub invariant-loop-item : goal.invariant-loop-item
 invariant-loop-item l =
-    map project_string_of l.sources.items ++ flat_map (source_from l.name (section_of l.section)) (map view (drop l.item-index l.found))
-    ≡ map project_string_of l.initial.sources.items ++ flat_map (source_from l.name (section_of l.section)) (map view l.found)
+    map project_string_of l.sources.items ++ flat_map (source_from l.table l.name (section_of l.section)) (map view (drop l.item-index l.found))
+    ≡ map project_string_of l.initial.sources.items ++ flat_map (source_from l.table l.name (section_of l.section)) (map view l.found)
