@@ -23,7 +23,7 @@ use Rattle.std.proofs.lemmas.Grind.{flat_map-append}
 use Rattle.std.proofs.lemmas.List.Folds.{list_any-append, list_any_at}
 use Rattle.std.proofs.lemmas.List.Elements.{All-contains_itself, All-head, All-tail, All-cons, All-contains, All-filter, All-nil, All-weaker}
 use Rattle.pep440_pick.specs.Names.{normal}
-use Rattle.pyver_projects.specs.Comparing.{is_excused, is_installer, is_project_reading, lacking, names_read, found_beside, found_in_pair, beside_all, is_beside, compared, compared_demand, excluded, invalid_package, is_locked, missing, own_report, unlocked, unmet, with_own_reports, invalid_string}
+use Rattle.pyver_projects.specs.Comparing.{is_excused, is_installer, is_project_reading, lacking, names_read, found_beside, found_in_pair, beside_all, is_beside, compared, compared_demand, excluded, excluded_in, invalid_package, is_locked, leaves_out, missing, own_report, unlocked, unmet, with_own_reports, invalid_string}
 use Rattle.pyver_projects.specs.Documents.{has_group_tool, project_names, sources}
 use Rattle.pyver_projects.specs.Groups.{groups, Inclusion, inclusions}
 use Rattle.pyver_projects.specs.Meanings.{Document, DocumentReading, IsDocumentReading, IsFileReading, IsLockReading, IsProject, IsRequirementReading, IsStringReading, LockedReading, StringReading, fault_meaning, file_meaning, is_of_version, requirement_line, string_line, IsSoundString}
@@ -77,8 +77,12 @@ counted : (b : Bool) (found : List Finding) → b ≡ true → (if b then found 
 counted true found is none = none
 counted false found is none = cc is
 
+not_lacking : (b : Bool) (fs : List Finding) → b ≡ false → (if b then [] else fs) ≡ [] → fs ≡ []
+not_lacking true fs unlike e = absurd (true≢false unlike)
+not_lacking false fs unlike e = e
+
 all_contained : (documents : List Document) (zs : List DocumentReading) → AllZip IsDocumentReading documents zs → flat_map (beside_all documents (zip documents zs)) (zip documents zs) ≡ [] → AllContained documents
-all_contained documents zs h found file lock kind l s p n v (t, ((k, inside, at), table), (i, within, here)) ((m, below, there), other) (j, under, this) beside counts asks locks =
+all_contained documents zs h found file lock kind l s p n v (t, ((k, inside, at), table), (i, within, here)) ((m, below, there), other) (j, under, this) beside counts has_it asks locks =
     let project : Document = record { kind = Project; file = file } in
     let locked : Document = record { kind = Lock kind; file = lock } in
     let pairs = zip documents zs in
@@ -93,8 +97,9 @@ all_contained documents zs h found file lock kind l s p n v (t, ((k, inside, at)
     let (z, (c, in_z, is_z), rz) = beside_it (IsStringReading (groups t) file) (sources t) xs s i within here g in
     let meaning = asks_always (string_line file s) n asks.0 asks.1 asks.2 asks.3 (groups t) s.text s.section z.meaning counts rz.1 in
     let asked = line_demand (string_line file s) None n in
-    let both : missing kind l.parts (project_names t) ys s.section asked ++ excluded asked ys ≡ [] = not_compared kind l.parts (project_names t) ys asked s.section z rz.0 meaning counts (nil_at (compared kind l.parts (project_names t) ys) xs z c in_z is_z compares) in
-    not_excluded lock.name l.packages (string_line file s) n ys q p j under this v locks (right_nil (missing kind l.parts (project_names t) ys s.section asked) (excluded asked ys) both)
+    let both : missing kind l.parts (project_names t) ys s.section asked ++ excluded_in kind l.parts (project_names t) ys s.section asked ≡ [] = not_compared kind l.parts (project_names t) ys asked s.section z rz.0 meaning counts (nil_at (compared kind l.parts (project_names t) ys) xs z c in_z is_z compares) in
+    not_excluded lock.name l.packages (string_line file s) n ys q p j under this v locks
+    (not_lacking (leaves_out kind l.parts s.section) (excluded asked ys) has_it (right_nil (missing kind l.parts (project_names t) ys s.section asked) (excluded_in kind l.parts (project_names t) ys s.section asked) both))
 
 -- a requirement asks for its list
 asks_for : (file : List ℕ) (q : LockedRequirement) (list : List Spec) (m : LineMeaning) → DerivesList q.list list → IsRequirementReading file q m → m ≡ Asks (line_demand (requirement_line file q) None (record { name = q.name; extras = []; specifiers = list }))
@@ -114,10 +119,6 @@ all_met documents zs h own lock kind l q p list v ((m, below, there), other) (i,
     let met : unmet (is_excused zs) ys (Asks asked) ≡ [] =
     ap (unmet (is_excused zs) ys) (sym (asks_for lock.name q list z d rz)) ∙ nil_at (unmet (is_excused zs) ys) ms z c in_z is_z (right_nil (flat_map invalid_in faults) (flat_map (unmet (is_excused zs) ys) ms) (right_nil (flat_map invalid_package ys) (flat_map invalid_in faults ++ flat_map (unmet (is_excused zs) ys) ms) nothing)) in
     not_excluded lock.name l.packages (requirement_line lock.name q) n ys packages p j under this v locks (right_nil (lacking (is_excused zs) ys asked) (excluded asked ys) (left_nil (lacking (is_excused zs) ys asked ++ excluded asked ys) [] met))
-
-not_lacking : (b : Bool) (fs : List Finding) → b ≡ false → (if b then [] else fs) ≡ [] → fs ≡ []
-not_lacking true fs unlike e = absurd (true≢false unlike)
-not_lacking false fs unlike e = e
 
 -- none of the documents that were read is a project of this name
 module _ (documents : List Document) (name : List ℕ) (others : (other : File) (u : Members) → HasProject documents other u → list_any (bytes_eq name) (project_names u) ≡ false) where

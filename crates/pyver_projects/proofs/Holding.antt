@@ -18,7 +18,7 @@ use Rattle.toml.specs.Data.{Members}
 use Rattle.toml.specs.Parse.{parse_document}
 use Rattle.pyver_projects.specs.Together.{FindsOfPart, FindsOfParts, demand_in_part, has_group, holds_in, part_conflicts, part_demands, parts, project_conflicts, project_domain, same_finding, sections, with_new}
 use Rattle.pyver_projects.proofs.Walks.{all_flat, pairs_each, zip_each}
-use Rattle.pyver_projects.specs.Comparing.{FindsOfReading, absent, beside_all, compared, compared_demand, documents_report, excluded, found_beside, found_in_pair, has_name, invalid_package, invalid_string, is_beside, is_excused, is_installer, is_locked, is_needed, lacking, outside, own_report, partly_locked, taken_packages, unlocked, unmet, with_own_reports}
+use Rattle.pyver_projects.specs.Comparing.{FindsOfReading, absent, beside_all, compared, compared_demand, documents_report, excluded, excluded_in, found_beside, found_in_pair, has_name, invalid_package, invalid_string, is_beside, is_excused, is_installer, is_locked, is_needed, lacking, leaves_out, outside, own_report, partly_locked, taken_packages, unlocked, unmet, with_own_reports}
 use Rattle.pyver_projects.specs.Documents.{has_group_tool, locked, project_names, sources}
 use Rattle.pyver_projects.specs.Groups.{Groups, Inclusion, groups, inclusions, no_group}
 use Rattle.pyver_projects.proofs.LockedPackages.{IsLackHere, IsOutsideHere, excluded_right, none_named, partly_right}
@@ -384,8 +384,8 @@ module _ (documents : List Document) where
         abbrev pub asked : Demand
         asked = line_demand (string_line file s) None n
 
-        excludes : (f : Finding) → IsOutsideHere lock.name u.packages (string_line file s) n f → Right f
-        excludes f out = inr (inr (inr (inr (inl (record { file = file; string = s; lock = lock; kind = kind; contents = u; needed = n; has = (t, known, at); asks = asks; known = other; outside = out })))))
+        excludes : leaves_out kind u.parts s.section ≡ false → (f : Finding) → IsOutsideHere lock.name u.packages (string_line file s) n f → Right f
+        excludes within f out = inr (inr (inr (inr (inl (record { file = file; string = s; lock = lock; kind = kind; contents = u; needed = n; has = (t, known, at); counts = within; asks = asks; known = other; outside = out })))))
 
         module _ (ys : List LockedReading) (h : AllZip (IsLockedReading lock.name) u.packages ys) where
           partly_missing : is_needed kind u.parts s.section ≡ true → All Right (partly_locked (string_line file s) (taken_packages ys asked))
@@ -430,14 +430,19 @@ module _ (documents : List Document) where
           missing_right false needs = All-nil Right
           missing_right true needs = All-append Right (absent ys asked) (partly_locked (string_line file s) (taken_packages ys asked)) (absent_here (list_any (has_name asked) ys) needs refl) (partly_missing needs)
 
+          excluded_here : (b : Bool) → leaves_out kind u.parts s.section ≡ b → All Right (if b then [] else excluded asked ys)
+          excluded_here true within = All-nil Right
+          excluded_here false within =
+              All-weaker (IsOutsideHere lock.name u.packages (string_line file s) n) Right (excludes within) (excluded asked ys) (excluded_right lock.name u.packages (string_line file s) n ys h)
+
           unless : (b : Bool) (fs : List Finding) → All Right fs → All Right (if b then [] else fs)
           unless true fs right = All-nil Right
           unless false fs right = right
 
           always_right : All Right (compared_demand kind u.parts (project_names t) ys s.section asked)
           always_right =
-              All-append Right _ (excluded asked ys) (unless (is_installer asked.name) _ (unless (list_any (bytes_eq asked.name) (project_names t)) _ (missing_right (is_needed kind u.parts s.section) refl)))
-              (All-weaker (IsOutsideHere lock.name u.packages (string_line file s) n) Right excludes (excluded asked ys) (excluded_right lock.name u.packages (string_line file s) n ys h))
+              All-append Right _ (excluded_in kind u.parts (project_names t) ys s.section asked) (unless (is_installer asked.name) _ (unless (list_any (bytes_eq asked.name) (project_names t)) _ (missing_right (is_needed kind u.parts s.section) refl)))
+              (excluded_here (leaves_out kind u.parts s.section) refl)
 
       module _ (ys : List LockedReading) (h : AllZip (IsLockedReading lock.name) u.packages ys) where
         by_marker : (a : Demand) (k : AsksFor (string_line file s) (line_parts s.text) a) (marker : Option (List ℕ)) → (marker ≡ None → (line_parts s.text).marker ≡ None) → All Right (compared_demand kind u.parts (project_names t) ys s.section (line_demand (string_line file s) marker k.needed))

@@ -16,7 +16,7 @@ use Rattle.pyver_projects.specs.Meanings.{Document, DocumentReading, IsBroken, I
 use Rattle.pyver_projects.specs.ProjectStrings.{Dependencies, Extra, Group, Section}
 use Rattle.pyver_projects.specs.Together.{FindsOfParts, project_conflicts}
 use Rattle.pyver_findings.specs.NamedFiles.{folder}
-use Rattle.pyver_projects.specs.Documents.{lies_above}
+use Rattle.pyver_projects.specs.Documents.{is_listed_part, lies_above}
 use Rattle.pyver_projects.specs.declared.document_kind.DocumentKind.{DocumentKind}
 use Rattle.pyver_projects.specs.declared.document_kind.DocumentKind.TheVariants.{Lock, Project}
 use Rattle.pyver_projects.specs.declared.document_kind.LockKind.{LockKind}
@@ -158,21 +158,22 @@ abbrev pub locks_extras : LockKind → Bool
 locks_extras Poetry = true
 locks_extras kind = locks_groups kind
 
--- the lock has the dependencies, as each but that of PDM, which names its groups and may lack `default`
-abbrev pub locks_dependencies : LockKind → Bool
-locks_dependencies Pdm = false
-locks_dependencies _ = true
-
--- the group is one of these
-abbrev pub is_listed_part : List (List ℕ) → List ℕ → Bool
-is_listed_part parts name = list_any (bytes_eq name) parts
+-- the lock says which groups it has, if it names some: those of PDM and of PEP 751, of which each may lack any
+abbrev pub names_groups : LockKind → List (List ℕ) → Bool
+names_groups Pdm parts = nat_lt 0 (length parts)
+names_groups Pylock parts = nat_lt 0 (length parts)
+names_groups _ parts = false
 
 -- a lock with these groups has what this part of the project needs
 abbrev pub is_needed : LockKind → List (List ℕ) → Section → Bool
-is_needed kind parts Dependencies = locks_dependencies kind || is_listed_part parts (codes "default")
+is_needed kind parts Dependencies = not (names_groups kind parts) || is_listed_part parts (codes "default")
 is_needed kind parts (Extra name) = locks_extras kind || is_listed_part parts name
 is_needed kind parts (Group name) = locks_groups kind || is_listed_part parts name
 is_needed kind parts _ = false
+
+-- the lock is for other parts of the project: it says which groups it has, and this is none of them
+abbrev pub leaves_out : LockKind → List (List ℕ) → Section → Bool
+leaves_out kind parts section = names_groups kind parts && not (is_needed kind parts section)
 
 -- a lock may have what the part needs, but not what builds the project
 abbrev pub is_locked : Section → Bool
@@ -187,9 +188,13 @@ module _ (kind : LockKind) (parts : List (List ℕ)) (names : List (List ℕ)) w
   missing ys section a =
       if is_installer a.name then [] else (if list_any (bytes_eq a.name) names then [] else (if is_needed kind parts section then unlocked ys a else []))
 
+  -- a lock has no other version of the package, unless it leaves the part out
+  abbrev pub excluded_in : List LockedReading → Section → Demand → List Finding
+  excluded_in ys section a = if leaves_out kind parts section then [] else excluded a ys
+
   -- a requirement beside the lock, which counts if it has no marker
   abbrev pub compared_demand : List LockedReading → Section → Demand → List Finding
-  compared_demand ys section a = if is_none a.marker then missing ys section a ++ excluded a ys else []
+  compared_demand ys section a = if is_none a.marker then missing ys section a ++ excluded_in ys section a else []
 
   -- a string beside the lock
   abbrev pub compared : List LockedReading → StringReading → List Finding

@@ -1,6 +1,6 @@
 -- The kinds of documents, by their paths and by words, and what a parsed one has to check: the strings of `pyproject.toml`, and the versions of a lock.
-use Rattle.std.specs.Prelude.{Bool, List, None, Option, Some, [], bytes_eq, codes, count_by, get_or, if◌then◌else◌, is_none, is_some, length, map, nat_eq, nat_lt, option_map, option_to_list, ℕ, ◌&&◌, ◌++◌, ◌+◌, ◌==◌, ◌||◌, ◌∷◌}
-use Rattle.std.specs.List.{ends_with, flat_map, starts_with}
+use Rattle.std.specs.Prelude.{Bool, List, None, Option, Some, [], bytes_eq, codes, count_by, get_or, if◌then◌else◌, is_none, is_some, length, map, nat_eq, nat_lt, not, option_map, option_to_list, ℕ, ◌&&◌, ◌++◌, ◌+◌, ◌==◌, ◌||◌, ◌∷◌}
+use Rattle.std.specs.List.{ends_with, flat_map, list_any, starts_with}
 use Rattle.std.specs.Option.{option_or}
 use Rattle.pep440_pick.specs.Names.{is_name, normal}
 use Rattle.toml.specs.Data.{Data, Members, as_str, get, get_member}
@@ -175,14 +175,31 @@ package_from python e = package_in e.0 (text_in (get (codes "name") e.1)) (text_
 abbrev pub names_listed : Option Data → List (List ℕ)
 names_listed value = flat_map (λ (d : Data). package_name_in (Some d)) (listed value)
 
--- those, or `default`, if there is no value
-abbrev pub listed_or_default : Option Data → List (List ℕ)
-listed_or_default None = codes "default" ∷ []
-listed_or_default (Some groups) = names_listed (Some groups)
+-- the group is one of these
+abbrev pub is_listed_part : List (List ℕ) → List ℕ → Bool
+is_listed_part parts name = list_any (bytes_eq name) parts
 
--- the groups that a lock names beside its packages: that of PDM, where `default` are the dependencies of the project, and each extra is one
+-- it is none of these: PEP 751 has such a group for the dependencies of a project. PDM always says `default`, and names it if it has them
+abbrev pub is_new_group : List (List ℕ) → List ℕ → Bool
+is_new_group named name = not (bytes_eq name (codes "default")) && not (is_listed_part named name)
+
+-- a lock that names these groups and extras, and installs these groups by default, has the dependencies, unless it installs only named ones; one that
+-- names none may have all
+abbrev pub has_default : List (List ℕ) → List (List ℕ) → Bool
+has_default named defaults = if length defaults == 0 then nat_lt 0 (length named) else list_any (is_new_group named) defaults
+
+-- these, and `default` for the dependencies of the project
+abbrev pub with_default : List (List ℕ) → List (List ℕ) → List (List ℕ)
+with_default named defaults = named ++ (if has_default named defaults then codes "default" ∷ [] else [])
+
+-- the groups and the extras of a lock (PEP 751)
+abbrev pub named_parts : Members → List (List ℕ)
+named_parts document = names_listed (get_member (codes "dependency-groups") document) ++ names_listed (get_member (codes "extras") document)
+
+-- the groups that a lock names beside its packages: those of PEP 751 and of PDM, where `default` are the dependencies of the project, and each extra is one
 abbrev pub lock_parts : LockKind → Members → List (List ℕ)
-lock_parts Pdm document = listed_or_default (inside (codes "groups") (get_member (codes "metadata") document))
+lock_parts Pdm document = names_listed (inside (codes "groups") (get_member (codes "metadata") document))
+lock_parts Pylock document = with_default (named_parts document) (names_listed (get_member (codes "default-groups") document))
 lock_parts kind document = []
 
 -- the groups that a package names: one of Poetry, from format 2.1 on

@@ -26,7 +26,7 @@ use Rattle.pyver_requirements.specs.LineParts.{line_parts}
 use Rattle.pyver_requirements.specs.MarkerGrammar.{DenotesMarker, Marker}
 use Rattle.toml.specs.Data.{Members}
 use Rattle.toml.specs.Parse.{parse_document}
-use Rattle.pyver_projects.specs.Comparing.{IsDocumentsReport, is_beside, is_installer, is_locked, is_needed, lack_in}
+use Rattle.pyver_projects.specs.Comparing.{IsDocumentsReport, is_beside, is_installer, is_locked, is_needed, lack_in, leaves_out}
 use Rattle.pyver_projects.specs.Documents.{has_group_tool, locked, project_names, sources}
 use Rattle.pyver_projects.specs.Groups.{groups}
 use Rattle.pyver_projects.specs.KnownEnvironments.{known_environment, known_environments, python_record}
@@ -212,7 +212,7 @@ pub record IsOutside (lock : List ℕ) (ps : List LockedPackage) (name : List �
   pub none : ¬ SomeContained ps name list
   pub is : f ≡ Conflicting PinOutside (line ∷ (first ∷ others)) None
 
--- the list of a requirement of a project contains no version of a package of its name in a lock
+-- the list of a requirement of a project contains no version of a package of its name in a lock that is not for other parts of the project alone
 pub record IsExcluded (documents : List Document) (f : Finding) : Type 0 where
   pub file : File
   pub string : ProjectString
@@ -221,6 +221,7 @@ pub record IsExcluded (documents : List Document) (f : Finding) : Type 0 where
   pub contents : LockContents
   pub needed : Needed
   pub has : HasString documents file string
+  pub counts : leaves_out kind contents.parts string.section ≡ false
   pub asks : AlwaysAsks string needed
   pub known : HasLock documents kind lock contents
   pub outside : IsOutside lock.name contents.packages needed.name needed.specifiers (string_line file string) f
@@ -291,11 +292,11 @@ DocumentFindingsHold = (documents : List Document) (r : Report) → IsDocumentsR
 
 -- ---- no finding
 
--- each requirement of each project contains a version of its name in each lock that counts for it and has one
+-- each requirement of each project contains a version of its name in each lock that counts for it, does not leave its part out, and has one
 abbrev pub AllContained : List Document → Type 0
 AllContained documents = (file lock : File) (kind : LockKind) (l : LockContents) (s : ProjectString) (p : LockedPackage) (n : Needed) (v : Record)
     → HasString documents file s → HasLock documents kind lock l → Contains l.packages p → IsTrue (is_beside documents (record { kind = Project; file = file }) (record { kind = Lock kind; file = lock }))
-    → IsTrue (is_locked s.section) → AlwaysAsks s n → LocksVersion n.name p v → SomeContained l.packages n.name n.specifiers
+    → IsTrue (is_locked s.section) → leaves_out kind l.parts s.section ≡ false → AlwaysAsks s n → LocksVersion n.name p v → SomeContained l.packages n.name n.specifiers
 
 -- each requirement of a package whose list is one contains a version of its name in the same lock, if that has one
 abbrev pub AllMet : List Document → Type 0

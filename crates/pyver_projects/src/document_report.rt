@@ -308,7 +308,9 @@ fn read_documents<'a>(
 ///
 /// A requirement with a marker or a URL, of a package with markers, of the build, or that is optional, is not compared. Each lock is to
 /// have packages for `project.dependencies`, `poetry.lock` and `uv.lock` for extras, `uv.lock` for groups, too; `poetry.lock` for the groups
-/// that its packages name, and `pdm.lock` for those that it lists: `default` are the dependencies, and extras are groups.
+/// that its packages name, and `pdm.lock` and `pylock.toml` (PEP 751, `dependency-groups`, `extras`) for those that they name: `default` are the
+/// dependencies, and extras are groups; with what they then do not have nothing is compared. `pylock.toml` has the dependencies, unless its
+/// `default-groups` are some, each of them named, or `default`.
 ///
 /// The environments are CPython 3.9 to 3.14 on Linux, Windows and macOS, of those for which the lock is: `poetry.lock` from format 2.1 on by its
 /// `metadata.python-versions`, where `^3.9` is `>=3.9`, and `pdm.lock` by the `requires_python` of its one target. It leaves a package out where its

@@ -3,7 +3,7 @@ ghost use Rattle.std.specs.Prelude.{◌≡◌, ◌++◌, [], IfOk, if◌then◌e
 ghost use Rattle.std.specs.List.{flat_map, find, list_any, filter};
 ghost use Rattle.pyver_findings.specs.Reports.{demands_in};
 ghost use Rattle.pyver_findings.specs.Views.{demand_of, file_line_of, finding_of, line_meaning_of};
-ghost use Rattle.pyver_projects.specs.Comparing.{absent, found_beside, found_in_pair, beside_all, compared, compared_demand, accepts_version, excluded, is_listed_part, locks_dependencies, locks_extras, locks_groups, has_name, is_excused, is_installer, is_project_reading, is_locked, is_needed, lack_finding, lack_in, lacking, leaves_out_all, locked_line, may_take, missing, names_read, outside, partly_locked, taken_packages, unlocked, unmet};
+ghost use Rattle.pyver_projects.specs.Comparing.{absent, found_beside, found_in_pair, beside_all, compared, compared_demand, accepts_version, excluded, excluded_in, leaves_out, names_groups, locks_extras, locks_groups, has_name, is_excused, is_installer, is_project_reading, is_locked, is_needed, lack_finding, lack_in, lacking, leaves_out_all, locked_line, may_take, missing, names_read, outside, partly_locked, taken_packages, unlocked, unmet};
 ghost use Rattle.pyver_projects.specs.KnownEnvironments.{known_environments};
 ghost use Rattle.pyver_projects.specs.ProjectViews.{IsIndex, excuses, packages_of, document_of, document_reading_of, locked_reading_of, read_pair, reading_in, section_of, string_reading_of};
 ghost use Rattle.std.specs.HashMap.{get_by};
@@ -12,6 +12,7 @@ ghost use Rattle.std.specs.Option.{option_map_or};
 use crate::document_kind::{Document, DocumentKind, LockKind, is_beside};
 use crate::document_reading::{DocumentReading, ReadDocument, StringReading};
 use crate::known_environment::{KnownEnvironment, known_environments};
+use crate::lock_faults::is_listed_part;
 use crate::locked_reading::LockedReading;
 use crate::project::Section;
 use pep440_rs::Version;
@@ -101,16 +102,14 @@ fn locks_extras(kind: LockKind) -> bool
     matches!(kind, LockKind::Uv | LockKind::Poetry)
 }
 
-fn locks_dependencies(kind: LockKind) -> bool
-    ensures { result ≡ locks_dependencies kind }
+// The lock says which groups it has, if it names some.
+fn names_groups(kind: LockKind, parts: &[Vec<u8>]) -> bool
+    ensures { result ≡ names_groups kind (map (λ n. n.items) parts.now) }
 {
-    !matches!(kind, LockKind::Pdm)
-}
-
-fn is_listed_part(parts: &[Vec<u8>], name: &[u8]) -> bool
-    ensures { result ≡ list_any (λ part. bytes_eq name.now part.items) parts.now }
-{
-    parts.iter().any(|part| name == part.as_slice())
+    match kind {
+        LockKind::Pdm | LockKind::Pylock => parts.len() > 0,
+        _ => false,
+    }
 }
 
 // A lock with these groups has what this part of the project needs.
@@ -119,11 +118,18 @@ fn is_needed(kind: LockKind, parts: &[Vec<u8>], section: &Section) -> bool
     ensures { result ≡ is_needed kind (map (λ n. n.items) parts.now) (section_of section.now) }
 {
     match section {
-        Section::Dependencies => locks_dependencies(kind) || is_listed_part(parts, b"default"),
+        Section::Dependencies => !names_groups(kind, parts) || is_listed_part(parts, b"default"),
         Section::Extra(name) => locks_extras(kind) || is_listed_part(parts, name.as_slice()),
         Section::Group(name) => locks_groups(kind) || is_listed_part(parts, name.as_slice()),
         _ => false,
     }
+}
+
+// It is for other parts of the project.
+fn leaves_out(kind: LockKind, parts: &[Vec<u8>], section: &Section) -> bool
+    ensures { result ≡ leaves_out kind (map (λ n. n.items) parts.now) (section_of section.now) }
+{
+    names_groups(kind, parts) && !is_needed(kind, parts, section)
 }
 
 fn is_locked(section: &Section) -> bool
@@ -617,6 +623,23 @@ fn push_missing(
     push_absence_or_lack(alloc, findings, &lock.packages, demand)
 }
 
+// Adds the requirement beside the packages of its name, if its list contains the version of none, unless the lock leaves the part out.
+fn push_excluded_in(
+    alloc: Global,
+    findings: &mut Vec<Finding>,
+    lock: &IndexedLock<'_>,
+    section: &Section,
+    demand: &Demand,
+) -> Result<(), AllocError>
+    requires { IsIndex lock.now.packages }
+    ensures { IfOk result (λ _. map finding_of findings.new.items ≡ map finding_of findings.old.items ++ excluded_in lock.now.kind (map (λ n. n.items) lock.now.parts.now) (option_to_list (option_map (λ n. n.items) lock.now.project.now)) (packages_of lock.now.packages) (section_of section.now) (demand_of demand.now)) }
+{
+    if leaves_out(lock.kind, lock.parts, section) {
+        return Ok(());
+    }
+    push_all_excluded(alloc, findings, demand, &lock.packages)
+}
+
 fn push_compared_demand(
     alloc: Global,
     findings: &mut Vec<Finding>,
@@ -631,7 +654,7 @@ fn push_compared_demand(
         return Ok(());
     }
     push_missing(alloc, findings, lock, section, demand)?;
-    push_all_excluded(alloc, findings, demand, &lock.packages)
+    push_excluded_in(alloc, findings, lock, section, demand)
 }
 
 fn push_compared_meaning(

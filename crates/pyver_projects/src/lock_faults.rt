@@ -1,10 +1,11 @@
 //! The names of projects, the groups of locks, and what is wrong with locked packages of one name.
-ghost use Rattle.std.specs.Prelude.{◌≡◌, ◌++◌, IfOk, ◌∷◌, [], Some, codes, map, option_copied, option_map, option_to_list, string_bytes};
+ghost use Rattle.std.specs.Prelude.{◌≡◌, ◌++◌, IfOk, ◌∷◌, [], Some, bytes_eq, codes, map, option_copied, option_map, option_to_list, string_bytes};
 ghost use Rattle.pep440_version.specs.Changes.ChangeWords.{after};
-ghost use Rattle.std.specs.List.{flat_map};
-ghost use Rattle.pyver_projects.specs.Documents.{listed_or_default, lock_parts, package_parts, project_names, written_name};
+ghost use Rattle.std.specs.List.{flat_map, list_any};
+ghost use Rattle.pyver_projects.specs.Documents.{has_default, is_new_group, lock_parts, named_parts, names_listed, with_default, package_parts, project_names, written_name};
 ghost use Rattle.pyver_projects.specs.LockedFiles.{ambiguous, ambiguous_by, ambiguous_fault, ambiguous_item, ambiguous_name, counted_names, is_for_extras, has_markers, is_shared, is_uv, locked_python, package_condition, poetry_python, target_python, written_marker, marked_name, marked_names, marker_text, package_faults, package_name_in, twin_fault, twin_in, twins};
 ghost use Rattle.pyver_projects.specs.ProjectViews.{IsNameIndex, condition_of_package, indexed_names, fault_of};
+ghost use Rattle.pyver_projects.specs.declared.document_kind.LockKind.TheVariants as lock_kind;
 ghost use Rattle.toml.specs.View.{table_view, view};
 
 use crate::document_kind::LockKind;
@@ -189,16 +190,95 @@ fn push_names(alloc: Global, names: &mut Vec<Vec<u8>>, list: &[Value]) -> Result
     Ok(())
 }
 
-// The groups that PDM names, or `default`, if there is no value.
-fn listed_or_default(alloc: Global, groups: Option<&Value>) -> Result<Vec<Vec<u8>>, AllocError>
-    ensures { IfOk result (λ names. map (λ n. n.items) names.items ≡ listed_or_default (option_map (λ v. view v.now) groups.entry)) }
+pub(crate) fn is_listed_part(parts: &[Vec<u8>], name: &[u8]) -> bool
+    ensures { result ≡ list_any (λ part. bytes_eq name.now part.items) parts.now }
+{
+    parts.iter().any(|part| name == part.as_slice())
+}
+
+// It is none of these, nor PDM's name for the dependencies.
+#[tactic(auto, using(crate::proofs::Walks::any_of))]
+fn is_new_group(named: &[Vec<u8>], name: &[u8]) -> bool
+    ensures { result ≡ is_new_group (map (λ n. n.items) named.now) name.now }
+{
+    name != b"default".as_slice() && !is_listed_part(named, name)
+}
+
+fn has_new_group(named: &[Vec<u8>], names: &[Vec<u8>]) -> bool
+    ensures { result ≡ list_any (λ name. is_new_group (map (λ n. n.items) named.now) name.items) names.now }
+{
+    names
+        .iter()
+        .any(|name| is_new_group(named, name.as_slice()))
+}
+
+#[tactic(auto, using(crate::proofs::Walks::any_of))]
+fn has_new_name(named: &[Vec<u8>], names: &[Vec<u8>]) -> bool
+    ensures { result ≡ list_any (is_new_group (map (λ n. n.items) named.now)) (map (λ n. n.items) names.now) }
+{
+    has_new_group(named, names)
+}
+
+// A lock that names these groups and extras, and installs these groups by default, has the dependencies.
+fn has_default(named: &[Vec<u8>], names: &[Vec<u8>]) -> bool
+    ensures { result ≡ has_default (map (λ n. n.items) named.now) (map (λ n. n.items) names.now) }
+{
+    if names.is_empty() {
+        return named.len() > 0;
+    }
+    has_new_name(named, names)
+}
+
+// Adds the normal forms of the names, if there is an array.
+fn push_listed_names(
+    alloc: Global,
+    names: &mut Vec<Vec<u8>>,
+    value: Option<&Value>,
+) -> Result<(), AllocError>
+    ensures { IfOk result (λ _. map (λ n. n.items) names.new.items ≡ map (λ n. n.items) names.old.items ++ names_listed (option_map (λ v. view v.now) value.entry)) }
+{
+    push_names(alloc, names, items(value))
+}
+
+fn listed_names(alloc: Global, value: Option<&Value>) -> Result<Vec<Vec<u8>>, AllocError>
+    ensures { IfOk result (λ names. map (λ n. n.items) names.items ≡ names_listed (option_map (λ v. view v.now) value.entry)) }
 {
     let mut names = Vec::new(alloc);
-    match groups {
-        Some(groups) => push_names(alloc, &mut names, items(Some(groups)))?,
-        None => names.push(Vec::from_slice(alloc, b"default")?)?,
-    }
+    push_listed_names(alloc, &mut names, value)?;
     Ok(names)
+}
+
+// The groups and the extras of `pylock.toml`.
+fn named_parts(alloc: Global, document: &Table) -> Result<Vec<Vec<u8>>, AllocError>
+    ensures { IfOk result (λ names. map (λ n. n.items) names.items ≡ named_parts (table_view document.now)) }
+{
+    let mut parts = listed_names(alloc, top(document, "dependency-groups"))?;
+    push_listed_names(alloc, &mut parts, top(document, "extras"))?;
+    Ok(parts)
+}
+
+// These, and `default`, if a lock that installs these by default has the dependencies.
+fn with_default(
+    alloc: Global,
+    named: Vec<Vec<u8>>,
+    defaults: &[Vec<u8>],
+) -> Result<Vec<Vec<u8>>, AllocError>
+    ensures { IfOk result (λ names. map (λ n. n.items) names.items ≡ with_default (map (λ n. n.items) named.items) (map (λ n. n.items) defaults.now)) }
+{
+    let mut parts = named;
+    if has_default(parts.as_slice(), defaults) {
+        parts.push(Vec::from_slice(alloc, b"default")?)?;
+    }
+    Ok(parts)
+}
+
+// Those of `pylock.toml`, with `default` for the dependencies of the project.
+fn pylock_parts(alloc: Global, document: &Table) -> Result<Vec<Vec<u8>>, AllocError>
+    ensures { IfOk result (λ names. map (λ n. n.items) names.items ≡ lock_parts lock_kind.Pylock (table_view document.now)) }
+{
+    let named = named_parts(alloc, document)?;
+    let defaults = listed_names(alloc, top(document, "default-groups"))?;
+    with_default(alloc, named, defaults.as_slice())
 }
 
 // The groups that a lock of this kind names beside its packages, in their normal form.
@@ -209,10 +289,11 @@ pub(crate) fn lock_parts(
 ) -> Result<Vec<Vec<u8>>, AllocError>
     ensures { IfOk result (λ names. map (λ n. n.items) names.items ≡ lock_parts kind (table_view document.now)) }
 {
-    if matches!(kind, LockKind::Pdm) {
-        return listed_or_default(alloc, inside(top(document, "metadata"), "groups"));
+    match kind {
+        LockKind::Pdm => listed_names(alloc, inside(top(document, "metadata"), "groups")),
+        LockKind::Pylock => pylock_parts(alloc, document),
+        _ => Ok(Vec::new(alloc)),
     }
-    Ok(Vec::new(alloc))
 }
 
 // Adds the groups that the package names.
@@ -226,7 +307,7 @@ pub(crate) fn push_package_parts(
     ensures { IfOk result (λ _. map (λ n. n.items) parts.new.items ≡ map (λ n. n.items) parts.old.items ++ package_parts kind (line, view table.now)) }
 {
     if matches!(kind, LockKind::Poetry) {
-        return push_names(alloc, parts, items(table.get("groups")));
+        return push_listed_names(alloc, parts, table.get("groups"));
     }
     Ok(())
 }
