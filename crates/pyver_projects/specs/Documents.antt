@@ -4,10 +4,10 @@ use Rattle.std.specs.List.{ends_with, flat_map, list_any, starts_with}
 use Rattle.std.specs.Option.{option_or}
 use Rattle.pep440_pick.specs.Names.{is_name, normal}
 use Rattle.toml.specs.Data.{Data, Members, as_str, get, get_member}
-use Rattle.pyver_projects.specs.LockedFiles.{files_from, last_section, counted_names, has_markers, locked_python, package_condition, package_faults, package_name_in}
+use Rattle.pyver_projects.specs.LockedFiles.{array_faults, files_from, last_section, counted_names, has_markers, locked_python, package_condition, package_faults, package_name_in}
 use Rattle.pyver_projects.specs.PackageRequirements.{requirements_from}
-use Rattle.pyver_projects.specs.ProjectStrings.{Build, Dependencies, Extra, Group, Include, Invalid, LockContents, LockedPackage, PackageCondition, ProjectString, Python, Section, Version, header_lines, entries, inside, is_array_or_none, is_table_or_none, listed, text_in}
-use Rattle.pyver_projects.specs.PipfileLocks.{member_packages}
+use Rattle.pyver_projects.specs.ProjectStrings.{Build, Dependencies, Extra, Group, Include, Invalid, LockContents, LockFault, LockedPackage, PackageCondition, ProjectString, Python, Section, Version, header_lines, entries, inside, is_array_or_none, is_table_or_none, listed, text_in}
+use Rattle.pyver_projects.specs.PipfileLocks.{member_packages, object_faults}
 use Rattle.pyver_findings.specs.NamedFiles.{folder}
 use Rattle.pyver_projects.specs.declared.document_kind.DocumentKind.{DocumentKind}
 use Rattle.pyver_projects.specs.declared.document_kind.DocumentKind.TheVariants.{Lock, Project}
@@ -207,25 +207,25 @@ abbrev pub package_parts : LockKind → ℕ × Data → List (List ℕ)
 package_parts Poetry e = names_listed (get (codes "groups") e.1)
 package_parts kind e = []
 
--- what the tables of packages of a lock of this kind have, each with its line, beside these groups, that have markers or not, for these
+-- what the tables of packages of a lock of this kind have, each with its line, beside these groups and faults, that have markers or not, for these
 -- Pythons, and are looked at beside those with these names
-abbrev pub table_contents : LockKind → List (List ℕ) → Bool → Option (List ℕ) → List (List ℕ) → List (ℕ × Data) → LockContents
-table_contents kind parts marked python names tables = record {
+abbrev pub table_contents : LockKind → List (List ℕ) → List LockFault → Bool → Option (List ℕ) → List (List ℕ) → List (ℕ × Data) → LockContents
+table_contents kind parts found marked python names tables = record {
   parts = parts ++ flat_map (package_parts kind) tables;
   packages = flat_map (package_from python) tables;
   requirements = flat_map requirements_from tables;
   files = flat_map files_from tables;
-  faults = flat_map (package_faults kind marked names) tables;
+  faults = found ++ flat_map (package_faults kind marked names) tables;
 }
 
--- what a lock of this kind has in these packages, with these lines of headers
-abbrev pub packages_contents : LockKind → List ℕ → Members → List Data → LockContents
-packages_contents kind lines document packages =
-    table_contents kind (lock_parts kind document) (has_markers kind document) (locked_python kind document) (flat_map (counted_names kind) packages) (numbered_tables lines 0 packages)
+-- what a lock of this kind has in these packages, with these lines of headers, beside these faults
+abbrev pub packages_contents : LockKind → List ℕ → List LockFault → Members → List Data → LockContents
+packages_contents kind lines found document packages =
+    table_contents kind (lock_parts kind document) found (has_markers kind document) (locked_python kind document) (flat_map (counted_names kind) packages) (numbered_tables lines 0 packages)
 
--- in those in the array of tables at this key
-abbrev pub contents : LockKind → List ℕ → List ℕ → Members → LockContents
-contents kind lines key document = packages_contents kind lines document (listed (get_member key document))
+-- in those in the array of tables at this key, each under this header, of a lock with this text
+abbrev pub contents : LockKind → List ℕ → List ℕ → List ℕ → Members → LockContents
+contents kind header text key document = packages_contents kind (header_lines header text) (array_faults text key (get_member key document)) document (listed (get_member key document))
 
 -- the path is this name, or ends with it after a `/`
 abbrev pub ends_path : List ℕ → List ℕ → List ℕ → Bool
@@ -268,11 +268,11 @@ kind_of_word word =
 
 -- what a TOML lock with this text has, if it is TOML: packages at the key, each under the header
 abbrev pub toml_contents : LockKind → List ℕ → List ℕ → List ℕ → Option LockContents
-toml_contents kind key header text = option_map (contents kind (header_lines header text) key) (parse_document text)
+toml_contents kind key header text = option_map (contents kind header text key) (parse_document text)
 
--- what `Pipfile.lock` has: only packages
+-- what `Pipfile.lock` has: only packages, and values of other types
 abbrev pub pipfile_contents : List ℕ → JsonData → LockContents
-pipfile_contents text document = record { parts = []; packages = member_packages text document; requirements = []; files = []; faults = [] }
+pipfile_contents text document = record { parts = []; packages = member_packages text document; requirements = []; files = []; faults = object_faults text document }
 
 -- what a lock with this text has, if it is TOML, or JSON, of a known format
 abbrev pub locked : LockKind → List ℕ → Option LockContents

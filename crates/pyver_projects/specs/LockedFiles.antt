@@ -1,7 +1,7 @@
 -- Locked packages beside their files and beside one another: the versions in the names of files, of wheels (PEP 427, "File name convention") and of
 -- archives of sources (PEP 625, "Specification"); and packages of one name. By PEP 751 ("Specification") at most one of these is installed, so
 -- that their markers differ, as in Poetry's and PDM's locks; uv names a package by its source, too, if another one has its name.
-use Rattle.std.specs.Prelude.{ℕ, List, [], ◌∷◌, ◌++◌, ◌-◌, ◌&&◌, ◌||◌, Bool, true, false, Option, Some, None, bytes_eq, codes, if◌then◌else◌, is_some, length, nat_eq, not, option_and_then, option_map, option_to_list, take, unwrap_or, ◌==◌, count_by, nat_lt}
+use Rattle.std.specs.Prelude.{ℕ, List, [], ◌∷◌, ◌++◌, ◌-◌, ◌&&◌, ◌||◌, Bool, true, false, Option, Some, None, bytes_eq, codes, get_or, if◌then◌else◌, is_some, length, nat_eq, not, option_and_then, option_map, option_to_list, take, unwrap_or, ◌==◌, count_by, nat_lt}
 use Rattle.std.specs.List.{ends_with, list_any, flat_map}
 use Rattle.std.specs.Option.{option_map_or, option_or}
 use Rattle.pep440_pick.specs.Names.{same_name, normal}
@@ -9,7 +9,7 @@ use Rattle.pep440_pick.specs.RequirementReading.{split_at_byte}
 use Rattle.pep440_version.specs.Changes.ChangeWords.{after}
 use Rattle.toml.specs.Data.{Data, get, Members, get_member}
 use Rattle.pyver_projects.specs.PackageRequirements.{lacks, package_text, plain_list}
-use Rattle.pyver_projects.specs.ProjectStrings.{LockedFile, LockFault, PackageCondition, listed, text_in, inside}
+use Rattle.pyver_projects.specs.ProjectStrings.{LockedFile, LockFault, PackageCondition, header_lines, is_array_or_none, is_table_or_none, is_text_or_none, listed, text_in, inside}
 use Rattle.pyver_projects.specs.declared.document_kind.LockKind.{LockKind}
 use Rattle.pyver_projects.specs.declared.document_kind.LockKind.TheVariants.{Pdm, Pipfile, Poetry, Pylock, Unknown, Uv}
 
@@ -218,5 +218,29 @@ abbrev pub counted_names : LockKind → Data → List (List ℕ)
 counted_names kind d = if is_uv kind then package_name d else marked_names d
 
 -- what is wrong with a package of a lock of this kind, that has markers or not, beside those with these names
+abbrev pub faults_beside : LockKind → Bool → List (List ℕ) → ℕ × Data → List LockFault
+faults_beside kind marked names e = if is_uv kind then ambiguous names e else if marked then twins names e else []
+
+-- ---- values of other types
+
+-- that the text of this line is wrong for this reason, unless it is right
+abbrev pub fault_unless : Bool → ℕ → List ℕ → List ℕ → List LockFault
+fault_unless is_right line text reason = if is_right then [] else record { line = line; text = text; reason = reason } ∷ []
+
+-- the package on this line is a table, in which the value at the key is a string, if there is one
+abbrev pub text_faults : ℕ → List ℕ → Data → List LockFault
+text_faults line key d = fault_unless (is_text_or_none (get key d)) line key (codes "not a string")
+
+abbrev pub value_faults : ℕ × Data → List LockFault
+value_faults e = fault_unless (is_table_or_none (Some e.1)) e.0 (codes "package") (codes "not a table")
+    ++ (text_faults e.0 (codes "name") e.1 ++ text_faults e.0 (codes "version") e.1)
+
+-- the packages of a lock with this text are an array at this key, if they are there; else the fault is on the line of the header of a table, or on
+-- the first line
+abbrev pub array_faults : List ℕ → List ℕ → Option Data → List LockFault
+array_faults text key value =
+    fault_unless (is_array_or_none value) (get_or (header_lines (codes "[" ++ (key ++ codes "]")) text) 0 1) key (codes "not an array of tables")
+
+-- what is wrong with a package by itself and beside others
 abbrev pub package_faults : LockKind → Bool → List (List ℕ) → ℕ × Data → List LockFault
-package_faults kind marked names e = if is_uv kind then ambiguous names e else if marked then twins names e else []
+package_faults kind marked names e = value_faults e ++ faults_beside kind marked names e

@@ -54,6 +54,10 @@ is_array_or_none value = is_some_or as_array value
 abbrev pub is_table_or_none : Option Data → Bool
 is_table_or_none value = is_some_or as_table value
 
+-- the value is a string, if there is one
+abbrev pub is_text_or_none : Option Data → Bool
+is_text_or_none value = is_some_or as_str value
+
 -- where a string stands in `pyproject.toml`: extras and groups by the normal forms of their names, and for the name of a group that another
 -- includes both; or, for a key or a name that is invalid, the path of what it stands in, and why it is
 pub data Section : Type 0 where

@@ -3,7 +3,7 @@ ghost use Rattle.std.specs.Prelude.{◌≡◌, ◌++◌, IfOk, ◌∷◌, [], So
 ghost use Rattle.pep440_version.specs.Changes.ChangeWords.{after};
 ghost use Rattle.std.specs.List.{flat_map, list_any};
 ghost use Rattle.pyver_projects.specs.Documents.{has_default, is_new_group, lock_parts, named_parts, names_listed, with_default, package_parts, project_names, written_name};
-ghost use Rattle.pyver_projects.specs.LockedFiles.{ambiguous, ambiguous_by, ambiguous_fault, ambiguous_item, ambiguous_name, counted_names, is_for_extras, has_markers, is_shared, is_uv, locked_python, package_condition, poetry_python, target_python, written_marker, marked_name, marked_names, marker_text, package_faults, package_name_in, twin_fault, twin_in, twins};
+ghost use Rattle.pyver_projects.specs.LockedFiles.{ambiguous, ambiguous_by, ambiguous_fault, ambiguous_item, ambiguous_name, fault_unless, faults_beside, text_faults, value_faults, counted_names, is_for_extras, has_markers, is_shared, is_uv, locked_python, package_condition, poetry_python, target_python, written_marker, marked_name, marked_names, marker_text, package_faults, package_name_in, twin_fault, twin_in, twins};
 ghost use Rattle.pyver_projects.specs.ProjectViews.{IsNameIndex, condition_of_package, indexed_names, fault_of};
 ghost use Rattle.pyver_projects.specs.declared.document_kind.LockKind.TheVariants as lock_kind;
 ghost use Rattle.toml.specs.View.{table_view, view};
@@ -12,7 +12,7 @@ use crate::document_kind::LockKind;
 use crate::groups::NameIndex;
 use crate::locked_package::{LockFault, PackageCondition, copy_text, first_of, package_text};
 use crate::package_requirements::{lacks, plain_list};
-use crate::table::{inside, items, text, top};
+use crate::table::{inside, is_table_or_none, is_text_or_none, items, text, top};
 use pyver_findings::normalize_name;
 use std::alloc::{AllocError, Global};
 use toml::{Table, Value};
@@ -527,6 +527,73 @@ pub(crate) struct CountedNames<'a> {
 }
 
 // Adds what is wrong with the package beside the others.
+fn push_faults_beside(
+    alloc: Global,
+    faults: &mut Vec<LockFault>,
+    counted: &CountedNames<'_>,
+    line: u64,
+    table: &Value,
+) -> Result<(), AllocError>
+    requires { IsNameIndex counted.now.names }
+    ensures { IfOk result (λ _. map fault_of faults.new.items ≡ map fault_of faults.old.items ++ faults_beside counted.now.kind counted.now.has_markers (indexed_names counted.now.names) (line, view table.now)) }
+{
+    if is_uv(counted.kind) {
+        push_ambiguous_dependencies(alloc, faults, &counted.names, line, table)
+    } else if counted.has_markers {
+        push_twin(alloc, faults, &counted.names, line, table)
+    } else {
+        Ok(())
+    }
+}
+
+// Adds what is wrong on this line, unless it is right.
+pub(crate) fn push_fault_unless(
+    alloc: Global,
+    faults: &mut Vec<LockFault>,
+    is_right: bool,
+    line: u64,
+    text: &str,
+    reason: &'static str,
+) -> Result<(), AllocError>
+    ensures { IfOk result (λ _. map fault_of faults.new.items ≡ map fault_of faults.old.items ++ fault_unless is_right line text.now reason.now) }
+{
+    if is_right {
+        return Ok(());
+    }
+    let text = Vec::from_slice(alloc, text.as_bytes())?;
+    faults.push(LockFault { line, text, reason })?;
+    Ok(())
+}
+
+fn push_text_fault(
+    alloc: Global,
+    faults: &mut Vec<LockFault>,
+    line: u64,
+    key: &str,
+    table: &Value,
+) -> Result<(), AllocError>
+    ensures { IfOk result (λ _. map fault_of faults.new.items ≡ map fault_of faults.old.items ++ text_faults line key.now (view table.now)) }
+{
+    let is_right = is_text_or_none(table.get(key));
+    push_fault_unless(alloc, faults, is_right, line, key, "not a string")
+}
+
+// Adds what is wrong with the package by itself.
+fn push_value_faults(
+    alloc: Global,
+    faults: &mut Vec<LockFault>,
+    line: u64,
+    table: &Value,
+) -> Result<(), AllocError>
+    ensures { IfOk result (λ _. map fault_of faults.new.items ≡ map fault_of faults.old.items ++ value_faults (line, view table.now)) }
+{
+    let is_right = is_table_or_none(Some(table));
+    push_fault_unless(alloc, faults, is_right, line, "package", "not a table")?;
+    push_text_fault(alloc, faults, line, "name", table)?;
+    push_text_fault(alloc, faults, line, "version", table)
+}
+
+// Adds what is wrong with the package by itself and beside the others.
 pub(crate) fn push_package_faults(
     alloc: Global,
     faults: &mut Vec<LockFault>,
@@ -537,11 +604,6 @@ pub(crate) fn push_package_faults(
     requires { IsNameIndex counted.now.names }
     ensures { IfOk result (λ _. map fault_of faults.new.items ≡ map fault_of faults.old.items ++ package_faults counted.now.kind counted.now.has_markers (indexed_names counted.now.names) (line, view table.now)) }
 {
-    if is_uv(counted.kind) {
-        push_ambiguous_dependencies(alloc, faults, &counted.names, line, table)
-    } else if counted.has_markers {
-        push_twin(alloc, faults, &counted.names, line, table)
-    } else {
-        Ok(())
-    }
+    push_value_faults(alloc, faults, line, table)?;
+    push_faults_beside(alloc, faults, counted, line, table)
 }

@@ -1,6 +1,6 @@
 //! Values in a table of a TOML document.
 ghost use Rattle.std.specs.Prelude.{◌≡◌, map, option_and_then, option_map};
-ghost use Rattle.pyver_projects.specs.ProjectStrings.{inside, is_array_or_none, is_table_or_none, listed, text_in};
+ghost use Rattle.pyver_projects.specs.ProjectStrings.{inside, is_array_or_none, is_table_or_none, is_text_or_none, listed, text_in};
 ghost use Rattle.toml.specs.Data.{as_array, as_table, get_member};
 ghost use Rattle.toml.specs.View.{array_view, table_view, view};
 
@@ -81,6 +81,16 @@ pub(crate) fn is_table_or_none(value: Option<&Value>) -> bool
 {
     match value {
         Some(value) => value.as_table().is_some(),
+        None => true,
+    }
+}
+
+// The value is a string, if there is one.
+pub(crate) fn is_text_or_none(value: Option<&Value>) -> bool
+    ensures { result ≡ is_text_or_none (option_map (λ v. view v.now) value.entry) }
+{
+    match value {
+        Some(value) => value.as_str().is_some(),
         None => true,
     }
 }

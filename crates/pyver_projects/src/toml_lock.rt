@@ -1,22 +1,23 @@
 //! What a TOML lock has.
-ghost use Rattle.std.specs.Prelude.{◌≡◌, ◌++◌, IfOk, get_or, map, option_map, string_bytes};
+ghost use Rattle.std.specs.Prelude.{◌≡◌, ◌++◌, IfOk, codes, get_or, map, option_map, string_bytes};
 ghost use Rattle.pyver_projects.specs.Documents.{contents, numbered_tables, package_from, package_in, table_contents};
-ghost use Rattle.pyver_projects.specs.ProjectViews.{IsNameIndex, condition_of_package, indexed_names, contents_of, locked_of};
+ghost use Rattle.pyver_projects.specs.ProjectViews.{IsNameIndex, condition_of_package, indexed_names, contents_of, fault_of, locked_of};
 ghost use Rattle.pyver_projects.specs.ProjectStrings.{header_lines};
+ghost use Rattle.pyver_projects.specs.LockedFiles.{array_faults};
 ghost use Rattle.toml.specs.View.{table_view, view};
 
 use crate::document_kind::LockKind;
 use crate::groups::NameIndex;
 use crate::lock_faults::{
     CountedNames, counted_names, has_markers, lock_parts, locked_python, package_condition,
-    push_package_faults, push_package_parts,
+    push_fault_unless, push_package_faults, push_package_parts,
 };
 use crate::locked_package::{
-    LockContents, LockedPackage, PackageCondition, copy_text, push_locked_files,
+    LockContents, LockFault, LockedPackage, PackageCondition, copy_text, push_locked_files,
 };
 use crate::package_requirements::push_requirements;
 use crate::place::header_lines;
-use crate::table::{items, text, top};
+use crate::table::{is_array_or_none, items, text, top};
 use std::alloc::{AllocError, Global};
 use toml::{Table, Value};
 
@@ -66,22 +67,23 @@ fn line_or_one(lines: &[u64], index: usize) -> u64
     if index < lines.len() { lines[index] } else { 1 }
 }
 
-// What the tables have, with these lines of headers, beside these groups and names.
+// What the tables have, with these lines of headers, beside these groups, faults and names.
 fn read_tables(
     alloc: Global,
     parts: Vec<Vec<u8>>,
+    faults: Vec<LockFault>,
     counted: &CountedNames<'_>,
     lines: &[u64],
     tables: &[Value],
 ) -> Result<LockContents, AllocError>
     requires { IsNameIndex counted.now.names }
-    ensures { IfOk result (λ found. contents_of found ≡ table_contents counted.now.kind (map (λ n. n.items) parts.items) counted.now.has_markers (option_map string_bytes counted.now.python) (indexed_names counted.now.names) (numbered_tables lines.now 0 (map view tables.now))) }
+    ensures { IfOk result (λ found. contents_of found ≡ table_contents counted.now.kind (map (λ n. n.items) parts.items) (map fault_of faults.items) counted.now.has_markers (option_map string_bytes counted.now.python) (indexed_names counted.now.names) (numbered_tables lines.now 0 (map view tables.now))) }
 {
     let mut parts = parts;
     let mut packages = Vec::new(alloc);
     let mut requirements = Vec::new(alloc);
     let mut files = Vec::new(alloc);
-    let mut faults = Vec::new(alloc);
+    let mut faults = faults;
     for (index, item) in tables.iter().enumerate() {
         let line = line_or_one(lines, index);
         push_package_parts(alloc, &mut parts, counted.kind, line, item)?;
@@ -99,6 +101,50 @@ fn read_tables(
     })
 }
 
+// The header of a table at the key.
+fn table_header(alloc: Global, key: &str) -> Result<String, AllocError>
+    ensures { IfOk result (λ header. string_bytes header ≡ codes "[" ++ (key.now ++ codes "]")) }
+{
+    let mut header = String::from_str(alloc, "[")?;
+    header.push_str(key)?;
+    header.push_str("]")?;
+    Ok(header)
+}
+
+// The number of the line of the header of a table at the key, or 1.
+fn table_line(alloc: Global, text: &str, key: &str) -> Result<u64, AllocError>
+    ensures { IfOk result (λ line. line ≡ get_or (header_lines (codes "[" ++ (key.now ++ codes "]")) text.now) 0 1) }
+{
+    let header = table_header(alloc, key)?;
+    let lines = header_lines(alloc, header.as_bytes(), text.as_bytes())?;
+    Ok(line_or_one(lines.as_slice(), 0))
+}
+
+// What is wrong with the value at the key of a lock with this text, which is to be an array of tables.
+fn array_faults(
+    alloc: Global,
+    text: &str,
+    key: &str,
+    value: Option<&Value>,
+) -> Result<Vec<LockFault>, AllocError>
+    ensures { IfOk result (λ faults. map fault_of faults.items ≡ array_faults text.now key.now (option_map (λ v. view v.now) value.entry)) }
+{
+    let mut faults = Vec::new(alloc);
+    if is_array_or_none(value) {
+        return Ok(faults);
+    }
+    let line = table_line(alloc, text, key)?;
+    push_fault_unless(
+        alloc,
+        &mut faults,
+        false,
+        line,
+        key,
+        "not an array of tables",
+    )?;
+    Ok(faults)
+}
+
 // What a lock of this kind with this text has: packages at the key, each under the header.
 pub(crate) fn toml_contents(
     alloc: Global,
@@ -108,10 +154,12 @@ pub(crate) fn toml_contents(
     text: &str,
     document: &Table,
 ) -> Result<LockContents, AllocError>
-    ensures { IfOk result (λ found. contents_of found ≡ contents kind (header_lines header.now text.now) key.now (table_view document.now)) }
+    ensures { IfOk result (λ found. contents_of found ≡ contents kind header.now text.now key.now (table_view document.now)) }
 {
     let lines = header_lines(alloc, header.as_bytes(), text.as_bytes())?;
-    let tables = items(top(document, key));
+    let found = top(document, key);
+    let faults = array_faults(alloc, text, key, found)?;
+    let tables = items(found);
     let names = counted_names(alloc, kind, tables)?;
     let python = locked_python(alloc, kind, document)?;
     let counted = CountedNames {
@@ -121,5 +169,5 @@ pub(crate) fn toml_contents(
         names: NameIndex::new(alloc, names.as_slice())?,
     };
     let parts = lock_parts(alloc, kind, document)?;
-    read_tables(alloc, parts, &counted, lines.as_slice(), tables)
+    read_tables(alloc, parts, faults, &counted, lines.as_slice(), tables)
 }

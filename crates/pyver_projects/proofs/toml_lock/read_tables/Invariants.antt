@@ -15,4 +15,4 @@ invariant-loop-index l =
     × (map requirement_of l.requirements.items ++ flat_map requirements_from (numbered_tables l.lines l.index (map view (drop l.index l.tables))) ≡ flat_map requirements_from (numbered_tables l.lines 0 (map view l.tables)))
     × (map locked_file_of l.files.items ++ flat_map files_from (numbered_tables l.lines l.index (map view (drop l.index l.tables))) ≡ flat_map files_from (numbered_tables l.lines 0 (map view l.tables)))
     × (map fault_of l.faults.items ++ flat_map (package_faults l.counted.kind l.counted.has_markers (indexed_names l.counted.names)) (numbered_tables l.lines l.index (map view (drop l.index l.tables)))
-    ≡ flat_map (package_faults l.counted.kind l.counted.has_markers (indexed_names l.counted.names)) (numbered_tables l.lines 0 (map view l.tables)))
+    ≡ map fault_of l.initial.faults.items ++ flat_map (package_faults l.counted.kind l.counted.has_markers (indexed_names l.counted.names)) (numbered_tables l.lines 0 (map view l.tables)))
