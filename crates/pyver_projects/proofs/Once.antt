@@ -66,7 +66,7 @@ one_python Dependencies text p q a b = a ∙ sym b
 one_python (Extra name) text p q a b = a ∙ sym b
 one_python (Group name) text p q a b = a ∙ sym b
 one_python (Include group included) text p q a b = a ∙ sym b
-one_python (Invalid reason) text p q a b = a ∙ sym b
+one_python (Invalid table reason) text p q a b = a ∙ sym b
 one_python Build text p q a b = a ∙ sym b
 
 pub one_string : (all : Groups) (file : File) (s : ProjectString) (x y : StringReading) → IsStringReading all file s x → IsStringReading all file s y → x ≡ y

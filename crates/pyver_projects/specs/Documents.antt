@@ -7,7 +7,7 @@ use Rattle.toml.specs.Data.{Data, Members, as_str, get, get_member}
 use Rattle.pyver_projects.specs.LockedFiles.{array_faults, files_from, last_section, counted_names, has_markers, locked_python, package_condition, package_faults, package_name_in}
 use Rattle.pyver_projects.specs.PackageRequirements.{requirements_from}
 use Rattle.pyver_projects.specs.ProjectStrings.{Build, Dependencies, Extra, Group, Include, Invalid, LockContents, LockFault, LockedPackage, PackageCondition, ProjectString, Python, Section, Version, header_lines, entries, inside, is_array_or_none, is_table_or_none, listed, text_in}
-use Rattle.pyver_projects.specs.PipfileLocks.{member_packages, object_faults}
+use Rattle.pyver_projects.specs.PipfileLocks.{member_packages}
 use Rattle.pyver_findings.specs.NamedFiles.{folder}
 use Rattle.pyver_projects.specs.declared.document_kind.DocumentKind.{DocumentKind}
 use Rattle.pyver_projects.specs.declared.document_kind.DocumentKind.TheVariants.{Lock, Project}
@@ -67,7 +67,7 @@ entry_names es = map entry_name es
 
 -- the name for this reason, if another one of these is the same
 abbrev pub repeated_name : List ℕ → List ℕ → List (List ℕ) → List ℕ → List ProjectString
-repeated_name table reason names name = if nat_lt 1 (count_by (bytes_eq (normal name)) names) then invalid_name table name reason else []
+repeated_name table reason names name = unless (not (nat_lt 1 (count_by (bytes_eq (normal name)) names))) table name reason
 
 -- that the name is none (PEP 508, "Names"), or for this reason that another one of these is the same (PEP 685; PEP 735, "Specification")
 abbrev pub name_faults : List ℕ → List ℕ → List (List ℕ) → List ℕ → List ProjectString
@@ -131,13 +131,17 @@ table_faults document = table_fault [] (codes "project") (get_member (codes "pro
     ++ (table_fault [] (codes "dependency-groups") (get_member (codes "dependency-groups") document)
     ++ table_fault [] (codes "build-system") (get_member (codes "build-system") document))
 
+-- what the build requires
+abbrev pub build_sources : Members → List ProjectString
+build_sources document = array_sources (codes "build-system.") (codes "requires") Build (inside (codes "requires") (get_member (codes "build-system") document))
+
 -- the strings of `pyproject.toml`. Those of an included group stand in that group alone
 abbrev pub sources : Members → List ProjectString
 sources document = table_faults document
     ++ (table_sources (get_member (codes "project") document)
     ++ (dynamic_sources (get_member (codes "project") document)
     ++ (flat_map (group_sources (group_names document)) (groups_table document)
-    ++ array_sources (codes "build-system.") (codes "requires") Build (inside (codes "requires") (get_member (codes "build-system") document)))))
+    ++ build_sources document)))
 
 -- the name of the project as it is written, by PEP 621 or as Poetry has it
 abbrev pub written_name : Members → Option (List ℕ)
@@ -270,9 +274,9 @@ kind_of_word word =
 abbrev pub toml_contents : LockKind → List ℕ → List ℕ → List ℕ → Option LockContents
 toml_contents kind key header text = option_map (contents kind header text key) (parse_document text)
 
--- what `Pipfile.lock` has: only packages, and values of other types
+-- what `Pipfile.lock` has: only packages
 abbrev pub pipfile_contents : List ℕ → JsonData → LockContents
-pipfile_contents text document = record { parts = []; packages = member_packages text document; requirements = []; files = []; faults = object_faults text document }
+pipfile_contents text document = record { parts = []; packages = member_packages text document; requirements = []; files = []; faults = [] }
 
 -- what a lock with this text has, if it is TOML, or JSON, of a known format
 abbrev pub locked : LockKind → List ℕ → Option LockContents

@@ -66,7 +66,7 @@ ArePythons Dependencies text p = p ≡ None
 ArePythons (Extra name) text p = p ≡ None
 ArePythons (Group name) text p = p ≡ None
 ArePythons (Include group included) text p = p ≡ None
-ArePythons (Invalid reason) text p = p ≡ None
+ArePythons (Invalid table reason) text p = p ≡ None
 ArePythons Build text p = p ≡ None
 
 -- a string that was read: its section, what it is, and which versions of Python there are by it, if it bounds them

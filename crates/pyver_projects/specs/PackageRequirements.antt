@@ -1,7 +1,7 @@
 -- What locked packages require of one another.
-use Rattle.std.specs.Prelude.{ℕ, ◌&&◌, List, [], ◌∷◌, ◌++◌, Bool, Option, Some, None, bytes_eq, codes, if◌then◌else◌, is_none, not, option_map}
-use Rattle.std.specs.List.{flat_map}
-use Rattle.std.specs.Option.{unwrap_or}
+use Rattle.std.specs.Prelude.{ℕ, ◌&&◌, ◌||◌, List, [], ◌∷◌, ◌++◌, Bool, false, true, Option, Some, None, bytes_eq, codes, if◌then◌else◌, is_none, nat_eq, not, option_map}
+use Rattle.std.specs.List.{ends_with, flat_map}
+use Rattle.std.specs.Option.{option_map_or, unwrap_or}
 use Rattle.pep440_pick.specs.Names.{is_name, is_name_byte}
 use Rattle.pep440_pick.specs.RequirementGrammar.{has_byte}
 use Rattle.pep440_pick.specs.RequirementReading.{split_at_byte}
@@ -73,15 +73,26 @@ module _ (line : ℕ) (requirer : List ℕ) where
   abbrev pub member_requirements : List ℕ × Data → List LockedRequirement
   member_requirements e = version_requirements e.0 e.1 ++ flat_map (version_requirements e.0) (listed (Some e.1))
 
-  -- the requirements of uv, of uv, of PDM and of PEP 751, and of Poetry
+  -- the requirements of uv, of uv, of PDM and of PEP 751, of PDM in `pylock.toml`, and of Poetry
   abbrev pub table_requirements : Data → List LockedRequirement
   table_requirements d = flat_map item_requirements (listed (inside (codes "requires-dist") (get (codes "metadata") d)))
       ++ (flat_map item_requirements (listed (get (codes "dependencies") d))
-      ++ flat_map member_requirements (entries (get (codes "dependencies") d)))
+      ++ (flat_map item_requirements (listed (inside (codes "dependencies") (inside (codes "pdm") (get (codes "tool") d))))
+      ++ flat_map member_requirements (entries (get (codes "dependencies") d))))
 
--- the package is locked without markers: those of Poetry, of PDM and PEP 751, and of uv
+-- it compares by `in` alone, and ends with groups or extras, which it chooses
+abbrev pub chooses_parts : List ℕ → Bool
+chooses_parts text = (ends_with nat_eq text (codes " in dependency_groups") || ends_with nat_eq text (codes " in extras"))
+    && (not (has_byte 61 text) && (not (has_byte 60 text) && not (has_byte 62 text)))
+
+-- the string does, if there is a value
+abbrev pub chooses_parts_alone : Option Data → Bool
+chooses_parts_alone None = true
+chooses_parts_alone (Some d) = option_map_or chooses_parts (as_str d) false
+
+-- the package is locked without markers of environments: those of Poetry, of PDM and PEP 751, and of uv
 abbrev pub is_unconditional : Data → Bool
-is_unconditional d = lacks (codes "markers") d && (lacks (codes "marker") d && lacks (codes "resolution-markers") d)
+is_unconditional d = lacks (codes "markers") d && (chooses_parts_alone (get (codes "marker") d) && lacks (codes "resolution-markers") d)
 
 -- the requirements of a package with this name, if it has one
 abbrev pub requirements_by : ℕ → Option (List ℕ) → Data → List LockedRequirement

@@ -1,12 +1,11 @@
 -- The packages of `Pipfile.lock`, which is JSON.
-use Rattle.std.specs.Prelude.{ℕ, List, [], ◌∷◌, ◌++◌, Bool, true, false, Option, Some, None, bytes_eq, codes, if◌then◌else◌, is_some, option_and_then, option_map, unwrap_or}
+use Rattle.std.specs.Prelude.{ℕ, List, [], ◌∷◌, ◌++◌, Bool, true, false, Option, Some, None, bytes_eq, codes, if◌then◌else◌, option_and_then, option_map, unwrap_or}
 use Rattle.std.specs.List.{flat_map}
 use Rattle.pep440_version.specs.Changes.ChangeWords.{after}
 use Rattle.serde_json.specs.Data.{Data, Members, member, no_members}
 use Rattle.serde_json.specs.Find.{as_object, as_str, get}
 use Rattle.pyver_projects.specs.ProjectStrings.{first_line, number_or_one}
-use Rattle.pyver_projects.specs.LockedFiles.{fault_unless}
-use Rattle.pyver_projects.specs.ProjectStrings.{LockFault, LockedPackage}
+use Rattle.pyver_projects.specs.ProjectStrings.{LockedPackage}
 
 abbrev pub object_entries : Members → List (List ℕ × Data)
 object_entries no_members = []
@@ -51,28 +50,3 @@ new_package text before e = if has_version (package_version e.1) (option_and_the
 abbrev pub member_packages : List ℕ → Data → List LockedPackage
 member_packages text document = flat_map (new_package text None) (section_members (codes "default") document)
     ++ flat_map (new_package text (get (codes "default") document)) (section_members (codes "develop") document)
-
--- the value is a string, if there is one
-abbrev pub is_string_or_none : Option Data → Bool
-is_string_or_none None = true
-is_string_or_none (Some d) = is_some (as_str d)
-
--- what is wrong with a member of this name on this line: it is no object, or its version is no string
-abbrev pub faults_on : ℕ → List ℕ → Data → List LockFault
-faults_on line name d = fault_unless (is_some (as_object d)) line name (codes "not an object")
-    ++ fault_unless (is_string_or_none (get (codes "version") d)) line name (codes "its version is not a string")
-
-abbrev pub member_faults : List ℕ → List ℕ × Data → List LockFault
-member_faults text e = faults_on (number_or_one (first_line text e.0)) e.0 e.1
-
-abbrev pub is_object_or_none : Option Data → Bool
-is_object_or_none None = true
-is_object_or_none (Some d) = is_some (as_object d)
-
--- what is wrong with a section: it is no object, or such members
-abbrev pub section_faults : List ℕ → List ℕ → Data → List LockFault
-section_faults text key document = fault_unless (is_object_or_none (get key document)) (number_or_one (first_line text key)) key (codes "not an object")
-    ++ flat_map (member_faults text) (section_members key document)
-
-abbrev pub object_faults : List ℕ → Data → List LockFault
-object_faults text document = section_faults text (codes "default") document ++ section_faults text (codes "develop") document

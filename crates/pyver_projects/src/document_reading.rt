@@ -301,7 +301,7 @@ fn parse_python(
         Section::Python => parse_versions(alloc, text),
         Section::Version | Section::Dependencies | Section::Build => Ok(None),
         Section::Extra(_) | Section::Group(_) => Ok(None),
-        Section::Include(_, _) | Section::Invalid(_) => Ok(None),
+        Section::Include(_, _) | Section::Invalid(_, _) => Ok(None),
     }
 }
 
@@ -397,15 +397,10 @@ fn read_string(
     requires groups { HasGroups groups.now }
     ensures { IfOk result (λ x. IsStringReading (groups_of groups.now) (record { name = name.now; text = places.now.quoted.text.now }) (project_string_of string.now) (string_reading_of x)) }
 {
-<<<<<<< HEAD
-    let line = string_line(alloc, name, lines, string)?;
+    let line = string_line(alloc, name, places, string)?;
     let text = string.text.as_str();
     let meaning = parse_string(alloc, groups, &string.section, &line, text)?;
     let python = parse_python(alloc, &string.section, text)?;
-=======
-    let line = string_line(alloc, name, places, string)?;
-    let meaning = parse_string(alloc, groups, &string.section, &line, string.text.as_str())?;
->>>>>>> 07fcc622 (What is wrong with a key is shown on the line of the key)
     Ok(StringReading {
         section: string.section.clone()?,
         meaning,

@@ -287,7 +287,7 @@ fn read_documents<'a>(
 /// names is a version (PEP 427, "File name convention"; PEP 625, "Specification") that `==` with the package's does not match, of those that
 /// follow one another with one version the first; the packages of one name with the same marker or none (PEP 751 ("Specification"),
 /// `poetry.lock` from format 2.1 on and `pdm.lock` with at most one target have one), and in `uv.lock` each dependency without a source on a name
-/// of more than one package; packages that are no array of tables, or of `Pipfile.lock` no objects, and names and versions that are
+/// of more than one package; packages that are no array of tables, and names and versions that are
 /// no strings; and for each requirement of a package, beside projects, whether no package has its name, or the first environment
 /// in which the lock leaves out all packages that it may take, unless that is one of them, setuptools, distribute, pip or wheel, and the locked
 /// versions of its name, if it contains none.
@@ -301,13 +301,13 @@ fn read_documents<'a>(
 /// `project.version`, `dependency-groups` with the names of included groups, and `build-system.requires`; of a lock the names and
 /// versions of its packages, in `Pipfile.lock` of the members of `default` and of those of `develop` that are not there with the same
 /// version. Their requirements are the names in uv's `metadata.requires-dist`, each with its `specifier`, those in an array
-/// `dependencies`, or its strings, as PDM writes them, and those in Poetry's table `dependencies` with their lists; one that PEP 440 does
+/// `dependencies`, or its strings, as PDM writes them, there or, in `pylock.toml`, at `tool.pdm`, and those in Poetry's table `dependencies` with their lists; one that PEP 440 does
 /// not know, as `^1.0`, is left out. The names of a project are `project.name` and `tool.poetry.name`. The files of packages are `files`,
 /// `wheels` and `sdist`, each named by its `file`, `name`, `url` or `path`. Other values of other types in a lock are passed over. Extras and groups come in the order of
 /// their names. A string has the number of the first line on which it stands in quotes, a package of `Pipfile.lock` the number of the first line with its name in quotes, another
 /// package, with what it requires, the number of its header. Either has 1 without one. Each string and each package counts as a line.
 ///
-/// A requirement with a marker or a URL, of a package with markers, of the build, or that is optional, is not compared. Each lock is to
+/// A requirement with a marker or a URL, of a package with markers but of groups and extras, of the build, or that is optional, is not compared. Each lock is to
 /// have packages for `project.dependencies`, `poetry.lock` and `uv.lock` for extras, `uv.lock` for groups, too; `poetry.lock` for the groups
 /// that its packages name, and `pdm.lock` and `pylock.toml` (PEP 751, `dependency-groups`, `extras`) for those that they name: `default` are the
 /// dependencies, and extras are groups; with what they then do not have nothing is compared. `pylock.toml` has the dependencies, unless its

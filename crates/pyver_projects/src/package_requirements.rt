@@ -1,11 +1,11 @@
 //! What locked packages require of one another, as it is written.
-ghost use Rattle.std.specs.Prelude.{◌≡◌, ◌∷◌, ◌++◌, ◌≤◌, [], IfOk, length, map, option_map, string_bytes};
-ghost use Rattle.std.specs.List.{flat_map, prefix_len};
+ghost use Rattle.std.specs.Prelude.{◌≡◌, ◌∷◌, ◌++◌, ◌≤◌, ◌||◌, [], IfOk, codes, length, map, nat_eq, option_map, string_bytes};
+ghost use Rattle.std.specs.List.{ends_with, flat_map, prefix_len};
 ghost use Rattle.std.specs.Option.{unwrap_or};
 ghost use Rattle.pep440_pick.specs.Names.{is_name_byte};
 ghost use Rattle.pep440_rs.specs.Blanks.{opens};
 ghost use Rattle.pep440_version.specs.Reading.{lead, past};
-ghost use Rattle.pyver_projects.specs.PackageRequirements.{is_unconditional, item_requirements, lacks, member_requirements, plain_list, requirement, requirement_in, is_plain_string, named_requirement, past_extras, requirement_of_text, requirements_by, string_requirement, requirements_from, table_requirements, version_requirements};
+ghost use Rattle.pyver_projects.specs.PackageRequirements.{chooses_parts, chooses_parts_alone, is_unconditional, item_requirements, lacks, member_requirements, plain_list, requirement, requirement_in, is_plain_string, named_requirement, past_extras, requirement_of_text, requirements_by, string_requirement, requirements_from, table_requirements, version_requirements};
 ghost use Rattle.pyver_projects.specs.ProjectViews.{requirement_of};
 ghost use Rattle.pyver_projects.specs.ProjectStrings.{entries, listed, members_list};
 ghost use Rattle.toml.specs.View.{table_view, view};
@@ -292,7 +292,7 @@ fn push_dependencies(
     }
 }
 
-// Adds the requirements of uv, of uv, of PDM and of PEP 751, and of Poetry.
+// Adds the requirements of uv, of uv, of PDM and of PEP 751, of PDM in `pylock.toml`, and of Poetry.
 fn push_table(
     alloc: Global,
     found: &mut Vec<LockedRequirement>,
@@ -305,6 +305,8 @@ fn push_table(
     let list = items(inside(table.get("metadata"), "requires-dist"));
     push_items(alloc, found, line, requirer, list)?;
     let list = items(table.get("dependencies"));
+    push_items(alloc, found, line, requirer, list)?;
+    let list = items(inside(inside(table.get("tool"), "pdm"), "dependencies"));
     push_items(alloc, found, line, requirer, list)?;
     push_dependencies(alloc, found, line, requirer, table.get("dependencies"))
 }
@@ -325,11 +327,39 @@ fn push_by(
     push_table(alloc, found, line, requirer.as_slice(), table)
 }
 
-// The package is locked without markers.
+fn ends_with_parts(text: &[u8]) -> bool
+    ensures { result ≡ (ends_with nat_eq text.now (codes " in dependency_groups") || ends_with nat_eq text.now (codes " in extras")) }
+{
+    text.ends_with(b" in dependency_groups") || text.ends_with(b" in extras")
+}
+
+// The marker compares by `in` alone, and ends with groups or extras, which it chooses.
+fn chooses_parts(text: &[u8]) -> bool
+    ensures { result ≡ chooses_parts text.now }
+{
+    ends_with_parts(text) && !text.contains(&b'=') && !text.contains(&b'<') && !text.contains(&b'>')
+}
+
+// The string does, if there is a value.
+fn chooses_parts_alone(value: Option<&Value>) -> bool
+    ensures { result ≡ chooses_parts_alone (option_map (λ v. view v.now) value.entry) }
+{
+    let Some(value) = value else {
+        return true;
+    };
+    match value.as_str() {
+        Some(text) => chooses_parts(text.as_bytes()),
+        None => false,
+    }
+}
+
+// The package is locked without markers of environments.
 fn is_unconditional(table: &Value) -> bool
     ensures { result ≡ is_unconditional (view table.now) }
 {
-    lacks(table, "markers") && lacks(table, "marker") && lacks(table, "resolution-markers")
+    lacks(table, "markers")
+        && chooses_parts_alone(table.get("marker"))
+        && lacks(table, "resolution-markers")
 }
 
 // Adds the requirements of the package on this line, unless it has markers.

@@ -2,7 +2,7 @@
 ghost use Rattle.std.specs.Prelude.{◌≡◌, ◌∷◌, ◌++◌, [], IfOk, codes, Some, length, map, nat_eq, option_map, string_bytes};
 ghost use Rattle.std.specs.List.{flat_map};
 ghost use Rattle.pep440_pick.specs.Names.{normal};
-ghost use Rattle.pyver_projects.specs.Documents.{array_sources, dynamic_source, dynamic_sources, entry_names, extra_sources, group_items, group_names, group_sources, groups_table, included_name, item_source, item_sources, name_faults, optional_sources, repeated_name, source_from, sources, string_or, table_fault, table_faults, table_sources, text_sources, unless};
+ghost use Rattle.pyver_projects.specs.Documents.{array_sources, build_sources, dynamic_source, dynamic_sources, entry_names, extra_sources, group_items, group_names, group_sources, groups_table, included_name, item_source, item_sources, name_faults, optional_sources, repeated_name, source_from, sources, string_or, table_fault, table_faults, table_sources, text_sources, unless};
 ghost use Rattle.pyver_projects.specs.ProjectViews.{IsNameIndex, indexed_names, section_of, project_string_of};
 ghost use Rattle.pyver_projects.specs.ProjectStrings.{Extra, Group, Include, entries, members_list};
 ghost use Rattle.toml.specs.Data.{Data, as_str};
@@ -191,10 +191,8 @@ fn push_repeated(
     ensures { IfOk result (λ _. map project_string_of sources.new.items ≡ map project_string_of sources.old.items ++ repeated_name table.now reason.now (indexed_names names.now) name.now) }
 {
     let normal = normalize_name(alloc, name)?;
-    if !names.has_twice(normal.as_slice()) {
-        return Ok(());
-    }
-    push_string(alloc, sources, Section::Invalid(table, reason), name)
+    let is_alone = !names.has_twice(normal.as_slice());
+    push_unless(alloc, sources, is_alone, table, name, reason)
 }
 
 // Adds the name, if it is none; and for this reason, if another one of these is the same.
@@ -593,6 +591,25 @@ fn push_table_faults(
     push_table_fault(alloc, sources, "", "build-system", build)
 }
 
+// Adds what the build requires.
+fn push_build(
+    alloc: Global,
+    sources: &mut Vec<ProjectString>,
+    document: &Table,
+) -> Result<(), AllocError>
+    ensures { IfOk result (λ _. map project_string_of sources.new.items ≡ map project_string_of sources.old.items ++ build_sources (table_view document.now)) }
+{
+    let build = inside(top(document, "build-system"), "requires");
+    push_array(
+        alloc,
+        sources,
+        "build-system.",
+        "requires",
+        &Section::Build,
+        build,
+    )
+}
+
 // The strings of `pyproject.toml`.
 pub(crate) fn project_strings(
     alloc: Global,
@@ -605,14 +622,6 @@ pub(crate) fn project_strings(
     push_project(alloc, &mut found, top(document, "project"))?;
     push_dynamic(alloc, &mut found, top(document, "project"))?;
     push_all_groups(alloc, &mut found, document)?;
-    let build = inside(top(document, "build-system"), "requires");
-    push_array(
-        alloc,
-        &mut found,
-        "build-system.",
-        "requires",
-        &Section::Build,
-        build,
-    )?;
+    push_build(alloc, &mut found, document)?;
     Ok(found)
 }

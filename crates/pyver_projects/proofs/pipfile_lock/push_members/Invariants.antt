@@ -1,12 +1,11 @@
 use Rattle.std.proofs.Common.{◌≡◌, ◌++◌, map, option_map}
 use Rattle.std.specs.List.{flat_map}
 use Rattle.serde_json.specs.View.{members_view, view}
-use Rattle.pyver_projects.specs.PipfileLocks.{member_faults, new_package, object_entries}
-use Rattle.pyver_projects.specs.ProjectViews.{fault_of, locked_of}
+use Rattle.pyver_projects.specs.PipfileLocks.{new_package, object_entries}
+use Rattle.pyver_projects.specs.ProjectViews.{locked_of}
 use Rattle.pyver_projects.proofs.pipfile_lock.push_members.Given as goal
 
 abbrev pub invariant-loop-name : goal.invariant-loop-name
 invariant-loop-name l =
-    (map fault_of l.faults.items ++ flat_map (member_faults l.lines.text.now) (object_entries (members_view l.name-iterator)) ≡ map fault_of l.initial.faults.items ++ flat_map (member_faults l.lines.text.now) (object_entries (members_view l.members.entries)))
-    × (map locked_of l.packages.items ++ flat_map (new_package l.lines.text.now (option_map (λ v. view v.now) l.before)) (object_entries (members_view l.name-iterator))
-    ≡ map locked_of l.initial.packages.items ++ flat_map (new_package l.lines.text.now (option_map (λ v. view v.now) l.before)) (object_entries (members_view l.members.entries)))
+    map locked_of l.packages.items ++ flat_map (new_package l.lines.text.now (option_map (λ v. view v.now) l.before)) (object_entries (members_view l.name-iterator))
+    ≡ map locked_of l.initial.packages.items ++ flat_map (new_package l.lines.text.now (option_map (λ v. view v.now) l.before)) (object_entries (members_view l.members.entries))
