@@ -1,5 +1,5 @@
 -- Complement and intersection of sets, as bytes: their keys are in the order of the boundaries that they are of.
-use Rattle.std.proofs.Common.{Bor, ◌≡◌, ◌∙◌, ◌==◌, ◌||◌, ℕ, ◌<◌, Bool, true, false, cond, if◌then◌else◌, List, [], ◌∷◌, ◌++◌, ◌⊎◌, inl, inr, append_assoc, arith, length, map, refl, sym, ap}
+use Rattle.std.proofs.Common.{Bor, ◌≡◌, ◌∙◌, ◌==◌, ◌||◌, ℕ, ◌<◌, Bool, true, false, cond, if◌then◌else◌, List, [], ◌∷◌, ◌++◌, ◌⊎◌, inl, inr, append_assoc, arith, length, map, not, refl, sym, ap}
 use Rattle.std.proofs.Math.Dec.{eqb-suc-zero}
 use Rattle.std.proofs.lemmas.List.{append-nil, map-append}
 use Rattle.std.proofs.lemmas.List.Concat.{flat_map-append}
@@ -16,7 +16,7 @@ use Rattle.pep440_compiled.specs.SetBytes.{IsSized, interval_bytes, set_bytes, s
 use Rattle.pep440_compiled.specs.SetForms.{IsBytesOf}
 use Rattle.pep440_keys.proofs.Order.{followed_in_order, keys_in_order}
 use Rattle.pep440_keys.specs.RangeKeys.{IsKeyedBound, IsKeyedSegment, high_key, is_below_key, low_key, segment_interval}
-use Rattle.pep440_keys.specs.SortKeys.{IsKeyed, key_bytes}
+use Rattle.pep440_keys.specs.SortKeys.{IsKeyed, key_bytes, needed_bytes}
 use Rattle.pep440_ranges.proofs.Merging.{merge_done, merge_left, merge_right, tail_range}
 use Rattle.pep440_ranges.specs.BoundOrder.{ends_before, flipped_bound, is_valid, starts_before}
 use Rattle.pep440_ranges.specs.Complement.{gap_after, gap_before, gaps, gaps_after}
@@ -295,14 +295,16 @@ turned_end_bytes Unbounded = refl
 turned_end_bytes (Included v) = refl
 turned_end_bytes (Excluded v) = refl
 
--- what is written so far of the gaps after an end, and what is left
-pub record Gapping (end : Bound Record) (s : Segments) (old out low left : List ℕ) : Type 0 where
+-- the keys between which gaps lie that were looked at, and what is left: the key of an end, and the intervals after it
+pub record Trailing (end : Bound Record) (s : Segments) (keys left : List ℕ) : Type 0 where
   pub last : Bound Record
   pub more : Segments
+  pub done : List ℕ
   pub sized : AllByRecursion IsSized more
-  pub low_is : low ≡ end_bytes last
-  pub left_is : left ≡ set_bytes more
-  pub written : out ++ set_bytes (gaps_after last more) ≡ old ++ set_bytes (gaps_after end s)
+  pub fits : Fits (length (end_bytes last))
+  pub split : keys ≡ done ++ left
+  pub left_is : left ≡ sized_bytes (end_bytes last) ++ set_bytes more
+  pub whole : done ++ set_bytes (gaps_after last more) ≡ set_bytes (gaps_after end s)
 
 -- the bytes are some intervals
 pub record IsLeft (left : List ℕ) : Type 0 where
@@ -359,32 +361,70 @@ gap_written : (last start : Bound Record) (low next : List ℕ) → low ≡ end_
     interval_bytes (segment_interval (flipped_bound last, flipped_bound start)) ≡ sized_bytes low ++ sized_bytes next
 gap_written last start low next l n = sym (λ i. sized_bytes ((l ∙ sym (turned_end_bytes last)) i) ++ sized_bytes ((n ∙ sym (turned_start_bytes start)) i))
 
-pub one_gap : (end : Bound Record) (s : Segments) (old out new low left next high later : List ℕ) (at : Gapping end s old out low left) (f : FirstGap left at.more) →
-    next ≡ start_bytes f.first.0 → high ≡ end_bytes f.first.1 → later ≡ set_bytes f.more → new ≡ out ++ (sized_bytes low ++ sized_bytes next) → Gapping end s old new high later
-one_gap end s old out new low left next high later at f n h r w = record {
-  last = f.first.1;
-  more = f.more;
-  sized = f.all;
-  low_is = h;
-  left_is = r;
-  written =
-      let after = set_bytes (gaps_after f.first.1 f.more) in
-      ap (λ l. l ++ after) (w ∙ ap (λ l. out ++ l) (sym (gap_written at.last f.first.0 low next at.low_is n)))
-      ∙ append_assoc out (interval_bytes (segment_interval (flipped_bound at.last, flipped_bound f.first.0))) after
-      ∙ ap (λ l. out ++ set_bytes (gaps_after at.last l)) (sym f.split)
-      ∙ at.written;
-}
+pub trailing_begun : (end : Bound Record) (s : Segments) (keys : List ℕ) → All IsSized s → Fits (length (end_bytes end)) → keys ≡ sized_bytes (end_bytes end) ++ set_bytes s → Trailing end s keys keys
+trailing_begun end s keys all fits e = record { last = end; more = s; done = []; sized = recursion_from_All IsSized s all; fits = fits; split = refl; left_is = e; whole = refl }
+
+-- the bytes after the low key of the first interval
+pub after_low : (left : List ℕ) (set : Segments) (f : FirstGap left set) → left ≡ sized_bytes (start_bytes f.first.0) ++ (sized_bytes (end_bytes f.first.1) ++ set_bytes f.more)
+after_low left set f = f.bytes_are ∙ append_assoc (sized_bytes (start_bytes f.first.0)) (sized_bytes (end_bytes f.first.1)) (set_bytes f.more)
+
+pub two_passed : (end : Bound Record) (s : Segments) (keys left rest later : List ℕ) (at : Trailing end s keys left) (f : FirstGap rest at.more) →
+    rest ≡ set_bytes at.more → later ≡ sized_bytes (end_bytes f.first.1) ++ set_bytes f.more → Trailing end s keys later
+two_passed end s keys left rest later at f r l =
+    let passed = sized_bytes (end_bytes at.last) ++ sized_bytes (start_bytes f.first.0) in
+    let after = set_bytes (gaps_after f.first.1 f.more) in record {
+      last = f.first.1;
+      more = f.more;
+      done = at.done ++ passed;
+      sized = f.all;
+      fits = f.sized.1;
+      split =
+          at.split ∙ ap (λ k. at.done ++ k) (at.left_is ∙ ap (λ k. sized_bytes (end_bytes at.last) ++ k) (sym r ∙ after_low rest at.more f ∙ ap (λ k. sized_bytes (start_bytes f.first.0) ++ k) (sym l)))
+          ∙ ap (λ k. at.done ++ k) (sym (append_assoc (sized_bytes (end_bytes at.last)) (sized_bytes (start_bytes f.first.0)) later))
+          ∙ sym (append_assoc at.done passed later);
+      left_is = l;
+      whole =
+          ap (λ k. (at.done ++ k) ++ after) (sym (gap_written at.last f.first.0 (end_bytes at.last) (start_bytes f.first.0) refl refl))
+          ∙ append_assoc at.done (interval_bytes (segment_interval (flipped_bound at.last, flipped_bound f.first.0))) after
+          ∙ ap (λ k. at.done ++ set_bytes (gaps_after at.last k)) (sym f.split)
+          ∙ at.whole;
+    }
 
 end_written : (last : Bound Record) (low : List ℕ) → low ≡ end_bytes last → set_bytes (gap_after last) ≡ cond (length low == 0) [] (sized_bytes low ++ sized_bytes [])
 end_written Unbounded low l = sym (ap (λ l. cond (length l == 0) [] (sized_bytes l ++ sized_bytes [])) l)
 end_written (Included v) low l = append-nil _ ∙ sym (ap (λ l. cond (length l == 0) [] (sized_bytes l ++ sized_bytes [])) l ∙ ap (λ b. cond b [] (sized_bytes (end_bytes (Included v)) ++ sized_bytes [])) (eqb-suc-zero _))
 end_written (Excluded v) low l = append-nil _ ∙ sym (ap (λ l. cond (length l == 0) [] (sized_bytes l ++ sized_bytes [])) l ∙ ap (λ b. cond b [] (sized_bytes (end_bytes (Excluded v)) ++ sized_bytes [])) (eqb-suc-zero _))
 
--- the last gap is written, where there is one
-pub gaps_done : (end : Bound Record) (s : Segments) (old out new low left : List ℕ) (at : Gapping end s old out low left) → length left ≡ 0 →
-    new ≡ out ++ cond (length low == 0) [] (sized_bytes low ++ sized_bytes []) → new ≡ old ++ set_bytes (gaps_after end s)
-gaps_done end s old out new low left at none w =
-    w ∙ ap (λ l. out ++ l) (sym (end_written at.last low at.low_is)) ∙ ap (λ l. out ++ set_bytes (gaps_after at.last l)) (sym (no_more left at.more none at.left_is)) ∙ at.written
+no_bytes : sized_bytes [] ≡ 0 ∷ []
+unfolding needed_bytes
+no_bytes = refl
+
+-- no key follows a last key, and stands in its place too many
+ends_known : (end : Bound Record) (s : Segments) (keys left high rest : List ℕ) (at : Trailing end s keys left) → high ≡ end_bytes at.last → rest ≡ set_bytes at.more → length rest ≡ 0 →
+    (set_bytes (gaps_after end s) ≡ at.done ++ cond (length high == 0) [] (sized_bytes high ++ sized_bytes [])) × (keys ≡ at.done ++ sized_bytes high)
+ends_known end s keys left high rest at h r none =
+    let over = no_more rest at.more none r in (
+      sym at.whole ∙ ap (λ l. at.done ++ set_bytes (gaps_after at.last l)) over ∙ ap (λ l. at.done ++ l) (end_written at.last high h),
+      at.split ∙ ap (λ l. at.done ++ l) (at.left_is ∙ ap (λ l. sized_bytes (end_bytes at.last) ++ set_bytes l) over ∙ append-nil (sized_bytes (end_bytes at.last)) ∙ ap sized_bytes (sym h)),
+    )
+
+ends_told : (done after keys high : List ℕ) → after ≡ done ++ cond (length high == 0) [] (sized_bytes high ++ sized_bytes []) → keys ≡ done ++ sized_bytes high →
+    (not (length high == 0) ≡ true → after ≡ keys ++ sized_bytes []) × (not (length high == 0) ≡ false → keys ≡ after ++ sized_bytes [])
+ends_told done after keys [] a k = (λ e. absurd (grind arith), λ _. k ∙ ap (λ l. l ++ sized_bytes []) (sym (a ∙ append-nil done)))
+ends_told done after keys (b ∷ high) a k = (
+  λ _. a ∙ ap (λ e. done ++ cond e [] (sized_bytes (b ∷ high) ++ sized_bytes [])) (eqb-suc-zero (length high)) ∙ sym (append_assoc done (sized_bytes (b ∷ high)) (sized_bytes []))
+      ∙ ap (λ l. l ++ sized_bytes []) (sym k),
+  λ e. absurd (grind arith),
+)
+
+pub ends_named : (end : Bound Record) (s : Segments) (keys left high rest : List ℕ) (at : Trailing end s keys left) → high ≡ end_bytes at.last → rest ≡ set_bytes at.more → length rest ≡ 0 →
+    (not (length high == 0) ≡ true → set_bytes (gaps_after end s) ≡ keys ++ 0 ∷ []) × (not (length high == 0) ≡ false → keys ≡ set_bytes (gaps_after end s) ++ 0 ∷ [])
+ends_named end s keys left high rest at h r none =
+    let known = ends_known end s keys left high rest at h r none in
+    let told = ends_told at.done (set_bytes (gaps_after end s)) keys high known.0 known.1 in (
+      λ e. told.0 e ∙ ap (λ l. keys ++ l) no_bytes,
+      λ e. told.1 e ∙ ap (λ l. set_bytes (gaps_after end s) ++ l) no_bytes,
+    )
 
 -- the gap before the first interval, and those after it
 before_written : (start : Bound Record) (low : List ℕ) → low ≡ start_bytes start → set_bytes (gap_before start) ≡ cond (length low == 0) [] (sized_bytes [] ++ sized_bytes low)

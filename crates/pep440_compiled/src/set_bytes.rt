@@ -21,6 +21,9 @@ pub(crate) fn push_with_length(bytes: &mut Vec<u8>, item: &[u8]) -> Result<(), A
     ensures size { Fits (length item.now) }
 {
     push_number(bytes, 0, item.len() as u64)?;
+    if item.is_empty() {
+        return Ok(());
+    }
     bytes.extend_from_slice(item)
 }
 

@@ -1,5 +1,5 @@
 //! The intervals of sets as bytes: their keys, complement and intersection, in one pass over them.
-ghost use Rattle.std.specs.Prelude.{◌≡◌, ◌<◌, ◌++◌, ◌||◌, ◌==◌, [], List, ℕ, IfErr, IfOk, IfSome, MatchOption, OnOk, false, if◌then◌else◌, length, map, unwrap_or};
+ghost use Rattle.std.specs.Prelude.{◌≡◌, ◌<◌, ◌++◌, ◌∷◌, ◌||◌, ◌==◌, [], List, ℕ, IfErr, IfOk, IfSome, MatchOption, OnOk, false, if◌then◌else◌, length, map, true, unwrap_or};
 ghost use Rattle.std.specs.List.{All};
 ghost use Rattle.std.specs.declared.ops.Bound.{Bound};
 ghost use Rattle.pep440_compiled.specs.SetBytes.{IsSized, high_bytes, interval_bytes, low_bytes, set_bytes, set_keys, sized_bytes};
@@ -11,7 +11,7 @@ ghost use Rattle.pep440_ranges.specs.Intersection.{overlaps};
 ghost use Rattle.pep440_ranges.specs.RangeSegments.{Segment};
 ghost use Rattle.pep440_rs.specs.Bounds.{Segments};
 ghost use Rattle.pep440_version.specs.Key.{record_cmp};
-ghost use Rattle.pep440_version.specs.Record.{Record};
+ghost use Rattle.pep440_version.specs.Record.{Fits, Record};
 
 use crate::byte_order::cmp_bytes;
 use crate::error::CompiledError;
@@ -67,34 +67,47 @@ fn push_gap_before(out: &mut Vec<u8>, low: &[u8]) -> Result<(), AllocError>
     Ok(())
 }
 
-// Appends the gap after an end, if this has a key.
-fn push_gap_after(out: &mut Vec<u8>, high: &[u8]) -> Result<(), AllocError>
-    ensures { OnOk result (out.new.items ≡ out.old.items ++ (if length high.now == 0 then [] else sized_bytes high.now ++ sized_bytes [])) }
+// Whether the last key of an end and the intervals after it, whose bytes these are, is one. The gaps after that end are these bytes but for
+// the byte 0 of no key: it stands after a last key, and is left out if the last one is none.
+fn ends_in_key(keys: &[u8]) -> Option<bool>
+    ensures found { (end : Bound Record) (s : Segments) → All IsSized s → Fits (length (unwrap_or (high_key end) []))
+        → keys.now ≡ sized_bytes (unwrap_or (high_key end) []) ++ set_bytes s
+        → MatchOption result ⊥ (λ is_key. (is_key ≡ true → set_bytes (gaps_after end s) ≡ keys.now ++ 0 ∷ [])
+        × (is_key ≡ false → keys.now ≡ set_bytes (gaps_after end s) ++ 0 ∷ [])) }
+    ensures some { IfSome result (λ _. 0 < length keys.now) }
 {
-    if !high.is_empty() {
-        push_keys(out, high, b"")?;
+    let mut left = keys;
+    while !left.is_empty() {
+        let (high, rest) = split_by_length(left)?;
+        if rest.is_empty() {
+            return Some(!high.is_empty());
+        }
+        let (_, later) = split_by_length(rest)?;
+        left = later;
     }
-    Ok(())
+    None
 }
 
-// Appends the gaps after an end, whose key is `high`, between the intervals and after them; `NotCompiled` if these are none.
-fn push_gaps_after(out: &mut Vec<u8>, high: &[u8], set: &[u8]) -> Result<(), CompiledError>
-    ensures ok { (end : Bound Record) (s : Segments) → All IsSized s → high.now ≡ unwrap_or (high_key end) [] → set.now ≡ set_bytes s
+// Appends the gaps after an end, whose key leads, between the intervals and after them, in one piece; `NotCompiled` if these are none.
+fn push_gaps_after(out: &mut Vec<u8>, keys: &[u8]) -> Result<(), CompiledError>
+    ensures ok { (end : Bound Record) (s : Segments) → All IsSized s → Fits (length (unwrap_or (high_key end) []))
+        → keys.now ≡ sized_bytes (unwrap_or (high_key end) []) ++ set_bytes s
         → OnOk result (out.new.items ≡ out.old.items ++ set_bytes (gaps_after end s)) }
-    ensures err { (s : Segments) → All IsSized s → set.now ≡ set_bytes s → IfErr result (λ e. e ≡ unread.NotCompiled → ⊥) }
+    ensures err { (end : Bound Record) (s : Segments) → All IsSized s → Fits (length (unwrap_or (high_key end) []))
+        → keys.now ≡ sized_bytes (unwrap_or (high_key end) []) ++ set_bytes s → IfErr result (λ e. e ≡ unread.NotCompiled → ⊥) }
 {
-    let mut low = high;
-    let mut left = set;
-    while !left.is_empty() {
-        let Some((next, end, rest)) = split_interval(left) else {
-            return Err(CompiledError::NotCompiled);
-        };
-        push_keys(out, low, next)?;
-        low = end;
-        left = rest;
+    match ends_in_key(keys) {
+        Some(true) => {
+            out.extend_from_slice(keys)?;
+            out.push(0)?;
+            Ok(())
+        }
+        Some(false) => {
+            out.extend_from_slice(&keys[..keys.len() - 1])?;
+            Ok(())
+        }
+        None => Err(CompiledError::NotCompiled),
     }
-    push_gap_after(out, low)?;
-    Ok(())
 }
 
 // Appends the gaps before, between and after the intervals; `NotCompiled` if these are none.
@@ -106,11 +119,11 @@ pub(crate) fn push_gaps(out: &mut Vec<u8>, set: &[u8]) -> Result<(), CompiledErr
         push_keys(out, b"", b"")?;
         return Ok(());
     }
-    let Some((low, high, rest)) = split_interval(set) else {
+    let Some((low, keys)) = split_by_length(set) else {
         return Err(CompiledError::NotCompiled);
     };
     push_gap_before(out, low)?;
-    push_gaps_after(out, high, rest)
+    push_gaps_after(out, keys)
 }
 
 // The later of two starts; no key is the first of all.
