@@ -13,7 +13,7 @@ ghost use Rattle.pep440_rs.specs.Bounds.{Segments};
 ghost use Rattle.pep440_version.specs.Key.{record_cmp};
 ghost use Rattle.pep440_version.specs.Record.{Fits, Record};
 
-use crate::byte_order::cmp_bytes;
+use crate::byte_order::is_below;
 use crate::error::CompiledError;
 use crate::set_bytes::{push_with_length, split_by_length};
 use std::alloc::{AllocError, Global};
@@ -131,11 +131,7 @@ pub(crate) fn push_gaps(out: &mut Vec<u8>, set: &[u8]) -> Result<(), CompiledErr
 fn later_start<'a>(low: &'a [u8], other: &'a [u8]) -> &'a [u8]
     ensures { result.now ≡ (if is_below_key low.now other.now then other.now else low.now) }
 {
-    if cmp_bytes(low, other).is_lt() {
-        other
-    } else {
-        low
-    }
+    if is_below(low, other) { other } else { low }
 }
 
 // Whether the one end is before the other; no key is the last of all.
@@ -143,7 +139,7 @@ fn later_start<'a>(low: &'a [u8], other: &'a [u8]) -> &'a [u8]
 fn ends_before(high: &[u8], other: &[u8]) -> bool
     ensures { result ≡ (if length high.now == 0 then false else (length other.now == 0) || is_below_key high.now other.now) }
 {
-    !high.is_empty() && (other.is_empty() || cmp_bytes(high, other).is_lt())
+    !high.is_empty() && (other.is_empty() || is_below(high, other))
 }
 
 // Appends the interval if keys lie in it.
@@ -151,7 +147,7 @@ fn push_valid(out: &mut Vec<u8>, low: &[u8], high: &[u8]) -> Result<(), AllocErr
     ensures { OnOk result (out.new.items ≡ out.old.items
         ++ (if (length high.now == 0) || is_below_key low.now high.now then sized_bytes low.now ++ sized_bytes high.now else [])) }
 {
-    if high.is_empty() || cmp_bytes(low, high).is_lt() {
+    if high.is_empty() || is_below(low, high) {
         push_keys(out, low, high)?;
     }
     Ok(())
