@@ -104,6 +104,16 @@ keys_more texts i x bytes new ends new_ends key v inside means is more (versions
   subst (λ (l : List (List ℕ)). Joins l new new_ends) (ap (λ (k : List ℕ). map key_bytes versions ++ k ∷ []) is ∙ sym (map-append key_bytes versions (v ∷ []))) (more (map key_bytes versions) joins),
 )
 
+-- one more key, as it lies in a text
+pub views_more : (texts : List (Bor (List ℕ))) (i : ℕ) (x : Bor (List ℕ)) (keys new : List (Bor (List ℕ))) (key : Bor (List ℕ)) (v : Record) → i < length texts → BytesDenote (get_or texts i x).now v → key.now ≡ key_bytes v
+    → new ≡ keys ++ key ∷ [] → ((versions : List Record) × AllZip BytesDenote (map (λ t. t.now) (take i texts)) versions × (map (λ k. k.now) keys ≡ map key_bytes versions))
+    → (versions : List Record) × AllZip BytesDenote (map (λ t. t.now) (take (i + 1) texts)) versions × (map (λ k. k.now) new ≡ map key_bytes versions)
+views_more texts i x keys new key v inside means is more (versions, all, same) = let now : Bor (List ℕ) → List ℕ = λ k. k.now in (
+  versions ++ v ∷ [],
+  each_more BytesDenote texts i (get_or texts i x) versions (versions ++ v ∷ []) v inside (get_or_default texts i x (get_or texts i x) inside) means refl all,
+  ap (map now) more ∙ map-append now keys (key ∷ []) ∙ (λ j. same j ++ is j ∷ []) ∙ sym (map-append key_bytes versions (v ∷ [])),
+)
+
 by_order : (a b : Bool) (o : Ordering) → a ≡ true → is_ge o ≡ true → is_lt (ordering_then (bool_cmp a b) o) ≡ false
 by_order false b o taken ge = cc taken
 by_order true false o taken ge = refl

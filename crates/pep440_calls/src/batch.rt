@@ -199,6 +199,7 @@ fn mark(
 }
 
 // Of each string, what the list says of it.
+#[tactic(auto, using(crate::proofs::Placed::marked_more))]
 fn mark_all(
     alloc: Global,
     form: &[u8],
@@ -384,13 +385,34 @@ fn sort_positions(alloc: Global, keys: &[&[u8]]) -> Result<Vec<usize>, AllocErro
     collect_positions(alloc, entries.as_slice())
 }
 
-// The positions of the strings in the order of their versions: of their sort keys, which are made first.
+// The sort keys of compiled versions, as they lie in them; `None` if one of the strings is none.
+fn view_keys<'a>(alloc: Global, texts: &[&'a [u8]]) -> Result<Option<Vec<&'a [u8]>>, AllocError>
+    ensures { IfOk result (λ o. IfSome o (λ keys. (versions : List Record)
+        × AllZip BytesDenote (map (λ t. t.now) texts.now) versions × (map (λ k. k.now) keys.items ≡ map key_bytes versions))) }
+{
+    let mut keys = Vec::with_capacity(alloc, texts.len())?;
+    for text in texts {
+        if !has_version_format(text) {
+            return Ok(None);
+        }
+        let Ok(key) = find_key(text) else {
+            return Ok(None);
+        };
+        keys.push(key)?;
+    }
+    Ok(Some(keys))
+}
+
+// The positions of the strings in the order of their versions: of their sort keys, which are made first, if they are not compiled versions.
 fn sort(alloc: Global, texts: &[&[u8]]) -> Result<Vec<usize>, BatchError>
     ensures { HoldsOrBatchFaults (map (λ t. t.now) texts.now) (λ found. Sorts (map (λ t. t.now) texts.now) found.items) result }
 {
+    if let Some(keys) = view_keys(alloc, texts)? {
+        return Ok(sort_positions(alloc, keys.as_slice())?);
+    }
     let joined = sort_keys(alloc, texts)?;
-    let keys = joined.split(alloc)?;
-    Ok(sort_positions(alloc, keys.as_slice())?)
+    let strings = joined.split(alloc)?;
+    Ok(sort_positions(alloc, strings.as_slice())?)
 }
 
 /// Writes the sort keys of the strings, one after the other, and the end of each. `at` as above.

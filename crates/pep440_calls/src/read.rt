@@ -103,6 +103,7 @@ pub(crate) fn read_list(alloc: Global, bytes: &[u8]) -> Result<VersionSpecifiers
 }
 
 // The list that the bytes denote, for a call that needs its members: a set by itself has none.
+#[tactic(auto, using(crate::proofs::Forms::members_read))]
 pub(crate) fn to_list(alloc: Global, bytes: &[u8]) -> Result<VersionSpecifiers, Fault>
     ensures { HoldsOr (ListFaults ⊥ bytes.now ⊥) (BytesDenoteList bytes.now) result }
 {
