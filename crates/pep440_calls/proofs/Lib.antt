@@ -3,4 +3,3 @@ pub mod KeyOrder
 pub mod Once
 pub mod Forms
 pub mod Allowed
-pub mod Edited

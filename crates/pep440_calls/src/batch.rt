@@ -19,11 +19,11 @@ ghost use Rattle.pep440_calls.specs.declared.batch.BatchError.TheVariants.{OutOf
 use crate::buffer::{put, put_both};
 use crate::fault::Fault;
 use crate::joined_strings::JoinedStrings;
-use crate::one_version::{find_key, find_string_key};
+use crate::one_version::{find_key, find_release_key, find_string_key};
 use crate::read::{read, to_list};
 use arrayvec::ArrayVec;
 use pep440_compiled::{
-    ContainsError, SetFronts, compare_sort_keys, compile_normal, has_set_format,
+    ContainsError, SetFronts, compare_sort_keys, compile_normal, compile_release, has_set_format,
     has_version_format, read_membership, read_membership_soon, view_fronts,
 };
 use pep440_rs::VersionSpecifiers;
@@ -159,6 +159,20 @@ fn string_mark(form: &[u8], fronts: &Option<SetFronts>, text: &[u8]) -> Option<u
 {
     let mut compiled = ArrayVec::new();
     if !compile_normal(&mut compiled, text) {
+        return release_mark(form, fronts, text);
+    }
+    Some(compiled_mark(form, fronts, compiled.as_slice()))
+}
+
+// As `string_mark`, of a release with more numbers. A call of its own, since few have.
+#[inline(never)]
+fn release_mark(form: &[u8], fronts: &Option<SetFronts>, text: &[u8]) -> Option<u8>
+    requires form { HasSetFormat form.now }
+    requires fronts { IfSome fronts.now (λ f. (s : Segments) → HasSet form.now s → IsFrontsOf f s) }
+    ensures { (list : List Spec) → BytesDenoteList form.now list → IfSome result (IsMark list text.now) }
+{
+    let mut compiled = ArrayVec::new();
+    if !compile_release(&mut compiled, text) {
         return None;
     }
     Some(compiled_mark(form, fronts, compiled.as_slice()))
@@ -444,6 +458,20 @@ fn push_string_key(alloc: Global, keys: &mut JoinedStrings, bytes: &[u8]) -> Res
 {
     let mut form = ArrayVec::new();
     if let Some(key) = find_string_key(&mut form, bytes) {
+        return Ok(keys.push(key)?);
+    }
+    push_other_key(alloc, keys, bytes)
+}
+
+// As `push_string_key`, of a string that is in no normal spelling or has more numbers. A call of its own, since few are.
+#[inline(never)]
+fn push_other_key(alloc: Global, keys: &mut JoinedStrings, bytes: &[u8]) -> Result<(), Fault>
+    ensures { HoldsOrFaults (RejectsBytes bytes.now) ⊥ ⊥ (λ _. (key : List ℕ) × IsKey bytes.now key
+        × (keys.new.bytes.items ≡ keys.old.bytes.items ++ key)
+        × (keys.new.ends.items ≡ keys.old.ends.items ++ length keys.new.bytes.items ∷ [])) result }
+{
+    let mut form = ArrayVec::new();
+    if let Some(key) = find_release_key(&mut form, bytes) {
         return Ok(keys.push(key)?);
     }
     let version = read(alloc, bytes)?;

@@ -116,6 +116,7 @@ fn push_segment(
 }
 
 // The bounds of the segments, in their order.
+#[tactic(auto, using(crate::proofs::Placed::segments_more))]
 fn join_bounds(alloc: Global, range: &Ranges<Version>) -> Result<JoinedStrings, AllocError>
     ensures { IfOk result (λ found. JoinsBounds range.now found.bytes.items found.ends.items) }
 {

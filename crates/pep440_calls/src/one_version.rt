@@ -11,7 +11,7 @@ use crate::buffer::{NOT_PACKED, OK, flag, put, put_and_count, put_bytes, put_sli
 use crate::fault::Fault;
 use crate::read::{read, read_spelling};
 use arrayvec::ArrayVec;
-use pep440_compiled::{compile_normal, compile_version, has_version_format};
+use pep440_compiled::{compile_normal, compile_release, compile_version, has_version_format};
 use pep440_keys::sort_key;
 use pep440_rs::{PrereleaseKind, Version};
 use pep440_version::laws::word;
@@ -43,7 +43,20 @@ pub fn write_compiled(alloc: Global, text: &[u8], out: &mut [u8], written: &mut 
     if compile_normal(&mut form, text) {
         return put_and_count(form.as_slice(), out, written);
     }
-    put_bytes(compile(alloc, text), out, written)
+    write_other_form(alloc, text, out, written)
+}
+
+// As `write_compiled`, of a string that is in no normal spelling or has more numbers. A call of its own, since few are.
+#[tactic(auto, using(crate::proofs::Forms::string_compiled))]
+#[inline(never)]
+fn write_other_form(alloc: Global, text: &[u8], out: &mut [u8], written: &mut usize) -> u8
+    ensures { WritesBytes (RejectsBytes text.now) ⊥ ⊥ (IsCompiled text.now) out.old out.new written.old written.new result }
+{
+    let mut release = ArrayVec::new();
+    if compile_release(&mut release, text) {
+        return put_and_count(release.as_slice(), out, written);
+    }
+    put_bytes(compile_other(alloc, text), out, written)
 }
 
 // Whether the bytes are a compiled version, all of them. A call of its own, since two copies would make each program that compares larger.
@@ -80,7 +93,20 @@ fn copy_form(alloc: Global, form: &[u8]) -> Result<Vec<u8>, Fault>
 }
 
 // The compiled form of a version: of a string, or a copy of it.
+#[tactic(auto, using(crate::proofs::Forms::string_compiled))]
 pub(crate) fn compile(alloc: Global, text: &[u8]) -> Result<Vec<u8>, Fault>
+    ensures { HoldsOrFaults (RejectsBytes text.now) ⊥ ⊥ (λ compiled. IsCompiled text.now compiled.items) result }
+{
+    let mut release = ArrayVec::new();
+    if compile_release(&mut release, text) {
+        let copy = copy_bytes(alloc, release.as_slice())?;
+        return Ok(copy);
+    }
+    compile_other(alloc, text)
+}
+
+// As `compile`, of a string that is parsed first.
+fn compile_other(alloc: Global, text: &[u8]) -> Result<Vec<u8>, Fault>
     ensures { HoldsOrFaults (RejectsBytes text.now) ⊥ ⊥ (λ compiled. IsCompiled text.now compiled.items) result }
 {
     if has_version_format(text) {
@@ -112,6 +138,18 @@ fn write_string_key(alloc: Global, text: &[u8], out: &mut [u8], written: &mut us
     if let Some(key) = find_string_key(&mut form, text) {
         return put_and_count(key, out, written);
     }
+    write_other_key(alloc, text, out, written)
+}
+
+// As `write_string_key`, of a string that is in no normal spelling or has more numbers. A call of its own, since few are.
+#[inline(never)]
+fn write_other_key(alloc: Global, text: &[u8], out: &mut [u8], written: &mut usize) -> u8
+    ensures { WritesBytes (RejectsBytes text.now) ⊥ ⊥ (IsKey text.now) out.old out.new written.old written.new result }
+{
+    let mut form = ArrayVec::new();
+    if let Some(found) = find_release_key(&mut form, text) {
+        return put_and_count(found, out, written);
+    }
     put_bytes(make_key(alloc, text), out, written)
 }
 
@@ -135,6 +173,17 @@ pub(crate) fn find_string_key<'a>(form: &'a mut ArrayVec<u8, 64>, text: &[u8]) -
     ensures short { IsShortNormalForm text.now → IsSome result }
 {
     if !compile_normal(form, text) {
+        return None;
+    }
+    pep440_compiled::sort_key(form.as_slice()).ok()
+}
+
+// As `find_string_key`, of a release with more numbers.
+pub(crate) fn find_release_key<'a>(form: &'a mut ArrayVec<u8, 64>, text: &[u8]) -> Option<&'a [u8]>
+    requires { form.old.items ≡ [] }
+    ensures { IfSome result (λ key. IsKey text.now key.now) }
+{
+    if !compile_release(form, text) {
         return None;
     }
     pep440_compiled::sort_key(form.as_slice()).ok()

@@ -1,15 +1,12 @@
 pub mod ByteOrder
 pub mod Checking
 pub mod Comparing
-pub mod Counts
 pub mod Exact
 pub mod Fronts
 pub mod Listed
 pub mod Loops
-pub mod Numbers
 pub mod Prefixes
 pub mod Rewritten
-pub mod SetAlone
 pub mod SetKeys
 pub mod SetMerging
 pub mod Suffixes

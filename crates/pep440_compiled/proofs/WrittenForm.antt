@@ -1,18 +1,20 @@
 -- A compiled form that is written part by part.
-use Rattle.std.proofs.Common.{◌≡◌, ◌∙◌, ◌<◌, ◌-◌, ℕ, List, [], ◌∷◌, ◌++◌, true, false, ap, refl, sym, subst, append_assoc, arith, true≢false, ◌≤◌, ◌+◌, suc, codes, drop, get_or, length}
+use Rattle.std.proofs.Common.{◌≡◌, ◌∙◌, ◌<◌, ◌-◌, ℕ, List, [], ◌∷◌, ◌++◌, None, true, false, ap, inl, refl, sym, subst, append_assoc, arith, true≢false, ◌≤◌, ◌+◌, suc, codes, drop, get_or, length}
 use Rattle.std.proofs.lemmas.Bool.Decides.{nat_tests}
 use Rattle.std.proofs.lemmas.Grind.{flat_map-append}
 use Rattle.std.proofs.lemmas.List.{append-nil, length-append}
 use Rattle.std.specs.Char.{is_ascii_digit}
 use Rattle.std.specs.List.{flat_map, list_all, All}
-use Rattle.pep440_keys.specs.SortKeys.{segment_bytes, local_bytes}
+use Rattle.pep440_keys.specs.SortKeys.{key_bytes, local_bytes, segment_bytes}
 use Rattle.pep440_version.proofs.Reading.LocalAgrees.{segments_cons}
 use Rattle.pep440_version.proofs.RoundTrip.PrintIsRead.{segment_reads}
-use Rattle.pep440_version.specs.Grammar.{AreSegments, IsSegment, starts}
-use Rattle.pep440_version.specs.Record.{LocalSegmentValue, Text, Number}
+use Rattle.pep440_version.proofs.Reading.NormalParts.{release_more, with_local}
+use Rattle.pep440_version.specs.Grammar.{AreSegments, Derives, IsNumber, IsRelease, IsSegment, starts}
+use Rattle.pep440_version.specs.Record.{LocalSegmentValue, Record, Text, Number, from_parts}
 use Rattle.pep440_version.specs.RoundTrip.{is_lower, SegmentRoundTrips}
 use Rattle.std.proofs.lemmas.Fmt.{decimal_digit, digits_decimal}
-use Rattle.pep440_compiled.specs.Version.{IsShortSegment}
+use Rattle.pep440_compiled.proofs.Exact.{parsed}
+use Rattle.pep440_compiled.specs.Version.{DenotesVersion, IsShortSegment, compiled_bytes, zero_bytes}
 use Rattle.pep440_version.proofs.Reading.Digits.{digits_model}
 use Rattle.pep440_version.proofs.Reading.Prefixes.{same_front}
 use Rattle.pep440_version.specs.Print.{dotted, local_text, print_segment}
@@ -197,3 +199,48 @@ local_fits old local fits = omega (arith, fits, length-append (flat_map segment_
 
 pub end_fits : (form old : List ℕ) (local : List LocalSegmentValue) → form ≡ old ++ flat_map segment_bytes local → length old + length (local_bytes local) ≤ 64 → length form + 1 ≤ 64
 end_fits form old local is fits = omega (arith, fits, ap length is, length-append old (flat_map segment_bytes local), length-append (flat_map segment_bytes local) (0 ∷ []))
+
+-- ---- a release alone
+
+-- the numbers before the rest are read
+pub record AreNumbers (text rest numbers : List ℕ) : Type 0 where
+  pub done : List ℕ
+  pub release : IsRelease done numbers
+  pub split : text ≡ done ++ rest
+
+pub one_number : (text rest new : List ℕ) (n : ℕ) → ((digits : List ℕ) × IsNumber digits n × (n ≤ 2147483647) × (text ≡ digits ++ rest)) → new ≡ n ∷ [] → AreNumbers text rest new
+one_number text rest new n h is = record { done = h.0; release = subst (IsRelease h.0) (sym is) h.1; split = h.3 }
+
+pub number_more : (text rest after later numbers new : List ℕ) (n : ℕ) → AreNumbers text rest numbers → rest ≡ 46 ∷ after → ((digits : List ℕ) × IsNumber digits n × (n ≤ 2147483647) × (after ≡ digits ++ later))
+    → new ≡ numbers ++ n ∷ [] → AreNumbers text later new
+number_more text rest after later numbers new n at dot h is = record {
+  done = at.done ++ (46 ∷ h.0);
+  release = subst (IsRelease (at.done ++ (46 ∷ h.0))) (sym is) (release_more at.done h.0 numbers n at.release h.1);
+  split = at.split ∙ ap (λ l. at.done ++ l) (dot ∙ ap (λ l. 46 ∷ l) h.3) ∙ sym (append_assoc at.done (46 ∷ h.0) later);
+}
+
+pub numbers_end : (text rest numbers : List ℕ) → AreNumbers text rest numbers → length rest ≡ 0 → IsRelease text numbers
+numbers_end text [] numbers at none = subst (λ t. IsRelease t numbers) (sym (at.split ∙ append-nil at.done)) at.release
+numbers_end text (b ∷ rest) numbers at none = absurd (omega (arith, none))
+
+pub release_derives : (text numbers : List ℕ) → IsRelease text numbers → Derives text (from_parts 0 numbers None None None [])
+release_derives text numbers h = with_local text [] [] text [] [] [] [] numbers 0 None None None [] (sym (append-nil text)) (inl refl) (inl (refl, refl)) h refl refl refl refl
+
+pub release_denoted : (text numbers release old new : List ℕ) → IsRelease text numbers → release ≡ numbers → old ≡ [] → new ≡ old ++ compiled_bytes (from_parts 0 release None None None [])
+    → (r : Record) × Derives text r × DenotesVersion new r
+release_denoted text numbers release old new h same none is =
+    let r = from_parts 0 numbers None None None [] in
+    let d = release_derives text numbers h in
+    (r, d, record { parsed = parsed text r d; same = is ∙ (λ i. none i ++ compiled_bytes (from_parts 0 (same i) None None None [])) })
+
+-- no local part begins with a dot
+pub no_dot : (local : List LocalSegmentValue) (rest : List ℕ) → rest ≡ local_text local → 0 < length rest → get_or rest 0 0 ≡ 46 → ⊥
+no_dot [] rest e some is = omega (arith, some, ap length e)
+no_dot (s ∷ local) rest e some is = omega (arith, is, ap (λ l. get_or l 0 0) e)
+
+pub release_written : (old one two three new release : List ℕ) → one ≡ old ++ 4 ∷ [] → ((local : List LocalSegmentValue) → two ++ local_bytes local ≡ one ++ key_bytes (from_parts 0 release None None None local))
+    → three ≡ two ++ 0 ∷ [] → new ≡ three ++ zero_bytes release → new ≡ old ++ compiled_bytes (from_parts 0 release None None None [])
+release_written old one two three new release first key last zeros =
+    let bytes = key_bytes (from_parts 0 release None None None []) in
+    zeros ∙ ap (λ l. l ++ zero_bytes release) (last ∙ key [] ∙ ap (λ l. l ++ bytes) first) ∙ append_assoc (old ++ 4 ∷ []) bytes (zero_bytes release)
+    ∙ append_assoc old (4 ∷ []) (bytes ++ zero_bytes release)

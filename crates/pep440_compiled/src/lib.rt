@@ -46,7 +46,7 @@ pub use set_forms::{
     SetFronts, complement, has_lone_set_format, intersection, is_subset, read_membership,
     read_membership_soon, set_contains, set_contains_soon, set_keys, union, view_fronts,
 };
-pub use stack_form::compile_normal;
+pub use stack_form::{compile_normal, compile_release};
 pub use version::{
     any_prerelease, compare, compare_sort_keys, compile_version, normalize, push_compiled_form,
     read_sort_key, read_version, sort_key,

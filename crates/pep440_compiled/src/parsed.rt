@@ -32,6 +32,7 @@ fn is_numeral(text: &str) -> bool
 }
 
 // Whether the bytes are a string of a local part as parsing gives it. Those that have a letter need no other look.
+#[tactic(auto, using(crate::proofs::Checking::lower_utf8))]
 pub(crate) fn is_normal_text(text: &[u8]) -> bool
     ensures { (result ≡ true) ↔ SegmentRoundTrips (Text text.now) }
 {

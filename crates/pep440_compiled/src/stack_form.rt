@@ -1,10 +1,10 @@
 //! The compiled form of a string in a normal spelling, written from its parts before a version is made of them.
-ghost use Rattle.std.specs.Prelude.{◌≡◌, ◌+◌, ◌++◌, ◌-◌, ◌<◌, ◌≤◌, List, [], length, Ok, IfOk, IsOk, OnOk, false, true};
+ghost use Rattle.std.specs.Prelude.{◌≡◌, ◌+◌, ◌++◌, ◌-◌, ◌<◌, ◌≤◌, ℕ, List, [], length, None, Ok, IfOk, IfSome, IsOk, OnOk, false, true};
 ghost use Rattle.std.specs.Char.{is_ascii_digit};
 ghost use Rattle.std.specs.List.{All, flat_map, list_all, prefix_len};
 ghost use Rattle.pep440_compiled.specs.Version.{DenotesVersion, HasShortForm, IsShortSegment, compiled_bytes};
 ghost use Rattle.pep440_keys.specs.SortKeys.{local_bytes, segment_bytes};
-ghost use Rattle.pep440_version.specs.Grammar.{AreSegments, Derives, IsLocal, IsSegment, starts};
+ghost use Rattle.pep440_version.specs.Grammar.{AreSegments, Derives, IsLocal, IsNumber, IsRelease, IsSegment, starts};
 ghost use Rattle.pep440_version.specs.Print.{dotted, local_text, print, print_segment};
 ghost use Rattle.pep440_version.specs.Record.{LocalSegmentValue, Number, Record, from_parts};
 ghost use Rattle.pep440_version.specs.RoundTrip.{SegmentRoundTrips, is_lower};
@@ -16,6 +16,9 @@ use arrayvec::ArrayVec;
 use pep440_keys::{KeySink, push_parts_key};
 use pep440_version::{NormalParts, parse_leading_parts};
 use std::alloc::AllocError;
+
+// The greatest number that is small.
+const MAX_SMALL_NUMBER: u64 = 2_147_483_647;
 
 // How many lower-case letters and digits lead.
 #[inline(always)]
@@ -155,6 +158,64 @@ fn push_form(
     Ok(true)
 }
 
+// The leading number, if it is small, and the rest.
+#[inline(always)]
+fn split_number(text: &[u8]) -> Option<(u64, &[u8])>
+    ensures { IfSome result (λ x. (digits : List ℕ) × IsNumber digits x.0 × (x.0 ≤ 2147483647) × (text.now ≡ digits ++ x.1.now)) }
+{
+    let (first, rest) = text.split_first()?;
+    if !first.is_ascii_digit() {
+        return None;
+    }
+    let mut number = u64::from(*first - b'0');
+    for i in 0..rest.len() {
+        if !rest[i].is_ascii_digit() {
+            return Some((number, &rest[i..]));
+        }
+        number = number * 10 + u64::from(rest[i] - b'0');
+        if number > MAX_SMALL_NUMBER {
+            return None;
+        }
+    }
+    Some((number, &[]))
+}
+
+// The numbers of a release, after which nothing follows, if they are small and have room.
+#[inline(always)]
+fn parse_release(text: &[u8]) -> Option<ArrayVec<u64, 16>>
+    ensures { IfSome result (λ numbers. IsRelease text.now numbers.items) }
+{
+    let (first, mut rest) = split_number(text)?;
+    let mut numbers = ArrayVec::new();
+    numbers.push(first);
+    while let [b'.', after @ ..] = rest {
+        let (number, later) = split_number(after)?;
+        if numbers.is_full() {
+            return None;
+        }
+        numbers.push(number);
+        rest = later;
+    }
+    if rest.is_empty() { Some(numbers) } else { None }
+}
+
+// Appends the compiled form of the version that a string of numbers parses to; `false` of another string.
+#[inline(always)]
+fn push_release(bytes: &mut ArrayVec<u8, 64>, text: &[u8]) -> Result<bool, AllocError>
+    requires { bytes.old.items ≡ [] }
+    ensures { IfOk result (λ done. done ≡ true → (r : Record) × Derives text.now r × DenotesVersion bytes.new.items r) }
+{
+    let Some(numbers) = parse_release(text) else {
+        return Ok(false);
+    };
+    let release = numbers.as_slice();
+    bytes.append(&[VERSION])?;
+    push_parts_key(bytes, 0, release, None, None, None)?;
+    bytes.append(&[0])?;
+    push_zeros(bytes, release)?;
+    Ok(true)
+}
+
 /// Writes the compiled form of the version that the string of these bytes parses to, if the string is in a normal spelling and the
 /// form has at most 64 bytes: of the normalized form of a version, if it has up to four release numbers, no number above 2147483647,
 /// and no local segment of more than one digit and nothing else. `false` of any other string, which `compile_version` compiles once
@@ -172,6 +233,22 @@ pub fn compile_normal(form: &mut ArrayVec<u8, 64>, text: &[u8]) -> bool
     };
     match push_form(form, parts, rest) {
         Ok(done) => done,
+        Err(_) => false,
+    }
+}
+
+/// Writes the compiled form of the version that the string of these bytes parses to, if the string is up to sixteen numbers with dots
+/// between them, none above 2147483647, and the form has at most 64 bytes; `false` of any other string: part of a form may then have been
+/// written.
+///
+/// Does not allocate.
+#[inline(never)]
+pub fn compile_release(form: &mut ArrayVec<u8, 64>, text: &[u8]) -> bool
+    requires { form.old.items ≡ [] }
+    ensures { result ≡ true → (r : Record) × Derives text.now r × DenotesVersion form.new.items r }
+{
+    match push_release(form, text) {
+        Ok(is_written) => is_written,
         Err(_) => false,
     }
 }

@@ -113,6 +113,7 @@ pub(crate) fn view_parts(bytes: &[u8]) -> Option<(PartsView<'_>, &[u8])>
 }
 
 // What follows the suffix of a final release and the 0 that ends its local part, which are tested in one piece.
+#[tactic(auto, using(crate::proofs::Suffixes::by_four))]
 #[inline(always)]
 pub(crate) fn strip_final_suffix(bytes: &[u8]) -> Option<&[u8]>
     ensures { IfSome result (λ rest. bytes.now ≡ 80 ∷ 0 ∷ 16 ∷ 0 ∷ rest.now) }

@@ -3,8 +3,8 @@ use crate::given::{bytes_argument, print_bytes};
 use arrayvec::ArrayVec;
 use pep440_compiled::{
     CompileError, CompiledError, ContainsError, any_prerelease, compare, compile_normal,
-    compile_version, contains, has_version_format, normalize, push_compiled_form, read_membership,
-    read_sort_key, read_version, sort_key,
+    compile_release, compile_version, contains, has_version_format, normalize, push_compiled_form,
+    read_membership, read_sort_key, read_version, sort_key,
 };
 use pep440_version::{LocalSegment, Version};
 use std::alloc::Global;
@@ -66,6 +66,15 @@ pub fn compile_text(alloc: Global, text: &str) -> Result<String, CaseError> {
         return Ok(print_bytes(alloc, form.as_slice())?);
     }
     Ok(String::from_str(alloc, "not normal")?)
+}
+
+/// The compiled form of a string of numbers with dots between them.
+pub fn compile_numbers(alloc: Global, text: &str) -> Result<String, CaseError> {
+    let mut form = ArrayVec::new();
+    if compile_release(&mut form, text.as_bytes()) {
+        return Ok(print_bytes(alloc, form.as_slice())?);
+    }
+    Ok(String::from_str(alloc, "not numbers")?)
 }
 
 /// `1` and `>=1`, compiled.

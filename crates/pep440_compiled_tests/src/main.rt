@@ -21,7 +21,7 @@ use compiled_lists::{
 use compiled_sets::{
     keys_of_set, set_complement, set_has, set_has_soon, set_intersection, set_subset, set_union,
 };
-use compiled_versions::{compile, compile_local, compile_text, denotes};
+use compiled_versions::{compile, compile_local, compile_numbers, compile_text, denotes};
 use given::given_arguments;
 use intervals::{is_outside, range_intervals, segment_interval};
 use numbers::{between, complement, contains, intersection, of_number, segments};
@@ -45,6 +45,7 @@ fn of_one(alloc: Global, call: &str, text: &str) -> Result<String, CaseError> {
         "compile" => compile(alloc, text),
         "compile-local" => compile_local(alloc, text),
         "compile-normal" => compile_text(alloc, text),
+        "compile-numbers" => compile_numbers(alloc, text),
         "compile-list" => compile_list_of(alloc, text),
         "denotes" => denotes(alloc, text),
         "denotes-list" => denotes_list(alloc, text),

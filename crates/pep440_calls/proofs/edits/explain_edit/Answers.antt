@@ -1,5 +1,5 @@
 use Rattle.std.proofs.Common.{List, ℕ, map, subst, sym}
-use Rattle.pep440_calls.proofs.Edited.{TellsEdit, no_change_told, no_edit_told, nothing_told, version_told}
+use Rattle.pep440_calls.proofs.Placed.{TellsEdit, no_change_told, no_edit_told, nothing_told, version_told}
 use Rattle.pep440_calls.proofs.edits.explain_edit.Goals as goal
 use Rattle.pep440_calls.proofs.edits.explain_edit.Goals.{in-Ok, in-Err-InvalidVersion, in-Err-NotAChange+in_ok-explain_no_change-in-Err-NotAChange, in-Err-Change+in_ok-to_string-in-Err-Change, in-Err-OutOfMemory}
 

@@ -1,4 +1,4 @@
-use Rattle.pep440_calls.proofs.Edited.{change_refused, changes_more}
+use Rattle.pep440_calls.proofs.Placed.{change_refused, changes_more}
 use Rattle.pep440_calls.proofs.edits.read_changes.Goals as goal
 
 pub returns-in-Err-NotAChange : goal.returns-in-Err-NotAChange

@@ -1,6 +1,5 @@
 use Rattle.std.proofs.Common.{◌*◌, ◌/◌, ◌%◌, arith}
-use Rattle.pep440_compiled.proofs.Numbers.{ranked_parts}
-use Rattle.pep440_compiled.proofs.Rewritten.{coded_again}
+use Rattle.pep440_compiled.proofs.Rewritten.{coded_again, ranked_parts}
 use Rattle.pep440_compiled.proofs.decode.read_ranked_number.Goals as goal
 
 pub returns-in_err-number-clause-found : goal.returns-in_err-number-clause-found

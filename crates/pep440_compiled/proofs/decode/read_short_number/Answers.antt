@@ -1,7 +1,6 @@
 use Rattle.std.proofs.Common.{◌≡◌, ◌∙◌, ◌++◌, ap, arith, length, refl}
 use Rattle.std.proofs.lemmas.List.{nil_from_length}
-use Rattle.pep440_compiled.proofs.Numbers.{epoch_parts}
-use Rattle.pep440_compiled.proofs.Rewritten.{no_number, short_number}
+use Rattle.pep440_compiled.proofs.Rewritten.{no_number, short_number, epoch_parts}
 use Rattle.pep440_compiled.proofs.decode.read_short_number.Goals as goal
 use Rattle.pep440_keys.specs.SortKeys.{needed_bytes}
 

@@ -1,7 +1,6 @@
 use Rattle.std.proofs.Common.{◌∙◌, ◌-◌, ◌++◌, Some, ap, arith, drop, length, replicate, take, w64}
 use Rattle.std.specs.Int.{from_be_bytes}
-use Rattle.pep440_compiled.proofs.Numbers.{number_of}
-use Rattle.pep440_compiled.proofs.Rewritten.{number_again}
+use Rattle.pep440_compiled.proofs.Rewritten.{number_again, number_of}
 use Rattle.pep440_compiled.proofs.decode.to_long_number.Goals as goal
 use Rattle.pep440_keys.proofs.Bytes.{needed_le}
 

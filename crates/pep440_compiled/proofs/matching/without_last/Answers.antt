@@ -1,6 +1,6 @@
 use Rattle.std.proofs.Common.{◌∙◌, ap, arith, length, sym}
 use Rattle.std.proofs.lemmas.Bool.{eqb-false, eqb-true}
-use Rattle.pep440_compiled.proofs.Counts.{first_number, last_seen, none_left, none_seen, number_seen, zero_seen}
+use Rattle.pep440_compiled.proofs.Comparing.{first_number, last_seen, none_left, none_seen, number_seen, zero_seen}
 use Rattle.pep440_compiled.proofs.Loops.{behind, enough}
 use Rattle.pep440_compiled.proofs.Prefixes.{numbers_code}
 use Rattle.pep440_compiled.proofs.Zeros.{trim_fits, zeros_none}

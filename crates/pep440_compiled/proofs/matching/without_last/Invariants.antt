@@ -1,5 +1,5 @@
 use Rattle.std.proofs.Common.{◌+◌, ◌≤◌, length}
-use Rattle.pep440_compiled.proofs.Counts.{Counts}
+use Rattle.pep440_compiled.proofs.Comparing.{Counts}
 use Rattle.pep440_compiled.proofs.matching.without_last.Given as goal
 
 abbrev pub invariant-loop-first : goal.invariant-loop-first

@@ -1,7 +1,7 @@
 use Rattle.std.proofs.Common.{◌∙◌, ◌<◌, ap, length, rules, sym}
 use Rattle.std.specs.Char.{is_ascii_digit}
 use Rattle.std.specs.List.{list_all}
-use Rattle.pep440_compiled.proofs.Numbers.{numeral_by_parse}
+use Rattle.pep440_compiled.proofs.Rewritten.{numeral_by_parse}
 use Rattle.pep440_compiled.proofs.parsed.is_numeral.Goals as goal
 
 pub returns-else-is_empty : goal.returns-else-is_empty

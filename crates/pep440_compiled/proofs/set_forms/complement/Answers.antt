@@ -1,4 +1,4 @@
-use Rattle.pep440_compiled.proofs.SetAlone.{complement_denoted}
+use Rattle.pep440_compiled.proofs.SetMerging.{complement_denoted}
 use Rattle.pep440_compiled.proofs.set_forms.complement.Goals as goal
 
 pub returns-in_default-clause-err : goal.returns-in_default-clause-err

@@ -1,4 +1,4 @@
-use Rattle.pep440_compiled.proofs.SetAlone.{err_kept, intersection_denoted}
+use Rattle.pep440_compiled.proofs.SetMerging.{err_kept, intersection_denoted}
 use Rattle.pep440_compiled.proofs.set_forms.intersection.Goals as goal
 
 pub returns-in_default-clause-err : goal.returns-in_default-clause-err

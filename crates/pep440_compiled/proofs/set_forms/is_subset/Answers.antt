@@ -1,5 +1,5 @@
 use Rattle.std.proofs.Common.{◌∙◌, inl, subst, sym}
-use Rattle.pep440_compiled.proofs.SetAlone.{err_kept, told, valid_set}
+use Rattle.pep440_compiled.proofs.SetMerging.{err_kept, told, valid_set}
 use Rattle.pep440_compiled.proofs.set_forms.is_subset.Goals as goal
 use Rattle.pep440_compiled.specs.SetForms.{DenotesSet}
 use Rattle.pep440_ranges.specs.Complement.{gaps}

@@ -1,4 +1,4 @@
-use Rattle.pep440_compiled.proofs.SetAlone.{keys_before}
+use Rattle.pep440_compiled.proofs.SetMerging.{keys_before}
 use Rattle.pep440_compiled.proofs.set_forms.view_set.Goals as goal
 
 pub returns-clause-found : goal.returns-clause-found

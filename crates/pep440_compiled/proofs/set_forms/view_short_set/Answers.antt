@@ -1,5 +1,5 @@
 use Rattle.std.proofs.Common.{◌≡◌, ◌∙◌, ◌∷◌, ap, arith, drop, sym}
-use Rattle.pep440_compiled.proofs.SetAlone.{keys_before}
+use Rattle.pep440_compiled.proofs.SetMerging.{keys_before}
 use Rattle.pep440_compiled.proofs.set_forms.view_short_set.Goals as goal
 use Rattle.pep440_compiled.specs.Lists.{members_bytes}
 use Rattle.pep440_compiled.specs.SetBytes.{set_bytes}

@@ -1,6 +1,6 @@
 use Rattle.std.proofs.lemmas.Result.{err_from_is_err_and}
 use Rattle.pep440_calls.proofs.Forms.{means_parsed, only_memory}
-use Rattle.pep440_calls.proofs.one_version.compile.Goals as goal
+use Rattle.pep440_calls.proofs.one_version.compile_other.Goals as goal
 
 pub returns-in_err-compile_version : goal.returns-in_err-compile_version
 returns-in_err-compile_version c =

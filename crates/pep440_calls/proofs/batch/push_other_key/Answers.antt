@@ -1,5 +1,5 @@
 use Rattle.std.proofs.Common.{refl}
-use Rattle.pep440_calls.proofs.batch.push_string_key.Goals as goal
+use Rattle.pep440_calls.proofs.batch.push_other_key.Goals as goal
 use Rattle.pep440_keys.specs.SortKeys.{key_bytes}
 
 pub returns : goal.returns
