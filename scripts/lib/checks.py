@@ -34,10 +34,8 @@ COMMENT = {".rt": re.compile(r"//!? \S"), ".antt": re.compile(r"-- ?\S")}
 
 
 def check_files():
-    """The first line of each file says what it is about, CONTRIBUTING.md names each crate, and no other file than those known here stands at the top.
-
-    Left out is what only names modules (Lib.antt), and the proof of one function, which lies where its function's name says.
-    """
+    """The first line of each file says what it is about, CONTRIBUTING.md names each crate, no other file than those known here stands at the top, and bash
+    reads its scripts. Left out is what only names modules (Lib.antt), and the proof of one function, which lies where its function's name says."""
     yield from (f"{it.name}: a file at the top that is not known" for it in sorted(TOP.iterdir()) if it.is_file() and it.name not in AT_THE_TOP)
     for path in (path for crate in crates() for folder in ("src", "specs", "proofs") for path in files(crate, folder)):
         is_left_out = "proofs" in path.parts and path.name in OF_A_FUNCTION or path.suffix == ".antt" and re.fullmatch(r"(?:(?:--.*|(?:pub )?mod \w+)?\n)*", text_of(path))
@@ -47,6 +45,9 @@ def check_files():
     for crate in crates():
         if f"`{crate}`" not in rows and f"`.._{crate.rpartition('_')[2]}`" not in rows:
             yield f"CONTRIBUTING.md: no row names the crate {crate}"
+    for path in (it for folder in ("bench", "scripts", "callers/*/tests") for it in TOP.glob(f"{folder}/*") if it.is_file()):
+        if path.read_bytes().startswith(b"#!/bin/bash") and subprocess.run(["bash", "-n", path], capture_output=True, check=False).returncode:
+            yield f"{name_of(path)}: bash does not read it"
 
 
 def check_names():
