@@ -1,7 +1,11 @@
 //! Markers as steps, and as sets of environments.
+ghost use Rattle.std.specs.Prelude.{IfOk};
+ghost use Rattle.std.specs.List.{All};
+ghost use Rattle.pep440_rs.specs.Denoted.{IsDenotable};
+
 use crate::environments::parse_marker;
 use pep440_rs::VersionSpecifiers;
-use pep440_sets::VersionSet;
+use pep440_sets::{SetError, VersionSet};
 use pyver_markers::{
     Condition, Domain, EnvironmentBox, EnvironmentMarker, FoundVariable, MarkerExtent,
 };
@@ -173,20 +177,31 @@ pub fn print_extent(
     extent_text(alloc, &all, Domain { linked, python })
 }
 
+fn list_argument(alloc: Global, text: &str) -> Result<VersionSpecifiers, CaseError>
+    ensures { IfOk result (λ list. All IsDenotable list) }
+{
+    match VersionSpecifiers::from_str(alloc, text) {
+        Ok(list) => Ok(list),
+        Err(error) if error.is_out_of_memory() => Err(CaseError::OutOfMemory),
+        Err(_) => Err(CaseError::Unreadable),
+    }
+}
+
+fn set_argument(alloc: Global, text: &str) -> Result<VersionSet, CaseError> {
+    let list = list_argument(alloc, text)?;
+    VersionSet::from_specifiers(alloc, list.as_slice()).map_err(|error| match error {
+        SetError::OutOfMemory => CaseError::OutOfMemory,
+        SetError::ArbitraryEquality => CaseError::Unreadable,
+    })
+}
+
 /// Environments in which the marker holds and Python has a version that the list contains.
 pub fn print_extent_for(alloc: Global, list: &str, marker: &str) -> Result<String, CaseError> {
-    let list = VersionSpecifiers::from_str(alloc, list).map_err(|_| CaseError::Unreadable)?;
-    let versions = VersionSet::from_specifiers(alloc, list.as_slice()).map_err(
-        |_| CaseError::Unreadable,
-    )?;
+    let versions = set_argument(alloc, list)?;
     let marker = parse_marker(alloc, marker)?;
-    let python = Some(&versions);
-    extent_text(
-        alloc,
-        &marker,
-        Domain {
-            linked: false,
-            python,
-        },
-    )
+    let domain = Domain {
+        linked: false,
+        python: Some(&versions),
+    };
+    extent_text(alloc, &marker, domain)
 }
