@@ -61,6 +61,7 @@ complete -c pyver -n '__fish_seen_subcommand_from range' -l json -d 'print an ar
 
 complete -c pyver -n __fish_use_subcommand -a marker -d 'print an environment in which the marker holds'
 complete -c pyver -n '__fish_seen_subcommand_from marker' -s h -l help -d 'print this help'
+complete -c pyver -n '__fish_seen_subcommand_from marker' -l any-system -d 'os_name, sys_platform and platform_system are independent, too'
 
 complete -c pyver -n __fish_use_subcommand -a check -d 'check requirements files, projects and locks'
 complete -c pyver -n '__fish_seen_subcommand_from check' -s h -l help -d 'print this help'
