@@ -199,7 +199,7 @@ static void of_size(size_t size)
     of_lists("<1", ",<1", size);
     if (size <= 513)
         of_ranges(">=0", ",!=1.%zu", size);
-    if (size <= 16385)
+    if (size <= 16385 || size == GREATEST)
         of_batches(">=0,!=1.1", "1.%zu", size);
     of_changes("1.0", "dev=1", size);
 }

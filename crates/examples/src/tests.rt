@@ -3,9 +3,7 @@
 mod cores;
 mod equal;
 mod generic;
-mod keys;
-mod matching;
 mod packed;
-mod packed_texts;
 mod ranges;
+mod requests;
 mod specifiers;

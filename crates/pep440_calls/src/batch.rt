@@ -164,7 +164,7 @@ fn string_mark(form: &[u8], fronts: &Option<SetFronts>, text: &[u8]) -> Option<u
     Some(compiled_mark(form, fronts, compiled.as_slice()))
 }
 
-// As `string_mark`, of a release with more numbers. A call of its own, since few have.
+// As `string_mark`, of a string in another spelling, or with more or larger numbers. A call of its own, since few are.
 #[inline(never)]
 fn release_mark(form: &[u8], fronts: &Option<SetFronts>, text: &[u8]) -> Option<u8>
     requires form { HasSetFormat form.now }

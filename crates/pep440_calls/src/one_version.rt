@@ -178,7 +178,7 @@ pub(crate) fn find_string_key<'a>(form: &'a mut ArrayVec<u8, 64>, text: &[u8]) -
     pep440_compiled::sort_key(form.as_slice()).ok()
 }
 
-// As `find_string_key`, of a release with more numbers.
+// As `find_string_key`, of a string in another spelling, or with more or larger numbers.
 pub(crate) fn find_release_key<'a>(form: &'a mut ArrayVec<u8, 64>, text: &[u8]) -> Option<&'a [u8]>
     requires { form.old.items ≡ [] }
     ensures { IfSome result (λ key. IsKey text.now key.now) }

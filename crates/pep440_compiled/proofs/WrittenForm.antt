@@ -1,16 +1,16 @@
 -- A compiled form that is written part by part.
-use Rattle.std.proofs.Common.{◌≡◌, ◌∙◌, ◌<◌, ◌-◌, ℕ, List, [], ◌∷◌, ◌++◌, None, true, false, ap, inl, refl, sym, subst, append_assoc, arith, true≢false, ◌≤◌, ◌+◌, suc, codes, drop, get_or, length}
+use Rattle.std.proofs.Common.{◌≡◌, ◌∙◌, ◌<◌, ◌-◌, ℕ, List, [], ◌∷◌, ◌++◌, Option, None, Some, true, false, ap, inl, inr, refl, sym, subst, append_assoc, arith, true≢false, ◌≤◌, ◌+◌, suc, codes, drop, get_or, length, take}
 use Rattle.std.proofs.lemmas.Bool.Decides.{nat_tests}
 use Rattle.std.proofs.lemmas.Grind.{flat_map-append}
-use Rattle.std.proofs.lemmas.List.{append-nil, length-append}
+use Rattle.std.proofs.lemmas.List.{append-nil, length-append, take-append-drop}
 use Rattle.std.specs.Char.{is_ascii_digit}
 use Rattle.std.specs.List.{flat_map, list_all, All}
 use Rattle.pep440_keys.specs.SortKeys.{key_bytes, local_bytes, segment_bytes}
 use Rattle.pep440_version.proofs.Reading.LocalAgrees.{segments_cons}
 use Rattle.pep440_version.proofs.RoundTrip.PrintIsRead.{segment_reads}
-use Rattle.pep440_version.proofs.Reading.NormalParts.{release_more, with_local}
-use Rattle.pep440_version.specs.Grammar.{AreSegments, Derives, IsNumber, IsRelease, IsSegment, starts}
-use Rattle.pep440_version.specs.Record.{LocalSegmentValue, Record, Text, Number, from_parts}
+use Rattle.pep440_version.proofs.Reading.NormalParts.{Digits, release_more, with_local}
+use Rattle.pep440_version.specs.Grammar.{AreSegments, Derives, IsLeadingV, IsNumber, IsPre, IsRelease, IsSegment, IsSeparator, IsSpelling, pre_spellings, starts}
+use Rattle.pep440_version.specs.Record.{Fits, LocalSegmentValue, Record, Text, Number, from_parts}
 use Rattle.pep440_version.specs.RoundTrip.{is_lower, SegmentRoundTrips}
 use Rattle.std.proofs.lemmas.Fmt.{decimal_digit, digits_decimal}
 use Rattle.pep440_compiled.proofs.Exact.{parsed}
@@ -18,6 +18,8 @@ use Rattle.pep440_compiled.specs.Version.{DenotesVersion, IsShortSegment, compil
 use Rattle.pep440_version.proofs.Reading.Digits.{digits_model}
 use Rattle.pep440_version.proofs.Reading.Prefixes.{same_front}
 use Rattle.pep440_version.specs.Print.{dotted, local_text, print_segment}
+use Rattle.pep440_version.specs.declared.prerelease.Prerelease.{Prerelease}
+use Rattle.pep440_version.specs.declared.prerelease.PrereleaseKind.{PrereleaseKind}
 
 -- a segment that is a string
 pub string_segment : (text : List ℕ) → list_all is_lower text ≡ true → list_all is_ascii_digit text ≡ false → IsSegment text (Text text)
@@ -208,39 +210,58 @@ pub record AreNumbers (text rest numbers : List ℕ) : Type 0 where
   pub release : IsRelease done numbers
   pub split : text ≡ done ++ rest
 
-pub one_number : (text rest new : List ℕ) (n : ℕ) → ((digits : List ℕ) × IsNumber digits n × (n ≤ 2147483647) × (text ≡ digits ++ rest)) → new ≡ n ∷ [] → AreNumbers text rest new
-one_number text rest new n h is = record { done = h.0; release = subst (IsRelease h.0) (sym is) h.1; split = h.3 }
+pub one_number : (text rest new : List ℕ) (n : ℕ) → ((digits : List ℕ) × IsNumber digits n × (text ≡ digits ++ rest)) → new ≡ n ∷ [] → AreNumbers text rest new
+one_number text rest new n h is = record { done = h.0; release = subst (IsRelease h.0) (sym is) h.1; split = h.2 }
 
-pub number_more : (text rest after later numbers new : List ℕ) (n : ℕ) → AreNumbers text rest numbers → rest ≡ 46 ∷ after → ((digits : List ℕ) × IsNumber digits n × (n ≤ 2147483647) × (after ≡ digits ++ later))
+pub number_more : (text rest after later numbers new : List ℕ) (n : ℕ) → AreNumbers text rest numbers → rest ≡ 46 ∷ after → ((digits : List ℕ) × IsNumber digits n × (after ≡ digits ++ later))
     → new ≡ numbers ++ n ∷ [] → AreNumbers text later new
 number_more text rest after later numbers new n at dot h is = record {
   done = at.done ++ (46 ∷ h.0);
   release = subst (IsRelease (at.done ++ (46 ∷ h.0))) (sym is) (release_more at.done h.0 numbers n at.release h.1);
-  split = at.split ∙ ap (λ l. at.done ++ l) (dot ∙ ap (λ l. 46 ∷ l) h.3) ∙ sym (append_assoc at.done (46 ∷ h.0) later);
+  split = at.split ∙ ap (λ l. at.done ++ l) (dot ∙ ap (λ l. 46 ∷ l) h.2) ∙ sym (append_assoc at.done (46 ∷ h.0) later);
 }
 
-pub numbers_end : (text rest numbers : List ℕ) → AreNumbers text rest numbers → length rest ≡ 0 → IsRelease text numbers
-numbers_end text [] numbers at none = subst (λ t. IsRelease t numbers) (sym (at.split ∙ append-nil at.done)) at.release
-numbers_end text (b ∷ rest) numbers at none = absurd (omega (arith, none))
+pub number_ended : (text after rest : List ℕ) (i n : ℕ) → Digits text rest i n → Fits n → after ≡ drop i rest → (digits : List ℕ) × IsNumber digits n × (text ≡ digits ++ after)
+number_ended text after rest i n d fits end =
+    (d.first ∷ take i rest, (omega arith, d.all, d.value, fits), d.whole ∙ ap (λ t. d.first ∷ t) (sym (take-append-drop i rest)) ∙ ap (λ t. d.first ∷ (take i rest ++ t)) (sym end))
 
-pub release_derives : (text numbers : List ℕ) → IsRelease text numbers → Derives text (from_parts 0 numbers None None None [])
-release_derives text numbers h = with_local text [] [] text [] [] [] [] numbers 0 None None None [] (sym (append-nil text)) (inl refl) (inl (refl, refl)) h refl refl refl refl
+-- a pre-release, after which nothing follows
+pub pre_spelled : (text word_on after number_on : List ℕ) (kind : PrereleaseKind) (n : ℕ) → (before : List ℕ) × IsSeparator before × (text ≡ before ++ word_on) → (word : List ℕ) × IsSpelling pre_spellings word kind × (word_on ≡ word ++ after)
+    → (between : List ℕ) × IsSeparator between × (after ≡ between ++ number_on) → (digits : List ℕ) × IsNumber digits n × (number_on ≡ digits ++ []) → IsPre text [] (Some (record { kind = kind; number = n }))
+pre_spelled text word_on after number_on kind n before word between digits = record {
+  before = before.0;
+  word = word.0;
+  between = between.0;
+  digits = digits.0;
+  decomposition = before.2 ∙ ap (λ l. before.0 ++ l) (word.2 ∙ ap (λ l. word.0 ++ l) (between.2 ∙ ap (λ l. between.0 ++ l) (digits.2 ∙ append-nil digits.0)));
+  first = before.1;
+  spelling = word.1;
+  second = between.1;
+  count = inr digits.1;
+  keeps_separator = λ e f. refl;
+  keeps_digits = refl;
+}
 
-pub release_denoted : (text numbers release old new : List ℕ) → IsRelease text numbers → release ≡ numbers → old ≡ [] → new ≡ old ++ compiled_bytes (from_parts 0 release None None None [])
+pub release_derives : (text after part : List ℕ) (numbers : List ℕ) (pre : Option Prerelease) → (letter : List ℕ) × IsLeadingV letter × (text ≡ letter ++ after) → (digits : List ℕ) × IsRelease digits numbers × (after ≡ digits ++ part) → IsPre part [] pre
+    → Derives text (from_parts 0 numbers pre None None [])
+release_derives text after part numbers pre letter digits is =
+    with_local text letter.0 [] digits.0 part [] [] [] numbers 0 pre None None [] (letter.2 ∙ ap (λ l. letter.0 ++ l) (digits.2 ∙ ap (λ l. digits.0 ++ l) (sym (append-nil part))))
+    letter.1 (inl (refl, refl)) digits.1 is refl refl refl
+
+pub release_denoted : (text numbers release old new : List ℕ) (pre : Option Prerelease) → Derives text (from_parts 0 numbers pre None None []) → release ≡ numbers → old ≡ [] → new ≡ old ++ compiled_bytes (from_parts 0 release pre None None [])
     → (r : Record) × Derives text r × DenotesVersion new r
-release_denoted text numbers release old new h same none is =
-    let r = from_parts 0 numbers None None None [] in
-    let d = release_derives text numbers h in
-    (r, d, record { parsed = parsed text r d; same = is ∙ (λ i. none i ++ compiled_bytes (from_parts 0 (same i) None None None [])) })
+release_denoted text numbers release old new pre d same none is =
+    let r = from_parts 0 numbers pre None None [] in
+    (r, d, record { parsed = parsed text r d; same = is ∙ (λ i. none i ++ compiled_bytes (from_parts 0 (same i) pre None None [])) })
 
 -- no local part begins with a dot
 pub no_dot : (local : List LocalSegmentValue) (rest : List ℕ) → rest ≡ local_text local → 0 < length rest → get_or rest 0 0 ≡ 46 → ⊥
 no_dot [] rest e some is = omega (arith, some, ap length e)
 no_dot (s ∷ local) rest e some is = omega (arith, is, ap (λ l. get_or l 0 0) e)
 
-pub release_written : (old one two three new release : List ℕ) → one ≡ old ++ 4 ∷ [] → ((local : List LocalSegmentValue) → two ++ local_bytes local ≡ one ++ key_bytes (from_parts 0 release None None None local))
-    → three ≡ two ++ 0 ∷ [] → new ≡ three ++ zero_bytes release → new ≡ old ++ compiled_bytes (from_parts 0 release None None None [])
-release_written old one two three new release first key last zeros =
-    let bytes = key_bytes (from_parts 0 release None None None []) in
+pub release_written : (old one two three new release : List ℕ) (pre : Option Prerelease) → one ≡ old ++ 4 ∷ [] → ((local : List LocalSegmentValue) → two ++ local_bytes local ≡ one ++ key_bytes (from_parts 0 release pre None None local))
+    → three ≡ two ++ 0 ∷ [] → new ≡ three ++ zero_bytes release → new ≡ old ++ compiled_bytes (from_parts 0 release pre None None [])
+release_written old one two three new release pre first key last zeros =
+    let bytes = key_bytes (from_parts 0 release pre None None []) in
     zeros ∙ ap (λ l. l ++ zero_bytes release) (last ∙ key [] ∙ ap (λ l. l ++ bytes) first) ∙ append_assoc (old ++ 4 ∷ []) bytes (zero_bytes release)
     ∙ append_assoc old (4 ∷ []) (bytes ++ zero_bytes release)

@@ -17,7 +17,7 @@ use pep440_rs::Operator;
 use std::cmp::Ordering;
 
 // What follows these bytes, if the others begin with them.
-fn strip_base<'a>(bytes: &'a [u8], base: &[u8]) -> Option<&'a [u8]>
+pub(crate) fn strip_base<'a>(bytes: &'a [u8], base: &[u8]) -> Option<&'a [u8]>
     ensures { MatchOption result (starts_with nat_eq bytes.now base.now ≡ false) (λ rest. bytes.now ≡ base.now ++ rest.now) }
 {
     let (start, rest) = bytes.split_at_checked(base.len())?;

@@ -4,21 +4,19 @@ ghost use Rattle.std.specs.Char.{is_ascii_digit};
 ghost use Rattle.std.specs.List.{All, flat_map, list_all, prefix_len};
 ghost use Rattle.pep440_compiled.specs.Version.{DenotesVersion, HasShortForm, IsShortSegment, compiled_bytes};
 ghost use Rattle.pep440_keys.specs.SortKeys.{local_bytes, segment_bytes};
-ghost use Rattle.pep440_version.specs.Grammar.{AreSegments, Derives, IsLocal, IsNumber, IsRelease, IsSegment, starts};
+ghost use Rattle.pep440_version.specs.Grammar.{AreSegments, Derives, IsLeadingV, IsLocal, IsNumber, IsPre, IsRelease, IsSegment, IsSeparator, IsSpelling, pre_spellings, starts};
 ghost use Rattle.pep440_version.specs.Print.{dotted, local_text, print, print_segment};
 ghost use Rattle.pep440_version.specs.Record.{LocalSegmentValue, Number, Record, from_parts};
 ghost use Rattle.pep440_version.specs.RoundTrip.{SegmentRoundTrips, is_lower};
 
+use crate::matching::strip_base;
 use crate::parsed::is_digits;
 use crate::version::push_zeros;
 use crate::views::VERSION;
 use arrayvec::ArrayVec;
 use pep440_keys::{KeySink, push_parts_key};
-use pep440_version::{NormalParts, parse_leading_parts};
+use pep440_version::{NormalParts, Prerelease, PrereleaseKind, parse_leading_parts};
 use std::alloc::AllocError;
-
-// The greatest number that is small.
-const MAX_SMALL_NUMBER: u64 = 2_147_483_647;
 
 // How many lower-case letters and digits lead.
 #[inline(always)]
@@ -158,10 +156,10 @@ fn push_form(
     Ok(true)
 }
 
-// The leading number, if it is small, and the rest.
+// The leading number, if it is below 2^64, and the rest.
 #[inline(always)]
 fn split_number(text: &[u8]) -> Option<(u64, &[u8])>
-    ensures { IfSome result (λ x. (digits : List ℕ) × IsNumber digits x.0 × (x.0 ≤ 2147483647) × (text.now ≡ digits ++ x.1.now)) }
+    ensures { IfSome result (λ x. (digits : List ℕ) × IsNumber digits x.0 × (text.now ≡ digits ++ x.1.now)) }
 {
     let (first, rest) = text.split_first()?;
     if !first.is_ascii_digit() {
@@ -172,45 +170,116 @@ fn split_number(text: &[u8]) -> Option<(u64, &[u8])>
         if !rest[i].is_ascii_digit() {
             return Some((number, &rest[i..]));
         }
-        number = number * 10 + u64::from(rest[i] - b'0');
-        if number > MAX_SMALL_NUMBER {
-            return None;
-        }
+        let tens = number.checked_mul(10)?;
+        number = tens.checked_add(u64::from(rest[i] - b'0'))?;
     }
     Some((number, &[]))
 }
 
-// The numbers of a release, after which nothing follows, if they are small and have room.
+// What follows the letter v, in either case, or nothing.
 #[inline(always)]
-fn parse_release(text: &[u8]) -> Option<ArrayVec<u64, 16>>
-    ensures { IfSome result (λ numbers. IsRelease text.now numbers.items) }
+fn skip_letter(text: &[u8]) -> &[u8]
+    ensures { (letter : List ℕ) × IsLeadingV letter × (text.now ≡ letter ++ result.now) }
+{
+    match text {
+        [b'v', rest @ ..] => rest,
+        [b'V', rest @ ..] => rest,
+        _ => text,
+    }
+}
+
+// The numbers of the leading release, if they have room, and the rest.
+#[inline(always)]
+fn split_numbers(text: &[u8]) -> Option<(ArrayVec<u64, 16>, &[u8])>
+    ensures { IfSome result (λ x. (digits : List ℕ) × IsRelease digits x.0.items × (text.now ≡ digits ++ x.1.now)) }
 {
     let (first, mut rest) = split_number(text)?;
     let mut numbers = ArrayVec::new();
     numbers.push(first);
     while let [b'.', after @ ..] = rest {
-        let (number, later) = split_number(after)?;
+        let Some((number, later)) = split_number(after) else {
+            break;
+        };
         if numbers.is_full() {
             return None;
         }
         numbers.push(number);
         rest = later;
     }
-    if rest.is_empty() { Some(numbers) } else { None }
+    Some((numbers, rest))
 }
 
-// Appends the compiled form of the version that a string of numbers parses to; `false` of another string.
+// What follows a separator, or nothing.
+#[inline(always)]
+fn skip_separator(text: &[u8]) -> &[u8]
+    ensures { (separator : List ℕ) × IsSeparator separator × (text.now ≡ separator ++ result.now) }
+{
+    match text {
+        [b'.', rest @ ..] => rest,
+        [b'-', rest @ ..] => rest,
+        [b'_', rest @ ..] => rest,
+        _ => text,
+    }
+}
+
+// The kind of pre-release that the leading word stands for, in lower case, and the rest.
+fn split_kind(text: &[u8]) -> Option<(PrereleaseKind, &[u8])>
+    ensures { IfSome result (λ x. (word : List ℕ) × IsSpelling pre_spellings word x.0 × (text.now ≡ word ++ x.1.now)) }
+{
+    if let Some(rest) = strip_base(text, b"alpha") {
+        return Some((PrereleaseKind::Alpha, rest));
+    }
+    if let Some(rest) = strip_base(text, b"beta") {
+        return Some((PrereleaseKind::Beta, rest));
+    }
+    if let Some(rest) = strip_base(text, b"rc") {
+        return Some((PrereleaseKind::Rc, rest));
+    }
+    if let Some(rest) = strip_base(text, b"preview") {
+        return Some((PrereleaseKind::Rc, rest));
+    }
+    if let Some(rest) = strip_base(text, b"pre") {
+        return Some((PrereleaseKind::Rc, rest));
+    }
+    match text {
+        [b'a', rest @ ..] => Some((PrereleaseKind::Alpha, rest)),
+        [b'b', rest @ ..] => Some((PrereleaseKind::Beta, rest)),
+        [b'c', rest @ ..] => Some((PrereleaseKind::Rc, rest)),
+        _ => None,
+    }
+}
+
+// A pre-release with its number, or nothing; after which nothing follows.
+#[inline(always)]
+fn parse_pre(text: &[u8]) -> Option<Option<Prerelease>>
+    ensures { IfSome result (IsPre text.now []) }
+{
+    if text.is_empty() {
+        return Some(None);
+    }
+    let (kind, after) = split_kind(skip_separator(text))?;
+    let (number, rest) = split_number(skip_separator(after))?;
+    if !rest.is_empty() {
+        return None;
+    }
+    Some(Some(Prerelease { kind, number }))
+}
+
+// Appends the compiled form of the version that a string of a release and a pre-release parses to; `false` of another string.
 #[inline(always)]
 fn push_release(bytes: &mut ArrayVec<u8, 64>, text: &[u8]) -> Result<bool, AllocError>
     requires { bytes.old.items ≡ [] }
     ensures { IfOk result (λ done. done ≡ true → (r : Record) × Derives text.now r × DenotesVersion bytes.new.items r) }
 {
-    let Some(numbers) = parse_release(text) else {
+    let Some((numbers, rest)) = split_numbers(skip_letter(text)) else {
+        return Ok(false);
+    };
+    let Some(pre) = parse_pre(rest) else {
         return Ok(false);
     };
     let release = numbers.as_slice();
     bytes.append(&[VERSION])?;
-    push_parts_key(bytes, 0, release, None, None, None)?;
+    push_parts_key(bytes, 0, release, pre, None, None)?;
     bytes.append(&[0])?;
     push_zeros(bytes, release)?;
     Ok(true)
@@ -237,9 +306,9 @@ pub fn compile_normal(form: &mut ArrayVec<u8, 64>, text: &[u8]) -> bool
     }
 }
 
-/// Writes the compiled form of the version that the string of these bytes parses to, if the string is up to sixteen numbers with dots
-/// between them, none above 2147483647, and the form has at most 64 bytes; `false` of any other string: part of a form may then have been
-/// written.
+/// Writes the compiled form of the version that the string of these bytes parses to, if the string is a release of up to sixteen numbers,
+/// with or without the letter `v` before it and a numbered pre-release in lower case after it, in any spelling, and the form has at most 64
+/// bytes; `false` of any other string: part of a form may then have been written.
 ///
 /// Does not allocate.
 #[inline(never)]

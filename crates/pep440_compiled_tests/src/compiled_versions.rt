@@ -68,7 +68,7 @@ pub fn compile_text(alloc: Global, text: &str) -> Result<String, CaseError> {
     Ok(String::from_str(alloc, "not normal")?)
 }
 
-/// The compiled form of a string of numbers with dots between them.
+/// The compiled form of a release, with a pre-release in any spelling or without.
 pub fn compile_numbers(alloc: Global, text: &str) -> Result<String, CaseError> {
     let mut form = ArrayVec::new();
     if compile_release(&mut form, text.as_bytes()) {

@@ -124,7 +124,21 @@ fn list_of_one(alloc: Global, start: &str, end: &str) -> Result<String, CaseErro
     Ok(text)
 }
 
-/// The list of these pairs of bounds on releases, at most two; after the list of one pair, its specifiers.
+// The list of six pairs, of which the first five end where the next one begins.
+fn list_of_six(alloc: Global, sides: [&str; 7]) -> Result<String, CaseError> {
+    let [first, second, third, fourth, fifth, sixth, last] = sides;
+    let pairs = [
+        pair(alloc, first, second)?,
+        pair(alloc, second, third)?,
+        pair(alloc, third, fourth)?,
+        pair(alloc, fourth, fifth)?,
+        pair(alloc, fifth, sixth)?,
+        pair(alloc, sixth, last)?,
+    ];
+    list_of_pairs(alloc, &pairs)
+}
+
+/// The list of these pairs of bounds on releases: none, one, and behind it its specifiers, two, or six that begin at the ends of others.
 pub fn pairs(alloc: Global, sides: &[String]) -> Result<String, CaseError> {
     match sides {
         [] => list_of_pairs(alloc, &[]),
@@ -133,6 +147,18 @@ pub fn pairs(alloc: Global, sides: &[String]) -> Result<String, CaseError> {
             let first = pair(alloc, start.as_str(), end.as_str())?;
             let pairs = [first, pair(alloc, next.as_str(), last.as_str())?];
             list_of_pairs(alloc, &pairs)
+        }
+        [a, b, c, d, e, f, g] => {
+            let sides = [
+                a.as_str(),
+                b.as_str(),
+                c.as_str(),
+                d.as_str(),
+                e.as_str(),
+                f.as_str(),
+                g.as_str(),
+            ];
+            list_of_six(alloc, sides)
         }
         _ => Err(CaseError::Unreadable),
     }

@@ -1,4 +1,5 @@
 //! Errors: the kind with what it holds, and the message.
+use pep440_pick::RequirementParseError;
 use pep440_version::{
     ChangeError, ErrorKind, PatternErrorKind, VersionParseError, VersionPatternParseError,
 };
@@ -17,7 +18,9 @@ pub fn message<E: Error + Debug>(alloc: Global, error: &E) -> Result<String, Cas
 pub fn out_of_memory(alloc: Global) -> Result<String, CaseError> {
     let error = VersionParseError::from(ErrorKind::from(AllocError));
     let of_pattern = VersionPatternParseError::from(ErrorKind::from(AllocError));
+    let of_requirement = RequirementParseError::from(AllocError);
     check(error.is_out_of_memory() && of_pattern.is_out_of_memory())?;
+    check(of_requirement.position == 0)?;
     let mut messages = message(alloc, &error)?;
     messages.push_str(", ")?;
     messages.push_str(message(alloc, &ChangeError::from(AllocError))?.as_str())?;

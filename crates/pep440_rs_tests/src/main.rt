@@ -3,10 +3,7 @@
 #![tactic(auto)]
 
 mod bounds;
-mod choices;
-mod edits;
 mod errors;
-mod hashing;
 mod json;
 mod matching;
 mod operators;
@@ -15,12 +12,10 @@ mod parsers;
 mod parts;
 mod printing;
 mod ranges;
-mod recorder;
 mod requirements;
 mod sets;
 mod specifier_calls;
 mod version_calls;
-mod version_parsers;
 
 use specifier_calls::answer_of_specifiers;
 use std::alloc::Global;

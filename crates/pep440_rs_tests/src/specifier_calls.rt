@@ -1,7 +1,6 @@
 //! Calls of specifiers, lists, ranges, sets, bounds and JSON strings, of the version that a list contains, of requirements and of the newest
 //! candidate.
 use crate::bounds::{lower_bound, pairs, upper_bound};
-use crate::choices::{allowed_range, newest_candidate};
 use crate::json::{
     json_list, json_specifier, json_version, list_of_json, specifier_of_json, version_of_json,
 };
@@ -12,7 +11,10 @@ use crate::matching::{
 use crate::operators::{operator, operator_number, operator_of_number};
 use crate::parsers::{list, list_of, members, specifier};
 use crate::ranges::{beside, intersection, range, release_range, unchecked_range};
-use crate::requirements::{is_name, requirement, requirement_position, same_names, specifiers_for};
+use crate::requirements::{
+    allowed_range, is_name, newest_candidate, requirement, requirement_position, same_names,
+    specifiers_for,
+};
 use crate::sets::{
     allows_literally, complement, literal_version, matches_literally, of_two_sets, set,
     set_contains, version_of_set,

@@ -1,13 +1,18 @@
 //! Calls of versions and patterns.
-use crate::edits::{edit, print_change};
-use crate::errors::out_of_memory;
-use crate::hashing::{hash_parts, hash_pattern, hash_version};
-use crate::order::{are_ascending, compare, compare_patterns, sort};
+use crate::errors::{error_text, message, out_of_memory, pattern_error_text};
+use crate::order::{
+    are_ascending, compare, compare_patterns, hash_parts, hash_pattern, hash_version, sort,
+};
 use crate::parts::{fields, from_release, has, is_stable, print, word};
 use crate::printing::{show, show_least, show_local, show_parts};
-use crate::version_parsers::{parse, parse_pattern};
+use pep440_version::{
+    Change, ChangeError, ChangeWordError, Version, VersionParseError, VersionPattern,
+    VersionPatternParseError, WithSentinels, parse_change,
+};
 use std::alloc::Global;
-use testing::CaseError;
+use testing::{
+    CaseError, change_argument, check, check_copy, check_debug, parse_version, print_value,
+};
 
 fn of_none(alloc: Global, call: &str) -> Result<String, CaseError> {
     match call {
@@ -66,5 +71,80 @@ pub fn answer_of_versions(
         [text] => of_one(alloc, call, text.as_str()),
         [one, other] => of_two(alloc, call, one.as_str(), other.as_str()),
         texts => of_many(alloc, call, texts),
+    }
+}
+
+// The error, which has the same message as that of a pattern.
+fn print_error(alloc: Global, error: VersionParseError) -> Result<String, CaseError> {
+    let text = error_text(alloc, &error)?;
+    check(pattern_error_text(alloc, &VersionPatternParseError::from(error))? == text)?;
+    Ok(text)
+}
+
+/// The normalized form, or the kind and the message of the error.
+pub fn parse(alloc: Global, text: &str) -> Result<String, CaseError> {
+    match Version::from_str(alloc, text) {
+        Ok(version) => Ok(print_value(alloc, &version)?),
+        Err(error) => print_error(alloc, error),
+    }
+}
+
+// The version's normalized form, and `.*` if a star follows.
+fn print_pattern(alloc: Global, pattern: &VersionPattern) -> Result<String, CaseError> {
+    check_copy(pattern)?;
+    check_debug(alloc, pattern)?;
+    let mut text = print_value(alloc, pattern.version())?;
+    if pattern.is_wildcard() {
+        text.push_str(".*")?;
+    }
+    Ok(text)
+}
+
+/// The normalized form of the pattern's version, with `.*` if a star follows, or the kind and the message of the error.
+pub fn parse_pattern(alloc: Global, text: &str) -> Result<String, CaseError> {
+    match VersionPattern::from_str(alloc, text) {
+        Ok(pattern) => print_pattern(alloc, &pattern),
+        Err(error) => pattern_error_text(alloc, &error),
+    }
+}
+
+/// The debug form of the change that the word asks for.
+pub fn print_change(alloc: Global, word: &str) -> Result<String, CaseError> {
+    match parse_change(alloc, word) {
+        Ok(change) => Ok(format!(in alloc; "{change:?}")?),
+        Err(ChangeWordError::NotAChange) => Ok(String::from_str(alloc, "no change")?),
+        Err(ChangeWordError::OutOfMemory) => Err(CaseError::OutOfMemory),
+    }
+}
+
+// Copies of the changes that the words ask for, with blanks between them.
+fn changes(alloc: Global, words: &str) -> Result<Vec<Change>, CaseError> {
+    let mut changes = Vec::new(alloc);
+    for word in words.split_ascii_whitespace() {
+        let change = change_argument(alloc, word)?;
+        check_debug(alloc, &change)?;
+        changes.push(change.clone()?)?;
+    }
+    Ok(changes)
+}
+
+// The error's name and its message.
+fn change_error_text(alloc: Global, error: ChangeError) -> Result<String, CaseError> {
+    let name = match error {
+        ChangeError::EmptyRelease(_) => "EmptyRelease",
+        ChangeError::MinNotAllowed(_) => "MinNotAllowed",
+        ChangeError::MaxNotAllowed(_) => "MaxNotAllowed",
+        ChangeError::OutOfMemory => return Err(CaseError::OutOfMemory),
+    };
+    let message = message(alloc, &error)?;
+    Ok(format!(in alloc; "{name}: {message}")?)
+}
+
+/// The version after all of these changes, or why they can't be made.
+pub fn edit(alloc: Global, text: &str, words: &str) -> Result<String, CaseError> {
+    let changes = changes(alloc, words)?;
+    match parse_version(alloc, text)?.with_changes(alloc, changes.as_slice()) {
+        Ok(changed) => Ok(print_value(alloc, &WithSentinels(&changed))?),
+        Err(error) => change_error_text(alloc, error),
     }
 }

@@ -3,8 +3,6 @@
 
 mod held_files;
 mod pyver_runs;
-mod stream_words;
-mod tool_runs;
 mod tool_streams;
 
 use std::alloc::Global;
@@ -17,7 +15,7 @@ impl Calls for ProgramCalls {
     fn answer(&self, alloc: Global, call: &str, arguments: &[String]) -> Result<String, CaseError> {
         match (call, arguments) {
             _ if call.starts_with("pyver") => pyver_runs::answer_call(alloc, call, arguments),
-            _ => tool_runs::answer_call(alloc, call, arguments),
+            _ => tool_streams::answer_call(alloc, call, arguments),
         }
     }
 }

@@ -1,7 +1,7 @@
 //! Runs of `pyver`.
 
 use crate::held_files::{HeldFile, HeldFiles, REQUIREMENTS, VERSIONS};
-use crate::stream_words::{after_argument, input_argument, manner_argument};
+use crate::tool_streams::{after_argument, input_argument, manner_argument};
 use pyver_tool::run;
 use std::alloc::Global;
 use testing::{After, CaseError, Manner, Sink, Trickle, split_words};

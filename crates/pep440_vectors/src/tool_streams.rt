@@ -1,7 +1,6 @@
-//! Runs of `pep440` over readers and writers that fail.
-use crate::stream_words::{after_argument, input_argument, manner_argument};
+//! Runs of `pep440`, also over streams whose calls fail.
 use pep440_tool::{answer, run};
-use std::alloc::Global;
+use std::alloc::{AllocError, Global};
 use testing::{After, CaseError, Manner, Sink, Trickle, split_words};
 
 const OUT_OF_MEMORY_LINE: &[u8] = b"error: out of memory\n";
@@ -94,4 +93,95 @@ pub fn cut_anywhere(alloc: Global, words: &str) -> Result<String, CaseError> {
         }
     }
     Ok(format!(in alloc; "{cuts}")?)
+}
+
+/// What a reader does after its last byte.
+pub fn after_argument(text: &str) -> Result<After, CaseError> {
+    match text {
+        "end" => Ok(After::End),
+        "fails" => Ok(After::Fails),
+        "newlines" => Ok(After::NewlinesForEver),
+        _ => Err(CaseError::Unreadable),
+    }
+}
+
+fn count(text: &str) -> Result<usize, CaseError> {
+    usize::from_str_radix(text, 10).map_err(|_| CaseError::Unreadable)
+}
+
+/// What a writer does.
+pub fn manner_argument(text: &str) -> Result<Manner, CaseError> {
+    match text.split_once(' ') {
+        Some(("by", bytes)) => Ok(Manner::TakesAtMost(count(bytes)?)),
+        Some(("past", bytes)) => Ok(Manner::FailsPast(count(bytes)?)),
+        Some(_) => Err(CaseError::Unreadable),
+        None => match text {
+            "all" => Ok(Manner::TakesAtMost(4096)),
+            "none" => Ok(Manner::TakesNone),
+            "interrupted" => Ok(Manner::Interrupted),
+            "flush" => Ok(Manner::FlushFails),
+            _ => Err(CaseError::Unreadable),
+        },
+    }
+}
+
+/// The bytes of the string, with the byte 255, which no string has, for each U+10FFFF.
+pub fn input_argument(alloc: Global, text: &str) -> Result<Vec<u8>, AllocError> {
+    let mut bytes = Vec::new(alloc);
+    for (index, piece) in text.split('\u{10ffff}').enumerate() {
+        if index > 0 {
+            bytes.push(255)?;
+        }
+        bytes.extend_from_slice(piece.as_bytes())?;
+    }
+    Ok(bytes)
+}
+
+const OUT_OF_MEMORY: u8 = 3;
+
+// More than any case prints.
+const MOST_OUTPUT: usize = 1024;
+
+// The status and the output, where `answer` and `run` agree on both.
+fn answer_words(alloc: Global, words: &[String], input: &[u8]) -> Result<String, CaseError> {
+    let said = answer(alloc, words, input)?;
+    let mut reader = input;
+    let mut output = Vec::with_capacity(alloc, MOST_OUTPUT)?;
+    let status = run(alloc, words, &mut reader, &mut output);
+    if status == OUT_OF_MEMORY && output.as_slice() == b"error: out of memory\n".as_slice() {
+        return Err(CaseError::OutOfMemory);
+    }
+    if status != said.status || output != said.output {
+        return Err(CaseError::Disagreement);
+    }
+    match std::str::from_utf8(output.as_slice()) {
+        Ok(text) => Ok(format!(in alloc; "{status} {text}")?),
+        Err(_) => Err(CaseError::Unreadable),
+    }
+}
+
+fn split_and_answer(alloc: Global, words: &str, input: &[u8]) -> Result<String, CaseError> {
+    let words = split_words(alloc, words)?;
+    answer_words(alloc, words.as_slice(), input)
+}
+
+/// The status and what is printed, of words with or without standard input.
+pub fn answer_call(alloc: Global, call: &str, arguments: &[String]) -> Result<String, CaseError> {
+    match (call, arguments) {
+        ("tool-no-words", []) => answer_words(alloc, &[], b""),
+        ("tool", [words]) => split_and_answer(alloc, words.as_str(), b"never read\n"),
+        ("tool-input", [words, input]) => {
+            let input = input_argument(alloc, input.as_str())?;
+            split_and_answer(alloc, words.as_str(), input.as_slice())
+        }
+        ("tool-streams", [words, input, after, manner]) => run_over_streams(
+            alloc,
+            words.as_str(),
+            input.as_str(),
+            after.as_str(),
+            manner.as_str(),
+        ),
+        ("tool-cuts", [words]) => cut_anywhere(alloc, words.as_str()),
+        _ => Err(CaseError::Unreadable),
+    }
 }

@@ -1,21 +1,23 @@
 -- What is reported: each line that ought to be a requirement and is none, each constraint that pip does not take, and some of the lines of a name
 -- that have no version in common; and that there is one meaning and one report.
-use Rattle.std.proofs.Common.{Bool, Err, List, None, Ok, Option, Result, Some, [], ap, append_assoc, arith, false, get_or, if◌then◌else◌, inl, inr, length, map, not, option_map, refl, subst, suc, sym, true, zero, ℕ, ◌++◌, ◌<◌, ◌∙◌, ◌∷◌, ◌≡◌}
+use Rattle.std.proofs.Common.{Bool, Err, List, None, Ok, Option, Result, Some, [], ap, arith, false, get_or, if◌then◌else◌, inl, inr, length, map, not, option_map, refl, subst, suc, sym, true, zero, ℕ, ◌++◌, ◌<◌, ◌∙◌, ◌∷◌, ◌≡◌}
 use Rattle.std.proofs.lemmas.Bool.{true≢false}
-use Rattle.std.proofs.lemmas.List.{map-append}
-use Rattle.std.proofs.lemmas.List.Elements.{All-contains_itself, All-filter, All-weaker}
+use Rattle.std.proofs.lemmas.List.{append_assoc, map-append}
+use Rattle.std.proofs.lemmas.List.Elements.{All-contains_itself, All-weaker}
 use Rattle.std.specs.List.{All, AllZip, Contains, filter, flat_map}
 use Rattle.pep440_pick.specs.RequirementGrammar.{DerivesRequirement, Needed, RequirementRejection}
-use Rattle.pyver_findings.proofs.Found.{Some_is, any_is, in_left, in_right, ones_of, some_found}
+use Rattle.pyver_findings.proofs.Found.{Some_is, any_is, in_left, in_right}
+use Rattle.pyver_findings.proofs.LackedHashes.{lacking_found}
 use Rattle.pyver_findings.proofs.Holding.{IsAsked, all_asked, derived_sound}
 use Rattle.pyver_findings.proofs.SmallestLists.{none_by, some_allowed}
-use Rattle.pyver_findings.specs.Conflicts.{conflicts, counts_under, has_same_name, have_none, under}
+use Rattle.pyver_findings.specs.Conflicts.{have_none}
 use Rattle.pyver_findings.specs.Demands.{Demand, IsSound}
 use Rattle.pyver_findings.specs.FileLines.{Conflicting, File, FileLine, Finding, NoRequirement, all_lines}
+use Rattle.pyver_findings.specs.Hashes.{lacks_hashes}
 use Rattle.pyver_findings.specs.NamedFiles.{constraints_files}
-use Rattle.pyver_findings.specs.FindingLaws.{ConflictsHaveFindings, FitsUrl, HasMarker, HaveNone, InvalidLinesHaveFindings, IsAlone, IsAmong, IsRequirementLine, IsWrongConstraint, LacksRequirement, MeaningsOnce, ReportsOnce, WrongConstraintsHaveFindings, without_environment, without_environments}
+use Rattle.pyver_findings.specs.FindingLaws.{FitsUrl, HasMarker, HaveNone, InvalidLinesHaveFindings, IsAlone, IsRequirementLine, IsWrongConstraint, LackedHashesHaveFindings, LacksRequirement, MeaningsOnce, ReportsOnce, WrongConstraintsHaveFindings, without_environment, without_environments}
 use Rattle.pyver_findings.specs.LineMeanings.{IsKindMeaning, IsMeaning, IsNone, IsPartsMeaning, IsPlain, LeftOut, LineMeaning, constraint_faults, has_extras, has_right_url, invalid_line, kind_faults, not_plain, rejection_meaning, requirement_meaning, under_marker, with_marker, with_url}
-use Rattle.pyver_findings.specs.MarkerPairs.{FindsOfNames, everywhere}
+use Rattle.pyver_findings.specs.MarkedConflicts.{FindsOfNames, everywhere}
 use Rattle.pyver_findings.specs.Views.{AddsFindings, AddsFound, KeepsReadings, demand_of, finding_of}
 use Rattle.pyver_findings.specs.Reports.{IsReport, Report, both_counts, constraint_findings, demands_in, found_in, invalid_in, is_ignored, joined_report, left_out_in, without_ignored}
 use Rattle.pyver_findings.specs.declared.cause.Cause.{Cause}
@@ -27,7 +29,7 @@ use Rattle.pyver_requirements.specs.LineParts.{LineParts, pip_parts}
 use Rattle.pyver_requirements.specs.MarkerReading.{marker}
 use Rattle.pyver_requirements.specs.MarkerSteps.{Misfit}
 use Rattle.pep440_pick.proofs.Once.{not_both_requirement, one_refusal, one_requirement}
-use Rattle.pyver_findings.proofs.MarkerPairs.{names_once, names_tell, no_causes}
+use Rattle.pyver_findings.proofs.MarkedConflicts.{names_once, names_tell, no_causes}
 use Rattle.pyver_findings.specs.declared.cause.Cause.TheVariants as cause
 
 -- ---- one meaning, and one report
@@ -167,7 +169,8 @@ invalid_lines_have_findings files r l (xs, h, fs, cs, finds, is) (k, inside, at)
     any_is (IsAlone l) r.findings
     (subst (λ (q : Report). Some_is (IsAlone l) q.findings) (sym is)
     (in_left (IsAlone l) (found_in files xs) fs
-    (in_left (IsAlone l) (flat_map invalid_in xs) (constraint_findings (constraints_files files) ++ conflicts (flat_map demands_in xs)) (in_lines l lacks (all_lines files) xs k inside at h))))
+    (in_left (IsAlone l) (flat_map invalid_in xs) (constraint_findings (constraints_files files) ++ lacks_hashes (all_lines files) (flat_map demands_in xs))
+    (in_lines l lacks (all_lines files) xs k inside at h))))
 
 -- ---- constraints
 
@@ -192,8 +195,21 @@ wrong_constraints_have_findings files r l (xs, h, fs, cs, finds, is) (k, inside,
     any_is (IsAlone l) r.findings
     (subst (λ (q : Report). Some_is (IsAlone l) q.findings) (sym is)
     (in_left (IsAlone l) (found_in files xs) fs
-    (in_right (IsAlone l) (flat_map invalid_in xs) (constraint_findings (constraints_files files) ++ conflicts (flat_map demands_in xs))
-    (in_left (IsAlone l) (constraint_findings (constraints_files files)) (conflicts (flat_map demands_in xs)) (in_constraints l wrong (all_lines (constraints_files files)) k inside at)))))
+    (in_right (IsAlone l) (flat_map invalid_in xs) (constraint_findings (constraints_files files) ++ lacks_hashes (all_lines files) (flat_map demands_in xs))
+    (in_left (IsAlone l) (constraint_findings (constraints_files files)) (lacks_hashes (all_lines files) (flat_map demands_in xs))
+    (in_constraints l wrong (all_lines (constraints_files files)) k inside at)))))
+
+-- ---- hashes
+
+pub lacked_hashes_have_findings : LackedHashesHaveFindings
+lacked_hashes_have_findings files r demands a (xs, h, fs, cs, finds, is) (ys, k, are) lacks =
+    let same : demands ≡ flat_map demands_in xs = are ∙ ap (flat_map demands_in) (of_lines (all_lines files) ys xs k h) in
+    any_is (IsAlone a.line) r.findings
+    (subst (λ (q : Report). Some_is (IsAlone a.line) q.findings) (sym is)
+    (in_left (IsAlone a.line) (found_in files xs) fs
+    (in_right (IsAlone a.line) (flat_map invalid_in xs) (constraint_findings (constraints_files files) ++ lacks_hashes (all_lines files) (flat_map demands_in xs))
+    (in_right (IsAlone a.line) (constraint_findings (constraints_files files)) (lacks_hashes (all_lines files) (flat_map demands_in xs))
+    (subst (λ ds. Some_is (IsAlone a.line) (lacks_hashes (all_lines files) ds)) same (lacking_found files demands a lacks))))))
 
 -- ---- lines of a name
 
@@ -208,36 +224,18 @@ readings_sound lines kept (xs, h, invalid, demands, left_out) = subst (All IsSou
 pub none_found : (lines : List Demand) → All IsSound lines → HaveNone lines → have_none lines ≡ true
 none_found lines sound none = none_by lines (have_none lines) refl (λ some. let found = some_allowed lines sound some in none found.0 found.1 found.2)
 
--- a finding of lines together is in the report
-pub in_conflicts : (P : Finding → Type 0) (files : List File) (xs : List LineMeaning) (fs : List Finding) → Some_is P (conflicts (flat_map demands_in xs)) → Some_is P (found_in files xs ++ fs)
-in_conflicts P files xs fs some =
-    in_left P (found_in files xs) fs
-    (in_right P (flat_map invalid_in xs) (constraint_findings (constraints_files files) ++ conflicts (flat_map demands_in xs))
-    (in_right P (constraint_findings (constraints_files files)) (conflicts (flat_map demands_in xs)) some))
-
-pub conflicts_have_findings : ConflictsHaveFindings
-conflicts_have_findings files r lines a marker (xs, h, fs, cs, finds, is) (ys, k, are) inside somewhere none =
-    let these = under marker (filter (has_same_name a) lines) in
-    let P = IsAmong (map (λ (b : Demand). b.line) these) in
-    let same : lines ≡ flat_map demands_in xs = are ∙ ap (flat_map demands_in) (of_lines (all_lines files) ys xs k h) in
-    let sound : All IsSound lines = subst (All IsSound) (sym same) (asked_sound (all_lines files) xs h) in
-    let so = All-filter (counts_under marker) IsSound (filter (has_same_name a) lines) (All-filter (has_same_name a) IsSound lines sound) in
-    any_is P r.findings
-    (subst (λ (q : Report). Some_is P q.findings) (sym is)
-    (in_conflicts P files xs fs
-    (subst (λ (demands : List Demand). Some_is P (conflicts demands)) same (some_found (map (λ (b : Demand). b.line) these) lines a marker somewhere (ones_of these) inside (none_found these so none)))))
-
 -- ---- the report
 
 -- what was read and found of the files, step by step
 pub is_report : (files : List File) (kept : Readings) (one two all : List FindingValue) (left : List Cause) (r : Report) → KeepsReadings (all_lines files) kept → AddsFindings kept.invalid.items one (constraint_findings (constraints_files files))
-    → AddsFindings one two (conflicts (map demand_of kept.demands.items)) → AddsFound (FindsOfNames everywhere (map demand_of kept.demands.items)) two all kept.left_out.items left
+    → AddsFindings one two (lacks_hashes (all_lines files) (map demand_of kept.demands.items))
+    → AddsFound (FindsOfNames everywhere (map demand_of kept.demands.items)) two all kept.left_out.items left
     → r ≡ record { findings = map finding_of all; ignored = []; lines = length (all_lines files); files = length files; left_out = left } → IsReport files r
-is_report files kept one two all left r (xs, h, invalid, demands, left_out) constraints together (fs, cs, finds, adds, also) is =
-    let first = flat_map invalid_in xs in
+is_report files kept one two all left r (xs, h, invalid, demands, left_out) constraints hashes (fs, cs, finds, adds, also) is =
     let second = constraint_findings (constraints_files files) in
-    let third = conflicts (flat_map demands_in xs) in
-    let found : map finding_of all ≡ found_in files xs ++ fs =
-    adds ∙ ap (λ l. l ++ fs) (together ∙ (λ j. (constraints ∙ ap (λ l. l ++ second) invalid) j ++ conflicts (demands j)) ∙ append_assoc first second third) in
+    let third = lacks_hashes (all_lines files) in
+    let added : map finding_of two ≡ found_in files xs =
+    hashes ∙ (λ j. (constraints ∙ ap (λ l. l ++ second) invalid) j ++ third (demands j)) ∙ append_assoc (flat_map invalid_in xs) second (third (flat_map demands_in xs)) in
+    let found : map finding_of all ≡ found_in files xs ++ fs = adds ∙ ap (λ l. l ++ fs) added in
     let rest : left ≡ flat_map left_out_in xs ++ cs = also ∙ ap (λ l. l ++ cs) left_out in
     (xs, h, fs, cs, subst (λ d. FindsOfNames everywhere d fs cs) demands finds, is ∙ (λ j. record { findings = found j; ignored = []; lines = length (all_lines files); files = length files; left_out = rest j }))

@@ -7,18 +7,11 @@ use Rattle.std.proofs.lemmas.List.Folds.{list_any-append}
 use Rattle.std.proofs.lemmas.Slice.Eq.{bytes_eq-Decides}
 use Rattle.std.specs.List.{All, filter, list_any}
 use Rattle.pyver_findings.specs.Demands.{Demand, IsSound}
-use Rattle.pyver_findings.specs.Conflicts.{conflict_kind, counts_under, has_marker, has_same_marker, have_none, holds_nowhere, of_all, of_marker, of_name, same_marker, smallest, under}
+use Rattle.pyver_findings.specs.Conflicts.{has_marker, has_same_marker, have_none, same_marker, unmarked}
+use Rattle.pyver_findings.specs.MarkedConflicts.{counts_with, under_any}
 use Rattle.std.specs.Option.{option_map_or}
-use Rattle.pyver_findings.specs.FileLines.{Conflicting, Finding}
-use Rattle.pyver_findings.proofs.Found.{marker_alike, marker_yes, none_counts}
-use Rattle.pyver_findings.proofs.Holding.{counted_marker}
-use Rattle.pyver_findings.proofs.SmallestLists.{Allows, left_all, more_none, right_all, sound_under}
-use Rattle.pyver_findings.proofs.Steps.{made_first}
-
--- what is made of a group that is taken: at its first mention all, and later nothing
-pub of_taken : (b : Bool) (lines group : List Demand) → group ≡ (if b then [] else lines) → of_name group ≡ (if b then [] else of_name lines)
-of_taken true lines group is = ap of_name is
-of_taken false lines group is = ap of_name is
+use Rattle.pyver_findings.proofs.Found.{marker_alike, marker_yes, same_filter}
+use Rattle.pyver_findings.proofs.SmallestLists.{Allows, left_all, more_none, right_all}
 
 -- a group that is taken is sound where all lines are
 pub sound_taken : (b : Bool) (p : Demand → Bool) (lines group : List Demand) → All IsSound lines → group ≡ (if b then [] else filter p lines) → All IsSound group
@@ -126,17 +119,27 @@ module _ {X : Type 0} (P : X → Type 0) where
 
 -- ---- lines without a marker, and lines with one
 
-split_marker : (m : List ℕ) (a : Demand) → counts_under (Some m) a ≡ true → (counts_under None a ≡ true) ⊎ (has_marker m a ≡ true)
-split_marker m a e = go a.marker e
-  where
-    go : (n : Option (List ℕ)) → (is_none n || same_marker n (Some m)) ≡ true → ((is_none n || same_marker n None) ≡ true) ⊎ (same_marker (Some m) n ≡ true)
-    go n e = elim (counted_marker n (Some m) e) [ inl is ↦ inl (ap (λ k. is_none k || same_marker k None) is) | inr is ↦ inr (marker_alike (Some m) n (sym is)) ]
+or_false : (b : Bool) → (b || false) ≡ true → b ≡ true
+or_false true e = refl
+or_false false e = e
 
-marker_counts : (m : List ℕ) (a : Demand) → has_marker m a ≡ true → counts_under (Some m) a ≡ true
-marker_counts m a e = go a.marker (marker_yes (Some m) a.marker e)
-  where
-    go : (n : Option (List ℕ)) → Some m ≡ n → (is_none n || same_marker n (Some m)) ≡ true
-    go n is = ap (λ k. is_none k || same_marker k (Some m)) (sym is) ∙ marker_alike (Some m) (Some m) refl
+module _ (m : List ℕ) (a : Demand) (is : a.marker ≡ Some m) where
+  split_by : (n : Option (List ℕ)) → (is_none n || (same_marker n (Some m) || false)) ≡ true → (is_none n ≡ true) ⊎ (same_marker (Some m) n ≡ true)
+  split_by None e = inl refl
+  split_by (Some k) e = inr (marker_alike (Some m) (Some k) (sym (marker_yes (Some k) (Some m) (or_false (bytes_eq k m) e))))
+
+  split_marker : (x : Demand) → counts_with (a ∷ []) x ≡ true → (is_none x.marker ≡ true) ⊎ (has_marker m x ≡ true)
+  split_marker x e = split_by x.marker (ap (λ n. is_none x.marker || (same_marker x.marker n || false)) (sym is) ∙ e)
+
+  none_counts : (x : Demand) → is_none x.marker ≡ true → counts_with (a ∷ []) x ≡ true
+  none_counts x e = ap (λ b. b || (same_marker x.marker a.marker || false)) e
+
+  counts_by : (n k : Bool) → k ≡ true → (n || (k || false)) ≡ true
+  counts_by true k e = refl
+  counts_by false k e = ap (λ b. b || false) e
+
+  marker_counts : (x : Demand) → has_marker m x ≡ true → counts_with (a ∷ []) x ≡ true
+  marker_counts x e = counts_by (is_none x.marker) (same_marker x.marker a.marker) (marker_alike x.marker a.marker (sym (marker_yes (Some m) x.marker e) ∙ sym is))
 
 same_by : (b c : Bool) → (b ≡ true → c ≡ true) → (c ≡ true → b ≡ true) → b ≡ c
 same_by true c into back = sym (into refl)
@@ -144,67 +147,49 @@ same_by false true into back = back refl
 same_by false false into back = refl
 
 -- in whatever order, they have the same versions in common
-under_marker : (m : List ℕ) (lines : List Demand) → All IsSound lines → have_none (under None lines ++ filter (has_marker m) lines) ≡ have_none (under (Some m) lines)
-under_marker m lines sound =
-    let always = under None lines in
+under_marker : (m : List ℕ) (a : Demand) → a.marker ≡ Some m → (lines : List Demand) → All IsSound lines → have_none (unmarked lines ++ filter (has_marker m) lines) ≡ have_none (under_any (a ∷ []) lines)
+under_marker m a is lines sound =
+    let bare = λ (x : Demand). is_none x.marker in
+    let always = unmarked lines in
     let own = filter (has_marker m) lines in
-    let all = under (Some m) lines in
-    let apart_sound = All-append IsSound always own (sound_under None lines sound) (All-filter (has_marker m) IsSound lines sound) in
+    let all = under_any (a ∷ []) lines in
+    let all_sound = All-filter (counts_with (a ∷ [])) IsSound lines sound in
+    let apart_sound = All-append IsSound always own (All-filter bare IsSound lines sound) (All-filter (has_marker m) IsSound lines sound) in
     same_by (have_none (always ++ own)) (have_none all)
-    (more_none (always ++ own) all apart_sound (sound_under (Some m) lines sound)
-    (λ v k. All-append (Allows v) always own (fewer (Allows v) (counts_under None) (counts_under (Some m)) (λ a e. none_counts a.marker (Some m) e) lines k) (fewer (Allows v) (has_marker m) (counts_under (Some m)) (marker_counts m) lines k)))
-    (more_none all (always ++ own) (sound_under (Some m) lines sound) apart_sound
-    (λ v k. either (Allows v) (counts_under None) (has_marker m) (counts_under (Some m)) (split_marker m) lines (left_all (Allows v) always own k) (right_all (Allows v) always own k)))
+    (more_none (always ++ own) all apart_sound all_sound
+    (λ v k. All-append (Allows v) always own (fewer (Allows v) bare (counts_with (a ∷ [])) (none_counts m a is) lines k) (fewer (Allows v) (has_marker m) (counts_with (a ∷ [])) (marker_counts m a is) lines k)))
+    (more_none all (always ++ own) all_sound apart_sound
+    (λ v k. either (Allows v) bare (has_marker m) (counts_with (a ∷ [])) (split_marker m a is) lines (left_all (Allows v) always own k) (right_all (Allows v) always own k)))
 
--- ---- what is found under each marker
+bare_by : (n : Option (List ℕ)) → (is_none n || (same_marker n None || false)) ≡ is_none n
+bare_by None = refl
+bare_by (Some k) = refl
 
-found_by : (b : Bool) (f : Finding) → b ≡ false → (if b then f ∷ [] else []) ≡ []
-found_by b f e = ap (λ c. if c then f ∷ [] else []) e
+-- under no marker only lines without one count
+pub under_unmarked : (a : Demand) → a.marker ≡ None → (lines : List Demand) → under_any (a ∷ []) lines ≡ unmarked lines
+under_unmarked a is lines =
+    same_filter (counts_with (a ∷ [])) (λ (x : Demand). is_none x.marker) (λ x. ap (λ n. is_none x.marker || (same_marker x.marker n || false)) is ∙ bare_by x.marker) lines
 
--- lines that have a version in common are not found
-none_found : (lines : List Demand) → have_none lines ≡ false → of_all None lines ≡ []
-none_found lines e = found_by (have_none lines) (Conflicting (conflict_kind (smallest lines)) (map (λ (a : Demand). a.line) (smallest lines)) None) e
+-- ---- what a line's group has, which is empty once it was taken
 
--- under the marker of a line that has one: its group is empty once it was taken
-own_by : (any b : Bool) (always own all group : List Demand) → have_none always ≡ false → have_none (always ++ own) ≡ have_none all → group ≡ (if any then [] else own) → b ≡ have_none (always ++ group)
-    → (if b then of_all None all else []) ≡ (if any then [] else of_all None all)
-own_by true b always own all group some same is e = ap (λ c. if c then of_all None all else []) (e ∙ ap (λ g. have_none (always ++ g)) is ∙ ap have_none (append-nil always) ∙ some)
-own_by false b always own all group some same is e =
-    ap (λ c. if c then of_all None all else []) (e ∙ ap (λ g. have_none (always ++ g)) is ∙ same) ∙ twice (have_none all) refl
-  where
-    twice : (c : Bool) → have_none all ≡ c → (if c then of_all None all else []) ≡ of_all None all
-    twice true h = refl
-    twice false h = sym (none_found all h)
+module _ (a : Demand) (b : Bool) (lines always before : List Demand) (groups : List ℕ → List Demand) (sound : All IsSound lines) (is : always ≡ unmarked lines) (some : have_none always ≡ false)
+    (taken : (q : List ℕ) → groups q ≡ (if list_any (has_marker q) before then [] else filter (has_marker q) lines)) where
+  -- whether they have no version in common with those without a marker: later they have one, and at the first mention by all lines under the marker
+  abbrev IsExcluded : Bool → Type 0
+  IsExcluded any = (any ≡ true → b ≡ false) × (any ≡ false → b ≡ have_none (under_any (a ∷ []) lines))
 
-always_by : (any b : Bool) (always : List Demand) → have_none always ≡ false → b ≡ have_none (always ++ []) → (if b then of_all None always else []) ≡ (if any then [] else of_all None always)
-always_by any b always some e = ap (λ c. if c then of_all None always else []) (e ∙ ap have_none (append-nil always) ∙ some) ∙ sym (nothing any (of_all None always) (none_found always some))
-  where
-    nothing : (any : Bool) (found : List Finding) → found ≡ [] → (if any then [] else found) ≡ []
-    nothing true found e = refl
-    nothing false found e = e
+  by_marker : (n : Option (List ℕ)) (any : Bool) → a.marker ≡ n → list_any (λ (x : Demand). same_marker n x.marker) before ≡ any → b ≡ have_none (always ++ option_map_or groups n []) → IsExcluded any
+  by_marker None any m h e =
+      let none = e ∙ ap have_none (append-nil always) ∙ some in
+      ((λ _. none), (λ _. none ∙ sym some ∙ ap have_none (is ∙ sym (under_unmarked a m lines))))
+  by_marker (Some m) true k h e =
+      let group : groups m ≡ [] = taken m ∙ ap (λ any. if any then [] else filter (has_marker m) lines) h in
+      ((λ _. e ∙ ap (λ g. have_none (always ++ g)) group ∙ ap have_none (append-nil always) ∙ some), (λ f. absurd (true≢false f)))
+  by_marker (Some m) false k h e =
+      let group : groups m ≡ filter (has_marker m) lines = taken m ∙ ap (λ any. if any then [] else filter (has_marker m) lines) h in (
+        (λ f. absurd (true≢false (sym f))),
+        (λ _. e ∙ ap (λ g. have_none (always ++ g)) group ∙ ap (λ l. have_none (l ++ filter (has_marker m) lines)) is ∙ under_marker m a k lines sound),
+      )
 
-at_marker : (marker : Option (List ℕ)) (any b : Bool) (lines always : List Demand) (groups : List ℕ → List Demand) → All IsSound lines → always ≡ under None lines → have_none always ≡ false
-    → ((m : List ℕ) → marker ≡ Some m → groups m ≡ (if any then [] else filter (has_marker m) lines)) → b ≡ have_none (always ++ option_map_or groups marker [])
-    → (if b then of_all None (under marker lines) else []) ≡ (if any then [] else of_all None (under marker lines))
-at_marker None any b lines always groups sound is some taken e =
-    always_by any b (under None lines) (ap have_none (sym is) ∙ some) (e ∙ ap (λ l. have_none (l ++ [])) is)
-at_marker (Some m) any b lines always groups sound is some taken e =
-    own_by any b (under None lines) (filter (has_marker m) lines) (under (Some m) lines) (groups m) (ap have_none (sym is) ∙ some) (under_marker m lines sound) (taken m refl) (e ∙ ap (λ l. have_none (l ++ groups m)) is)
-
--- nothing is found under a marker that holds nowhere
-nowhere_by : (none any b : Bool) (found : List Finding) → (if b then found else []) ≡ (if any then [] else found)
-    → (if b then (if none then [] else found) else []) ≡ (if any then [] else (if none then [] else found))
-nowhere_by true true true found is = refl
-nowhere_by true true false found is = refl
-nowhere_by true false true found is = refl
-nowhere_by true false false found is = refl
-nowhere_by false any b found is = is
-
--- what is found at a line is what its marker has at its first mention
-pub at_line : (a : Demand) (b : Bool) (lines always before : List Demand) (groups : List ℕ → List Demand) → All IsSound lines → always ≡ under None lines → have_none always ≡ false
-    → ((q : List ℕ) → groups q ≡ (if list_any (has_marker q) before then [] else filter (has_marker q) lines)) → b ≡ have_none (always ++ option_map_or groups a.marker [])
-    → (if b then of_marker a.marker lines else []) ≡ made_first has_same_marker (λ (x : Demand). of_marker x.marker lines) before a
-at_line a b lines always before groups sound is some taken e =
-    nowhere_by (holds_nowhere a.marker) (list_any (has_same_marker a) before) b (of_all None (under a.marker lines))
-    (at_marker a.marker (list_any (has_same_marker a) before) b lines always groups sound is some
-    (λ m has. taken m ∙ ap (λ n. if list_any (λ (x : Demand). same_marker n x.marker) before then [] else filter (has_marker m) lines) (sym has)) e)
+  pub at_line : b ≡ have_none (always ++ option_map_or groups a.marker []) → IsExcluded (list_any (has_same_marker a) before)
+  at_line e = by_marker a.marker (list_any (has_same_marker a) before) refl refl e

@@ -14,22 +14,24 @@ use Rattle.pep440_rs.specs.LiteralMatching.{list_matches_literally}
 use Rattle.pep440_rs.specs.Specifiers.SpecifierGrammar.{IsDenotedSpecifier}
 use Rattle.pep440_version.specs.Record.{Record}
 use Rattle.pyver_findings.specs.Demands.{Demand, IsSound, is_pinned, line_demand}
-use Rattle.pyver_findings.specs.Conflicts.{conflict_kind, conflicts, counts_under, first_mentions, have_none, holds_nowhere, of_all, of_marker, of_name, has_same_marker, has_same_name, same_marker, smallest, under}
+use Rattle.pyver_findings.specs.Conflicts.{conflict_kind, first_mentions, have_none, of_all, has_same_marker, has_same_name, smallest, unmarked}
 use Rattle.pyver_findings.specs.FileLines.{Conflicting, File, FileLine, Finding, NoRequirement, all_lines}
 use Rattle.pyver_findings.specs.NamedFiles.{constraints_files}
-use Rattle.pyver_findings.specs.FindingLaws.{AreNeeded, AreRightBy, AsksFor, CountTogether, CountsIn, CountsUnder, FindingsHold, FitsConflict, HasMarker, HoldUnder, IsRight, IsRightConflict, IsRightConstraint, IsRightPair, LineAllows, NamesVersion}
+use Rattle.pyver_findings.specs.FindingLaws.{AreNeeded, AskTogether, AsksFor, CountsIn, FindingsHold, FitsConflict, HasMarker, IsRight, IsRightConflict, IsRightConstraint, IsRightHash, LineAllows, NamesVersion}
 use Rattle.pyver_findings.specs.LineMeanings.{IsNone, LeftOut, LineMeaning, AsksNothing, IsKindMeaning, IsMeaning, constraint_faults, has_extras, has_right_url, kind_faults, requirement_meaning, has_scheme, names_file, under_marker, with_marker, with_url}
-use Rattle.pyver_findings.specs.MarkerPairs.{AskUnder, AsksIn, FindsDecided, FindsOfEach, FindsOfFirsts, FindsOfName, FindsOfNames, FindsOfSet, FindsOfSets, IsDecision, conflicting_sets, counts_with, everywhere, few_first_lines, lines_to_pair, under_any}
+use Rattle.pyver_findings.specs.MarkedConflicts.{AskUnder, AsksIn, FindsByUnmarked, FindsDecided, FindsOfEach, FindsOfFirsts, FindsOfName, FindsOfNames, FindsOfSet, FindsOfSets, IsDecision, conflicting_sets, counts_with, everywhere, few_first_lines, lines_to_pair, under_any}
+use Rattle.pyver_findings.proofs.LackedHashes.{hashes_right}
 use Rattle.pyver_findings.proofs.Found.{marker_yes}
+use Rattle.pyver_findings.proofs.MarkedConflicts.{of_marker_of}
 use Rattle.pyver_findings.proofs.SmallestLists.{Allows, IsSpared, all_smallest, none_allowed, smallest_none, smallest_right}
 use Rattle.pyver_findings.proofs.Rejecting.{invalid_right}
-use Rattle.pyver_findings.specs.Reports.{Report, demands_in, invalid_in}
+use Rattle.pyver_findings.specs.Hashes.{lacks_hashes}
+use Rattle.pyver_findings.specs.Reports.{Report, demands_in, found_in, invalid_in}
 use Rattle.pyver_findings.specs.declared.cause.Cause.{Cause}
 use Rattle.pyver_findings.specs.declared.cause.Cause.TheVariants as cause
-use Rattle.pyver_findings.specs.declared.finding.Conflict.{Conflict}
 use Rattle.pyver_findings.specs.declared.finding.Conflict.TheVariants.{NoVersion, PinOutside, TwoPins}
-use Rattle.pyver_findings.specs.declared.marker_pairs.Decision.{Decision}
-use Rattle.pyver_findings.specs.declared.marker_pairs.Decision.TheVariants.{Apart, Together, Unknown}
+use Rattle.pyver_findings.specs.declared.marked_conflicts.Decision.{Decision}
+use Rattle.pyver_findings.specs.declared.marked_conflicts.Decision.TheVariants.{Apart, Together, Unknown}
 use Rattle.pyver_markers.specs.Conditions.{Domain}
 use Rattle.pyver_markers.specs.Environments.{Environment}
 use Rattle.pyver_requirements.specs.LineKinds.{ConstraintsFile, Editable, Invalid, LineKind, Location, PipOption, Requirement, RequirementsFile, Variable, has_variable, line_kind}
@@ -156,10 +158,6 @@ pub mapped : (P : FileLine → Type 0) (Q : Demand → Type 0) → ((a : Demand)
 mapped P Q so [] k = All-nil P
 mapped P Q so (a ∷ lines) k = All-cons P a.line (map (λ (b : Demand). b.line) lines) (so a (All-head Q a lines k)) (mapped P Q so lines (All-tail Q a lines k))
 
-pub counted_marker : (n m : Option (List ℕ)) → (is_none n || same_marker n m) ≡ true → (n ≡ None) ⊎ (n ≡ m)
-counted_marker None m e = inl refl
-counted_marker (Some n) m e = inr (marker_yes (Some n) m e)
-
 -- ---- markers that hold together
 
 pub asks_alike : (e : Environment) (a c : Demand) → c.marker ≡ a.marker → AsksIn e a → AsksIn e c
@@ -174,7 +172,7 @@ asks_like_one : (e : Environment) (c : Demand) (set : List Demand) → All (Asks
 asks_like_one e c [] ask some = absurd (true≢false (sym some))
 asks_like_one e c (a ∷ set) ask some = asks_by e a c set (has_same_marker c a) refl (All-head (AsksIn e) a set ask) some (asks_like_one e c set (All-tail (AsksIn e) a set ask))
 
-none_yes : (m : Option (List ℕ)) → is_none m ≡ true → m ≡ None
+pub none_yes : (m : Option (List ℕ)) → is_none m ≡ true → m ≡ None
 none_yes None e = refl
 none_yes (Some text) e = absurd (true≢false (sym e))
 
@@ -199,14 +197,6 @@ module _ (P : Finding → Type 0) where
   where_true true f right = All-cons P f [] (right refl) (All-nil P)
   where_true false f right = All-nil P
 
-  pub of_each : (f : Demand → List Finding) → ((a : Demand) → All P (f a)) → (lines : List Demand) → All P (flat_map f lines)
-  of_each f right [] = All-nil P
-  of_each f right (a ∷ lines) = All-append P (f a) (flat_map f lines) (right a) (of_each f right lines)
-
-  pub by_empty : (b : Bool) (one other : List Finding) → All P one → All P other → All P (if b then one else other)
-  by_empty true one other right also = right
-  by_empty false one other right also = also
-
 -- ---- lines of one name
 
 module _ (parts : List ℕ → LineParts) where
@@ -217,10 +207,6 @@ module _ (parts : List ℕ → LineParts) where
 
       asks_for : (a : Demand) → IsNamed a → AsksFor parts name a.line
       asks_for a ((known, (n, d, called, pinned, list), marked), same) = (n, d, ap (bytes_eq name) called ∙ same)
-
-      counts_line : (marker : Option (List ℕ)) (a : Demand) → IsNamed a → (a.marker ≡ None) ⊎ (a.marker ≡ marker) → CountsUnder parts marker a.line
-      counts_line marker a ((known, derived, marked), same) (inl none) = inl (marked ∙ ap (option_map Ok) none)
-      counts_line marker a ((known, derived, marked), same) (inr is) = inr (marked ∙ ap (option_map Ok) is)
 
       names_version : (a : Demand) → IsNamed a → a.pinned ≡ true → NamesVersion parts a.line
       names_version a ((known, (n, d, called, pinned, list), marked), same) names = (n, d, pinned ∙ names)
@@ -246,41 +232,32 @@ module _ (parts : List ℕ → LineParts) where
       derived : (lines : List Demand) → All IsNamed lines → All (IsDerived parts) lines
       derived lines k = All-weaker IsNamed (IsDerived parts) (λ a one. one.0.1) lines k
 
-      abbrev pub Counts : Option (List ℕ) → Demand → Type 0
-      Counts marker a = IsNamed a × (counts_under marker a ≡ true)
-
-      right_by : (Count : List FileLine → Type 0) (P : Finding → Type 0) (environment : Option (List ℕ)) → ((conflict : Conflict) (together : List FileLine) → AreRightBy parts Count read conflict together → P (Conflicting conflict together environment))
-          → (lines : List Demand) → All IsNamed lines → Count (map (λ (a : Demand). a.line) (smallest lines)) → All P (of_all environment lines)
-      right_by Count P environment so lines named counts =
+      all_right : (d : Domain) (environment : Option (List ℕ)) (lines : List Demand) → All IsNamed lines → AskTogether parts d environment (map (λ (a : Demand). a.line) (smallest lines)) → All (IsRightConflict parts d read) (of_all environment lines)
+      all_right d environment lines named ask =
           let some = smallest lines in
           let these = all_smallest IsNamed lines named in
-          where_true P (have_none lines) (Conflicting (conflict_kind some) (map (λ (a : Demand). a.line) some) environment) (λ e. so (conflict_kind some) (map (λ (a : Demand). a.line) some) (
+          where_true (IsRightConflict parts d read) (have_none lines) (Conflicting (conflict_kind some) (map (λ (a : Demand). a.line) some) environment) (λ e. (
             mapped (Contains read) IsNamed (λ a one. one.0.0) some these,
-            counts,
+            ask,
             kind_fits some these,
             λ v denoted all. none_allowed some (sound parts some (derived some these)) (smallest_none lines e) v denoted (all_allow parts v some (derived some these) all),
             needed parts [] some (All-nil (IsDerived parts)) (derived some these) (smallest_right lines (sound parts lines (derived lines named)) e).2,
           ))
 
-      all_right : (marker : Option (List ℕ)) (lines : List Demand) → holds_nowhere marker ≡ false → All IsNamed lines → All (Counts marker) lines → All (IsRightConflict parts read) (of_all None lines)
-      all_right marker lines somewhere named k =
-          let some = smallest lines in
-          right_by (CountTogether parts) (IsRightConflict parts read) None (λ conflict together right. right) lines named
-          (name, marker, somewhere, mapped (AsksFor parts name) IsNamed asks_for some (all_smallest IsNamed lines named), mapped (CountsUnder parts marker) (Counts marker) (λ a one. counts_line marker a one.0 (counted_marker a.marker marker one.1)) some (all_smallest (Counts marker) lines k))
+      abbrev pub IsBare : Demand → Type 0
+      IsBare a = IsNamed a × (is_none a.marker ≡ true)
 
-      under_right : (marker : Option (List ℕ)) (lines : List Demand) → holds_nowhere marker ≡ false → All IsNamed lines → All (IsRightConflict parts read) (of_all None (under marker lines))
-      under_right marker lines somewhere k =
-          let named = All-filter (counts_under marker) IsNamed lines k in
-          all_right marker (under marker lines) somewhere named (both IsNamed (λ a. counts_under marker a ≡ true) (under marker lines) named (filter_passes (counts_under marker) lines))
+      bare_line : (a : Demand) → IsBare a → HasMarker (parts a.line.text) None
+      bare_line a (((known, derived, marked), same), bare) = marked ∙ ap (option_map Ok) (none_yes a.marker bare)
 
-      marker_right : (marker : Option (List ℕ)) (lines : List Demand) → All IsNamed lines → (b : Bool) → holds_nowhere marker ≡ b → All (IsRightConflict parts read) (if b then [] else of_all None (under marker lines))
-      marker_right marker lines k true is = All-nil (IsRightConflict parts read)
-      marker_right marker lines k false is = under_right marker lines is k
-
-      name_right : (lines : List Demand) → All IsNamed lines → All (IsRightConflict parts read) (of_name lines)
-      name_right lines k =
-          by_empty (IsRightConflict parts read) (have_none (under None lines)) _ _ (under_right None lines refl k)
-          (of_each (IsRightConflict parts read) (λ (a : Demand). of_marker a.marker lines) (λ a. marker_right a.marker lines k (holds_nowhere a.marker) refl) (first_mentions has_same_marker [] lines))
+      -- those without a marker ask always
+      unmarked_right : (d : Domain) (lines : List Demand) → All IsNamed lines → All (IsRightConflict parts d read) (of_all None (unmarked lines))
+      unmarked_right d lines k =
+          let these = unmarked lines in
+          let some = smallest these in
+          let named = All-filter (λ (a : Demand). is_none a.marker) IsNamed lines k in
+          let bare = both IsNamed (λ a. is_none a.marker ≡ true) these named (filter_passes (λ (a : Demand). is_none a.marker) lines) in
+          all_right d None these named ((name, mapped (AsksFor parts name) IsNamed asks_for some (all_smallest IsNamed these named)), mapped (λ l. HasMarker (parts l.text) None) IsBare bare_line some (all_smallest IsBare these bare))
 
       -- ---- several markers
 
@@ -299,11 +276,11 @@ module _ (parts : List ℕ → LineParts) where
           let asking = both IsNamed (AsksIn e) these named (All-weaker (λ c. counts_with set c ≡ true) (AsksIn e) (asks_beside e set ask) these (filter_passes (counts_with set) lines)) in
           mapped (CountsIn parts e) (IsAsking e) (in_environment e) (smallest these) (all_smallest (IsAsking e) these asking)
 
-      set_right : (d : Domain) (set lines : List Demand) (environment : List ℕ) → All IsNamed lines → AskUnder d set environment → All (IsRightPair parts d read) (of_all (Some environment) (under_any set lines))
+      set_right : (d : Domain) (set lines : List Demand) (environment : List ℕ) → All IsNamed lines → AskUnder d set environment → All (IsRightConflict parts d read) (of_all (Some environment) (under_any set lines))
       set_right d set lines environment k (variables, asked, written) =
           let these = under_any set lines in
           let named = All-filter (counts_with set) IsNamed lines k in
-          right_by (HoldUnder parts d environment) (IsRightPair parts d read) (Some environment) (λ conflict together right. right) these named (
+          all_right d (Some environment) these named (
             variables,
             record {
               name = name;
@@ -317,48 +294,46 @@ module _ (parts : List ℕ → LineParts) where
             written,
           )
 
-      none_right : (d : Domain) (fs : List Finding) → fs ≡ [] → All (IsRightPair parts d read) fs
-      none_right d fs none = subst (All (IsRightPair parts d read)) (sym none) (All-nil (IsRightPair parts d read))
+      none_right : (d : Domain) (fs : List Finding) → fs ≡ [] → All (IsRightConflict parts d read) fs
+      none_right d fs none = subst (All (IsRightConflict parts d read)) (sym none) (All-nil (IsRightConflict parts d read))
 
-      decided_right : (d : Domain) (x : Decision) (set lines : List Demand) → All IsNamed lines → IsDecision d set x → (fs : List Finding) (cs : List Cause) → FindsDecided x (under_any set lines) fs cs → All (IsRightPair parts d read) fs
-      decided_right d (Together environment) set lines k decided fs cs (is, also) = subst (All (IsRightPair parts d read)) (sym is) (set_right d set lines environment.items k decided)
+      decided_right : (d : Domain) (x : Decision) (set lines : List Demand) → All IsNamed lines → IsDecision d set x → (fs : List Finding) (cs : List Cause) → FindsDecided x (under_any set lines) fs cs → All (IsRightConflict parts d read) fs
+      decided_right d (Together environment) set lines k decided fs cs (is, also) = subst (All (IsRightConflict parts d read)) (sym is) (set_right d set lines environment.items k decided)
       decided_right d Apart set lines k decided fs cs (is, also) = none_right d fs is
       decided_right d Unknown set lines k decided fs cs (is, also) = none_right d fs is
 
-      each_set_right : (d : Domain) (lines : List Demand) (sets : List (List Demand)) → All IsNamed lines → (fs : List Finding) (cs : List Cause) → FindsOfEach (FindsOfSet d lines) sets fs cs → All (IsRightPair parts d read) fs
-      each_set_right d lines sets k = found_each (IsRightPair parts d read) (FindsOfSet d lines) (λ set fs cs finds. decided_right d finds.0 set lines k finds.1 fs cs finds.2) sets
+      each_set_right : (d : Domain) (lines : List Demand) (sets : List (List Demand)) → All IsNamed lines → (fs : List Finding) (cs : List Cause) → FindsOfEach (FindsOfSet d lines) sets fs cs → All (IsRightConflict parts d read) fs
+      each_set_right d lines sets k = found_each (IsRightConflict parts d read) (FindsOfSet d lines) (λ set fs cs finds. decided_right d finds.0 set lines k finds.1 fs cs finds.2) sets
 
-      sets_right : (d : Domain) (lines : List Demand) (sets : List (List Demand)) (whole : Bool) → All IsNamed lines → (fs : List Finding) (cs : List Cause) → FindsOfSets d lines sets whole fs cs → All (IsRightPair parts d read) fs
+      sets_right : (d : Domain) (lines : List Demand) (sets : List (List Demand)) (whole : Bool) → All IsNamed lines → (fs : List Finding) (cs : List Cause) → FindsOfSets d lines sets whole fs cs → All (IsRightConflict parts d read) fs
       sets_right d lines sets true k fs cs finds = each_set_right d lines sets k fs cs finds
       sets_right d lines sets false k fs cs (told, finds, also) = each_set_right d lines sets k fs told finds
 
-      firsts_right : (d : Domain) (lines : List Demand) → All IsNamed lines → (firsts : Option (List Demand)) (fs : List Finding) (cs : List Cause) → FindsOfFirsts d lines firsts fs cs → All (IsRightPair parts d read) fs
+      firsts_right : (d : Domain) (lines : List Demand) → All IsNamed lines → (firsts : Option (List Demand)) (fs : List Finding) (cs : List Cause) → FindsOfFirsts d lines firsts fs cs → All (IsRightConflict parts d read) fs
       firsts_right d lines k None fs cs (is, also) = none_right d fs is
       firsts_right d lines k (Some firsts) fs cs finds =
           let found = conflicting_sets lines (lines_to_pair lines firsts) in
           sets_right d lines found.sets found.whole k fs cs finds
 
-    pub pairs_of_names_right : (d : Domain) (lines : List Demand) → All (IsAsked parts read) lines → (fs : List Finding) (cs : List Cause) → FindsOfNames d lines fs cs → All (IsRightPair parts d read) fs
-    pairs_of_names_right d lines k =
-        found_each (IsRightPair parts d read) (λ (a : Demand). FindsOfName d (filter (has_same_name a) lines))
-        (λ a fs cs finds. let these = filter (has_same_name a) lines in firsts_right a.name d these (both (IsAsked parts read) (λ b. has_same_name a b ≡ true) these (All-filter (has_same_name a) (IsAsked parts read) lines k) (filter_passes (has_same_name a) lines)) (few_first_lines these) fs cs finds)
-        (first_mentions has_same_name [] lines)
+      name_right : (d : Domain) (lines : List Demand) → All IsNamed lines → (b : Bool) (fs : List Finding) (cs : List Cause) → FindsByUnmarked d lines b fs cs → All (IsRightConflict parts d read) fs
+      name_right d lines k true fs cs (is, also) = subst (All (IsRightConflict parts d read)) (sym is) (unmarked_right d lines k)
+      name_right d lines k false fs cs (f, g, c, o, one, several, is, also) =
+          subst (All (IsRightConflict parts d read)) (sym is)
+          (All-append (IsRightConflict parts d read) f g
+          (found_each (IsRightConflict parts d read) (of_marker_of d lines) (λ a fs cs finds. decided_right d finds.0 (a ∷ []) lines k finds.1 fs cs finds.2) (first_mentions has_same_marker [] lines) f c one)
+          (firsts_right d lines k (few_first_lines lines) g o several))
 
-    pub conflicts_right : (lines : List Demand) → All (IsAsked parts read) lines → All (IsRightConflict parts read) (conflicts lines)
-    conflicts_right lines k =
-        of_each (IsRightConflict parts read) (λ (a : Demand). of_name (filter (has_same_name a) lines))
-        (λ a. name_right a.name (filter (has_same_name a) lines) (both (IsAsked parts read) (λ b. has_same_name a b ≡ true) (filter (has_same_name a) lines) (All-filter (has_same_name a) (IsAsked parts read) lines k) (filter_passes (has_same_name a) lines)))
+    pub names_right : (d : Domain) (lines : List Demand) → All (IsAsked parts read) lines → (fs : List Finding) (cs : List Cause) → FindsOfNames d lines fs cs → All (IsRightConflict parts d read) fs
+    names_right d lines k =
+        found_each (IsRightConflict parts d read) (λ (a : Demand). FindsOfName d (filter (has_same_name a) lines))
+        (λ a fs cs finds. let these = filter (has_same_name a) lines in name_right a.name d these (both (IsAsked parts read) (λ b. has_same_name a b ≡ true) these (All-filter (has_same_name a) (IsAsked parts read) lines k) (filter_passes (has_same_name a) lines)) (have_none (unmarked these)) fs cs finds)
         (first_mentions has_same_name [] lines)
 
 -- ---- all findings
 
-rightly : (lines : List FileLine) (f : Finding) → IsRightConflict pip_parts lines f → IsRight lines f
+rightly : (lines : List FileLine) (f : Finding) → IsRightConflict pip_parts everywhere lines f → IsRight lines f
 rightly lines (NoRequirement l reason column) right = absurd right
-rightly lines (Conflicting conflict together environment) right = inl right
-
-paired : (lines : List FileLine) (f : Finding) → IsRightPair pip_parts everywhere lines f → IsRight lines f
-paired lines (NoRequirement l reason column) right = absurd right
-paired lines (Conflicting conflict together environment) right = inr right
+rightly lines (Conflicting conflict together environment) right = right
 
 -- a constraint that is reported is one that pip does not take
 module _ (files : List File) where
@@ -384,13 +359,14 @@ pub findings_hold : FindingsHold
 findings_hold files r (xs, h, fs, cs, finds, is) =
     let lines = all_lines files in
     let some = all_lines (constraints_files files) in
-    let P = λ (f : Finding). IsRight lines f ⊎ IsRightConstraint files f in
+    let demands = flat_map demands_in xs in
+    let P = λ (f : Finding). IsRight lines f ⊎ (IsRightConstraint files f ⊎ IsRightHash files f) in
     let asked = all_asked lines lines xs (All-contains_itself lines) h in
     subst (λ (q : Report). All P q.findings) (sym is)
-    (All-append P (flat_map invalid_in xs ++ (flat_map constraint_faults some ++ conflicts (flat_map demands_in xs))) fs
-    (All-append P (flat_map invalid_in xs) (flat_map constraint_faults some ++ conflicts (flat_map demands_in xs))
+    (All-append P (found_in files xs) fs
+    (All-append P (flat_map invalid_in xs) (flat_map constraint_faults some ++ lacks_hashes lines demands)
     (All-weaker (IsRight lines) P (λ f right. inl right) (flat_map invalid_in xs) (invalid_right lines lines xs (All-contains_itself lines) h))
-    (All-append P (flat_map constraint_faults some) (conflicts (flat_map demands_in xs))
-    (All-weaker (IsRightConstraint files) P (λ f right. inr right) (flat_map constraint_faults some) (constraints_right files some (All-contains_itself some)))
-    (All-weaker (IsRightConflict pip_parts lines) P (λ f right. inl (rightly lines f right)) (conflicts (flat_map demands_in xs)) (conflicts_right pip_parts lines (flat_map demands_in xs) asked))))
-    (All-weaker (IsRightPair pip_parts everywhere lines) P (λ f right. inl (paired lines f right)) fs (pairs_of_names_right pip_parts lines everywhere (flat_map demands_in xs) asked fs cs finds)))
+    (All-append P (flat_map constraint_faults some) (lacks_hashes lines demands)
+    (All-weaker (IsRightConstraint files) P (λ f right. inr (inl right)) (flat_map constraint_faults some) (constraints_right files some (All-contains_itself some)))
+    (All-weaker (IsRightHash files) P (λ f right. inr (inr right)) (lacks_hashes lines demands) (hashes_right files demands (xs, h, refl)))))
+    (All-weaker (IsRightConflict pip_parts everywhere lines) P (λ f right. inl (rightly lines f right)) fs (names_right pip_parts lines everywhere demands asked fs cs finds)))

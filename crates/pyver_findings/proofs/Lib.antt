@@ -2,7 +2,8 @@ pub mod Steps
 pub mod Grouping
 pub mod Rejecting
 pub mod SmallestLists
-pub mod MarkerPairs
+pub mod MarkedConflicts
+pub mod LackedHashes
 pub mod Holding
 pub mod Found
 pub mod Complete

@@ -3,25 +3,25 @@ use Rattle.std.proofs.Common.{arith, ◌≡◌, ◌<◌, ◌≤◌, ◌⊎◌, �
 use Rattle.std.proofs.lemmas.Bool.{ltb-true, true≢false, eqb-true}
 use Rattle.std.proofs.lemmas.List.Elements.{All-cons, All-contains, All-contains_itself, All-filter, All-head, All-nil, All-tail, All-weaker, filter_passes}
 use Rattle.std.specs.List.{All, Any, Contains, filter, flat_map, list_any, remove}
-use Rattle.pyver_findings.proofs.Complete.{asked_sound, in_conflicts, none_found, of_lines}
-use Rattle.pyver_findings.proofs.Found.{HasKey, Some_is, any_is, contains_key, in_left, in_right, name_alike, name_yes, ones_of, some_found, some_lines, marker_alike, marker_yes, none_before}
-use Rattle.pyver_findings.proofs.Holding.{asks_alike, asks_beside, both, mapped}
-use Rattle.pyver_findings.proofs.MarkerPairs.{Tells, contains_told, held_markers_count, of_name_of, tells_left, tells_right}
-use Rattle.pyver_findings.proofs.SmallestLists.{all_smallest, smallest_none, Allows, more_none}
-use Rattle.pyver_findings.specs.Conflicts.{conflict_kind, conflicts, counts_under, first_mentions, has_same_marker, has_same_name, have_none, holds_nowhere, of_all, same_marker, smallest, under}
+use Rattle.pyver_findings.proofs.Complete.{asked_sound, none_found, of_lines}
+use Rattle.pyver_findings.proofs.Found.{HasKey, Some_is, all_found, any_is, contains_key, in_left, in_right, name_alike, name_yes, ones_of, same_filter, some_lines, marker_alike, marker_yes, none_before}
+use Rattle.pyver_findings.proofs.Holding.{asks_alike, asks_beside, both, mapped, none_yes}
+use Rattle.pyver_findings.proofs.MarkedConflicts.{Tells, contains_told, of_marker_of, of_name_of, tells_left, tells_right}
+use Rattle.pyver_findings.proofs.SmallestLists.{all_smallest, smallest_none, Allows, more_none, sound_unmarked}
+use Rattle.pyver_findings.specs.Conflicts.{conflict_kind, first_mentions, has_same_marker, has_same_name, have_none, of_all, same_marker, smallest, unmarked}
 use Rattle.pyver_findings.specs.Demands.{Demand, IsSound}
-use Rattle.pyver_findings.specs.FileLines.{Conflicting, FileLine, Finding, NoRequirement, all_lines}
-use Rattle.pyver_findings.specs.FindingLaws.{IsAmong, IsAmongIn, IsOneIn, IsUndecided, SetsHaveFindings}
-use Rattle.pyver_findings.specs.MarkerPairs.{AsksIn, FindsDecided, FindsOfEach, FindsOfFirsts, FindsOfName, FindsOfNames, FindsOfSet, FindsOfSets, IsDecision, conflicting_sets, counts_with, everywhere, first_lines, lines_to_pair, open_lines, under_any, Branch, ConflictingSets, branches, branches_of, conflicting_pair, conflicting_pairs, has_all, others_than, search_branches, set_among, smallest_set, with_first, with_set}
+use Rattle.pyver_findings.specs.FileLines.{Conflicting, FileLine, Finding, all_lines}
+use Rattle.pyver_findings.specs.FindingLaws.{ConflictsHaveFindings, HaveNone, IsAmong, IsAmongIn, IsOneIn, IsUndecided, SetsHaveFindings}
+use Rattle.pyver_findings.specs.MarkedConflicts.{AsksIn, FindsByUnmarked, FindsDecided, FindsOfEach, FindsOfFirsts, FindsOfMarkers, FindsOfName, FindsOfNames, FindsOfSet, FindsOfSets, IsDecision, conflicting_sets, counts_with, everywhere, first_lines, lines_to_pair, open_lines, under_any, Branch, ConflictingSets, branches, branches_of, conflicting_pair, conflicting_pairs, has_all, others_than, search_branches, set_among, smallest_set, with_first, with_set}
 use Rattle.pyver_findings.specs.Reports.{Report, demands_in, found_in, left_out_in}
 use Rattle.pyver_findings.specs.declared.cause.Cause.{Cause}
 use Rattle.pyver_findings.specs.declared.cause.Cause.TheVariants as cause
-use Rattle.pyver_findings.specs.declared.marker_pairs.Decision.{Decision}
-use Rattle.pyver_findings.specs.declared.marker_pairs.Decision.TheVariants.{Apart, Together, Unknown}
+use Rattle.pyver_findings.specs.declared.marked_conflicts.Decision.{Decision}
+use Rattle.pyver_findings.specs.declared.marked_conflicts.Decision.TheVariants.{Apart, Together, Unknown}
 use Rattle.pyver_markers.specs.Conditions.{Domain, IsEnvironment}
 use Rattle.pyver_markers.specs.Environments.{Environment}
 use Rattle.std.proofs.lemmas.List.Folds.{list_any-append}
-use Rattle.std.specs.Prelude.{⊤, is_some, slice_index_or}
+use Rattle.std.specs.Prelude.{⊤, get_or, is_some, slice_index_or}
 use Rattle.pep440_version.specs.Record.{Record}
 
 -- ---- lists with keys
@@ -445,6 +445,10 @@ search_done view lines (b ∷ queue) tries sets whole all is (inr nil) so = absu
 
 -- ---- what is found
 
+-- it is so of all that is found, if it is of what is found before, or behind
+abbrev pub Spreads : (List Finding → List Cause → Type 0) → Type 0
+Spreads R = ((fs f g : List Finding) (cs c d : List Cause) → fs ≡ f ++ g → cs ≡ c ++ d → R f c → R fs cs) × ((fs f g : List Finding) (cs c d : List Cause) → fs ≡ f ++ g → cs ≡ c ++ d → R g d → R fs cs)
+
 module _ (P : Finding → Type 0) where
   -- something is found, or something is undecided
   abbrev pub FindsOrTells : List Finding → List Cause → Type 0
@@ -458,11 +462,45 @@ module _ (P : Finding → Type 0) where
   behind_others fs f g cs c d is also (inl some) = inl (subst (Some_is P) (sym is) (in_right P f g some))
   behind_others fs f g cs c d is also (inr told) = inr (subst Tells (sym also) (tells_right c d told))
 
-  each_reached : {K : Type 0} (key : Demand → K) (k : K) (Finds : Demand → List Finding → List Cause → Type 0) → ((x : Demand) → key x ≡ k → (fs : List Finding) (cs : List Cause) → Finds x fs cs → FindsOrTells fs cs)
-      → (xs : List Demand) → HasKey key k xs → (fs : List Finding) (cs : List Cause) → FindsOfEach Finds xs fs cs → FindsOrTells fs cs
+  pub or_tells : Spreads FindsOrTells
+  or_tells = (before_others, behind_others)
+
+  pub some_spreads : Spreads (λ fs cs. Some_is P fs)
+  some_spreads = ((λ fs f g cs c d is also some. subst (Some_is P) (sym is) (in_left P f g some)), (λ fs f g cs c d is also some. subst (Some_is P) (sym is) (in_right P f g some)))
+
+-- the list has the element
+abbrev pub In : {X : Type 0} → X → List X → Type 0
+In x [] = ⊥
+In x (y ∷ ys) = (y ≡ x) ⊎ In x ys
+
+pub in_list : {X : Type 0} (x : X) (xs : List X) (k : ℕ) → k < length xs → get_or xs k x ≡ x → In x xs
+in_list x [] k inside is = absurd (omega (arith, inside))
+in_list x (y ∷ ys) zero inside is = inl is
+in_list x (y ∷ ys) (suc k) inside is = inr (in_list x ys k (omega (arith, inside)) is)
+
+module _ (R : List Finding → List Cause → Type 0) (spreads : Spreads R) where
+  each_reached : {K : Type 0} (key : Demand → K) (k : K) (Finds : Demand → List Finding → List Cause → Type 0) → ((x : Demand) → key x ≡ k → (fs : List Finding) (cs : List Cause) → Finds x fs cs → R fs cs)
+      → (xs : List Demand) → HasKey key k xs → (fs : List Finding) (cs : List Cause) → FindsOfEach Finds xs fs cs → R fs cs
   each_reached key k Finds so [] h fs cs finds = absurd h
-  each_reached key k Finds so (x ∷ xs) (inl is) fs cs (f, g, c, d, here, later, eq, also) = before_others fs f g cs c d eq also (so x is f c here)
-  each_reached key k Finds so (x ∷ xs) (inr h) fs cs (f, g, c, d, here, later, eq, also) = behind_others fs f g cs c d eq also (each_reached key k Finds so xs h g d later)
+  each_reached key k Finds so (x ∷ xs) (inl is) fs cs (f, g, c, d, here, later, eq, also) = spreads.0 fs f g cs c d eq also (so x is f c here)
+  each_reached key k Finds so (x ∷ xs) (inr h) fs cs (f, g, c, d, here, later, eq, also) = spreads.1 fs f g cs c d eq also (each_reached key k Finds so xs h g d later)
+
+  -- what is found of one element of a list
+  pub each_in : {X : Type 0} (Finds : X → List Finding → List Cause → Type 0) (x : X) → ((fs : List Finding) (cs : List Cause) → Finds x fs cs → R fs cs) → (xs : List X) → In x xs
+      → (fs : List Finding) (cs : List Cause) → FindsOfEach Finds xs fs cs → R fs cs
+  each_in Finds x so [] h fs cs finds = absurd h
+  each_in Finds x so (y ∷ xs) (inl is) fs cs (f, g, c, d, here, later, eq, also) = spreads.0 fs f g cs c d eq also (so f c (subst (λ z. Finds z f c) is here))
+  each_in Finds x so (y ∷ xs) (inr h) fs cs (f, g, c, d, here, later, eq, also) = spreads.1 fs f g cs c d eq also (each_in Finds x so xs h g d later)
+
+  -- what is found of the lines of one name
+  pub name_reached : (d : Domain) (a : Demand) (lines : List Demand) → Contains lines a → ((fs : List Finding) (cs : List Cause) → FindsOfName d (filter (has_same_name a) lines) fs cs → R fs cs)
+      → (fs : List Finding) (cs : List Cause) → FindsOfNames d lines fs cs → R fs cs
+  name_reached d a lines (k, inside, is) found fs cs finds =
+      let name = λ (x : Demand). x.name in
+      each_reached name a.name (of_name_of d lines)
+      (λ x so fs cs one. found fs cs (subst (λ n. FindsOfName d (filter (λ (c : Demand). bytes_eq n c.name) lines) fs cs) so one))
+      (first_mentions has_same_name [] lines)
+      (mentioned name has_same_name name_yes name_alike a [] lines refl (contains_key name a lines k inside is)) fs cs finds
 
 -- ---- lines of one name
 
@@ -473,26 +511,16 @@ less_by false a c is up = refl
 not_less : (a c : ℕ) → c ≤ a → nat_lt a c ≡ false
 not_less a c up = less_by (nat_lt a c) a c refl up
 
-same_filter : (p q : Demand → Bool) → ((x : Demand) → p x ≡ q x) → (xs : List Demand) → filter p xs ≡ filter q xs
-same_filter p q same [] = refl
-same_filter p q same (x ∷ xs) = (λ j. if same x j then x ∷ same_filter p q same xs j else same_filter p q same xs j)
+bare_by : (m : Option (List ℕ)) → (is_none m || false) ≡ is_none m
+bare_by None = refl
+bare_by (Some m) = refl
 
-or_none : (m : Option (List ℕ)) → (is_none m || false) ≡ (is_none m || same_marker m None)
-or_none None = refl
-or_none (Some m) = refl
+under_nothing : (lines : List Demand) → under_any [] lines ≡ unmarked lines
+under_nothing lines = same_filter (counts_with []) (λ (x : Demand). is_none x.marker) (λ x. bare_by x.marker) lines
 
-or_by : (n b : Bool) → (n || (b || false)) ≡ (n || b)
-or_by n true = refl
-or_by n false = refl
-
-or_one : (m n : Option (List ℕ)) → (is_none m || (same_marker m n || false)) ≡ (is_none m || same_marker m n)
-or_one m n = or_by (is_none m) (same_marker m n)
-
-under_nothing : (lines : List Demand) → under_any [] lines ≡ under None lines
-under_nothing lines = same_filter (counts_with []) (counts_under None) (λ x. or_none x.marker) lines
-
-under_one : (f : Demand) (lines : List Demand) → under_any (f ∷ []) lines ≡ under f.marker lines
-under_one f lines = same_filter (counts_with (f ∷ [])) (counts_under f.marker) (λ x. or_one x.marker f.marker) lines
+-- lines count alike under one marker
+under_alike : (x t : Demand) (lines : List Demand) → x.marker ≡ t.marker → under_any (x ∷ []) lines ≡ under_any (t ∷ []) lines
+under_alike x t lines is = λ j. filter (λ (c : Demand). is_none c.marker || (same_marker c.marker (is j) || false)) lines
 
 -- what holds of each of these lines that ask, some of which are reported
 module _ (P : Finding → Type 0) (Q : Demand → Type 0) (so : (kind : _) (environment : Option (List ℕ)) (some : List Demand) → (map (λ (b : Demand). b.line) some ≡ [] → ⊥) → All Q some → P (Conflicting kind (map (λ (b : Demand). b.line) some) environment)) where
@@ -533,16 +561,19 @@ module _ (P : Finding → Type 0) (Q : Demand → Type 0) (so : (kind : _) (envi
     reached_found sets true (inl cut) fs cs finds = absurd (true≢false cut)
     reached_found sets true (inr hit) fs cs finds = hit_found sets hit fs cs finds
 
-    module _ (always : have_none (under None lines) ≡ false) (shared : (m : Option (List ℕ)) → Marks m asking → have_none (under m lines) ≡ false) where
+    -- the lines of one marker have no version in common
+    abbrev IsShut : Demand → Type 0
+    IsShut x = have_none (under_any (x ∷ []) lines) ≡ true
+
+    module _ (always : have_none (unmarked lines) ≡ false) (shared : (x : Demand) → Marks x.marker asking → have_none (under_any (x ∷ []) lines) ≡ false) where
       nothing_shared : AreApart lines sound [] → ⊥
       nothing_shared apart = true≢false (sym apart ∙ ap have_none (under_nothing lines) ∙ always)
 
       open_marked : (firsts : List Demand) → Covers asking firsts → Covers asking (open_lines lines firsts)
-      open_marked firsts covers m h = passes (λ (x : Demand). x.marker) (λ (x : Demand). not (have_none (under x.marker lines))) (Some m) (λ x is. ap not (ap (λ j. have_none (under j lines)) is ∙ shared (Some m) h)) firsts (covers m h)
+      open_marked firsts covers m h = passes (λ (x : Demand). x.marker) (λ (x : Demand). not (have_none (under_any (x ∷ []) lines))) (Some m) (λ x is. ap not (shared x (subst (λ n. Marks n asking) (sym is) h))) firsts (covers m h)
 
       no_one : (f : Demand) (b : Bool) → list_any (has_same_marker f) asking ≡ b → Covers asking (f ∷ []) → ⊥
-      no_one f true is covers =
-          true≢false (sym (apart_of lines sound (f ∷ []) asking known covers none) ∙ ap have_none (under_one f lines) ∙ shared f.marker (any_key f asking is))
+      no_one f true is covers = true≢false (sym (apart_of lines sound (f ∷ []) asking known covers none) ∙ shared f (any_key f asking is))
       no_one f false is covers =
           nothing_shared (apart_of lines sound [] asking known
           (λ m h. elim (covers m h) [ inl same ↦ true≢false (sym (any_marked f asking (subst (λ n. Marks n asking) (sym same) h)) ∙ is) | inr none ↦ absurd none ]) none)
@@ -554,7 +585,7 @@ module _ (P : Finding → Type 0) (Q : Demand → Type 0) (so : (kind : _) (envi
       several (f ∷ (g ∷ firsts)) covers = not_less (length (f ∷ (g ∷ firsts))) 2 (omega arith)
 
       paired : (firsts : List Demand) → Covers asking firsts → lines_to_pair lines firsts ≡ open_lines lines firsts
-      paired firsts covers = (λ j. if several firsts covers j || always j then [] else open_lines lines firsts)
+      paired firsts covers = (λ j. if several firsts covers j then [] else open_lines lines firsts)
 
       few_found : (b : Bool) (firsts : List Demand) → Covers asking firsts → (fs : List Finding) (cs : List Cause) → FindsOfFirsts d lines (if b then None else Some firsts) fs cs → FindsOrTells P fs cs
       few_found true firsts covers fs cs (is, also) = inr (subst Tells (sym also) (inl refl))
@@ -564,115 +595,84 @@ module _ (P : Finding → Type 0) (Q : Demand → Type 0) (so : (kind : _) (envi
           reached_found found.sets found.whole (sets_found lines sound asking known none pair nothing_shared (open_marked firsts covers)) fs cs
           (subst (λ (l : List Demand). FindsOfSets d lines (conflicting_sets lines l).sets (conflicting_sets lines l).whole fs cs) (paired firsts covers) finds)
 
-      asked_marks : (m : Option (List ℕ)) (ts : List Demand) → All (Contains lines) ts → Marks m ts → Marks m lines
-      asked_marks m [] k h = absurd h
-      asked_marks m (t ∷ ts) k (inl is) = let (i, inside, at) = All-head (Contains lines) t ts k in subst (λ n. Marks n lines) is (contains_key (λ (x : Demand). x.marker) t lines i inside at)
-      asked_marks m (t ∷ ts) k (inr h) = asked_marks m ts (All-tail (Contains lines) t ts k) h
+    asked_marks : (m : Option (List ℕ)) (ts : List Demand) → All (Contains lines) ts → Marks m ts → Marks m lines
+    asked_marks m [] k h = absurd h
+    asked_marks m (t ∷ ts) k (inl is) = let (i, inside, at) = All-head (Contains lines) t ts k in subst (λ n. Marks n lines) is (contains_key (λ (x : Demand). x.marker) t lines i inside at)
+    asked_marks m (t ∷ ts) k (inr h) = asked_marks m ts (All-tail (Contains lines) t ts k) h
 
-      -- some of the lines of one name that ask are found
-      pub name_found : (fs : List Finding) (cs : List Cause) → FindsOfName d lines fs cs → FindsOrTells P fs cs
-      name_found = few_found (nat_lt 32 (length (first_lines [] lines))) (first_lines [] lines) (λ m h. first_found m [] lines (asked_marks (Some m) asking known h))
+    -- one of these lines has no version in common with the lines under its marker, or each has one
+    abbrev ShutOr : List Demand → Type 0
+    ShutOr ts = ((t : Demand) × Marks t.marker ts × IsShut t) ⊎ ((x : Demand) → Marks x.marker ts → have_none (under_any (x ∷ []) lines) ≡ false)
+
+    open_here : (t : Demand) (ts : List Demand) (x : Demand) → have_none (under_any (t ∷ []) lines) ≡ false → ((y : Demand) → Marks y.marker ts → have_none (under_any (y ∷ []) lines) ≡ false) → Marks x.marker (t ∷ ts)
+        → have_none (under_any (x ∷ []) lines) ≡ false
+    open_here t ts x is others (inl same) = ap have_none (under_alike x t lines (sym same)) ∙ is
+    open_here t ts x is others (inr h) = others x h
+
+    open_by : (t : Demand) (ts : List Demand) (b : Bool) → have_none (under_any (t ∷ []) lines) ≡ b → ShutOr ts → ShutOr (t ∷ ts)
+    open_by t ts true is others = inl (t, inl refl, is)
+    open_by t ts false is (inl (u, marks, shut)) = inl (u, inr marks, shut)
+    open_by t ts false is (inr others) = inr (λ x h. open_here t ts x is others h)
+
+    open_or : (ts : List Demand) → ShutOr ts
+    open_or [] = inr (λ x h. absurd h)
+    open_or (t ∷ ts) = open_by t ts (have_none (under_any (t ∷ []) lines)) refl (open_or ts)
+
+    -- such a line is found at the first mention of its marker
+    marker_found : (t : Demand) → Marks t.marker asking → IsShut t → (fs : List Finding) (cs : List Cause) → FindsOfMarkers d lines fs cs → FindsOrTells P fs cs
+    marker_found t marks shut =
+        let marker = λ (x : Demand). x.marker in
+        each_reached (FindsOrTells P) (or_tells P) marker t.marker (of_marker_of d lines)
+        (λ x so fs cs one. decided_found one.0 (x ∷ [])
+        ((λ m h. elim h [ inl is ↦ subst (λ n. Marks n asking) (sym so ∙ is) marks | inr none ↦ absurd none ]), ap have_none (under_alike x t lines so) ∙ shut) one.1 fs cs one.2)
+        (first_mentions has_same_marker [] lines)
+        (mentioned marker has_same_marker (λ x y. marker_yes x.marker y.marker) (λ x y. marker_alike x.marker y.marker) t [] lines refl (asked_marks t.marker asking known marks))
+
+    unmarked_ask : All Q (unmarked lines)
+    unmarked_ask =
+        let bare = λ (x : Demand). is_none x.marker in
+        All-weaker (λ c. Contains lines c × (bare c ≡ true)) Q (λ c h. asks c h.0 (inl (none_yes c.marker h.1))) (unmarked lines)
+        (both (Contains lines) (λ c. bare c ≡ true) (unmarked lines) (All-filter bare (Contains lines) lines (All-contains_itself lines)) (filter_passes bare lines))
+
+    by_unmarked : (b : Bool) → have_none (unmarked lines) ≡ b → (fs : List Finding) (cs : List Cause) → FindsByUnmarked d lines b fs cs → FindsOrTells P fs cs
+    by_unmarked true is fs cs (eq, also) = inl (subst (Some_is P) (sym eq) (all_reported None (unmarked lines) unmarked_ask is))
+    by_unmarked false is fs cs (f, g, c, o, one, more, eq, also) = elim (open_or asking) [
+      | inl (t, marks, shut) ↦ before_others P fs f g cs c o eq also (marker_found t marks shut f c one)
+      | inr shared ↦ behind_others P fs f g cs c o eq also (few_found is shared (nat_lt 32 (length (first_lines [] lines))) (first_lines [] lines) (λ m h. first_found m [] lines (asked_marks (Some m) asking known h)) g o more)
+    ]
+
+    -- some of the lines of one name that ask are found
+    pub name_found : (fs : List Finding) (cs : List Cause) → FindsOfName d lines fs cs → FindsOrTells P fs cs
+    name_found = by_unmarked (have_none (unmarked lines)) refl
 
 -- ---- all names
-
-names_found : (d : Domain) (P : Finding → Type 0) (a : Demand) (lines : List Demand) → Contains lines a → ((fs : List Finding) (cs : List Cause) → FindsOfName d (filter (has_same_name a) lines) fs cs → FindsOrTells P fs cs)
-    → (fs : List Finding) (cs : List Cause) → FindsOfNames d lines fs cs → FindsOrTells P fs cs
-names_found d P a lines (k, inside, is) found fs cs finds =
-    let name = λ (x : Demand). x.name in
-    each_reached P name a.name (of_name_of d lines)
-    (λ x so fs cs one. found fs cs (subst (λ n. FindsOfName d (filter (λ (c : Demand). bytes_eq n c.name) lines) fs cs) so one))
-    (first_mentions has_same_name [] lines)
-    (mentioned name has_same_name name_yes name_alike a [] lines refl (contains_key name a lines k inside is)) fs cs finds
-
-open_here : (lines : List Demand) (t : Demand) (ts : List Demand) (m : Option (List ℕ)) → have_none (under t.marker lines) ≡ false → ((n : Option (List ℕ)) → Marks n ts → have_none (under n lines) ≡ false) → Marks m (t ∷ ts) → have_none (under m lines) ≡ false
-open_here lines t ts m is others (inl same) = ap (λ n. have_none (under n lines)) (sym same) ∙ is
-open_here lines t ts m is others (inr h) = others m h
-
-open_by : (e : Environment) (lines : List Demand) (t : Demand) (ts : List Demand) (b : Bool) → have_none (under t.marker lines) ≡ b → AsksIn e t
-    → ((u : Demand) × AsksIn e u × (have_none (under u.marker lines) ≡ true)) ⊎ ((m : Option (List ℕ)) → Marks m ts → have_none (under m lines) ≡ false)
-    → ((u : Demand) × AsksIn e u × (have_none (under u.marker lines) ≡ true)) ⊎ ((m : Option (List ℕ)) → Marks m (t ∷ ts) → have_none (under m lines) ≡ false)
-open_by e lines t ts true is ask others = inl (t, ask, is)
-open_by e lines t ts false is ask (inl one) = inl one
-open_by e lines t ts false is ask (inr others) = inr (λ m h. open_here lines t ts m is others h)
-
--- one of these lines has no version in common with the lines of its marker, or none has
-open_or : (e : Environment) (lines ts : List Demand) → All (AsksIn e) ts → ((t : Demand) × AsksIn e t × (have_none (under t.marker lines) ≡ true)) ⊎ ((m : Option (List ℕ)) → Marks m ts → have_none (under m lines) ≡ false)
-open_or e lines [] k = inr (λ m h. absurd h)
-open_or e lines (t ∷ ts) k = open_by e lines t ts (have_none (under t.marker lines)) refl (All-head (AsksIn e) t ts k) (open_or e lines ts (All-tail (AsksIn e) t ts k))
-
-held : (d : Domain) (e : Environment) → IsEnvironment d e → (t : Demand) → AsksIn e t → holds_nowhere t.marker ≡ false
-held d e known t (inl none) = ap holds_nowhere none
-held d e known t (inr (text, is, holds)) = ap holds_nowhere is ∙ held_markers_count d e text known holds
-
-asks_under : (e : Environment) (t c : Demand) → AsksIn e t → counts_under t.marker c ≡ true → AsksIn e c
-asks_under e t c ask counts = asks_beside e (t ∷ []) (All-cons (AsksIn e) t [] ask (All-nil (AsksIn e))) c (or_one c.marker t.marker ∙ counts)
 
 module _ (d : Domain) (e : Environment) (is_one : IsEnvironment d e) (a : Demand) (lines : List Demand) (inside : Contains lines a) where
   abbrev Named : List Demand
   Named = filter (has_same_name a) lines
 
-  abbrev Is : Finding → Type 0
+  abbrev pub Is : Finding → Type 0
   Is = IsAmongIn e a lines
 
-  abbrev Line : FileLine → Type 0
-  Line l = (b : Demand) × IsOneIn e a lines b × (b.line ≡ l)
-
   among_so : (kind : _) (environment : Option (List ℕ)) (some : List Demand) → (map (λ (b : Demand). b.line) some ≡ [] → ⊥) → All (IsOneIn e a lines) some → Is (Conflicting kind (map (λ (b : Demand). b.line) some) environment)
-  among_so kind environment some not_none k = (not_none, mapped Line (IsOneIn e a lines) (λ b one. (b, one, refl)) some k)
+  among_so kind environment some not_none k = (not_none, mapped (λ (l : FileLine). (b : Demand) × IsOneIn e a lines b × (b.line ≡ l)) (IsOneIn e a lines) (λ b one. (b, one, refl)) some k)
 
   one_in : (c : Demand) → Contains Named c → AsksIn e c → IsOneIn e a lines c
   one_in c known ask =
       let outside = All-filter (has_same_name a) (Contains lines) lines (All-contains_itself lines) in
       (All-contains (Contains lines) Named c outside known, All-contains (λ b. has_same_name a b ≡ true) Named c (filter_passes (has_same_name a) lines) known, ask)
 
-  among_lines : (lines_of : List FileLine) → All Line lines_of → (f : Finding) → IsAmong lines_of f → Is f
-  among_lines lines_of k (NoRequirement l reason column) h = h
-  among_lines lines_of k (Conflicting conflict reported environment) (not_none, known) = (not_none, All-weaker (Contains lines_of) Line (λ l is. All-contains Line lines_of l k is) reported known)
-
-  some_among : (lines_of : List FileLine) → All Line lines_of → (fs : List Finding) → Some_is (IsAmong lines_of) fs → Some_is Is fs
-  some_among lines_of k [] h = absurd h
-  some_among lines_of k (f ∷ fs) (inl is) = inl (among_lines lines_of k f is)
-  some_among lines_of k (f ∷ fs) (inr h) = inr (some_among lines_of k fs h)
-
-  -- lines under one marker, or under none, have no version in common
-  alone_found : (t : Demand) → AsksIn e t → have_none (under t.marker Named) ≡ true → Some_is Is (conflicts lines)
-  alone_found t ask none =
-      let these = under t.marker Named in
-      let known = map (λ (b : Demand). b.line) these in
-      let outside = All-filter (counts_under t.marker) (Contains Named) Named (All-contains_itself Named) in
-      let asking : All (IsOneIn e a lines) these =
-      All-weaker (λ c. Contains Named c × (counts_under t.marker c ≡ true)) (IsOneIn e a lines) (λ c h. one_in c h.0 (asks_under e t c ask h.1)) these
-      (both (Contains Named) (λ c. counts_under t.marker c ≡ true) these outside (filter_passes (counts_under t.marker) Named)) in
-      some_among known (mapped Line (IsOneIn e a lines) (λ b one. (b, one, refl)) these asking) (conflicts lines) (some_found known lines a t.marker (held d e is_one t ask) (ones_of these) inside none)
-
-  -- what is found of all lines
-  abbrev Finds : Type 0
-  Finds = Some_is Is (conflicts lines) ⊎ ((fs : List Finding) (cs : List Cause) → FindsOfNames d lines fs cs → FindsOrTells Is fs cs)
-
-  module _ (sound : All IsSound Named) (asking : List Demand) (known : All (Contains Named) asking) (ask : All (AsksIn e) asking) (none : have_none asking ≡ true) where
-    -- lines without a marker ask like this one
-    abbrev unmarked : Demand
-    unmarked = record { line = a.line; name = a.name; marker = None; pinned = a.pinned; specifiers = a.specifiers }
-
-    by_always : (b : Bool) → have_none (under None Named) ≡ b → Finds
-    by_always true always = inl (alone_found unmarked (inl refl) always)
-    by_always false always = elim (open_or e Named asking ask) [
-      | inl one ↦ inl (alone_found one.0 one.1 one.2)
-      | inr shared ↦ inr (names_found d Is a lines inside (name_found Is (IsOneIn e a lines) among_so d e is_one Named sound one_in asking known none ask always shared))
-    ]
-
-    all_found_of : Finds
-    all_found_of = by_always (have_none (under None Named)) refl
-
-in_left_out : (r : Report) (front cs : List Cause) → r.left_out ≡ front ++ cs → Tells cs → IsUndecided r
-in_left_out r front cs also told = subst (λ (l : List Cause). Contains l cause.Undecided) (sym also) (contains_told (front ++ cs) (tells_right front cs told))
+  -- lines of this name that ask and have no version in common are found
+  pub asking_found : All IsSound Named → (asking : List Demand) → All (IsOneIn e a lines) asking → HaveNone asking → (fs : List Finding) (cs : List Cause) → FindsOfNames d lines fs cs → FindsOrTells Is fs cs
+  asking_found sound asking ones none =
+      let known = All-weaker (IsOneIn e a lines) (Contains Named) (λ b one. passed_contains (has_same_name a) lines b one.0 one.1) asking ones in
+      let so = All-weaker (Contains Named) IsSound (λ b is. All-contains IsSound Named b sound is) asking known in
+      let ask = All-weaker (IsOneIn e a lines) (AsksIn e) (λ b one. one.2) asking ones in
+      name_reached (FindsOrTells Is) (or_tells Is) d a lines inside (name_found Is (IsOneIn e a lines) among_so d e is_one Named sound one_in asking known (none_found asking so none) ask)
 
 in_report : (P : Finding → Type 0) (r : Report) (found fs : List Finding) (front cs : List Cause) → r.findings ≡ found ++ fs → r.left_out ≡ front ++ cs → FindsOrTells P fs cs → Any P r.findings ⊎ IsUndecided r
 in_report P r found fs front cs is also (inl some) = inl (any_is P r.findings (subst (Some_is P) (sym is) (in_right P found fs some)))
-in_report P r found fs front cs is also (inr told) = inr (in_left_out r front cs also told)
-
-named_ones : (e : Environment) (a : Demand) (lines asking : List Demand) → All (IsOneIn e a lines) asking → All (Contains (filter (has_same_name a) lines)) asking
-named_ones e a lines asking k = All-weaker (IsOneIn e a lines) (Contains (filter (has_same_name a) lines)) (λ b one. passed_contains (has_same_name a) lines b one.0 one.1) asking k
+in_report P r found fs front cs is also (inr told) = inr (subst (λ (l : List Cause). Contains l cause.Undecided) (sym also) (contains_told (front ++ cs) (tells_right front cs told)))
 
 pub sets_have_findings : SetsHaveFindings
 sets_have_findings files r lines a e asking (xs, h, fs, cs, finds, is) (ys, k, are) inside is_one ones none =
@@ -680,10 +680,29 @@ sets_have_findings files r lines a e asking (xs, h, fs, cs, finds, is) (ys, k, a
     let same : lines ≡ flat_map demands_in xs = are ∙ ap (flat_map demands_in) (of_lines (all_lines files) ys xs k h) in
     let sound : All IsSound lines = subst (All IsSound) (sym same) (asked_sound (all_lines files) xs h) in
     let named = All-filter (has_same_name a) IsSound lines sound in
-    let known = named_ones e a lines asking ones in
-    let so = All-weaker (Contains (filter (has_same_name a) lines)) IsSound (λ b is. All-contains IsSound (filter (has_same_name a) lines) b named is) asking known in
-    let ask = All-weaker (IsOneIn e a lines) (AsksIn e) (λ b one. one.2) asking ones in
-    elim (all_found_of everywhere e is_one a lines inside named asking known ask (none_found asking so none)) [
-      | inl some ↦ inl (any_is P r.findings (subst (Some_is P) (sym (ap (λ (q : Report). q.findings) is)) (in_conflicts P files xs fs (subst (λ (demands : List Demand). Some_is P (conflicts demands)) same some))))
-      | inr all ↦ in_report P r (found_in files xs) fs (flat_map left_out_in xs) cs (ap (λ (q : Report). q.findings) is) (ap (λ (q : Report). q.left_out) is) (all fs cs (subst (λ demands. FindsOfNames everywhere demands fs cs) (sym same) finds))
-    ]
+    in_report P r (found_in files xs) fs (flat_map left_out_in xs) cs (ap (λ (q : Report). q.findings) is) (ap (λ (q : Report). q.left_out) is)
+    (asking_found everywhere e is_one a lines inside named asking ones none fs cs (subst (λ demands. FindsOfNames everywhere demands fs cs) (sym same) finds))
+
+-- ---- lines without a marker
+
+-- they are found, whatever is undecided
+module _ (d : Domain) (a : Demand) (lines : List Demand) (inside : Contains lines a) (sound : All IsSound lines) where
+  abbrev Bare : List Demand
+  Bare = unmarked (filter (has_same_name a) lines)
+
+  pub unmarked_found : HaveNone Bare → (fs : List Finding) (cs : List Cause) → FindsOfNames d lines fs cs → Some_is (IsAmong (map (λ (b : Demand). b.line) Bare)) fs
+  unmarked_found none =
+      let named = filter (has_same_name a) lines in
+      let P = IsAmong (map (λ (b : Demand). b.line) Bare) in
+      let empty = none_found Bare (sound_unmarked named (All-filter (has_same_name a) IsSound lines sound)) none in
+      name_reached (λ fs cs. Some_is P fs) (some_spreads P) d a lines inside
+      (λ fs cs finds. subst (Some_is P) (sym (subst (λ b. FindsByUnmarked d named b fs cs) empty finds).0) (all_found (map (λ (b : Demand). b.line) Bare) Bare (ones_of Bare) empty))
+
+pub conflicts_have_findings : ConflictsHaveFindings
+conflicts_have_findings files r lines a (xs, h, fs, cs, finds, is) (ys, k, are) inside none =
+    let P = IsAmong (map (λ (b : Demand). b.line) (unmarked (filter (has_same_name a) lines))) in
+    let same : lines ≡ flat_map demands_in xs = are ∙ ap (flat_map demands_in) (of_lines (all_lines files) ys xs k h) in
+    let sound : All IsSound lines = subst (All IsSound) (sym same) (asked_sound (all_lines files) xs h) in
+    any_is P r.findings
+    (subst (λ (q : Report). Some_is P q.findings) (sym is)
+    (in_right P (found_in files xs) fs (unmarked_found everywhere a lines inside sound none fs cs (subst (λ demands. FindsOfNames everywhere demands fs cs) (sym same) finds))))

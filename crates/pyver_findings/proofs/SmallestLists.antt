@@ -5,7 +5,7 @@ use Rattle.std.proofs.lemmas.List.{append-nil, append_assoc, length-take-le, map
 use Rattle.std.proofs.lemmas.List.Elements.{All-append, All-cons, All-filter, All-head, All-nil, All-same, All-tail}
 use Rattle.std.proofs.lemmas.List.Concat.{flat_map-append}
 use Rattle.std.proofs.lemmas.List.Folds.{list_all-append}
-use Rattle.std.specs.List.{All, flat_map}
+use Rattle.std.specs.List.{All}
 use Rattle.std.specs.Prelude.{⊤}
 use Rattle.pep440_rs.specs.Denoted.{IsDenotable, IsDenoted}
 use Rattle.pep440_rs.specs.LiteralMatching.{list_matches_literally, matches_literally}
@@ -14,7 +14,7 @@ use Rattle.pep440_version.specs.Record.{Record}
 use Rattle.pep440_sets.proofs.CommonVersions.{common_is_denoted, common_matches, none_in_common}
 use Rattle.pep440_sets.specs.Common.{common_version}
 use Rattle.pyver_findings.specs.Demands.{Demand, IsSound}
-use Rattle.pyver_findings.specs.Conflicts.{IsNeeded, counts_under, first_mentions, has_same_marker, have_none, keep, of_all, of_marker, of_name, smallest, specifiers_of, under}
+use Rattle.pyver_findings.specs.Conflicts.{IsNeeded, have_none, keep, smallest, specifiers_of, unmarked}
 use Rattle.pep440_ranges.specs.RangeSegments.{contains}
 use Rattle.pep440_rs.specs.Bounds.{Segments}
 use Rattle.pep440_sets.specs.Emptiness.{HasNoVersion}
@@ -191,15 +191,9 @@ smallest_none lines e = still_none [] (reverse lines) (ap have_none (nothing_aft
 pub members_of : (xs ys : List Demand) → specifiers_of (xs ++ ys) ≡ specifiers_of xs ++ specifiers_of ys
 members_of xs ys = flat_map-append (λ (a : Demand). a.specifiers) xs ys
 
--- the lines under a marker are sound where all are
-pub sound_under : (marker : Option (List ℕ)) (lines : List Demand) → All IsSound lines → All IsSound (under marker lines)
-sound_under marker lines k = All-filter (counts_under marker) IsSound lines k
-
--- where the lines without a marker have nothing in common, they decide
-pub of_always : (lines one other : List Demand) → one ≡ under None lines → other ≡ under None lines → have_none (one ++ []) ≡ true → of_all None other ≡ of_name lines
-of_always lines one other is same none =
-    let always : have_none (under None lines) ≡ true = sym (ap have_none (nothing_after one ∙ is)) ∙ none in
-    ap (of_all None) same ∙ sym (ap (λ b. if b then of_all None (under None lines) else flat_map (λ (a : Demand). of_marker a.marker lines) (first_mentions has_same_marker [] lines)) always)
+-- the lines without a marker are sound where all are
+pub sound_unmarked : (lines : List Demand) → All IsSound lines → All IsSound (unmarked lines)
+sound_unmarked lines k = All-filter (λ (a : Demand). is_none a.marker) IsSound lines k
 
 -- where the first lines have no version in common with those that are kept, the later ones are left out
 skipped : (kept first : List Demand) → All IsSound kept → All IsSound first → have_none (first ++ kept) ≡ true → (later : List Demand) → All IsSound later → keep kept (later ++ reverse first) ≡ keep kept (reverse first)

@@ -1,12 +1,9 @@
 -- Steps of loops over lists that make something of each element.
-use Rattle.std.proofs.Common.{◌≡◌, ◌+◌, ◌<◌, ◌∙◌, ◌||◌, ℕ, List, [], ◌∷◌, ◌++◌, Bool, IfOk, Result, true, false, length, get_or, take, drop, map, refl, sym, ap, if◌then◌else◌}
-use Rattle.std.proofs.lemmas.List.{append-nil, append_assoc, drop_more, map-append, take_more}
-use Rattle.std.proofs.lemmas.List.Concat.{flat_map-append}
+use Rattle.std.proofs.Common.{◌≡◌, ◌+◌, ◌<◌, ◌∙◌, ◌||◌, ℕ, List, [], ◌∷◌, ◌++◌, Bool, IfOk, Result, true, false, length, get_or, drop, map, refl, sym, ap, if◌then◌else◌}
+use Rattle.std.proofs.lemmas.List.{append_assoc, drop_more}
 use Rattle.std.proofs.lemmas.Result.{IfOk-weaker}
 use Rattle.std.specs.Global.{Vec}
 use Rattle.std.specs.List.{filter, flat_map, list_any}
-use Rattle.pyver_findings.specs.Demands.{Demand}
-use Rattle.pyver_findings.specs.Conflicts.{first_mentions}
 
 -- the rest of a list at an element
 pub rest_at : {X : Type 0} (xs : List X) (i : ℕ) (x : X) → i < length xs → x ≡ get_or xs i x → drop i xs ≡ x ∷ drop (i + 1) xs
@@ -23,30 +20,6 @@ one_more view f xs i x old new total inside is more so =
 pub any_viewed : {X Y : Type 0} (p : Y → Bool) (view : X → Y) (xs : List X) → list_any p (map view xs) ≡ list_any (λ x. p (view x)) xs
 any_viewed p view [] = refl
 any_viewed p view (x ∷ xs) = ap (λ b. p (view x) || b) (any_viewed p view xs)
-
--- ---- first mentions
-
--- what is made of an element, if none before is the same
-abbrev pub made_first : {B : Type 0} → (Demand → Demand → Bool) → (Demand → List B) → List Demand → Demand → List B
-made_first same f before a = if list_any (same a) before then [] else f a
-
-made_is : {B : Type 0} (b : Bool) (f : Demand → List B) (a : Demand) → flat_map f (if b then [] else a ∷ []) ≡ (if b then [] else f a)
-made_is true f a = refl
-made_is false f a = append-nil (f a)
-
--- one element more, which is a first mention or none
-pub first_more : {X B : Type 0} (view : X → Demand) (same : Demand → Demand → Bool) (f : Demand → List B) (xs : List X) (i : ℕ) (x : X) (old new total : List B) → i < length xs → x ≡ get_or xs i x
-    → new ≡ old ++ made_first same f (map view (take i xs)) (view x) → old ++ flat_map f (first_mentions same (map view (take i xs)) (map view (drop i xs))) ≡ total
-    → new ++ flat_map f (first_mentions same (map view (take (i + 1) xs)) (map view (drop (i + 1) xs))) ≡ total
-first_more view same f xs i x old new total inside is more so =
-    let before = map view (take i xs) in
-    let after = map view (drop (i + 1) xs) in
-    let taken : map view (take (i + 1) xs) ≡ before ++ view x ∷ [] = ap (map view) (take_more xs i x inside ∙ ap (λ y. take i xs ++ y ∷ []) (sym is)) ∙ map-append view (take i xs) (x ∷ []) in
-    let one = if list_any (same (view x)) before then [] else view x ∷ [] in
-    let rest = first_mentions same (before ++ view x ∷ []) after in
-    let split : flat_map f (one ++ rest) ≡ made_first same f before (view x) ++ flat_map f rest = flat_map-append f one rest ∙ ap (λ m. m ++ flat_map f rest) (made_is (list_any (same (view x)) before) f (view x)) in
-    (λ j. more j ++ flat_map f (first_mentions same (taken j) after)) ∙ append_assoc old (made_first same f before (view x)) (flat_map f rest) ∙ ap (λ r. old ++ r) (sym split)
-    ∙ ap (λ r. old ++ flat_map f (first_mentions same before (map view r))) (sym (rest_at xs i x inside is)) ∙ so
 
 -- one blank more
 pub blanks_more : (xs : List ℕ) (i : ℕ) (old new total : List ℕ) → i < length xs → new ≡ old ++ 32 ∷ [] → old ++ map (λ _. 32) (drop i xs) ≡ total → new ++ map (λ _. 32) (drop (i + 1) xs) ≡ total

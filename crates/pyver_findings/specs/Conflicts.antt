@@ -1,6 +1,5 @@
--- Lines that no version can satisfy together. Two lines count together where they have one name, and the same marker or not both
--- a marker.
-use Rattle.std.specs.Prelude.{◌≡◌, ℕ, ◌&&◌, ◌||◌, List, [], ◌∷◌, ◌++◌, Bool, true, false, Option, Some, None, Result, Ok, Err, bytes_eq, is_none, map, reverse, if◌then◌else◌}
+-- Lines of one name that no version can satisfy together, and a smallest list of them.
+use Rattle.std.specs.Prelude.{◌≡◌, ℕ, ◌&&◌, ◌||◌, List, [], ◌∷◌, ◌++◌, Bool, true, false, Option, Some, None, bytes_eq, is_none, map, reverse, if◌then◌else◌}
 use Rattle.std.specs.List.{All, filter, flat_map, list_any}
 use Rattle.pep440_rs.specs.Bounds.{Segments}
 use Rattle.pep440_rs.specs.Specifiers.{Spec}
@@ -10,10 +9,8 @@ use Rattle.pyver_findings.specs.Demands.{Demand, IsSound}
 use Rattle.pyver_findings.specs.FileLines.{Conflicting, Finding}
 use Rattle.pyver_findings.specs.declared.finding.Conflict.{Conflict}
 use Rattle.pyver_findings.specs.declared.finding.Conflict.TheVariants.{NoVersion, PinOutside, TwoPins}
-use Rattle.pyver_markers.specs.Conditions.{is_contradictory}
-use Rattle.pyver_requirements.specs.MarkerSteps.{Misfit, Step, marker_steps}
 
--- ---- which lines count together
+-- ---- names and markers
 
 -- the two lines have one name
 abbrev pub has_same_name : Demand → Demand → Bool
@@ -34,16 +31,12 @@ has_same_marker a b = same_marker a.marker b.marker
 abbrev pub has_marker : List ℕ → Demand → Bool
 has_marker marker a = same_marker (Some marker) a.marker
 
--- the line counts under the marker: it has none, or this one
-abbrev pub counts_under : Option (List ℕ) → Demand → Bool
-counts_under marker a = is_none a.marker || same_marker a.marker marker
-
 -- the lines before which no other is the same, after those
 abbrev pub first_mentions : (Demand → Demand → Bool) → List Demand → List Demand → List Demand
 first_mentions same before [] = []
 first_mentions same before (a ∷ rest) = (if list_any (same a) before then [] else a ∷ []) ++ first_mentions same (before ++ a ∷ []) rest
 
--- ---- lines that count together
+-- ---- lines that have no version in common
 
 -- the members of the lists of the lines
 abbrev pub specifiers_of : List Demand → List Spec
@@ -82,31 +75,6 @@ abbrev pub of_all : Option (List ℕ) → List Demand → List Finding
 of_all environment lines =
     if have_none lines then Conflicting (conflict_kind (smallest lines)) (map (λ (a : Demand). a.line) (smallest lines)) environment ∷ [] else []
 
--- the lines without a marker, and those with this one
-abbrev pub under : Option (List ℕ) → List Demand → List Demand
-under marker lines = filter (counts_under marker) lines
-
--- the marker that is read so is contradictory
-abbrev pub is_read_contradictory : Result (List Step) Misfit → Bool
-is_read_contradictory (Ok all) = is_contradictory all
-is_read_contradictory (Err f) = false
-
--- the marker is contradictory, so that its lines ask for nothing
-abbrev pub holds_nowhere : Option (List ℕ) → Bool
-holds_nowhere None = false
-holds_nowhere (Some text) = is_read_contradictory (marker_steps text)
-
--- of the lines that count under the marker
-abbrev pub of_marker : Option (List ℕ) → List Demand → List Finding
-of_marker marker lines = if holds_nowhere marker then [] else of_all None (under marker lines)
-
--- of the lines of one name: those without a marker decide where they have no version in common, and otherwise those of each marker
-abbrev pub of_name : List Demand → List Finding
-of_name lines = if have_none (under None lines) then of_all None (under None lines)
-    else flat_map (λ (a : Demand). of_marker a.marker lines) (first_mentions has_same_marker [] lines)
-
--- ---- all names
-
--- of each name, in the order in which they are first mentioned
-abbrev pub conflicts : List Demand → List Finding
-conflicts lines = flat_map (λ (a : Demand). of_name (filter (has_same_name a) lines)) (first_mentions has_same_name [] lines)
+-- the lines without a marker
+abbrev pub unmarked : List Demand → List Demand
+unmarked lines = filter (λ (a : Demand). is_none a.marker) lines

@@ -1,19 +1,20 @@
 -- What holds of findings: a line that is reported by itself is no requirement or no constraint, and each that is none is reported; lines that are
--- reported together count together and cannot be satisfied, and none of them can be left out; those that have no version in common are
+-- reported together ask together and cannot be satisfied, and none of them can be left out; those that have no version in common are
 -- reported; there is one report but for the environments named, if nothing is undecided.
 use Rattle.std.specs.Prelude.{◌≡◌, ◌⊎◌, ⊤, ℕ, List, [], ◌∷◌, ◌++◌, IsTrue, Option, Some, None, Ok, bytes_eq, false, map, option_map, true}
-use Rattle.std.specs.List.{All, AllZip, Any, Contains, filter, flat_map, list_all}
+use Rattle.std.specs.List.{All, AllZip, Any, Contains, filter, flat_map, list_all, list_any}
 use Rattle.pep440_pick.specs.Names.{normal}
 use Rattle.pep440_pick.specs.RequirementGrammar.{DerivesRequirement, Needed}
 use Rattle.pep440_rs.specs.Denoted.{IsDenoted}
 use Rattle.pep440_rs.specs.LiteralMatching.{list_matches_literally}
 use Rattle.pep440_version.specs.Record.{Record}
-use Rattle.pyver_findings.specs.Conflicts.{has_same_name, holds_nowhere, under}
+use Rattle.pyver_findings.specs.Conflicts.{has_same_name, unmarked}
 use Rattle.pyver_findings.specs.Demands.{Demand, is_pinned}
+use Rattle.pyver_findings.specs.Hashes.{has_pin, is_hashed, may_be_hashed, waives_hashes}
 use Rattle.pyver_findings.specs.FileLines.{Conflicting, File, FileLine, Finding, NoRequirement, all_lines}
 use Rattle.pyver_findings.specs.NamedFiles.{constraints_files}
 use Rattle.pyver_findings.specs.LineMeanings.{IsMeaning, IsNone, IsPlain, LineMeaning, has_extras, has_right_url}
-use Rattle.pyver_findings.specs.MarkerPairs.{AsksIn, HoldsIn, everywhere}
+use Rattle.pyver_findings.specs.MarkedConflicts.{AsksIn, HoldsIn, everywhere}
 use Rattle.pyver_findings.specs.Reports.{IsReport, Report, demands_in}
 use Rattle.pyver_findings.specs.declared.cause.Cause.TheVariants as cause
 use Rattle.pyver_findings.specs.declared.finding.Conflict.{Conflict}
@@ -59,14 +60,6 @@ module _ (parts : List ℕ → LineParts) where
   abbrev pub AsksFor : List ℕ → FileLine → Type 0
   AsksFor name l = (n : Needed) × DerivesRequirement (parts l.text).requirement n × IsTrue (bytes_eq name (normal n.name))
 
-  -- the line has no marker, or this one
-  abbrev pub CountsUnder : Option (List ℕ) → FileLine → Type 0
-  CountsUnder m l = HasMarker (parts l.text) None ⊎ HasMarker (parts l.text) m
-
-  -- the lines ask for one name, and no two of them have different markers; theirs is not contradictory
-  abbrev pub CountTogether : List FileLine → Type 0
-  CountTogether together = (name : List ℕ) × (m : Option (List ℕ)) × (holds_nowhere m ≡ false) × All (AsksFor name) together × All (CountsUnder m) together
-
   -- the line names a version, by `==` or `===`
   abbrev pub NamesVersion : FileLine → Type 0
   NamesVersion l = (n : Needed) × DerivesRequirement (parts l.text).requirement n × IsTrue (is_pinned n.specifiers)
@@ -105,21 +98,17 @@ module _ (parts : List ℕ → LineParts) where
   abbrev pub HoldUnder : Domain → List ℕ → List FileLine → Type 0
   HoldUnder d environment together = (variables : List Assignment) × HoldTogether d variables together × (environment ≡ environment_text variables)
 
-  -- lines that are reported together are some of these, count so, no version is allowed by all, and without any one of them some version is
-  abbrev pub AreRightBy : (List FileLine → Type 0) → List FileLine → Conflict → List FileLine → Type 0
-  AreRightBy Count lines conflict together =
-      All (Contains lines) together × Count together × FitsConflict conflict together × ((v : Record) → IsDenoted v → ¬ All (LineAllows v) together)
+  -- they ask for one name: always, if no environment is named, or where this marker says
+  abbrev pub AskTogether : Domain → Option (List ℕ) → List FileLine → Type 0
+  AskTogether d None together = ((name : List ℕ) × All (AsksFor name) together) × All (λ (l : FileLine). HasMarker (parts l.text) None) together
+  AskTogether d (Some environment) together = HoldUnder d environment together
+
+  -- lines that are reported together are some of these, ask so, no version is allowed by all, and without any one of them some version is
+  abbrev pub IsRightConflict : Domain → List FileLine → Finding → Type 0
+  IsRightConflict d lines (NoRequirement l reason column) = ⊥
+  IsRightConflict d lines (Conflicting conflict together environment) =
+      All (Contains lines) together × AskTogether d environment together × FitsConflict conflict together × ((v : Record) → IsDenoted v → ¬ All (LineAllows v) together)
       × AreNeeded [] together
-
-  -- no two of them have different markers, and no environment is named
-  abbrev pub IsRightConflict : List FileLine → Finding → Type 0
-  IsRightConflict lines (Conflicting conflict together None) = AreRightBy CountTogether lines conflict together
-  IsRightConflict lines f = ⊥
-
-  -- their markers hold in the environment that is named
-  abbrev pub IsRightPair : Domain → List FileLine → Finding → Type 0
-  IsRightPair d lines (Conflicting conflict together (Some environment)) = AreRightBy (HoldUnder d environment) lines conflict together
-  IsRightPair d lines f = ⊥
 
 -- ---- requirements files
 
@@ -127,8 +116,7 @@ module _ (parts : List ℕ → LineParts) where
 -- together are rightly so
 abbrev pub IsRight : List FileLine → Finding → Type 0
 IsRight lines (NoRequirement l reason column) = Contains lines l × (¬ IsRequirementLine l) × IsMeaning l (IsNone (NoRequirement l reason column))
-IsRight lines (Conflicting conflict together environment) =
-    IsRightConflict pip_parts lines (Conflicting conflict together environment) ⊎ IsRightPair pip_parts everywhere lines (Conflicting conflict together environment)
+IsRight lines (Conflicting conflict together environment) = IsRightConflict pip_parts everywhere lines (Conflicting conflict together environment)
 
 -- the line is of a file that a line names after `-c`
 abbrev pub IsConstraint : List File → FileLine → Type 0
@@ -143,9 +131,23 @@ abbrev pub IsRightConstraint : List File → Finding → Type 0
 IsRightConstraint files (NoRequirement l reason column) = IsConstraint files l × IsWrongConstraint l
 IsRightConstraint files (Conflicting conflict together environment) = ⊥
 
+-- the requirements of the files
+abbrev pub AreDemands : List File → List Demand → Type 0
+AreDemands files demands = (xs : List LineMeaning) × AllZip IsMeaning (all_lines files) xs × (demands ≡ flat_map demands_in xs)
+
+-- one of these requirements, in a file in which hashes are wanted, where none of its name is pinned, or none has a hash
+abbrev pub LacksHash : List File → List Demand → Demand → Type 0
+LacksHash files demands a = Contains demands a × (list_any waives_hashes (all_lines files) ≡ false) × IsTrue (is_hashed (all_lines files) a.line.file)
+    × ((has_pin demands a.name ≡ false) ⊎ (may_be_hashed demands a.name ≡ false))
+
+-- the line is such a requirement
+abbrev pub IsRightHash : List File → Finding → Type 0
+IsRightHash files (NoRequirement l reason column) = (demands : List Demand) × (a : Demand) × AreDemands files demands × LacksHash files demands a × (a.line ≡ l)
+IsRightHash files (Conflicting conflict together environment) = ⊥
+
 -- each finding of a report is right
 abbrev pub FindingsHold : Type 0
-FindingsHold = (files : List File) (r : Report) → IsReport files r → All (λ (f : Finding). IsRight (all_lines files) f ⊎ IsRightConstraint files f) r.findings
+FindingsHold = (files : List File) (r : Report) → IsReport files r → All (λ (f : Finding). IsRight (all_lines files) f ⊎ (IsRightConstraint files f ⊎ IsRightHash files f)) r.findings
 
 -- the line is reported by itself
 abbrev pub IsAlone : FileLine → Finding → Type 0
@@ -164,28 +166,23 @@ InvalidLinesHaveFindings = (files : List File) (r : Report) (l : FileLine) → I
 abbrev pub WrongConstraintsHaveFindings : Type 0
 WrongConstraintsHaveFindings = (files : List File) (r : Report) (l : FileLine) → IsReport files r → IsConstraint files l → IsWrongConstraint l → Any (IsAlone l) r.findings
 
+-- each requirement that lacks a pin or a hash is reported
+abbrev pub LackedHashesHaveFindings : Type 0
+LackedHashesHaveFindings = (files : List File) (r : Report) (demands : List Demand) (a : Demand) → IsReport files r → AreDemands files demands → LacksHash files demands a → Any (IsAlone a.line) r.findings
+
 -- some of these lines are reported together, and no others
 abbrev pub IsAmong : List FileLine → Finding → Type 0
 IsAmong lines (NoRequirement l reason column) = ⊥
 IsAmong lines (Conflicting conflict reported environment) = (¬ (reported ≡ [])) × All (Contains lines) reported
 
--- the requirements of the files
-abbrev pub AreDemands : List File → List Demand → Type 0
-AreDemands files demands = (xs : List LineMeaning) × AllZip IsMeaning (all_lines files) xs × (demands ≡ flat_map demands_in xs)
-
 -- no version is contained in the lists of all these lines
 abbrev pub HaveNone : List Demand → Type 0
 HaveNone lines = (v : Record) → IsDenoted v → ¬ All (λ a. IsTrue (list_matches_literally a.specifiers v)) lines
 
--- a marker that holds in an environment, of any domain, is not contradictory
-abbrev pub HeldMarkersCount : Type 0
-HeldMarkersCount = (d : Domain) (e : Environment) (text : List ℕ) → IsEnvironment d e → HoldsIn e text → holds_nowhere (Some text) ≡ false
-
--- where the lines of a name that count under a marker, which is not contradictory, have no version in common, some of these lines are reported
--- together
+-- where the lines of a name without a marker have no version in common, some of them are reported together
 abbrev pub ConflictsHaveFindings : Type 0
-ConflictsHaveFindings = (files : List File) (r : Report) (lines : List Demand) (a : Demand) (m : Option (List ℕ)) → IsReport files r → AreDemands files lines → Contains lines a
-    → holds_nowhere m ≡ false → HaveNone (under m (filter (has_same_name a) lines)) → Any (IsAmong (map (λ (b : Demand). b.line) (under m (filter (has_same_name a) lines)))) r.findings
+ConflictsHaveFindings = (files : List File) (r : Report) (lines : List Demand) (a : Demand) → IsReport files r → AreDemands files lines → Contains lines a
+    → HaveNone (unmarked (filter (has_same_name a) lines)) → Any (IsAmong (map (λ (b : Demand). b.line) (unmarked (filter (has_same_name a) lines)))) r.findings
 
 -- something is said to be undecided
 abbrev pub IsUndecided : Report → Type 0

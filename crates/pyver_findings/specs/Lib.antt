@@ -4,7 +4,8 @@ pub mod LineMeanings
 pub mod FileLines
 pub mod NamedFiles
 pub mod Conflicts
-pub mod MarkerPairs
+pub mod MarkedConflicts
+pub mod Hashes
 pub mod Reports
 pub mod Views
 pub mod ReportTexts

@@ -2,11 +2,11 @@
 use Rattle.std.specs.Prelude.{◌≡◌, ℕ, ◌+◌, ◌-◌, ◌^◌, List, [], ◌∷◌, ◌++◌, Bool, false, bytes_eq, length, min, not, codes}
 use Rattle.std.specs.List.{AllZip, filter, flat_map, list_any}
 use Rattle.pyver_findings.specs.Demands.{Demand}
-use Rattle.pyver_findings.specs.Conflicts.{conflicts}
 use Rattle.pyver_findings.specs.FileLines.{Conflicting, File, FileLine, Finding, NoRequirement, all_lines}
+use Rattle.pyver_findings.specs.Hashes.{lacks_hashes}
 use Rattle.pyver_findings.specs.NamedFiles.{constraints_files}
 use Rattle.pyver_findings.specs.LineMeanings.{Asks, IsNone, LeftOut, LineMeaning, AsksNothing, IsMeaning, constraint_faults, has_part}
-use Rattle.pyver_findings.specs.MarkerPairs.{FindsOfNames, everywhere}
+use Rattle.pyver_findings.specs.MarkedConflicts.{FindsOfNames, everywhere}
 use Rattle.pyver_findings.specs.declared.cause.Cause.{Cause}
 use Rattle.pyver_findings.specs.declared.finding.Conflict.{Conflict}
 use Rattle.pyver_findings.specs.declared.finding.Conflict.TheVariants.{NoVersion, PinOutside, TwoPins}
@@ -92,11 +92,11 @@ left_out_in AsksNothing = []
 abbrev pub constraint_findings : List File → List Finding
 constraint_findings files = flat_map constraint_faults (all_lines files)
 
--- the findings of files whose lines are read so: first lines that are no requirements, in order; then what cannot be a constraint
+-- what is found of single lines that are read so: first those that are no requirements, in order; then what cannot be a constraint; then what lacks a hash
 abbrev pub found_in : List File → List LineMeaning → List Finding
-found_in files xs = flat_map invalid_in xs ++ (constraint_findings (constraints_files files) ++ conflicts (flat_map demands_in xs))
+found_in files xs = flat_map invalid_in xs ++ (constraint_findings (constraints_files files) ++ lacks_hashes (all_lines files) (flat_map demands_in xs))
 
--- the report of the files, whatever comments ignore: behind these findings those of lines under several markers
+-- the report of the files, whatever comments ignore: behind these findings those of requirements that have no version in common
 abbrev pub IsReport : List File → Report → Type 0
 IsReport files r = (xs : List LineMeaning) × AllZip IsMeaning (all_lines files) xs
     × (fs : List Finding) × (cs : List Cause) × FindsOfNames everywhere (flat_map demands_in xs) fs cs × (r ≡ record {

@@ -8,7 +8,7 @@ use Rattle.pyver_findings.specs.Demands.{Demand}
 use Rattle.pyver_findings.specs.FileLines.{Conflicting, File, FileLine, Finding, NoRequirement}
 use Rattle.pyver_findings.specs.NamedFiles.{NamedFile, Position}
 use Rattle.pyver_findings.specs.LineMeanings.{Asks, AsksNothing, IsMeaning, IsNone, LeftOut, LineMeaning}
-use Rattle.pyver_findings.specs.MarkerPairs.{Branch, ConflictingSets}
+use Rattle.pyver_findings.specs.MarkedConflicts.{Branch, ConflictingSets}
 use Rattle.pyver_findings.specs.Reports.{Report, demands_in, invalid_in, left_out_in}
 use Rattle.pyver_findings.specs.declared.cause.Cause.{Cause}
 use Rattle.pyver_findings.specs.declared.demand.Demand.{Demand as DemandValue}

@@ -77,7 +77,10 @@ fn push_denoted_name(
 }
 
 // The names of the files that these lines name after `-c`.
-fn constraints_names(alloc: Global, lines: &[FileLine]) -> Result<Vec<Vec<u8>>, AllocError>
+pub(crate) fn constraints_names(
+    alloc: Global,
+    lines: &[FileLine],
+) -> Result<Vec<Vec<u8>>, AllocError>
     ensures { IfOk result (λ names. map (λ n. n.items) names.items ≡ flat_map constraints_names (map file_line_of lines.now)) }
 {
     let mut names = Vec::new(alloc);
@@ -88,7 +91,7 @@ fn constraints_names(alloc: Global, lines: &[FileLine]) -> Result<Vec<Vec<u8>>, 
     Ok(names)
 }
 
-fn is_one_of(names: &[Vec<u8>], name: &[u8]) -> bool
+pub(crate) fn is_one_of(names: &[Vec<u8>], name: &[u8]) -> bool
     ensures { result ≡ list_any (bytes_eq name.now) (map (λ n. n.items) names.now) }
 {
     for other in names {
@@ -163,7 +166,7 @@ fn has_extras(requirement: &[u8]) -> bool
     opens_extras(&requirement[count_before_bracket(requirement)..])
 }
 
-fn push_fault(
+pub(crate) fn push_fault(
     alloc: Global,
     findings: &mut Vec<Finding>,
     line: &FileLine,

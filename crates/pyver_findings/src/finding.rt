@@ -21,7 +21,7 @@ pub enum Conflict {
 /// What kind a finding is of.
 #[derive(Clone, Copy, Debug, PartialEq, Eq)]
 pub enum FindingKind {
-    /// A line is no requirement, or cannot be a constraint.
+    /// A line is no requirement, cannot be a constraint, or lacks a pin or a hash.
     NoRequirement,
     /// No version satisfies lines together.
     NoVersion,
@@ -119,7 +119,7 @@ fn conflict_kind_of(conflict: Conflict) -> FindingKind
 /// What is wrong with a line, or with lines together.
 #[derive(Debug, Drop)]
 pub enum Finding {
-    /// The line is no requirement, or cannot be a constraint, for this reason, and this is the column of it, in bytes from 0.
+    /// The line is no requirement, cannot be a constraint, or lacks a pin or a hash, for this reason, and this is the column of it, in bytes from 0.
     NoRequirement(FileLine, String, usize),
     /// No version satisfies these lines together: where their markers differ, in this environment, as a marker.
     Conflicting(Conflict, Vec<FileLine>, Option<Vec<u8>>),

@@ -1,16 +1,14 @@
-//! Which lines of one name count together.
-ghost use Rattle.std.specs.Prelude.{◌≡◌, ◌∷◌, ◌++◌, [], IfOk, List, bytes_eq, map, option_map, ℕ, if◌then◌else◌};
+//! The markers of lines of one name.
+ghost use Rattle.std.specs.Prelude.{◌≡◌, ◌∷◌, ◌++◌, [], IfOk, List, None, bytes_eq, cond, false, option_map, ℕ, if◌then◌else◌};
 ghost use Rattle.std.specs.HashMap.{get_by};
 ghost use Rattle.std.specs.List.{filter};
 ghost use Rattle.std.specs.Option.{option_map_or};
-ghost use Rattle.pyver_findings.specs.Conflicts.{counts_under, has_marker, holds_nowhere, is_read_contradictory, same_marker, under};
+ghost use Rattle.pyver_findings.specs.Conflicts.{has_marker, have_none, same_marker, unmarked};
 ghost use Rattle.pyver_findings.specs.Views.{demand_of, demands_at, group_at};
-ghost use Rattle.pyver_requirements.specs.MarkerSteps.{marker_steps};
 
 use crate::demand::Demand;
 use crate::key_groups::push_to_group;
-use pyver_markers::EnvironmentMarker;
-use pyver_requirements::MarkerError;
+use crate::smallest::have_none;
 use std::alloc::{AllocError, Global};
 use std::collections::HashMap;
 
@@ -27,26 +25,18 @@ pub(crate) fn same_marker(one: &Option<Vec<u8>>, other: &Option<Vec<u8>>) -> boo
     }
 }
 
-// The line counts under the marker.
-pub(crate) fn counts_under(marker: &Option<Vec<u8>>, line: &Demand) -> bool
-    ensures { result ≡ counts_under (option_map (λ m. m.items) marker.now) (demand_of line.now) }
-{
-    line.marker.is_none() || same_marker(&line.marker, marker)
-}
-
 #[tactic(auto, using(crate::proofs::Steps::filter_viewed))]
-// The lines without a marker, and those with this one.
-pub(crate) fn under<'a>(
+// The lines without a marker.
+pub(crate) fn find_without_marker<'a>(
     alloc: Global,
-    marker: &Option<Vec<u8>>,
     lines: &[&'a Demand],
 ) -> Result<Vec<&'a Demand>, AllocError>
-    ensures { IfOk result (λ kept. demands_at kept.items ≡ under (option_map (λ m. m.items) marker.now) (demands_at lines.now)) }
+    ensures { IfOk result (λ kept. demands_at kept.items ≡ unmarked (demands_at lines.now)) }
 {
     lines
         .iter()
         .copied()
-        .filter(|line| counts_under(marker, *line))
+        .filter(|line| line.marker.is_none())
         .collect(alloc)
 }
 
@@ -79,26 +69,24 @@ pub(crate) fn group_by_marker<'a>(
     Ok(groups)
 }
 
-#[tactic(auto, using(crate::proofs::MarkerPairs::read_so, crate::proofs::MarkerPairs::none_read))]
-fn is_contradictory(alloc: Global, text: &[u8]) -> Result<bool, AllocError>
-    ensures { IfOk result (λ b. b ≡ is_read_contradictory (marker_steps text.now)) }
+// Takes the group of the line's marker, and says whether its lines have no version in common with those without a marker.
+pub(crate) fn excludes_all(
+    alloc: Global,
+    groups: &mut HashMap<&[u8], Vec<&Demand>>,
+    always: &[&Demand],
+    line: &Demand,
+) -> Result<bool, AllocError>
+    requires { have_none (demands_at always.now) ≡ false }
+    ensures none { IfOk result (λ none. none ≡ have_none (demands_at always.now
+        ++ option_map_or (group_at groups.old) (demand_of line.now).marker [])) }
+    ensures taken { (q : List ℕ) → get_by (λ k. bytes_eq q k.now) groups.new ≡ cond (has_marker q (demand_of line.now)) None (get_by
+        (λ k. bytes_eq q k.now) groups.old) }
 {
-    match EnvironmentMarker::parse(alloc, text) {
-        Ok(marker) => {
-            let found = marker.is_contradictory(alloc)?;
-            Ok(found)
-        }
-        Err(MarkerError::Invalid(_, _)) => Ok(false),
-        Err(MarkerError::OutOfMemory) => Err(AllocError),
-    }
-}
-
-// Whether the marker is contradictory, so that its lines ask for nothing.
-pub(crate) fn holds_nowhere(alloc: Global, marker: &Option<Vec<u8>>) -> Result<bool, AllocError>
-    ensures { IfOk result (λ b. b ≡ holds_nowhere (option_map (λ m. m.items) marker.now)) }
-{
-    match marker {
-        Some(text) => is_contradictory(alloc, text.as_slice()),
+    match &line.marker {
+        Some(marker) => match groups.remove(marker.as_slice()) {
+            Some(group) => have_none(alloc, always, group.as_slice()),
+            None => Ok(false),
+        },
         None => Ok(false),
     }
 }

@@ -3,7 +3,7 @@ ghost use Rattle.std.specs.Prelude.{◌≡◌, ◌∷◌, ◌++◌, [], IfOk, ma
 ghost use Rattle.std.specs.List.{All, filter, list_any};
 ghost use Rattle.pyver_findings.specs.Conflicts.{has_same_marker};
 ghost use Rattle.pyver_findings.specs.Demands.{IsSound};
-ghost use Rattle.pyver_findings.specs.MarkerPairs.{branches, branches_of, conflicting_pair, conflicting_pairs, conflicting_sets, counts_with, first_branches, has_all, others_than, set_among, under_any, with_set};
+ghost use Rattle.pyver_findings.specs.MarkedConflicts.{branches, branches_of, conflicting_pair, conflicting_pairs, conflicting_sets, counts_with, first_branches, has_all, others_than, set_among, under_any, with_set};
 ghost use Rattle.pyver_findings.specs.Views.{branch_of, demand_of, demands_at, demands_of_sets, found_sets_of};
 
 use crate::demand::Demand;

@@ -10,15 +10,16 @@ use crate::constraints::push_constraint_findings;
 use crate::demand::Demand;
 use crate::file_line::{FileLine, SourceFile, all_lines};
 use crate::finding::Finding;
+use crate::hashes::push_hash_findings;
 use crate::line_meaning::{LineMeaning, parse_line};
-use crate::marker_pairs::push_marker_conflicts;
 use pyver_markers::Domain;
 use std::alloc::{AllocError, Global};
 
 /// What is wrong in requirements files, and how much of them was read.
 #[derive(Debug, Drop)]
 pub struct Report {
-    /// First the lines that are no requirements, in order; then what cannot be a constraint; then what is wrong with lines together, by name.
+    /// First the lines that are no requirements, in order; then what cannot be a constraint; then what lacks a hash; then what is wrong with lines
+    /// together, by name.
     pub findings: Vec<Finding>,
     /// Those that comments ignore, once `apply_comments` has moved them here.
     pub ignored: Vec<Finding>,
@@ -79,11 +80,9 @@ fn parse_lines(alloc: Global, lines: &[FileLine]) -> Result<Readings, AllocError
 }
 
 /// What is wrong in these files, each of which is read once, in this order: first the lines that are no requirements, in
-/// order; then editables, and requirements with extras, in files that a line names after `-c`; then for each name, in the order in which names are first mentioned, lines that no version satisfies together: of these a
-/// smallest list, from which no line can be left out. Lines without a marker count with the lines of each marker; if they have no version in
-/// common, some of them are reported, and no line with a marker. Lines under a contradictory marker, as `EnvironmentMarker::is_contradictory`
-/// has it, ask for nothing. Behind these follow, for each name, lines under several different markers that
-/// no version satisfies, if all of these hold in one environment of one system.
+/// order; then editables, and requirements with extras, in files that a line names after `-c`; then, in files in which a line
+/// has a hash or says `--require-hashes`, requirements of whose name no line is pinned, or none has a hash; then what `push_conflicts` adds: for each name, in
+/// the order in which names are first mentioned, lines that no version satisfies together in some environment of one system.
 ///
 /// A line names a version if a member of its list is `==` without a star, or `===`; a finding of two lines says whether one or both do.
 /// Takes n log n steps for n lines, and for a finding as many each time that its lines can be halved. But each marker of a name takes time
@@ -100,8 +99,8 @@ pub fn find_problems(alloc: Global, files: &[SourceFile]) -> Result<Report, Allo
     let mut left_out = readings.left_out;
     push_constraint_findings(alloc, &mut findings, files, lines.as_slice())?;
     let demands = readings.demands;
-    push_conflicts(alloc, &mut findings, demands.as_slice())?;
-    push_marker_conflicts(
+    push_hash_findings(alloc, &mut findings, lines.as_slice(), demands.as_slice())?;
+    push_conflicts(
         alloc,
         &mut findings,
         &mut left_out,

@@ -1,6 +1,6 @@
 -- What conditions say of one variable, and boxes in which no environment is.
-use Rattle.std.specs.Prelude.{◌≡◌, ◌≢◌, ⊤, ℕ, List, [], ◌∷◌, ◌++◌, Bool, true, false, not, Option, Some, None, ◌||◌, bytes_eq, codes, is_none, option_to_list, if◌then◌else◌}
-use Rattle.std.specs.List.{flat_map, list_all}
+use Rattle.std.specs.Prelude.{◌≡◌, ◌≢◌, ⊤, ℕ, List, [], ◌∷◌, Bool, true, false, not, Option, Some, None, ◌||◌, bytes_eq, codes, is_none, if◌then◌else◌}
+use Rattle.std.specs.List.{list_all}
 use Rattle.std.specs.Option.{option_map_or, option_or}
 use Rattle.pep440_pick.specs.Names.{normal}
 use Rattle.pep440_ranges.specs.RangeSegments.{contains}
@@ -8,19 +8,16 @@ use Rattle.pep440_rs.specs.Bounds.{Segments}
 use Rattle.pep440_rs.specs.Denoted.{IsDenoted}
 use Rattle.pep440_rs.specs.LiteralMatching.{matches_literally}
 use Rattle.pep440_rs.specs.Specifiers.{Spec}
-use Rattle.pep440_sets.specs.Common.{common_version}
 use Rattle.pep440_version.specs.Key.{record_cmp}
 use Rattle.pep440_version.specs.Record.{Record, epoch_and_release}
 use Rattle.pyver_requirements.specs.MarkerGrammar.{Marker}
-use Rattle.pyver_requirements.specs.MarkerSteps.{Step}
-use Rattle.pyver_requirements.specs.MarkerTerms.{marker_operator_text}
 use Rattle.pyver_requirements.specs.MarkerTokens.{Constant, Side, Variable}
 use Rattle.pyver_requirements.specs.declared.marker_operator.MarkerOperator.{MarkerOperator}
 use Rattle.pyver_requirements.specs.declared.marker_operator.MarkerOperator.TheVariants as operator
-use Rattle.pyver_markers.specs.Boxes.{Box, Condition, comparison_boxes, in_box, join_boxes, meets}
+use Rattle.pyver_markers.specs.Boxes.{Box, Condition, in_box, meets}
 use Rattle.pyver_markers.specs.Environments.{Environment, HasSystem, IsOn, Setting, System, Text, assigned}
 use Rattle.pyver_markers.specs.MarkerComparisons.{ascii_specifier, ascii_version, compare, compare_left, compare_right, compare_texts, compare_versions, is_name_variable, matches_specifier, spelling_in}
-use Rattle.pyver_markers.specs.MarkerValues.{after_steps, last_value, value}
+use Rattle.pyver_markers.specs.MarkerValues.{value}
 use Rattle.pyver_markers.specs.declared.text_condition.Operand.{Operand}
 use Rattle.pyver_markers.specs.declared.text_condition.Operand.TheVariants.{Left, Right}
 
@@ -175,7 +172,7 @@ abbrev pub NarrowsByAllShort : List ℕ → Box → Segments → Segments → Ty
 NarrowsByAllShort name box set narrowed = (e : Environment) (x : List ℕ) (w : Record) → e name ≡ Some (Text x) → ascii_version x ≡ Some (short_version w) → IsDenoted w
     → in_box e box ≡ true → contains record_cmp set w ≡ true → contains record_cmp narrowed w ≡ true
 
--- ---- contradictions
+-- ---- what is asked of a variable
 
 -- the string on the right of the variable; beside a variable another stands for its name
 abbrev pub right_of : List ℕ → Side → Side → Option (List ℕ)
@@ -186,18 +183,6 @@ right_of name _ _ = None
 -- the specifier that is written so, but for `===`
 abbrev pub written_specifier : List ℕ → Option Spec
 written_specifier written = if is_none (spelling_in written) then ascii_specifier written else None
-
--- the specifier that the variable, a version, matches exactly where the condition is met, if it is of this form
-abbrev pub asked_specifier : List ℕ → Condition → Option Spec
-asked_specifier name c =
-    if c.wanted then option_map_or (λ right. written_specifier (marker_operator_text c.operator ++ right)) (right_of name c.left c.right) None else None
-
-abbrev pub asked_specifiers : List ℕ → Box → List Spec
-asked_specifiers name box = flat_map (λ (c : Condition). option_to_list (asked_specifier name c)) box
-
--- no version matches all of them
-abbrev pub lacks_version : List ℕ → Box → Bool
-lacks_version name box = is_none (common_version (asked_specifiers name box))
 
 -- the string beside the variable
 abbrev pub beside_variable : List ℕ → Side → Side → Option (List ℕ)
@@ -230,17 +215,3 @@ lacks_platform_text box = lacks_text (codes "os_name") box || (lacks_text (codes
 abbrev pub lacks_any_text : Box → Bool
 lacks_any_text box = lacks_platform_text box || (lacks_text (codes "platform_python_implementation") box
     || (lacks_text (codes "implementation_name") box || lacks_text (codes "extra") box))
-
--- no version of Python, or of its implementation, matches what is asked of it
-abbrev pub lacks_any_version : Box → Bool
-lacks_any_version box = lacks_version (codes "python_version") box
-    || (lacks_version (codes "python_full_version") box || lacks_version (codes "implementation_version") box)
-
--- no string, or no version, meets what the conditions ask of a variable
-abbrev pub is_contradiction : Box → Bool
-is_contradiction box = lacks_any_text box || lacks_any_version box
-
--- the marker of these steps is contradictory: all boxes in which it holds are contradictions
-abbrev pub is_contradictory : List Step → Bool
-is_contradictory all =
-    option_map_or (list_all is_contradiction) (last_value (after_steps (comparison_boxes true) (join_boxes true) (join_boxes false) all [])) false

@@ -1,9 +1,8 @@
 //! Boxes without environments.
 ghost use Rattle.std.specs.Prelude.{◌≡◌, IfOk, false, map, true};
-ghost use Rattle.std.specs.List.{list_all};
 ghost use Rattle.pyver_markers.specs.EnvironmentViews.{condition_of, domain_of};
 ghost use Rattle.pyver_markers.specs.Boxes.{in_boxes};
-ghost use Rattle.pyver_markers.specs.Conditions.{HasNoEnvironment, IsEnvironment, is_contradiction, lacks_any_text, lacks_any_version, lacks_platform_text};
+ghost use Rattle.pyver_markers.specs.Conditions.{HasNoEnvironment, IsEnvironment, lacks_any_text, lacks_platform_text};
 ghost use Rattle.pyver_markers.specs.Environments.{Environment};
 
 use crate::environment::Domain;
@@ -11,7 +10,7 @@ use crate::environment_box::{Condition, EnvironmentBox};
 use crate::python_condition::excludes_python;
 use crate::system::excludes_systems;
 use crate::text_condition::lacks_text;
-use crate::version_condition::{excludes_versions, lacks_version};
+use crate::version_condition::excludes_versions;
 use std::alloc::{AllocError, Global};
 
 // Whether a variable of the platform is to be equal to a string that does not meet all conditions.
@@ -110,44 +109,6 @@ pub(crate) fn are_empty(
             return Ok(false);
         }
         rest = later;
-    }
-    Ok(true)
-}
-
-// Whether the conditions ask of a version of Python, or of that of its implementation, what none matches.
-fn lacks_any_version(alloc: Global, conditions: &[Condition<'_>]) -> Result<bool, AllocError>
-    ensures { IfOk result (λ b. b ≡ lacks_any_version (map condition_of conditions.now)) }
-{
-    if lacks_version(alloc, "python_version", conditions)? {
-        return Ok(true);
-    }
-    if lacks_version(alloc, "python_full_version", conditions)? {
-        return Ok(true);
-    }
-    let last = lacks_version(alloc, "implementation_version", conditions)?;
-    Ok(last)
-}
-
-// Whether the conditions ask of a variable what no string, or no version, meets.
-fn is_contradiction(alloc: Global, conditions: &[Condition<'_>]) -> Result<bool, AllocError>
-    ensures { IfOk result (λ b. b ≡ is_contradiction (map condition_of conditions.now)) }
-{
-    if lacks_any_text(alloc, conditions)? {
-        return Ok(true);
-    }
-    lacks_any_version(alloc, conditions)
-}
-
-pub(crate) fn are_contradictions(
-    alloc: Global,
-    boxes: &[EnvironmentBox<'_>],
-) -> Result<bool, AllocError>
-    ensures { IfOk result (λ b. b ≡ list_all is_contradiction boxes.now) }
-{
-    for one in boxes {
-        if !is_contradiction(alloc, one.conditions())? {
-            return Ok(false);
-        }
     }
     Ok(true)
 }

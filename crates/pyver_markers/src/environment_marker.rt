@@ -1,17 +1,17 @@
 //! Environment markers, their values, and the environments in which they hold.
 ghost use Rattle.std.specs.Prelude.{◌≡◌, [], IfErr, IfOk, IfSome, map, true};
 ghost use Rattle.pyver_markers.specs.Boxes.{HasValueInBoxes, boxes};
-ghost use Rattle.pyver_markers.specs.Conditions.{IsNever, is_contradictory};
+ghost use Rattle.pyver_markers.specs.Conditions.{IsNever};
 ghost use Rattle.pyver_markers.specs.EnvironmentViews.{assignment_of, boxes_of, domain_of, environment_of, extent_of, found_environment};
 ghost use Rattle.pyver_markers.specs.Extents.{IsExample, IsExtent};
 ghost use Rattle.pyver_markers.specs.MarkerComparisons.{compare};
-ghost use Rattle.pyver_markers.specs.MarkerValues.{after_step, after_steps, both_hold, earlier_values, either_holds, join_values, last_value, value};
+ghost use Rattle.pyver_markers.specs.MarkerValues.{after_step, after_steps, both_hold, earlier_values, either_holds, last_value, value};
 ghost use Rattle.pyver_requirements.specs.MarkerGrammar.{Both, DenotesMarker, Marker};
 ghost use Rattle.pyver_requirements.specs.MarkerSteps.{marker_steps, steps};
 ghost use Rattle.pyver_requirements.specs.MarkerStepViews.{step_of};
 ghost use Rattle.pyver_requirements.specs.MarkerViews.{IsMarkerFault};
 
-use crate::emptiness::{are_contradictions, are_empty};
+use crate::emptiness::are_empty;
 use crate::environment::{Domain, Variable};
 use crate::environment_box::EnvironmentBox;
 use crate::found_environment::{
@@ -185,20 +185,6 @@ impl<'a> EnvironmentMarker<'a> {
     {
         match self.to_boxes(alloc, wanted)? {
             Some(boxes) => are_empty(alloc, boxes.as_slice(), domain),
-            None => Ok(false),
-        }
-    }
-
-    /// Whether the marker is contradictory: the comparisons that have to be true together ask of `python_version`, `python_full_version` or
-    /// `implementation_version`, on their left, what no version matches, or of a variable that is a string to be equal to one that does not meet
-    /// all of them. Then it holds in no environment; `is_never` finds more such markers.
-    ///
-    /// Allocates.
-    pub fn is_contradictory(&self, alloc: Global) -> Result<bool, AllocError>
-        ensures { IfOk result (λ b. b ≡ is_contradictory self.now) }
-    {
-        match take_box_steps(alloc, true, self.steps.as_slice())? {
-            Some(boxes) => are_contradictions(alloc, boxes.as_slice()),
             None => Ok(false),
         }
     }

@@ -196,7 +196,7 @@ fn find_near_any(
 }
 
 // The versions of Python near one that is allowed.
-fn find_near_allowed(
+fn find_near_bound(
     alloc: Global,
     search: Search<'_, '_>,
 ) -> Result<Option<PythonVersions>, AllocError> {
@@ -230,5 +230,5 @@ pub(crate) fn find_python(
             }
         }
     }
-    find_near_allowed(alloc, search)
+    find_near_bound(alloc, search)
 }

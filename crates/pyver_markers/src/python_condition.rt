@@ -130,13 +130,14 @@ fn narrow_by_all_short(
 }
 
 // The versions of the set that are allowed.
-fn narrow_to_allowed(
+fn narrow_to_set(
     alloc: Global,
     set: VersionSet,
     allowed: Option<&VersionSet>,
 ) -> Result<VersionSet, AllocError>
-    ensures { IfOk result (λ both. (v : Record) → IsAllowed (option_map (λ s. s.now) allowed.entry) v → contains record_cmp set v ≡ true
+    ensures wide { IfOk result (λ both. (v : Record) → IsAllowed (option_map (λ s. s.now) allowed.entry) v → contains record_cmp set v ≡ true
         → contains record_cmp both v ≡ true) }
+    ensures allowed { IfOk result (λ both. (v : Record) → contains record_cmp both v ≡ true → IsAllowed (option_map (λ s. s.now) allowed.entry) v) }
 {
     match allowed {
         Some(allowed) => set.intersection(alloc, allowed),
@@ -156,7 +157,7 @@ pub(crate) fn excludes_python(
     let short = "python_version".as_bytes();
     let full = "python_full_version".as_bytes();
     let set = variable_set(alloc, full, conditions)?;
-    let within = narrow_to_allowed(alloc, set, allowed)?;
+    let within = narrow_to_set(alloc, set, allowed)?;
     let narrowed = narrow_by_all_short(alloc, short, conditions, within)?;
     Ok(narrowed.is_empty())
 }

@@ -1,21 +1,20 @@
 //! The versions of a variable that meet conditions.
-ghost use Rattle.std.specs.Prelude.{◌≡◌, ◌++◌, IfOk, IfSome, false, map, option_map, option_to_list, true};
+ghost use Rattle.std.specs.Prelude.{◌≡◌, IfOk, IfSome, false, map, true};
 ghost use Rattle.pep440_ranges.specs.RangeSegments.{contains};
 ghost use Rattle.pep440_rs.specs.Denoted.{IsDenotable, IsDenoted};
 ghost use Rattle.pep440_version.specs.Key.{record_cmp};
 ghost use Rattle.pep440_version.specs.Record.{Record};
 ghost use Rattle.pyver_markers.specs.EnvironmentViews.{condition_of};
 ghost use Rattle.pyver_markers.specs.Boxes.{in_box};
-ghost use Rattle.pyver_markers.specs.Conditions.{ComparesAs, HasVersion, HoldsMatchesOf, HoldsMet, HoldsVersionsOf, Narrows, asked_specifier, asked_specifiers, lacks_version, right_of};
+ghost use Rattle.pyver_markers.specs.Conditions.{HasVersion, HoldsMatchesOf, HoldsMet, HoldsVersionsOf, Narrows};
 ghost use Rattle.pyver_markers.specs.Environments.{Environment};
 ghost use Rattle.pyver_markers.specs.MarkerComparisons.{is_version_variable};
-ghost use Rattle.pyver_requirements.specs.MarkerViews.{side_of};
 
 use crate::environment_box::Condition;
 use crate::text_condition::{Operand, find_operand};
 use crate::version::find_specifier;
 use pep440_rs::VersionSpecifier;
-use pep440_sets::{SetError, VersionSet, find_version};
+use pep440_sets::{SetError, VersionSet};
 use pyver_requirements::Side;
 use std::alloc::{AllocError, Global};
 
@@ -86,7 +85,7 @@ fn all_versions(alloc: Global) -> Result<VersionSet, AllocError>
     }
 }
 
-// The versions that the variable may be where all conditions are met.
+// The versions that the variable may be where all conditions are met, by halves: n conditions take n log n steps.
 pub(crate) fn variable_set(
     alloc: Global,
     name: &[u8],
@@ -95,13 +94,16 @@ pub(crate) fn variable_set(
     requires { is_version_variable name.now ≡ true }
     ensures { IfOk result (HoldsVersionsOf name.now (map condition_of conditions.now)) }
 {
-    let mut set = all_versions(alloc)?;
-    let mut rest = conditions;
-    while let [condition, later @ ..] = rest {
-        set = narrow(alloc, name, condition, set)?;
-        rest = later;
+    if conditions.len() > 1 {
+        let (left, right) = conditions.split_at(conditions.len() / 2);
+        let set = variable_set(alloc, name, left)?;
+        return set.intersection(alloc, &variable_set(alloc, name, right)?);
     }
-    Ok(set)
+    let set = all_versions(alloc)?;
+    match conditions.split_first() {
+        Some((condition, _)) => narrow(alloc, name, condition, set),
+        None => Ok(set),
+    }
 }
 
 // Whether the variable cannot be a version where all conditions are met.
@@ -115,79 +117,4 @@ pub(crate) fn excludes_versions(
 {
     let set = variable_set(alloc, name, conditions)?;
     Ok(set.is_empty())
-}
-
-// ---- contradictions
-
-// The string on the right of the variable; beside a variable another stands for its name.
-fn find_right<'a>(name: &str, condition: &Condition<'a>) -> Option<&'a [u8]>
-    ensures { option_map (λ text. text.now) result ≡ right_of name.now (side_of condition.now.left) (side_of condition.now.right) }
-{
-    match (condition.left, condition.right) {
-        (Side::Variable(left), Side::Constant(text) | Side::Variable(text)) => {
-            if left == name.as_bytes() {
-                Some(text)
-            } else {
-                None
-            }
-        }
-        _ => None,
-    }
-}
-
-// The specifier that the variable matches exactly where the condition is met, if it is of this form.
-fn asked_specifier(
-    alloc: Global,
-    name: &str,
-    condition: &Condition<'_>,
-) -> Result<Option<VersionSpecifier>, AllocError>
-    ensures { IfOk result (λ found. found ≡ asked_specifier name.now (condition_of condition.now)) }
-{
-    if !condition.wanted {
-        return Ok(None);
-    }
-    match find_right(name, condition) {
-        Some(right) => find_specifier(alloc, condition.operator, right),
-        None => Ok(None),
-    }
-}
-
-fn push_specifier(
-    alloc: Global,
-    specifiers: &mut Vec<VersionSpecifier>,
-    name: &str,
-    condition: &Condition<'_>,
-) -> Result<(), AllocError>
-    ensures { IfOk result (λ _. specifiers.new.items ≡ specifiers.old.items ++ option_to_list (asked_specifier name.now (condition_of condition.now))) }
-{
-    if let Some(specifier) = asked_specifier(alloc, name, condition)? {
-        specifiers.push(specifier)?;
-    }
-    Ok(())
-}
-
-fn asked_specifiers(
-    alloc: Global,
-    name: &str,
-    conditions: &[Condition<'_>],
-) -> Result<Vec<VersionSpecifier>, AllocError>
-    ensures { IfOk result (λ found. found.items ≡ asked_specifiers name.now (map condition_of conditions.now)) }
-{
-    let mut specifiers = Vec::new(alloc);
-    for condition in conditions {
-        push_specifier(alloc, &mut specifiers, name, condition)?;
-    }
-    Ok(specifiers)
-}
-
-// Whether no version matches what the conditions ask of the variable.
-pub(crate) fn lacks_version(
-    alloc: Global,
-    name: &str,
-    conditions: &[Condition<'_>],
-) -> Result<bool, AllocError>
-    ensures { IfOk result (λ b. b ≡ lacks_version name.now (map condition_of conditions.now)) }
-{
-    let specifiers = asked_specifiers(alloc, name, conditions)?;
-    Ok(find_version(alloc, specifiers.as_slice())?.is_none())
 }

@@ -116,13 +116,6 @@ pub fn print_never(alloc: Global, wanted: &str, marker: &str) -> Result<String, 
     Ok(String::from_str(alloc, if never { "never" } else { "unknown" })?)
 }
 
-/// Whether the marker is contradictory.
-pub fn print_contradictory(alloc: Global, marker: &str) -> Result<String, CaseError> {
-    let marker = parse_marker(alloc, marker)?;
-    let contradictory = marker.is_contradictory(alloc)?;
-    Ok(String::from_str(alloc, if contradictory { "yes" } else { "no" })?)
-}
-
 fn print_variable(alloc: Global, variable: &FoundVariable<'_>) -> Result<String, CaseError> {
     let name = str::from_utf8(variable.name).map_err(|_| CaseError::Unreadable)?;
     let text = str::from_utf8(variable.text.as_slice()).map_err(|_| CaseError::Unreadable)?;

@@ -6,8 +6,7 @@ mod boxes;
 mod environments;
 
 use boxes::{
-    print_boxes, print_contradictory, print_environment, print_extent, print_extent_for,
-    print_never, print_steps,
+    print_boxes, print_environment, print_extent, print_extent_for, print_never, print_steps,
 };
 use environments::print_value;
 use std::alloc::Global;
@@ -23,7 +22,6 @@ impl Calls for MarkerCalls {
             ("value", [marker, variables @ ..]) => print_value(alloc, marker.as_str(), variables),
             ("boxes", [wanted, marker]) => print_boxes(alloc, wanted.as_str(), marker.as_str()),
             ("never", [wanted, marker]) => print_never(alloc, wanted.as_str(), marker.as_str()),
-            ("contradictory", [marker]) => print_contradictory(alloc, marker.as_str()),
             ("extent", [marker, others @ ..]) => {
                 print_extent(alloc, false, marker.as_str(), others)
             }

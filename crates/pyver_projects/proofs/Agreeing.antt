@@ -1,6 +1,7 @@
 -- Where nothing is found, each requirement contains a locked version of its name, and requirements that hold together have a version in common: all of
--- them, and so those of each part; and what is found under several markers.
-use Rattle.std.proofs.Common.{◌≡◌, ◌∙◌, ℕ, List, [], ◌++◌, Bool, true, false, Some, None, refl, sym, ap, subst, inl, inr, if◌then◌else◌, bytes_eq, map, not, ◌∷◌, ◌||◌, Option, arith, cond, get_or, is_none, is_some, length, nat_lt, suc, zero, ◌<◌}
+-- them, and so those of each part.
+use Rattle.std.proofs.Common.{◌≡◌, ◌∙◌, ℕ, List, [], ◌++◌, Bool, true, false, Some, None, refl, sym, ap, subst, inl, inr, if◌then◌else◌, bytes_eq, map, not, ◌∷◌, ◌||◌, Option, cond, is_none, is_some, length, nat_lt}
+use Rattle.std.specs.Prelude.{⊤}
 use Rattle.std.specs.List.{All, AllZip, Contains, flat_map, list_any, zip, filter}
 use Rattle.pep440_pick.specs.RequirementGrammar.{Needed}
 use Rattle.pep440_rs.proofs.Reading.OneMeaning.{not_both_list, one_list}
@@ -11,11 +12,11 @@ use Rattle.pep440_version.proofs.Rejections.ExactlyOne.{not_both}
 use Rattle.pep440_version.specs.Grammar.{Derives}
 use Rattle.pep440_version.specs.Record.{Record}
 use Rattle.pyver_findings.specs.Demands.{Demand, line_demand, IsSound}
-use Rattle.pyver_findings.specs.FileLines.{File, Finding, Conflicting}
+use Rattle.pyver_findings.specs.FileLines.{File, Finding}
 use Rattle.pyver_findings.specs.LineMeanings.{Asks, LineMeaning}
 use Rattle.pyver_findings.specs.Reports.{Report, demands_in, empty_report, invalid_in}
 use Rattle.toml.specs.Data.{Members}
-use Rattle.pyver_projects.proofs.LockedPackages.{met_everywhere, not_excluded}
+use Rattle.pyver_projects.proofs.LockedPackages.{some_named, met_everywhere, not_excluded}
 use Rattle.pyver_projects.proofs.Holding.{asks_always, findings_of, each_flat, sections_same, sound_part, sound_string}
 use Rattle.pyver_projects.proofs.Walks.{beside_it, beside_pair, left_nil, nil_at, right_nil, zip_each, all_flat, zip_once}
 use Rattle.std.proofs.lemmas.Bool.{true≢false}
@@ -23,33 +24,35 @@ use Rattle.std.proofs.lemmas.Grind.{flat_map-append}
 use Rattle.std.proofs.lemmas.List.Folds.{list_any-append, list_any_at}
 use Rattle.std.proofs.lemmas.List.Elements.{All-contains_itself, All-head, All-tail, All-cons, All-contains, All-filter, All-nil, All-weaker}
 use Rattle.pep440_pick.specs.Names.{normal}
-use Rattle.pyver_projects.specs.Comparing.{is_excused, is_installer, is_project_reading, lacking, names_read, found_beside, found_in_pair, beside_all, is_beside, compared, compared_demand, excluded, excluded_in, invalid_package, is_locked, leaves_out, missing, own_report, unlocked, unmet, with_own_reports, invalid_string}
+use Rattle.pyver_projects.specs.Comparing.{FindsOfReading, absent, beside_all, compared, compared_demand, documents_report, excluded, excluded_in, found_beside, found_in_pair, invalid_package, is_beside, is_excused, is_installer, is_locked, is_project_reading, lacking, leaves_out, missing, names_read, own_report, partly_locked, taken_packages, unlocked, unmet, with_found, with_own_reports}
 use Rattle.pyver_projects.specs.Documents.{has_group_tool, project_names, sources}
 use Rattle.pyver_projects.specs.Groups.{groups, Inclusion, inclusions}
-use Rattle.pyver_projects.specs.Meanings.{Document, DocumentReading, IsDocumentReading, IsFileReading, IsLockReading, IsProject, IsRequirementReading, IsStringReading, LockedReading, StringReading, fault_meaning, file_meaning, is_of_version, requirement_line, string_line, IsSoundString}
-use Rattle.pyver_projects.specs.ProjectLaws.{AllAlone, AllContained, AllMet, AllOfVersion, AllPresent, HasContents, HasProject, HasTable, NoFindingImpliesContained, NoFindingImpliesSatisfiable}
-use Rattle.pyver_projects.specs.ProjectStrings.{LockContents, LockFault, LockedFile, LockedRequirement, Section, Build, Dependencies, Extra, Group}
+use Rattle.pyver_projects.specs.Meanings.{Document, DocumentReading, IsDocumentReading, IsFileReading, IsLockReading, IsProject, IsRequirementReading, IsStringReading, LockedReading, StringReading, fault_meaning, file_meaning, is_of_version, reference_marker, requirement_line, string_line, IsSoundString}
+use Rattle.pyver_projects.specs.ProjectLaws.{AllAlone, AllContained, AllMet, AllOfVersion, AllPresent, HasContents, HasProject, HasTable, IsPart, NoFindingImpliesContained, NoFindingImpliesSatisfiable}
+use Rattle.pyver_projects.specs.ProjectStrings.{LockContents, LockFault, LockParts, LockedFile, LockedRequirement, Section, Build, Dependencies, Extra, Group}
 use Rattle.pyver_projects.specs.declared.document_kind.DocumentKind.{DocumentKind}
 use Rattle.pyver_projects.specs.declared.document_kind.DocumentKind.TheVariants.{Lock, Project}
 use Rattle.pyver_projects.specs.declared.document_kind.LockKind.{LockKind}
 use Rattle.std.proofs.lemmas.Slice.Eq.{bytes_eq-Decides}
-use Rattle.pyver_findings.proofs.Complete.{none_found}
-use Rattle.pyver_findings.proofs.Found.{Some_is, ones_of, some_found}
-use Rattle.pyver_findings.specs.FindingLaws.{IsAmong}
-use Rattle.pyver_findings.specs.Conflicts.{conflict_kind, conflicts, counts_under, first_mentions, has_same_marker, has_same_name, have_none, holds_nowhere, of_all, of_marker, of_name, smallest, under}
+use Rattle.pyver_findings.proofs.Found.{Some_is}
+use Rattle.pyver_findings.specs.FindingLaws.{IsAmong, IsAmongIn}
+use Rattle.pyver_findings.specs.Conflicts.{first_mentions, has_same_marker, has_same_name, have_none, unmarked}
 use Rattle.pyver_projects.proofs.Once.{one_string}
-use Rattle.pyver_projects.specs.Together.{FindsOfPart, FindsOfParts, all_demands, demand_in_part, has_group, holds_in, is_marked, part_conflicts, part_demands, parts, project_conflicts, project_domain, same_finding, same_part, section_part, sections, with_new}
-use Rattle.pyver_findings.proofs.SmallestLists.{Allows, more_none}
-use Rattle.pyver_findings.proofs.MarkerPairs.{of_name_of}
-use Rattle.pyver_findings.specs.MarkerPairs.{FindsOfEach, FindsOfFirsts, FindsOfName, FindsOfNames, few_first_lines, first_lines}
+use Rattle.pyver_projects.specs.Together.{FindsOfPart, FindsOfParts, all_demands, demand_in_part, has_group, holds_in, is_marked, part_demands, parts, project_domain, same_finding, same_part, section_part, sections, with_new}
+use Rattle.pyver_findings.proofs.SmallestLists.{Allows, more_none, none_allowed}
+use Rattle.pyver_findings.proofs.MarkedConflicts.{contains_told, found_nothing, of_marker_of, of_name_of, set_shared, tells_right}
+use Rattle.pyver_findings.specs.MarkedConflicts.{FindsByUnmarked, FindsOfEach, FindsOfFirsts, FindsOfName, FindsOfNames, few_first_lines, first_lines}
 use Rattle.pyver_findings.specs.Views.{AddsFound, finding_of}
 use Rattle.pyver_markers.specs.Conditions.{Domain}
 use Rattle.pyver_findings.specs.declared.cause.Cause.{Cause}
 use Rattle.pyver_findings.specs.declared.finding.Finding.{Finding as FindingValue}
+use Rattle.pyver_findings.proofs.SetsFound.{FindsOrTells, In, Spreads, asking_found, each_in, in_list, or_tells, some_spreads, unmarked_found}
+use Rattle.pyver_findings.proofs.Grouping.{under_unmarked}
+use Rattle.pyver_findings.specs.declared.cause.Cause.TheVariants as cause
 
 -- a project with this table was read
 pub project_read : (file : File) (t : Members) (x : DocumentReading) → HasTable file t → IsDocumentReading (record { kind = Project; file = file }) x → (xs : List StringReading) × AllZip (IsStringReading (groups t) file) (sources t) xs × (x ≡ IsProject (has_group_tool t) (project_names t) xs)
-project_read file t x (text, e) (inl (none, broken)) = absurd (none text)
+project_read file t x (text, e) (inl (none, (position, told))) = absurd (none text)
 project_read file t x (text, e) (inr (again, inr (none, broken))) = let same : Some t ≡ None = sym e ∙ none in cc same
 project_read file t x (text, e) (inr (again, inl (u, f, (xs, h, is)))) =
     let same : Some u ≡ Some t = sym f ∙ e in
@@ -58,7 +61,7 @@ project_read file t x (text, e) (inr (again, inl (u, f, (xs, h, is)))) =
 
 -- a lock with this was read
 lock_read : (file : File) (kind : LockKind) (l : LockContents) (x : DocumentReading) → HasContents kind file l → IsDocumentReading (record { kind = Lock kind; file = file }) x → IsLockReading file.name l x
-lock_read file kind l x (text, e) (inl (none, broken)) = absurd (none text)
+lock_read file kind l x (text, e) (inl (none, (position, told))) = absurd (none text)
 lock_read file kind l x (text, e) (inr (again, inr (none, broken))) = let same : Some l ≡ None = sym e ∙ none in cc same
 lock_read file kind l x (text, e) (inr (again, inl (m, f, is))) =
     let same : Some m ≡ Some l = sym f ∙ e in
@@ -66,7 +69,7 @@ lock_read file kind l x (text, e) (inr (again, inl (m, f, is))) =
     subst (λ (c : LockContents). IsLockReading file.name c x) equal is
 
 -- nothing is found of a string, which always asks for this
-not_compared : (kind : LockKind) (parts names : List (List ℕ)) (ys : List LockedReading) (a : Demand) (section : Section) (x : StringReading) → x.section ≡ section → x.meaning ≡ Asks a → is_locked section ≡ true → compared kind parts names ys x ≡ [] → compared_demand kind parts names ys section a ≡ []
+not_compared : (kind : LockKind) (parts : LockParts) (names : List (List ℕ)) (ys : List LockedReading) (a : Demand) (section : Section) (x : StringReading) → x.section ≡ section → x.meaning ≡ Asks a → is_locked section ≡ true → compared kind parts names ys x ≡ [] → compared_demand kind parts names ys section a ≡ []
 not_compared kind parts names ys a section x same is counts e =
     let here : (if is_locked section then flat_map (compared_demand kind parts names ys section) (demands_in (Asks a)) else []) ≡ [] =
     (λ j. if is_locked (sym same j) then flat_map (compared_demand kind parts names ys (sym same j)) (demands_in (sym is j)) else []) ∙ e in
@@ -99,12 +102,12 @@ all_contained documents zs h found file lock kind l s p n v (t, ((k, inside, at)
     let asked = line_demand (string_line file s) None n in
     let both : missing kind l.parts (project_names t) ys s.section asked ++ excluded_in kind l.parts (project_names t) ys s.section asked ≡ [] = not_compared kind l.parts (project_names t) ys asked s.section z rz.0 meaning counts (nil_at (compared kind l.parts (project_names t) ys) xs z c in_z is_z compares) in
     not_excluded lock.name l.packages (string_line file s) n ys q p j under this v locks
-    (not_lacking (leaves_out kind l.parts s.section) (excluded asked ys) has_it (right_nil (missing kind l.parts (project_names t) ys s.section asked) (excluded_in kind l.parts (project_names t) ys s.section asked) both))
+    (not_lacking (leaves_out kind l.parts.names s.section) (excluded asked ys) has_it (right_nil (missing kind l.parts (project_names t) ys s.section asked) (excluded_in kind l.parts (project_names t) ys s.section asked) both))
 
 -- a requirement asks for its list
-asks_for : (file : List ℕ) (q : LockedRequirement) (list : List Spec) (m : LineMeaning) → DerivesList q.list list → IsRequirementReading file q m → m ≡ Asks (line_demand (requirement_line file q) None (record { name = q.name; extras = []; specifiers = list }))
+asks_for : (file : List ℕ) (q : LockedRequirement) (list : List Spec) (m : LineMeaning) → DerivesList q.list list → IsRequirementReading file q m → m ≡ Asks (line_demand (requirement_line file q) (reference_marker q.is_reference) (record { name = q.name; extras = []; specifiers = list }))
 asks_for file q list m d (inl (other, e, is)) =
-    is ∙ ap (λ (l : List Spec). Asks (line_demand (requirement_line file q) None (record { name = q.name; extras = []; specifiers = l }))) (one_list q.list other list e d)
+    is ∙ ap (λ (l : List Spec). Asks (line_demand (requirement_line file q) (reference_marker q.is_reference) (record { name = q.name; extras = []; specifiers = l }))) (one_list q.list other list e d)
 asks_for file q list m d (inr (f, r, is)) = absurd (not_both_list q.list list f d r)
 
 all_met : (documents : List Document) (zs : List DocumentReading) → AllZip IsDocumentReading documents zs → flat_map (λ x. (own_report (is_excused zs) x).findings) zs ≡ [] → AllMet documents
@@ -112,13 +115,13 @@ all_met documents zs h own lock kind l q p list v ((m, below, there), other) (i,
     let (y, (b, in_y, is_y), ry) = beside_it IsDocumentReading documents zs (record { kind = Lock kind; file = lock }) m below there h in
     let (ys, ms, fs, packages, requirements, files, is_lock) = lock_read lock kind l y other ry in
     let faults = fs ++ map (fault_meaning lock.name) l.faults in
-    let nothing : flat_map invalid_package ys ++ (flat_map invalid_in faults ++ flat_map (unmet (is_excused zs) ys) ms) ≡ [] = ap (λ (e : DocumentReading). (own_report (is_excused zs) e).findings) (sym is_lock) ∙ nil_at (λ x. (own_report (is_excused zs) x).findings) zs y b in_y is_y own in
+    let nothing : flat_map invalid_package ys ++ (flat_map invalid_in faults ++ flat_map (unmet (is_excused zs) l.parts ys) ms) ≡ [] = ap (λ (e : DocumentReading). (own_report (is_excused zs) e).findings) (sym is_lock) ∙ nil_at (λ x. (own_report (is_excused zs) x).findings) zs y b in_y is_y own in
     let (z, (c, in_z, is_z), rz) = beside_it (IsRequirementReading lock.name) l.requirements ms q i within here requirements in
     let n : Needed = record { name = q.name; extras = []; specifiers = list } in
-    let asked = line_demand (requirement_line lock.name q) None n in
-    let met : unmet (is_excused zs) ys (Asks asked) ≡ [] =
-    ap (unmet (is_excused zs) ys) (sym (asks_for lock.name q list z d rz)) ∙ nil_at (unmet (is_excused zs) ys) ms z c in_z is_z (right_nil (flat_map invalid_in faults) (flat_map (unmet (is_excused zs) ys) ms) (right_nil (flat_map invalid_package ys) (flat_map invalid_in faults ++ flat_map (unmet (is_excused zs) ys) ms) nothing)) in
-    not_excluded lock.name l.packages (requirement_line lock.name q) n ys packages p j under this v locks (right_nil (lacking (is_excused zs) ys asked) (excluded asked ys) (left_nil (lacking (is_excused zs) ys asked ++ excluded asked ys) [] met))
+    let asked = line_demand (requirement_line lock.name q) (reference_marker q.is_reference) n in
+    let met : unmet (is_excused zs) l.parts ys (Asks asked) ≡ [] =
+    ap (unmet (is_excused zs) l.parts ys) (sym (asks_for lock.name q list z d rz)) ∙ nil_at (unmet (is_excused zs) l.parts ys) ms z c in_z is_z (right_nil (flat_map invalid_in faults) (flat_map (unmet (is_excused zs) l.parts ys) ms) (right_nil (flat_map invalid_package ys) (flat_map invalid_in faults ++ flat_map (unmet (is_excused zs) l.parts ys) ms) nothing)) in
+    not_excluded lock.name l.packages (requirement_line lock.name q) n ys packages p j under this v locks (right_nil (lacking (is_excused zs) l.parts ys asked) (excluded asked ys) (left_nil (lacking (is_excused zs) l.parts ys asked ++ excluded asked ys) [] met))
 
 -- none of the documents that were read is a project of this name
 module _ (documents : List Document) (name : List ℕ) (others : (other : File) (u : Members) → HasProject documents other u → list_any (bytes_eq name) (project_names u) ≡ false) where
@@ -126,11 +129,11 @@ module _ (documents : List Document) (name : List ℕ) (others : (other : File) 
   OtherNames x = list_any (bytes_eq name) (names_read x) ≡ false
 
   not_named : (kind : DocumentKind) (file : File) (x : DocumentReading) → Contains documents (record { kind = kind; file = file }) → IsDocumentReading (record { kind = kind; file = file }) x → OtherNames x
-  not_named kind file x known (inl (none, (line, reason, column, place, is))) = ap (λ (y : DocumentReading). list_any (bytes_eq name) (names_read y)) is
+  not_named kind file x known (inl (none, (position, is))) = ap (λ (y : DocumentReading). list_any (bytes_eq name) (names_read y)) is
   not_named Project file x known (inr (text, inl (t, e, (xs, h, is)))) = ap (λ (y : DocumentReading). list_any (bytes_eq name) (names_read y)) is ∙ others file t (known, (text, e))
-  not_named Project file x known (inr (text, inr (none, (line, reason, column, place, is)))) = ap (λ (y : DocumentReading). list_any (bytes_eq name) (names_read y)) is
+  not_named Project file x known (inr (text, inr (none, (position, reason, is)))) = ap (λ (y : DocumentReading). list_any (bytes_eq name) (names_read y)) is
   not_named (Lock kind) file x known (inr (text, inl (l, e, (ys, ms, fs, g, h, k, is)))) = ap (λ (y : DocumentReading). list_any (bytes_eq name) (names_read y)) is
-  not_named (Lock kind) file x known (inr (text, inr (none, (line, reason, column, place, is)))) = ap (λ (y : DocumentReading). list_any (bytes_eq name) (names_read y)) is
+  not_named (Lock kind) file x known (inr (text, inr (none, (position, reason, is)))) = ap (λ (y : DocumentReading). list_any (bytes_eq name) (names_read y)) is
 
   none_named_so : (zs : List DocumentReading) → All OtherNames zs → list_any (bytes_eq name) (flat_map names_read zs) ≡ false
   none_named_so [] k = refl
@@ -148,19 +151,24 @@ module _ (documents : List Document) (name : List ℕ) (others : (other : File) 
       λ i. unlike i || (not (there i) || named i)
 
 all_present : (documents : List Document) (zs : List DocumentReading) → AllZip IsDocumentReading documents zs → flat_map (λ x. (own_report (is_excused zs) x).findings) zs ≡ [] → AllPresent documents
-all_present documents zs h own lock file kind l t q list k ((m, below, there), other) (i, within, here) d project others unlike inside =
+all_present documents zs h own lock file kind l t q list ((m, below, there), other) (i, within, here) d project others unlike =
     let (y, (b, in_y, is_y), ry) = beside_it IsDocumentReading documents zs (record { kind = Lock kind; file = lock }) m below there h in
     let (ys, ms, fs, packages, requirements, files, is_lock) = lock_read lock kind l y other ry in
     let faults = fs ++ map (fault_meaning lock.name) l.faults in
-    let nothing : flat_map invalid_package ys ++ (flat_map invalid_in faults ++ flat_map (unmet (is_excused zs) ys) ms) ≡ [] = ap (λ (e : DocumentReading). (own_report (is_excused zs) e).findings) (sym is_lock) ∙ nil_at (λ x. (own_report (is_excused zs) x).findings) zs y b in_y is_y own in
+    let nothing : flat_map invalid_package ys ++ (flat_map invalid_in faults ++ flat_map (unmet (is_excused zs) l.parts ys) ms) ≡ [] = ap (λ (e : DocumentReading). (own_report (is_excused zs) e).findings) (sym is_lock) ∙ nil_at (λ x. (own_report (is_excused zs) x).findings) zs y b in_y is_y own in
     let (z, (c, in_z, is_z), rz) = beside_it (IsRequirementReading lock.name) l.requirements ms q i within here requirements in
     let n : Needed = record { name = q.name; extras = []; specifiers = list } in
-    let asked = line_demand (requirement_line lock.name q) None n in
-    let met : unmet (is_excused zs) ys (Asks asked) ≡ [] =
-    ap (unmet (is_excused zs) ys) (sym (asks_for lock.name q list z d rz)) ∙ nil_at (unmet (is_excused zs) ys) ms z c in_z is_z (right_nil (flat_map invalid_in faults) (flat_map (unmet (is_excused zs) ys) ms) (right_nil (flat_map invalid_package ys) (flat_map invalid_in faults ++ flat_map (unmet (is_excused zs) ys) ms) nothing)) in
-    let unmet_first : lacking (is_excused zs) ys asked ++ excluded asked ys ≡ [] = left_nil (lacking (is_excused zs) ys asked ++ excluded asked ys) [] met in
-    let has_all : unlocked ys asked ≡ [] = not_lacking (is_excused zs asked.name) (unlocked ys asked) (not_excused documents (normal q.name) others zs h file t project unlike) (left_nil (lacking (is_excused zs) ys asked) (excluded asked ys) unmet_first) in
-    met_everywhere lock.name l.packages (requirement_line lock.name q) n ys packages has_all (right_nil (lacking (is_excused zs) ys asked) (excluded asked ys) unmet_first) k inside
+    let asked = line_demand (requirement_line lock.name q) (reference_marker q.is_reference) n in
+    let met : unmet (is_excused zs) l.parts ys (Asks asked) ≡ [] =
+    ap (unmet (is_excused zs) l.parts ys) (sym (asks_for lock.name q list z d rz)) ∙ nil_at (unmet (is_excused zs) l.parts ys) ms z c in_z is_z (right_nil (flat_map invalid_in faults) (flat_map (unmet (is_excused zs) l.parts ys) ms) (right_nil (flat_map invalid_package ys) (flat_map invalid_in faults ++ flat_map (unmet (is_excused zs) l.parts ys) ms) nothing)) in
+    let unmet_first : lacking (is_excused zs) l.parts ys asked ++ excluded asked ys ≡ [] = left_nil (lacking (is_excused zs) l.parts ys asked ++ excluded asked ys) [] met in
+    let has_all : unlocked l.parts ys asked ≡ [] = not_lacking (is_excused zs asked.name) (unlocked l.parts ys asked) (not_excused documents (normal q.name) others zs h file t project unlike) (left_nil (lacking (is_excused zs) l.parts ys asked) (excluded asked ys) unmet_first) in
+    let none : excluded asked ys ≡ [] = right_nil (lacking (is_excused zs) l.parts ys asked) (excluded asked ys) unmet_first in
+    let always : q.is_reference ≡ false → unlocked l.parts ys (line_demand (requirement_line lock.name q) None n) ≡ [] =
+    λ is. ap (λ b. unlocked l.parts ys (line_demand (requirement_line lock.name q) (reference_marker b) n)) (sym is) ∙ has_all in (
+      some_named lock.name l.packages (requirement_line lock.name q) n ys packages (left_nil (absent ys asked) (if is_none asked.marker then partly_locked l.parts asked.line (taken_packages ys asked) else []) has_all),
+      (λ k is inside. met_everywhere lock.name l.packages (requirement_line lock.name q) n ys packages l.parts (always is) none k inside),
+    )
 
 -- where nothing is found of both, nothing is of each
 front_nil : (fs gs : List LineMeaning) → flat_map invalid_in (fs ++ gs) ≡ [] → flat_map invalid_in fs ≡ []
@@ -184,9 +192,9 @@ all_of_version documents zs h own lock kind l f r q ((m, below, there), other) (
     let (y, (b, in_y, is_y), ry) = beside_it IsDocumentReading documents zs (record { kind = Lock kind; file = lock }) m below there h in
     let (ys, ms, fs, packages, requirements, files, is_lock) = lock_read lock kind l y other ry in
     let faults = fs ++ map (fault_meaning lock.name) l.faults in
-    let nothing : flat_map invalid_package ys ++ (flat_map invalid_in faults ++ flat_map (unmet (is_excused zs) ys) ms) ≡ [] = ap (λ (e : DocumentReading). (own_report (is_excused zs) e).findings) (sym is_lock) ∙ nil_at (λ x. (own_report (is_excused zs) x).findings) zs y b in_y is_y own in
+    let nothing : flat_map invalid_package ys ++ (flat_map invalid_in faults ++ flat_map (unmet (is_excused zs) l.parts ys) ms) ≡ [] = ap (λ (e : DocumentReading). (own_report (is_excused zs) e).findings) (sym is_lock) ∙ nil_at (λ x. (own_report (is_excused zs) x).findings) zs y b in_y is_y own in
     let (z, (c, in_z, is_z), rz) = beside_it (IsFileReading lock.name) l.files fs f i within here files in
-    let none : invalid_in z ≡ [] = nil_at invalid_in fs z c in_z is_z (front_nil fs (map (fault_meaning lock.name) l.faults) (left_nil (flat_map invalid_in faults) (flat_map (unmet (is_excused zs) ys) ms) (right_nil (flat_map invalid_package ys) (flat_map invalid_in faults ++ flat_map (unmet (is_excused zs) ys) ms) nothing))) in
+    let none : invalid_in z ≡ [] = nil_at invalid_in fs z c in_z is_z (front_nil fs (map (fault_meaning lock.name) l.faults) (left_nil (flat_map invalid_in faults) (flat_map (unmet (is_excused zs) l.parts ys) ms) (right_nil (flat_map invalid_package ys) (flat_map invalid_in faults ++ flat_map (unmet (is_excused zs) l.parts ys) ms) nothing))) in
     same_as_package lock.name f z r q (is_of_version r q) d e rz none refl
 
 -- nothing is found of packages beside one another
@@ -199,8 +207,8 @@ all_alone documents zs h own lock kind l ((m, below, there), other) =
     let (y, (b, in_y, is_y), ry) = beside_it IsDocumentReading documents zs (record { kind = Lock kind; file = lock }) m below there h in
     let (ys, ms, fs, packages, requirements, files, is_lock) = lock_read lock kind l y other ry in
     let faults = fs ++ map (fault_meaning lock.name) l.faults in
-    let nothing : flat_map invalid_package ys ++ (flat_map invalid_in faults ++ flat_map (unmet (is_excused zs) ys) ms) ≡ [] = ap (λ (e : DocumentReading). (own_report (is_excused zs) e).findings) (sym is_lock) ∙ nil_at (λ x. (own_report (is_excused zs) x).findings) zs y b in_y is_y own in
-    no_fault lock.name l.faults (back_nil fs (map (fault_meaning lock.name) l.faults) (left_nil (flat_map invalid_in faults) (flat_map (unmet (is_excused zs) ys) ms) (right_nil (flat_map invalid_package ys) (flat_map invalid_in faults ++ flat_map (unmet (is_excused zs) ys) ms) nothing)))
+    let nothing : flat_map invalid_package ys ++ (flat_map invalid_in faults ++ flat_map (unmet (is_excused zs) l.parts ys) ms) ≡ [] = ap (λ (e : DocumentReading). (own_report (is_excused zs) e).findings) (sym is_lock) ∙ nil_at (λ x. (own_report (is_excused zs) x).findings) zs y b in_y is_y own in
+    no_fault lock.name l.faults (back_nil fs (map (fault_meaning lock.name) l.faults) (left_nil (flat_map invalid_in faults) (flat_map (unmet (is_excused zs) l.parts ys) ms) (right_nil (flat_map invalid_package ys) (flat_map invalid_in faults ++ flat_map (unmet (is_excused zs) l.parts ys) ms) nothing)))
 
 pub no_finding_means_contained : NoFindingImpliesContained
 no_finding_means_contained documents r (zs, h, fs, cs, finds, is) none =
@@ -208,15 +216,6 @@ no_finding_means_contained documents r (zs, h, fs, cs, finds, is) none =
     let found : (with_own_reports (is_excused zs) empty_report zs).findings ++ compared ≡ [] = left_nil ((with_own_reports (is_excused zs) empty_report zs).findings ++ compared) fs (sym (ap (λ (e : Report). e.findings) is) ∙ none) in
     let own : flat_map (λ x. (own_report (is_excused zs) x).findings) zs ≡ [] = sym (findings_of documents (is_excused zs) empty_report zs) ∙ left_nil (with_own_reports (is_excused zs) empty_report zs).findings compared found in
     (all_contained documents zs h (right_nil (with_own_reports (is_excused zs) empty_report zs).findings compared found), (all_met documents zs h own, (all_present documents zs h own, (all_of_version documents zs h own, all_alone documents zs h own))))
-
--- a finding of some of the lines under the marker
-abbrev Fits : List Demand → Option (List ℕ) → Finding → Type 0
-Fits lines m = IsAmong (map (λ (a : Demand). a.line) (under m lines))
-
-some_fits : (lines : List Demand) (a : Demand) (m : Option (List ℕ)) → holds_nowhere m ≡ false → Contains lines a → have_none (under m (filter (has_same_name a) lines)) ≡ true → Some_is (Fits (filter (has_same_name a) lines) m) (conflicts lines)
-some_fits lines a m somewhere inside none =
-    let these = under m (filter (has_same_name a) lines) in
-    some_found (map (λ (b : Demand). b.line) these) lines a m somewhere (ones_of these) inside none
 
 -- parts that are the same are equal
 same_is : (a b : Section) → same_part a b ≡ true → a ≡ b
@@ -228,44 +227,44 @@ same_is a b e = cc e
 
 -- ---- parts, each once
 
-module _ (f : Section → List Finding) where
-  found_by : (part q : Section) (parts : List Section) (b : Bool) → same_part part q ≡ b → (b || list_any (same_part part) parts) ≡ true → f q ++ flat_map f parts ≡ [] → (list_any (same_part part) parts ≡ true → f part ≡ []) → f part ≡ []
-  found_by part q parts true is e none later = ap f (same_is part q is) ∙ left_nil (f q) (flat_map f parts) none
-  found_by part q parts false is e none later = later e
+self_by : (part q : Section) (parts : List Section) (b : Bool) → same_part part q ≡ b → (b || list_any (same_part part) parts) ≡ true → (list_any (same_part part) parts ≡ true → In part parts) → In part (q ∷ parts)
+self_by part q parts true is e later = inl (sym (same_is part q is))
+self_by part q parts false is e later = inr (later e)
 
-  -- nothing is found of a part that is there
-  found_nil : (part : Section) (parts : List Section) → list_any (same_part part) parts ≡ true → flat_map f parts ≡ [] → f part ≡ []
-  found_nil part [] e none = absurd (true≢false (sym e))
-  found_nil part (q ∷ parts) e none = found_by part q parts (same_part part q) refl e none (λ there. found_nil part parts there (right_nil (f q) (flat_map f parts) none))
+self_or : (part : Section) (parts : List Section) → list_any (same_part part) parts ≡ true → In part parts
+self_or part [] e = absurd (true≢false (sym e))
+self_or part (q ∷ parts) e = self_by part q parts (same_part part q) refl e (self_or part parts)
 
-  last_nil : (part : Section) (parts : List Section) → flat_map f (parts ++ part ∷ []) ≡ [] → (flat_map f parts ≡ []) × (f part ≡ [])
-  last_nil part parts none =
-      let both : flat_map f parts ++ (f part ++ []) ≡ [] = sym (flat_map-append f parts (part ∷ [])) ∙ none in
-      (left_nil (flat_map f parts) (f part ++ []) both, left_nil (f part) [] (right_nil (flat_map f parts) (f part ++ []) both))
+in_front_of : {X : Type 0} (x y : X) (xs : List X) → In x xs → In x (xs ++ y ∷ [])
+in_front_of x y [] h = absurd h
+in_front_of x y (z ∷ xs) (inl is) = inl is
+in_front_of x y (z ∷ xs) (inr h) = inr (in_front_of x y xs h)
 
-  before_nil : (part : Section) (parts : List Section) (b : Bool) → flat_map f (if b then parts else parts ++ part ∷ []) ≡ [] → flat_map f parts ≡ []
-  before_nil part parts true none = none
-  before_nil part parts false none = (last_nil part parts none).0
+at_end : {X : Type 0} (x : X) (xs : List X) → In x (xs ++ x ∷ [])
+at_end x [] = inl refl
+at_end x (y ∷ xs) = inr (at_end x xs)
 
-  this_nil : (part : Section) (parts : List Section) (b : Bool) → list_any (same_part part) parts ≡ b → flat_map f (if b then parts else parts ++ part ∷ []) ≡ [] → f part ≡ []
-  this_nil part parts true e none = found_nil part parts e none
-  this_nil part parts false e none = (last_nil part parts none).1
+module _ (part : Section) where
+  stays_by : (q : Section) (parts : List Section) (b : Bool) → In part parts → In part (if b then parts else parts ++ q ∷ [])
+  stays_by q parts true h = h
+  stays_by q parts false h = in_front_of part q parts h
 
-  -- nothing is found of the parts before
-  stays_nil : (parts more : List Section) → flat_map f (with_new same_part parts more) ≡ [] → flat_map f parts ≡ []
-  stays_nil parts [] none = none
-  stays_nil parts (part ∷ more) none =
-      before_nil part parts (list_any (same_part part) parts) (stays_nil (if list_any (same_part part) parts then parts else parts ++ part ∷ []) more none)
+  stays_in : (parts more : List Section) → In part parts → In part (with_new same_part parts more)
+  stays_in parts [] h = h
+  stays_in parts (q ∷ more) h = stays_in (if list_any (same_part q) parts then parts else parts ++ q ∷ []) more (stays_by q parts (list_any (same_part q) parts) h)
 
-  -- nor of the part of each string
-  part_nil : (parts : List Section) (xs : List StringReading) (x : StringReading) (k : ℕ) → k < length xs → get_or xs k x ≡ x → flat_map f (with_new same_part parts (map section_part (sections xs))) ≡ [] → f (section_part x.section) ≡ []
-  part_nil parts [] x k inside at none = absurd (omega (arith, inside))
-  part_nil parts (y ∷ ys) x zero inside at none =
-      let part = section_part y.section in
-      ap (λ (z : StringReading). f (section_part z.section)) (sym at)
-      ∙ this_nil part parts (list_any (same_part part) parts) refl (stays_nil (if list_any (same_part part) parts then parts else parts ++ part ∷ []) (map section_part (sections ys)) none)
-  part_nil parts (y ∷ ys) x (suc k) inside at none =
-      part_nil (if list_any (same_part (section_part y.section)) parts then parts else parts ++ section_part y.section ∷ []) ys x k (omega (arith, inside)) at none
+  comes_by : (parts : List Section) (b : Bool) → list_any (same_part part) parts ≡ b → In part (if b then parts else parts ++ part ∷ [])
+  comes_by parts true is = self_or part parts is
+  comes_by parts false is = at_end part parts
+
+  -- the part of each string is among the parts
+  part_in : (parts : List Section) (xs : List StringReading) (x : StringReading) → section_part x.section ≡ part → In x xs → In part (with_new same_part parts (map section_part (sections xs)))
+  part_in parts [] x is h = absurd h
+  part_in parts (y ∷ ys) x is (inl at) =
+      let here : section_part y.section ≡ part = ap (λ (z : StringReading). section_part z.section) at ∙ is in
+      stays_in (if list_any (same_part (section_part y.section)) parts then parts else parts ++ section_part y.section ∷ []) (map section_part (sections ys))
+      (subst (λ q. In part (if list_any (same_part q) parts then parts else parts ++ q ∷ [])) (sym here) (comes_by parts (list_any (same_part part) parts) refl))
+  part_in parts (y ∷ ys) x is (inr h) = part_in (if list_any (same_part (section_part y.section)) parts then parts else parts ++ section_part y.section ∷ []) ys x is h
 
 -- ---- findings, each once
 
@@ -282,33 +281,81 @@ none_new : (fs : List Finding) → with_new same_finding [] fs ≡ [] → fs ≡
 none_new [] e = refl
 none_new (f ∷ fs) e = absurd (stays f [] fs e)
 
-pub no_finding_means_satisfiable : NoFindingImpliesSatisfiable
-no_finding_means_satisfiable documents r (zs, h, fs, cs, finds, is) none file t s xs a m ((k, inside, at), table) (i, within, is_s) g known somewhere empty =
-    let all = groups t in
-    let (x, (c, in_x, is_x), rx) = beside_it IsDocumentReading documents zs (record { kind = Project; file = file }) k inside at h in
-    let (ys, q, is_project) = project_read file t x table rx in
-    let one : ys ≡ xs = zip_once (IsStringReading all file) (Contains (sources t)) (λ p v w known n o. one_string all file p v w n o) (sources t) ys xs (All-contains_itself (sources t)) q g in
-    let compared = flat_map (beside_all documents (zip documents zs)) (zip documents zs) in
-    let found : (with_own_reports (is_excused zs) empty_report zs).findings ++ compared ≡ [] = left_nil ((with_own_reports (is_excused zs) empty_report zs).findings ++ compared) fs (sym (ap (λ (e : Report). e.findings) is) ∙ none) in
-    let own : flat_map (λ x. (own_report (is_excused zs) x).findings) zs ≡ [] = sym (findings_of documents (is_excused zs) empty_report zs) ∙ left_nil (with_own_reports (is_excused zs) empty_report zs).findings compared found in
-    let together = has_group_tool t in
-    let nothing : flat_map invalid_string xs ++ project_conflicts together xs ≡ [] =
-    ap (λ (e : List StringReading). (own_report (is_excused zs) (IsProject together (project_names t) e)).findings) (sym one) ∙ ap (λ (e : DocumentReading). (own_report (is_excused zs) e).findings) (sym is_project) ∙ nil_at (λ x. (own_report (is_excused zs) x).findings) zs x c in_x is_x own in
-    let conflicts_nil : flat_map (part_conflicts together xs) (parts xs) ≡ [] = none_new (flat_map (part_conflicts together xs) (parts xs)) (right_nil (flat_map invalid_string xs) (project_conflicts together xs) nothing) in
-    let (z, (j, in_z, is_z), rz) = beside_it (IsStringReading all file) (sources t) xs s i within is_s g in
-    let part = section_part s.section in
-    let here_nil : part_conflicts together xs (section_part z.section) ≡ [] = part_nil (part_conflicts together xs) [] xs z j in_z is_z conflicts_nil in
-    let same : inclusions (sections xs) ≡ all.inclusions = ap inclusions (sections_same all file (sources t) xs g) in
-    let lines = part_demands together all.inclusions part xs in
-    let last : conflicts lines ≡ [] = (λ v. conflicts (part_demands together (sym same v) (section_part (sym rz.0 v)) xs)) ∙ here_nil in
-    let sound : All IsSound lines = sound_part together all.inclusions part xs (zip_each (IsStringReading all file) (Contains (sources t)) IsSoundString (λ p v known n. sound_string all file p v n) (sources t) xs (All-contains_itself (sources t)) g) in
-    let these = All-filter (counts_under m) IsSound (filter (has_same_name a) lines) (All-filter (has_same_name a) IsSound lines sound) in
-    subst (Some_is (Fits (filter (has_same_name a) lines) m)) last (some_fits lines a m somewhere known (none_found (under m (filter (has_same_name a) lines)) these empty))
+-- something is found
+abbrev Something : Finding → Type 0
+Something f = ⊤
 
--- nothing is made of each, so of all
-flat_nil : {X Y : Type 0} (f : X → List Y) (xs : List X) → All (λ x. f x ≡ []) xs → flat_map f xs ≡ []
-flat_nil f [] k = refl
-flat_nil f (x ∷ xs) k = (λ j. All-head (λ y. f y ≡ []) x xs k j ++ flat_nil f xs (All-tail (λ y. f y ≡ []) x xs k) j)
+not_nil : (fs : List Finding) → Some_is Something fs → fs ≡ [] → ⊥
+not_nil [] h e = h
+not_nil (f ∷ fs) h e = cc e
+
+some_is : (fs : List Finding) → (fs ≡ [] → ⊥) → Some_is Something fs
+some_is [] never = absurd (never refl)
+some_is (f ∷ fs) never = inl tt
+
+-- so it is of each finding once
+some_once : (fs : List Finding) → Some_is Something fs → Some_is Something (with_new same_finding [] fs)
+some_once fs h = some_is (with_new same_finding [] fs) (λ e. not_nil fs h (none_new fs e))
+
+-- what is found of a part is found in the report
+module _ (R : List Finding → List Cause → Type 0) (spreads : Spreads R) (once : (fs : List Finding) (cs : List Cause) → R fs cs → R (with_new same_finding [] fs) cs) (documents : List Document) (zs : List DocumentReading) (h : AllZip IsDocumentReading documents zs)
+    (d : Domain) (lines : List Demand) (p : IsPart documents d lines) (found : All IsSound lines → (fs : List Finding) (cs : List Cause) → FindsOfNames d lines fs cs → R fs cs) where
+  abbrev together : Bool
+  together = has_group_tool p.table
+
+  abbrev part : Section
+  part = section_part p.string.section
+
+  sound_lines : All IsSound lines
+  sound_lines =
+      subst (All IsSound) (sym p.are)
+      (sound_part together (groups p.table).inclusions part p.readings
+      (zip_each (IsStringReading (groups p.table) p.file) (Contains (sources p.table)) IsSoundString (λ s v known n. sound_string (groups p.table) p.file s v n) (sources p.table) p.readings (All-contains_itself (sources p.table)) p.read))
+
+  found_part : (fs : List Finding) (cs : List Cause) → FindsOfPart together p.readings part fs cs → R fs cs
+  found_part fs cs finds =
+      let same : inclusions (sections p.readings) ≡ (groups p.table).inclusions = ap inclusions (sections_same (groups p.table) p.file (sources p.table) p.readings p.read) in
+      found sound_lines fs cs
+      (subst (λ (b : Domain). FindsOfNames b lines fs cs) (sym p.bounds)
+      (subst (λ l. FindsOfNames (project_domain p.readings) l fs cs) (ap (λ is. part_demands together is part p.readings) same ∙ sym p.are) finds))
+
+  found_parts : (fs : List Finding) (cs : List Cause) → FindsOfParts together p.readings fs cs → R fs cs
+  found_parts fs cs (all, finds, is) =
+      let (i, within, at) = p.within in
+      let (z, (j, in_z, is_z), rz) = beside_it (IsStringReading (groups p.table) p.file) (sources p.table) p.readings p.string i within at p.read in
+      subst (λ l. R l cs) (sym is)
+      (once all cs (each_in R spreads (FindsOfPart together p.readings) part found_part (parts p.readings) (part_in part [] p.readings z (ap section_part rz.0) (in_list z p.readings j in_z is_z)) all cs finds))
+
+  reached : (fs : List Finding) (cs : List Cause) → FindsOfEach FindsOfReading zs fs cs → R fs cs
+  reached =
+      let ((k, inside, at), table) = p.has in
+      let (x, (c, in_x, is_x), rx) = beside_it IsDocumentReading documents zs (record { kind = Project; file = p.file }) k inside at h in
+      let (ys, q, is_project) = project_read p.file p.table x table rx in
+      let one : ys ≡ p.readings = zip_once (IsStringReading (groups p.table) p.file) (Contains (sources p.table)) (λ s v w known n o. one_string (groups p.table) p.file s v w n o) (sources p.table) ys p.readings (All-contains_itself (sources p.table)) q p.read in
+      each_in R spreads FindsOfReading x
+      (λ fs cs finds. found_parts fs cs (subst (λ l. FindsOfParts together l fs cs) one (subst (λ (y : DocumentReading). FindsOfReading y fs cs) is_project finds))) zs (in_list x zs c in_x is_x)
+
+none_reported : (documents : List Document) (zs : List DocumentReading) (r : Report) (fs : List Finding) (cs : List Cause) → r ≡ with_found (documents_report documents zs) fs cs → r.findings ≡ [] → fs ≡ []
+none_reported documents zs r fs cs is none = right_nil (documents_report documents zs).findings fs (sym (ap (λ (e : Report). e.findings) is) ∙ none)
+
+pub no_finding_means_satisfiable : NoFindingImpliesSatisfiable
+no_finding_means_satisfiable documents r (zs, h, fs, cs, finds, is) none =
+    let nil : fs ≡ [] = none_reported documents zs r fs cs is none in (
+      λ d lines a p inside empty.
+          not_nil fs
+          (reached (λ gs ds. Some_is Something gs) (some_spreads Something) (λ gs ds some. some_once gs some) documents zs h d lines p
+          (λ sound gs ds one. some_is gs (λ e. subst (Some_is (IsAmong (map (λ (b : Demand). b.line) (unmarked (filter (has_same_name a) lines))))) e (unmarked_found d a lines inside sound empty gs ds one))) fs cs finds) nil,
+      λ decided d lines a e asking p inside is_one ones empty.
+          elim (reached (FindsOrTells Something) (or_tells Something)
+          (λ gs ds some. elim some [ inl f ↦ inl (some_once gs f) | inr told ↦ inr told ]) documents zs h d lines p
+          (λ sound gs ds one. elim (asking_found d e is_one a lines inside (All-filter (has_same_name a) IsSound lines sound) asking ones empty gs ds one) [
+            | inl some ↦ inl (some_is gs (λ n. subst (Some_is (IsAmongIn e a lines)) n some))
+            | inr told ↦ inr told
+          ]) fs cs finds) [
+            | inl some ↦ not_nil fs some nil
+            | inr told ↦ decided (subst (λ (q : Report). Contains q.left_out cause.Undecided) (sym is) (contains_told ((documents_report documents zs).left_out ++ cs) (tells_right (documents_report documents zs).left_out cs told)))
+          ],
+    )
 
 everywhere : {X : Type 0} (P : X → Type 0) → ((x : X) → P x) → (xs : List X) → All P xs
 everywhere P so [] = All-nil P
@@ -360,66 +407,6 @@ module _ (P : Demand → Type 0) (same : Demand → Demand → Bool) where
   mentions before (a ∷ lines) k =
       mention_by (list_any (same a) before) a (first_mentions same (before ++ a ∷ []) lines) (All-head P a lines k) (mentions (before ++ a ∷ []) lines (All-tail P a lines k))
 
-nothing_by : (lines : List Demand) (b : Bool) → have_none lines ≡ b → b ≡ false → of_all None lines ≡ []
-nothing_by lines b is some = ap (λ c. if c then Conflicting (conflict_kind (smallest lines)) (map (λ (a : Demand). a.line) (smallest lines)) None ∷ [] else []) (is ∙ some)
-
-nothing_under : (lines : List Demand) (b : Bool) → (b ≡ false → have_none lines ≡ false) → (if b then [] else of_all None lines) ≡ []
-nothing_under lines true some = refl
-nothing_under lines false some = nothing_by lines (have_none lines) refl (some refl)
-
--- nothing is wrong with the lines of a name that have some version under each marker, unless it is contradictory
-nothing_of : (lines : List Demand) → ((m : Option (List ℕ)) → holds_nowhere m ≡ false → have_none (under m lines) ≡ false) → of_name lines ≡ []
-nothing_of lines some =
-    let each = flat_map (λ (a : Demand). of_marker a.marker lines) (first_mentions has_same_marker [] lines) in
-    ap (λ b. if b then of_all None (under None lines) else each) (some None refl)
-    ∙ flat_nil (λ (a : Demand). of_marker a.marker lines) (first_mentions has_same_marker [] lines)
-    (everywhere (λ (a : Demand). of_marker a.marker lines ≡ []) (λ a. nothing_under (under a.marker lines) (holds_nowhere a.marker) (some a.marker)) (first_mentions has_same_marker [] lines))
-
-module _ (all part : List Demand) (sound : All IsSound all) (known : All (Contains all) part) (none : conflicts all ≡ []) where
-  part_sound : All IsSound part
-  part_sound = All-weaker (Contains all) IsSound (λ a is. All-contains IsSound all a sound is) part known
-
-  some_of : (a : Demand) → Contains all a → (m : Option (List ℕ)) → holds_nowhere m ≡ false → have_none (under m (filter (has_same_name a) part)) ≡ false
-  some_of a is m somewhere =
-      let p = counts_under m in
-      let q = has_same_name a in
-      false_by (have_none (under m (filter q part))) (λ empty.
-      subst (Some_is (Fits (filter q all) m)) none (some_fits all a m somewhere is (
-      more_none (filter p (filter q part)) (filter p (filter q all)) (All-filter p IsSound (filter q part) (All-filter q IsSound part part_sound)) (All-filter p IsSound (filter q all) (All-filter q IsSound all sound))
-      (λ v. of_part (Allows v) p q all part known) empty)))
-
-  -- nothing is wrong with some of the lines, where nothing is wrong with all
-  pub nothing_in_part : conflicts part ≡ []
-  nothing_in_part =
-      let made = λ (a : Demand). of_name (filter (has_same_name a) part) in
-      flat_nil made (first_mentions has_same_name [] part)
-      (mentions (λ a. made a ≡ []) has_same_name [] part (All-weaker (Contains all) (λ a. made a ≡ []) (λ a is. nothing_of (filter (has_same_name a) part) (some_of a is)) part known))
-
--- ---- parts of a project
-
-in_part_by : (all demands : List Demand) (b : Bool) → All (Contains all) demands → All (Contains all) (if b then demands else [])
-in_part_by all demands true k = k
-in_part_by all demands false k = All-nil (Contains all)
-
--- the requirements of a part are some of all
-pub part_known : (together : Bool) (is : List Inclusion) (part : Section) (xs : List StringReading) → All (Contains (all_demands xs)) (part_demands together is part xs)
-part_known together is part xs =
-    let all = all_demands xs in
-    all_flat (Contains all) (demand_in_part together (has_group is part) part) xs
-    (All-weaker (λ x. All (Contains all) (demands_in x.meaning)) (λ x. All (Contains all) (demand_in_part together (has_group is part) part x))
-    (λ x k. in_part_by all (demands_in x.meaning) (holds_in together (has_group is part) part x.section) k) xs
-    (each_flat (Contains all) (λ (x : StringReading). demands_in x.meaning) xs (All-contains_itself all)))
-
-pub none_in_parts : (together : Bool) (xs : List StringReading) → All IsSound (all_demands xs) → conflicts (all_demands xs) ≡ [] → project_conflicts together xs ≡ []
-none_in_parts together xs sound none =
-    ap (with_new same_finding [])
-    (flat_nil (part_conflicts together xs) (parts xs)
-    (everywhere (λ part. part_conflicts together xs part ≡ []) (λ part. nothing_in_part (all_demands xs) (part_demands together (inclusions (sections xs)) part xs) sound (part_known together (inclusions (sections xs)) part xs) none) (parts xs)))
-
--- the lists of all strings are sound
-pub sound_all : (xs : List StringReading) → All IsSoundString xs → All IsSound (all_demands xs)
-sound_all xs k = all_flat IsSound (λ (x : StringReading). demands_in x.meaning) xs k
-
 -- ---- no markers
 
 abbrev Unmarked : Demand → Type 0
@@ -446,30 +433,88 @@ no_firsts : (lines : List Demand) → All Unmarked lines → first_lines [] line
 no_firsts [] k = refl
 no_firsts (a ∷ rest) k = ap (λ l. first_lines l rest) (skipped a.marker a (All-head Unmarked a rest k)) ∙ no_firsts rest (All-tail Unmarked a rest k)
 
-nothing_each : {X : Type 0} (P : X → List Finding → List Cause → Type 0) → ((x : X) → P x [] []) → (xs : List X) → FindsOfEach P xs [] []
-nothing_each P none [] = (refl, refl)
-nothing_each P none (x ∷ xs) = ([], [], [], [], none x, nothing_each P none xs, refl, refl)
+no_marker : (m : Option (List ℕ)) → is_some m ≡ false → m ≡ None
+no_marker None e = refl
+no_marker (Some m) e = absurd (true≢false e)
 
-no_name : (d : Domain) (lines : List Demand) → All Unmarked lines → FindsOfName d lines [] []
-no_name d lines k =
-    let few : Some [] ≡ few_first_lines lines = ap (λ l. if nat_lt 32 (length l) then None else Some l) (sym (no_firsts lines k)) in
-    subst (λ (f : Option (List Demand)). FindsOfFirsts d lines f [] []) few (refl, refl)
+nothing_each : {X : Type 0} (P : X → List Finding → List Cause → Type 0) (xs : List X) → All (λ x. P x [] []) xs → FindsOfEach P xs [] []
+nothing_each P [] k = (refl, refl)
+nothing_each P (x ∷ xs) k = ([], [], [], [], All-head (λ y. P y [] []) x xs k, nothing_each P xs (All-tail (λ y. P y [] []) x xs k), refl, refl)
 
-no_names : (d : Domain) (lines : List Demand) → All Unmarked lines → FindsOfNames d lines [] []
-no_names d lines k = nothing_each (of_name_of d lines) (λ a. no_name d (filter (has_same_name a) lines) (All-filter (has_same_name a) Unmarked lines k)) (first_mentions has_same_name [] lines)
-
--- nothing is found where no requirement has a marker
-pub no_parts : (together : Bool) (xs : List StringReading) → list_any is_marked (all_demands xs) ≡ false → FindsOfParts together xs [] []
-no_parts together xs none =
-    let all = all_demands xs in
-    let unmarked = all_unmarked all none in (
+-- nothing is found of lines without markers that have a version in common
+nothing_of : (d : Domain) (lines : List Demand) → All Unmarked lines → have_none (unmarked lines) ≡ false → FindsOfName d lines [] []
+nothing_of d lines bare some =
+    let few : Some [] ≡ few_first_lines lines = ap (λ l. if nat_lt 32 (length l) then None else Some l) (sym (no_firsts lines bare)) in
+    let one : (a : Demand) → Unmarked a → of_marker_of d lines a [] [] = λ a is.
+    let (fs, cs, finds, adds, also) = set_shared d lines (a ∷ []) [] [] [] [] (ap have_none (under_unmarked a (no_marker a.marker is) lines) ∙ some) refl refl in
+    subst (λ l. of_marker_of d lines a l []) (sym adds) (subst (λ l. of_marker_of d lines a fs l) (sym also) finds) in
+    subst (λ b. FindsByUnmarked d lines b [] []) (sym some) (
       [],
-      nothing_each (FindsOfPart together xs)
-          (λ part. no_names (project_domain xs) (part_demands together (inclusions (sections xs)) part xs)
-          (All-weaker (Contains all) Unmarked (λ a is. All-contains Unmarked all a unmarked is) (part_demands together (inclusions (sections xs)) part xs) (part_known together (inclusions (sections xs)) part xs)))
-          (parts xs),
+      [],
+      [],
+      [],
+      nothing_each (of_marker_of d lines) (first_mentions has_same_marker [] lines) (mentions (λ a. of_marker_of d lines a [] []) has_same_marker [] lines (All-weaker Unmarked (λ a. of_marker_of d lines a [] []) one lines bare)),
+      subst (λ (f : Option (List Demand)). FindsOfFirsts d lines f [] []) few (refl, refl),
+      refl,
       refl,
     )
+
+module _ (d : Domain) (all part : List Demand) (sound : All IsSound all) (bare : All Unmarked all) (known : All (Contains all) part) (cs : List Cause) (none : FindsOfNames d all [] cs) where
+  some_of : (a : Demand) → Contains all a → have_none (unmarked (filter (has_same_name a) part)) ≡ false
+  some_of a is =
+      let p = λ (x : Demand). is_none x.marker in
+      let q = has_same_name a in
+      let part_sound = All-weaker (Contains all) IsSound (λ x at. All-contains IsSound all x sound at) part known in
+      let whole_sound = All-filter p IsSound (filter q all) (All-filter q IsSound all sound) in
+      false_by (have_none (unmarked (filter q part))) (λ empty.
+      let gone = more_none (filter p (filter q part)) (filter p (filter q all)) (All-filter p IsSound (filter q part) (All-filter q IsSound part part_sound)) whole_sound (λ v. of_part (Allows v) p q all part known) empty in
+      unmarked_found d a all is sound (λ v denoted k. none_allowed (filter p (filter q all)) whole_sound gone v denoted k) [] cs none)
+
+  -- nothing is wrong with some of the lines, where nothing is wrong with all
+  nothing_in_part : FindsOfNames d part [] []
+  nothing_in_part =
+      let nothing : (a : Demand) → Contains all a → of_name_of d part a [] [] = λ a is.
+      nothing_of d (filter (has_same_name a) part) (All-filter (has_same_name a) Unmarked part (All-weaker (Contains all) Unmarked (λ x at. All-contains Unmarked all x bare at) part known)) (some_of a is) in
+      nothing_each (of_name_of d part) (first_mentions has_same_name [] part)
+      (mentions (λ a. of_name_of d part a [] []) has_same_name [] part (All-weaker (Contains all) (λ a. of_name_of d part a [] []) nothing part known))
+
+-- ---- parts of a project
+
+in_part_by : (all demands : List Demand) (b : Bool) → All (Contains all) demands → All (Contains all) (if b then demands else [])
+in_part_by all demands true k = k
+in_part_by all demands false k = All-nil (Contains all)
+
+-- the requirements of a part are some of all
+pub part_known : (together : Bool) (is : List Inclusion) (part : Section) (xs : List StringReading) → All (Contains (all_demands xs)) (part_demands together is part xs)
+part_known together is part xs =
+    let all = all_demands xs in
+    all_flat (Contains all) (demand_in_part together (has_group is part) part) xs
+    (All-weaker (λ x. All (Contains all) (demands_in x.meaning)) (λ x. All (Contains all) (demand_in_part together (has_group is part) part x))
+    (λ x k. in_part_by all (demands_in x.meaning) (holds_in together (has_group is part) part x.section) k) xs
+    (each_flat (Contains all) (λ (x : StringReading). demands_in x.meaning) xs (All-contains_itself all)))
+
+-- nothing is found of any part, where nothing is found of all requirements, and none has a marker
+pub nothing_in_parts : (together : Bool) (xs : List StringReading) → list_any is_marked (all_demands xs) ≡ false → All IsSound (all_demands xs) → (cs : List Cause) → FindsOfNames (project_domain xs) (all_demands xs) [] cs → FindsOfParts together xs [] []
+nothing_in_parts together xs bare sound cs none =
+    let all = all_demands xs in
+    let is = inclusions (sections xs) in (
+      [],
+      nothing_each (FindsOfPart together xs) (parts xs)
+          (everywhere (λ part. FindsOfPart together xs part [] [])
+          (λ part. nothing_in_part (project_domain xs) all (part_demands together is part xs) sound (all_unmarked all bare) (part_known together is part xs) cs none) (parts xs)),
+      refl,
+    )
+
+-- where nothing was added, nothing is found of all requirements
+pub nothing_of_all : (xs : List StringReading) (d : Domain) (lines : List Demand) (old new : List FindingValue) (before after : List Cause) → d ≡ project_domain xs → lines ≡ all_demands xs → old ≡ [] → new ≡ []
+    → AddsFound (FindsOfNames d lines) old new before after → (cs : List Cause) × FindsOfNames (project_domain xs) (all_demands xs) [] cs
+nothing_of_all xs d lines old new before after same are none nil adds =
+    let (cs, finds) = found_nothing (FindsOfNames d lines) old new before after none nil adds in
+    (cs, subst (λ b. FindsOfNames b (all_demands xs) [] cs) same (subst (λ l. FindsOfNames d l [] cs) are finds))
+
+-- the lists of all strings are sound
+pub sound_all : (xs : List StringReading) → All IsSoundString xs → All IsSound (all_demands xs)
+sound_all xs k = all_flat IsSound (λ (x : StringReading). demands_in x.meaning) xs k
 
 -- ---- findings, each once
 

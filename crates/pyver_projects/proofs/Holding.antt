@@ -1,6 +1,6 @@
 -- Each finding of a report of documents is right, as are requirements of a project that have no version in common; documents that were read have
 -- lists that strings can give; and requirements that count always.
-use Rattle.std.proofs.Common.{Bool, Err, List, None, Ok, Option, Result, Some, [], ap, bytes_eq, codes, false, if◌then◌else◌, inl, inr, length, map, option_map, refl, subst, sym, true, ℕ, ◌++◌, ◌+◌, ◌∙◌, ◌∷◌, ◌≡◌}
+use Rattle.std.proofs.Common.{Bool, Err, List, None, Ok, Option, Result, Some, [], ap, bytes_eq, codes, false, if◌then◌else◌, inl, inr, is_none, length, map, option_map, refl, subst, sym, true, ℕ, ◌++◌, ◌+◌, ◌∙◌, ◌∷◌, ◌≡◌, take}
 use Rattle.std.proofs.lemmas.Bool.{true≢false}
 use Rattle.std.proofs.lemmas.List.{append-nil, append_assoc}
 use Rattle.std.proofs.lemmas.List.Elements.{All-append, All-cons, All-contains_itself, All-head, All-map, All-nil, All-tail, All-weaker}
@@ -8,6 +8,8 @@ use Rattle.std.specs.List.{All, AllZip, Contains, flat_map, list_any, zip}
 use Rattle.std.specs.Str.{IsUtf8}
 use Rattle.pep440_pick.specs.Names.{same_name}
 use Rattle.pep440_pick.specs.RequirementGrammar.{DerivesRequirement, Needed}
+use Rattle.pep440_rs.specs.Lists.ListGrammar.{DerivesList}
+use Rattle.pep440_rs.specs.Specifiers.{Spec}
 use Rattle.pep440_version.specs.ErrorTexts.{rejection_text}
 use Rattle.pyver_findings.specs.Demands.{Demand, IsSound, line_demand}
 use Rattle.pyver_findings.specs.FileLines.{File, FileLine, Finding, NoRequirement}
@@ -16,24 +18,22 @@ use Rattle.pyver_findings.specs.Reports.{Report, demands_in, empty_report, inval
 use Rattle.pyver_requirements.specs.LineParts.{LineParts, line_parts}
 use Rattle.toml.specs.Data.{Members}
 use Rattle.toml.specs.Parse.{parse_document}
-use Rattle.pyver_projects.specs.Together.{FindsOfPart, FindsOfParts, demand_in_part, has_group, holds_in, part_conflicts, part_demands, parts, project_conflicts, project_domain, same_finding, sections, with_new}
+use Rattle.pyver_projects.specs.Together.{FindsOfPart, FindsOfParts, demand_in_part, has_group, holds_in, part_demands, parts, project_domain, same_finding, sections, with_new}
 use Rattle.pyver_projects.proofs.Walks.{all_flat, pairs_each, zip_each}
-use Rattle.pyver_projects.specs.Comparing.{FindsOfReading, absent, beside_all, compared, compared_demand, documents_report, excluded, excluded_in, found_beside, found_in_pair, has_name, invalid_package, invalid_string, is_beside, is_excused, is_installer, is_locked, is_needed, lacking, leaves_out, outside, own_report, partly_locked, taken_packages, unlocked, unmet, with_own_reports}
+use Rattle.pyver_projects.specs.Comparing.{FindsOfReading, absent, beside_all, compared, compared_demand, documents_report, excluded, excluded_in, found_beside, found_in_pair, has_name, invalid_package, invalid_string, is_beside, is_excused, is_installer, is_locked, is_needed, lacking, leaves_out, own_report, partly_locked, taken_packages, unlocked, unmet, with_own_reports}
 use Rattle.pyver_projects.specs.Documents.{has_group_tool, locked, project_names, sources}
 use Rattle.pyver_projects.specs.Groups.{Groups, Inclusion, groups, inclusions, no_group}
 use Rattle.pyver_projects.proofs.LockedPackages.{IsLackHere, IsOutsideHere, excluded_right, none_named, partly_right}
-use Rattle.pyver_projects.specs.Meanings.{Document, DocumentReading, IsBroken, IsBrokenReading, IsDocumentReading, IsFileReading, IsLock, IsLockedReading, IsProject, IsRequirementReading, IsSectionMeaning, IsSoundDocument, IsSoundString, IsStringReading, IsVersionReading, LockedReading, StringReading, fault_meaning, file_meaning, is_of_version, package_line, requirement_line, string_line}
+use Rattle.pyver_projects.specs.Meanings.{Document, DocumentReading, IsBroken, IsBrokenReading, IsDocumentReading, IsFileReading, IsLock, IsLockedReading, IsProject, IsRequirementReading, IsSectionMeaning, IsSoundDocument, IsSoundString, IsStringReading, IsVersionReading, LockedReading, StringReading, fault_meaning, file_meaning, is_of_version, package_line, reference_marker, requirement_line, string_line, position_line}
 use Rattle.pyver_projects.specs.ProjectLaws.{AlwaysAsks, DocumentFindingsHold, HasLock, HasPackage, HasProject, IsDocumentFinding, IsReadable, IsReadableAs, IsRightPart, line_in_part, part_lines}
-use Rattle.pyver_projects.specs.ProjectStrings.{Build, Dependencies, Extra, Group, Include, Invalid, LockContents, LockFault, LockedFile, LockedPackage, LockedRequirement, ProjectString, Python, Section, Version}
+use Rattle.pyver_projects.specs.ProjectStrings.{Build, Dependencies, Extra, Group, Include, Invalid, LockContents, LockFault, LockParts, LockedFile, LockedPackage, LockedRequirement, ProjectString, Python, Section, Version, last_bytes}
 use Rattle.pyver_projects.specs.declared.document_kind.DocumentKind.{DocumentKind}
 use Rattle.pyver_projects.specs.declared.document_kind.DocumentKind.TheVariants.{Lock, Project}
 use Rattle.pyver_projects.specs.declared.document_kind.LockKind.{LockKind}
-use Rattle.pyver_findings.proofs.Holding.{IsAsked, conflicts_right, derived_sound, found_each, pairs_of_names_right}
-use Rattle.pyver_findings.specs.FindingLaws.{HasMarker, IsRightConflict, IsRightPair}
-use Rattle.pyver_projects.specs.ProjectViews.{reading_in}
-use Rattle.pyver_projects.specs.declared.document_reading.ReadDocument.{ReadDocument}
+use Rattle.pyver_findings.proofs.Holding.{IsAsked, derived_sound, found_each, names_right}
+use Rattle.pyver_findings.specs.FindingLaws.{HasMarker, IsRightConflict}
 use Rattle.pyver_findings.specs.declared.cause.Cause.{Cause}
-use Rattle.pyver_findings.specs.MarkerPairs.{FindsOfEach}
+use Rattle.pyver_findings.specs.MarkedConflicts.{FindsOfEach}
 use Rattle.pyver_findings.proofs.Complete.{one_parts}
 use Rattle.pyver_requirements.specs.MarkerReading.{marker as read_marker}
 use Rattle.pyver_requirements.specs.MarkerSteps.{Misfit}
@@ -207,35 +207,21 @@ module _ (P : Finding → Type 0) where
   with_new_all found (f ∷ fs) k each =
       with_new_all (if list_any (same_finding f) found then found else found ++ f ∷ []) fs (by_new (list_any (same_finding f) found) found f k (All-head P f fs each)) (All-tail P f fs each)
 
-module _ (P : Finding → Type 0) (file : File) (t : Members) (so : (part : Section) (f : Finding) → IsRightConflict line_parts (part_lines file t part) f → P f) where
-  part_holds : (xs : List StringReading) → AllZip (IsStringReading (groups t) file) (sources t) xs → (part : Section) → All P (part_conflicts (has_group_tool t) xs part)
-  part_holds xs h part =
-      let read = part_lines file t part in
-      let known = each_flat (Contains read) (line_in_part (has_group_tool t) (has_group (groups t).inclusions part) part file) (sources t) (All-contains_itself read) in
-      let asks = in_part (groups t) file (has_group_tool t) (has_group (groups t).inclusions part) part read (sources t) xs known h in
-      let same : inclusions (sections xs) ≡ (groups t).inclusions = ap inclusions (sections_same (groups t) file (sources t) xs h) in
-      All-weaker (IsRightConflict line_parts read) P (so part) (part_conflicts (has_group_tool t) xs part)
-      (conflicts_right line_parts read (part_demands (has_group_tool t) (inclusions (sections xs)) part xs) (subst (λ (is : List Inclusion). All (IsAsked line_parts read) (part_demands (has_group_tool t) is part xs)) (sym same) asks))
-
-  pub conflicts_hold : (xs : List StringReading) → AllZip (IsStringReading (groups t) file) (sources t) xs → All P (project_conflicts (has_group_tool t) xs)
-  conflicts_hold xs h =
-      with_new_all P [] (flat_map (part_conflicts (has_group_tool t) xs) (parts xs)) (All-nil P) (all_flat P (part_conflicts (has_group_tool t) xs) (parts xs) (everywhere (λ part. All P (part_conflicts (has_group_tool t) xs part)) (part_holds xs h) (parts xs)))
-
--- what is found under several markers
+-- what is found of requirements that hold together
 module _ (P : Finding → Type 0) (file : File) (t : Members) (so : (part : Section) (f : Finding) → IsRightPart file t (part_lines file t part) f → P f) where
-  part_pairs_hold : (xs : List StringReading) → AllZip (IsStringReading (groups t) file) (sources t) xs → (part : Section) (fs : List Finding) (cs : List Cause) → FindsOfPart (has_group_tool t) xs part fs cs → All P fs
-  part_pairs_hold xs h part fs cs finds =
+  part_holds : (xs : List StringReading) → AllZip (IsStringReading (groups t) file) (sources t) xs → (part : Section) (fs : List Finding) (cs : List Cause) → FindsOfPart (has_group_tool t) xs part fs cs → All P fs
+  part_holds xs h part fs cs finds =
       let read = part_lines file t part in
       let known = each_flat (Contains read) (line_in_part (has_group_tool t) (has_group (groups t).inclusions part) part file) (sources t) (All-contains_itself read) in
       let asks = in_part (groups t) file (has_group_tool t) (has_group (groups t).inclusions part) part read (sources t) xs known h in
       let same : inclusions (sections xs) ≡ (groups t).inclusions = ap inclusions (sections_same (groups t) file (sources t) xs h) in
       let domain = project_domain xs in
-      All-weaker (IsRightPair line_parts domain read) P (λ f right. so part f (domain, (xs, h, refl), right)) fs
-      (pairs_of_names_right line_parts read domain (part_demands (has_group_tool t) (inclusions (sections xs)) part xs) (subst (λ (is : List Inclusion). All (IsAsked line_parts read) (part_demands (has_group_tool t) is part xs)) (sym same) asks) fs cs finds)
+      All-weaker (IsRightConflict line_parts domain read) P (λ f right. so part f (domain, (xs, h, refl), right)) fs
+      (names_right line_parts read domain (part_demands (has_group_tool t) (inclusions (sections xs)) part xs) (subst (λ (is : List Inclusion). All (IsAsked line_parts read) (part_demands (has_group_tool t) is part xs)) (sym same) asks) fs cs finds)
 
-  pub pairs_hold : (xs : List StringReading) → AllZip (IsStringReading (groups t) file) (sources t) xs → (fs : List Finding) (cs : List Cause) → FindsOfParts (has_group_tool t) xs fs cs → All P fs
-  pairs_hold xs h fs cs (found, finds, is) =
-      subst (All P) (sym is) (with_new_all P [] found (All-nil P) (found_each P (FindsOfPart (has_group_tool t) xs) (λ part gs ds one. part_pairs_hold xs h part gs ds one) (parts xs) found cs finds))
+  pub conflicts_hold : (xs : List StringReading) → AllZip (IsStringReading (groups t) file) (sources t) xs → (fs : List Finding) (cs : List Cause) → FindsOfParts (has_group_tool t) xs fs cs → All P fs
+  conflicts_hold xs h fs cs (found, finds, is) =
+      subst (All P) (sym is) (with_new_all P [] found (All-nil P) (found_each P (FindsOfPart (has_group_tool t) xs) (λ part gs ds one. part_holds xs h part gs ds one) (parts xs) found cs finds))
 
 -- it holds of what is found of each element of a list
 known_each : {X : Type 0} (Q : Finding → Type 0) (P : X → List Finding → List Cause → Type 0) (xs : List X) → All (λ x. (fs : List Finding) (cs : List Cause) → P x fs cs → All Q fs) xs → (fs : List Finding) (cs : List Cause) → FindsOfEach P xs fs cs → All Q fs
@@ -252,9 +238,11 @@ module _ (documents : List Document) where
   -- ---- documents by themselves
 
   unread : (excused : List ℕ → Bool) (d : Document) (x : DocumentReading) → Contains documents d → (IsReadable d → ⊥) → IsBrokenReading d.file x → All Right (own_report excused x).findings
-  unread excused d x known none (line, reason, column, place, is) =
+  unread excused d x known none (position, reason, is) =
+      let line = position_line d.file position in
+      let column = last_bytes (take position d.file.text) in
       subst (λ (y : DocumentReading). All Right (own_report excused y).findings) (sym is)
-      (All-cons Right (NoRequirement line reason column) [] (inr (inr (inl (record { document = d; line = line; reason = reason; column = column; has = known; none = none; place = place; is = refl })))) (All-nil Right))
+      (All-cons Right (NoRequirement line reason column) [] (inr (inr (inl (record { document = d; line = line; reason = reason; column = column; has = known; none = none; place = refl; is = refl })))) (All-nil Right))
 
   of_string : (file : File) (t : Members) (s : ProjectString) (m : LineMeaning) → HasProject documents file t → Contains (sources t) s → IsSectionMeaning (groups t) s.section (string_line file s) s.text m → All Right (invalid_in m)
   of_string file t s (Asks a) has at is = All-nil Right
@@ -319,22 +307,43 @@ module _ (documents : List Document) where
   of_fault lock kind l known q at =
       All-cons Right _ [] (inr (inr (inr (inr (inr (inr (inr (inr (inr (inl (record { lock = lock; kind = kind; contents = l; fault = q; known = known; within = at; is = refl }))))))))))) (All-nil Right)
 
+  -- a requirement of a package that does not only refer to another one
+  lack_right : (lock : File) (kind : LockKind) (l : LockContents) → HasLock documents kind lock l → (q : LockedRequirement) → Contains l.requirements q → (ys : List LockedReading) → AllZip (IsLockedReading lock.name) l.packages ys
+      → (list : List Spec) → DerivesList q.list list → (b : Bool) → q.is_reference ≡ b
+      → All Right (if is_none (reference_marker b) then partly_locked l.parts (requirement_line lock.name q) (taken_packages ys (line_demand (requirement_line lock.name q) None (record { name = q.name; extras = []; specifiers = list }))) else [])
+  lack_right lock kind l known q at ys h list read true is = All-nil Right
+  lack_right lock kind l known q at ys h list read false is =
+      let n : Needed = record { name = q.name; extras = []; specifiers = list } in
+      let line = requirement_line lock.name q in
+      All-weaker (IsLackHere lock.name l.packages line n l.parts) Right
+      (λ f lack. inr (inr (inr (inr (inr (inr (inr (inr (inr (inr (inr (record {
+        lock = lock;
+        kind = kind;
+        contents = l;
+        requirement = q;
+        list = list;
+        known = known;
+        within = at;
+        read = read;
+        always = is;
+        lack = lack;
+      }))))))))))))
+      (partly_locked l.parts line (taken_packages ys (line_demand line None n))) (partly_right lock.name l.packages line n ys h l.parts)
+
   -- a requirement of a package
   of_requirement : (lock : File) (kind : LockKind) (l : LockContents) → HasLock documents kind lock l → (q : LockedRequirement) → Contains l.requirements q → (ys : List LockedReading) → AllZip (IsLockedReading lock.name) l.packages ys
-      → (excused : List ℕ → Bool) (m : LineMeaning) → IsRequirementReading lock.name q m → All Right (unmet excused ys m)
-  of_requirement lock kind l known q at ys h excused m (inr (f, r, is)) = subst (λ (x : LineMeaning). All Right (unmet excused ys x)) (sym is) (All-nil Right)
+      → (excused : List ℕ → Bool) (m : LineMeaning) → IsRequirementReading lock.name q m → All Right (unmet excused l.parts ys m)
+  of_requirement lock kind l known q at ys h excused m (inr (f, r, is)) = subst (λ (x : LineMeaning). All Right (unmet excused l.parts ys x)) (sym is) (All-nil Right)
   of_requirement lock kind l known q at ys h excused m (inl (list, read, is)) =
       let n : Needed = record { name = q.name; extras = []; specifiers = list } in
       let line = requirement_line lock.name q in
-      let asked = line_demand line None n in
-      subst (λ (x : LineMeaning). All Right (unmet excused ys x)) (sym is)
-      (All-append Right (lacking excused ys asked ++ excluded asked ys) []
-      (All-append Right (lacking excused ys asked) (excluded asked ys)
-      (unless_right (excused asked.name) (unlocked ys asked)
-      (All-append Right (absent ys asked) (partly_locked line (taken_packages ys asked)) (absent_right lock kind l known q at ys h n (list_any (has_name asked) ys) refl refl)
-      (All-weaker (IsLackHere lock.name l.packages line n) Right
-      (λ f lack. inr (inr (inr (inr (inr (inr (inr (inr (inr (inr (inr (record { lock = lock; kind = kind; contents = l; requirement = q; list = list; known = known; within = at; read = read; lack = lack }))))))))))))
-      (partly_locked line (taken_packages ys asked)) (partly_right lock.name l.packages line n ys h))))
+      let asked = line_demand line (reference_marker q.is_reference) n in
+      subst (λ (x : LineMeaning). All Right (unmet excused l.parts ys x)) (sym is)
+      (All-append Right (lacking excused l.parts ys asked ++ excluded asked ys) []
+      (All-append Right (lacking excused l.parts ys asked) (excluded asked ys)
+      (unless_right (excused asked.name) (unlocked l.parts ys asked)
+      (All-append Right (absent ys asked) (if is_none asked.marker then partly_locked l.parts line (taken_packages ys asked) else [])
+      (absent_right lock kind l known q at ys h n (list_any (has_name asked) ys) refl refl) (lack_right lock kind l known q at ys h list read q.is_reference refl)))
       (All-weaker (IsOutsideHere lock.name l.packages line n) Right
       (λ f out. inr (inr (inr (inr (inr (inr (inl (record { lock = lock; kind = kind; contents = l; requirement = q; list = list; known = known; within = at; read = read; outside = out })))))))) (excluded asked ys)
       (excluded_right lock.name l.packages line n ys h))) (All-nil Right))
@@ -351,29 +360,27 @@ module _ (documents : List Document) where
 
   of_document : (excused : List ℕ → Bool) (kind : DocumentKind) (file : File) (x : DocumentReading) → Contains documents (record { kind = kind; file = file }) → IsDocumentReading (record { kind = kind; file = file }) x
       → All Right (own_report excused x).findings
-  of_document excused kind file x known (inl (none, broken)) = unread excused (record { kind = kind; file = file }) x known (no_utf8 kind file none) broken
+  of_document excused kind file x known (inl (none, (position, told))) = unread excused (record { kind = kind; file = file }) x known (no_utf8 kind file none) (position, _, told)
   of_document excused Project file x known (inr (text, inr (none, broken))) = unread excused (record { kind = Project; file = file }) x known (no_toml file none) broken
   of_document excused (Lock kind) file x known (inr (text, inr (none, broken))) = unread excused (record { kind = Lock kind; file = file }) x known (no_contents kind file none) broken
   of_document excused Project file x known (inr (text, inl (t, e, (xs, h, is)))) =
       subst (λ (y : DocumentReading). All Right (own_report excused y).findings) (sym is)
-      (All-append Right (flat_map invalid_string xs) (project_conflicts (has_group_tool t) xs)
       (all_flat Right invalid_string xs
       (zip_each (IsStringReading (groups t) file) (Contains (sources t)) (λ z. All Right (invalid_string z)) (λ s z at r. of_string file t s z.meaning (known, (text, e)) at r.1) (sources t) xs (All-contains_itself (sources t)) h))
-      (conflicts_hold Right file t (λ part f right. inr (inr (inr (inr (inr (inl (record { file = file; table = t; part = part; has = (known, (text, e)); right = inl right }))))))) xs h))
   of_document excused (Lock kind) file x known (inr (text, inl (l, e, (ys, ms, fs, g, h, k, is)))) =
       let faults = fs ++ map (fault_meaning file.name) l.faults in
       subst (λ (y : DocumentReading). All Right (own_report excused y).findings) (sym is)
-      (All-append Right (flat_map invalid_package ys) (flat_map invalid_in faults ++ flat_map (unmet excused ys) ms)
+      (All-append Right (flat_map invalid_package ys) (flat_map invalid_in faults ++ flat_map (unmet excused l.parts ys) ms)
       (all_flat Right invalid_package ys
       (zip_each (IsLockedReading file.name) (Contains l.packages) (λ z. All Right (invalid_package z)) (λ p z at r. of_package file p p.version z (kind, l, (known, (text, e)), at) refl r.1) l.packages ys (All-contains_itself l.packages) g))
-      (All-append Right (flat_map invalid_in faults) (flat_map (unmet excused ys) ms)
+      (All-append Right (flat_map invalid_in faults) (flat_map (unmet excused l.parts ys) ms)
       (all_flat Right invalid_in faults
       (All-append (λ m. All Right (invalid_in m)) fs (map (fault_meaning file.name) l.faults)
       (zip_each (IsFileReading file.name) (Contains l.files) (λ m. All Right (invalid_in m)) (λ p m at r. of_file file kind l (known, (text, e)) p at m r) l.files fs (All-contains_itself l.files) k)
       (All-map (λ m. All Right (invalid_in m)) (fault_meaning file.name) l.faults
       (All-weaker (Contains l.faults) (λ q. All Right (invalid_in (fault_meaning file.name q))) (λ q at. of_fault file kind l (known, (text, e)) q at) l.faults (All-contains_itself l.faults)))))
-      (all_flat Right (unmet excused ys) ms
-      (zip_each (IsRequirementReading file.name) (Contains l.requirements) (λ m. All Right (unmet excused ys m)) (λ q m at r. of_requirement file kind l (known, (text, e)) q at ys g excused m r) l.requirements ms (All-contains_itself l.requirements) h))))
+      (all_flat Right (unmet excused l.parts ys) ms
+      (zip_each (IsRequirementReading file.name) (Contains l.requirements) (λ m. All Right (unmet excused l.parts ys m)) (λ q m at r. of_requirement file kind l (known, (text, e)) q at ys g excused m r) l.requirements ms (All-contains_itself l.requirements) h))))
 
   -- ---- a project beside a lock
 
@@ -384,13 +391,13 @@ module _ (documents : List Document) where
         abbrev pub asked : Demand
         asked = line_demand (string_line file s) None n
 
-        excludes : leaves_out kind u.parts s.section ≡ false → (f : Finding) → IsOutsideHere lock.name u.packages (string_line file s) n f → Right f
+        excludes : leaves_out kind u.parts.names s.section ≡ false → (f : Finding) → IsOutsideHere lock.name u.packages (string_line file s) n f → Right f
         excludes within f out = inr (inr (inr (inr (inl (record { file = file; string = s; lock = lock; kind = kind; contents = u; needed = n; has = (t, known, at); counts = within; asks = asks; known = other; outside = out })))))
 
         module _ (ys : List LockedReading) (h : AllZip (IsLockedReading lock.name) u.packages ys) where
-          partly_missing : is_needed kind u.parts s.section ≡ true → All Right (partly_locked (string_line file s) (taken_packages ys asked))
+          partly_missing : is_needed kind u.parts.names s.section ≡ true → All Right (partly_locked u.parts (string_line file s) (taken_packages ys asked))
           partly_missing needs =
-              All-weaker (IsLackHere lock.name u.packages (string_line file s) n) Right
+              All-weaker (IsLackHere lock.name u.packages (string_line file s) n u.parts) Right
               (λ f lack. inr (inr (inr (inr (inr (inr (inr (inr (inr (inr (inl (record {
                 file = file;
                 string = s;
@@ -404,9 +411,9 @@ module _ (documents : List Document) where
                 known = other;
                 lack = lack;
               }))))))))))))
-              (partly_locked (string_line file s) (taken_packages ys asked)) (partly_right lock.name u.packages (string_line file s) n ys h)
+              (partly_locked u.parts (string_line file s) (taken_packages ys asked)) (partly_right lock.name u.packages (string_line file s) n ys h u.parts)
 
-          absent_here : (c : Bool) → is_needed kind u.parts s.section ≡ true → list_any (has_name asked) ys ≡ c
+          absent_here : (c : Bool) → is_needed kind u.parts.names s.section ≡ true → list_any (has_name asked) ys ≡ c
               → All Right (if c then [] else NoRequirement (string_line file s) (codes "the lock has no package of this name") 0 ∷ [])
           absent_here true needs e = All-nil Right
           absent_here false needs e =
@@ -426,11 +433,11 @@ module _ (documents : List Document) where
                 is = refl;
               }))))) (All-nil Right)
 
-          missing_right : (b : Bool) → is_needed kind u.parts s.section ≡ b → All Right (if b then unlocked ys asked else [])
+          missing_right : (b : Bool) → is_needed kind u.parts.names s.section ≡ b → All Right (if b then unlocked u.parts ys asked else [])
           missing_right false needs = All-nil Right
-          missing_right true needs = All-append Right (absent ys asked) (partly_locked (string_line file s) (taken_packages ys asked)) (absent_here (list_any (has_name asked) ys) needs refl) (partly_missing needs)
+          missing_right true needs = All-append Right (absent ys asked) (partly_locked u.parts (string_line file s) (taken_packages ys asked)) (absent_here (list_any (has_name asked) ys) needs refl) (partly_missing needs)
 
-          excluded_here : (b : Bool) → leaves_out kind u.parts s.section ≡ b → All Right (if b then [] else excluded asked ys)
+          excluded_here : (b : Bool) → leaves_out kind u.parts.names s.section ≡ b → All Right (if b then [] else excluded asked ys)
           excluded_here true within = All-nil Right
           excluded_here false within =
               All-weaker (IsOutsideHere lock.name u.packages (string_line file s) n) Right (excludes within) (excluded asked ys) (excluded_right lock.name u.packages (string_line file s) n ys h)
@@ -441,8 +448,8 @@ module _ (documents : List Document) where
 
           always_right : All Right (compared_demand kind u.parts (project_names t) ys s.section asked)
           always_right =
-              All-append Right _ (excluded_in kind u.parts (project_names t) ys s.section asked) (unless (is_installer asked.name) _ (unless (list_any (bytes_eq asked.name) (project_names t)) _ (missing_right (is_needed kind u.parts s.section) refl)))
-              (excluded_here (leaves_out kind u.parts s.section) refl)
+              All-append Right _ (excluded_in kind u.parts (project_names t) ys s.section asked) (unless (is_installer asked.name) _ (unless (list_any (bytes_eq asked.name) (project_names t)) _ (missing_right (is_needed kind u.parts.names s.section) refl)))
+              (excluded_here (leaves_out kind u.parts.names s.section) refl)
 
       module _ (ys : List LockedReading) (h : AllZip (IsLockedReading lock.name) u.packages ys) where
         by_marker : (a : Demand) (k : AsksFor (string_line file s) (line_parts s.text) a) (marker : Option (List ℕ)) → (marker ≡ None → (line_parts s.text).marker ≡ None) → All Right (compared_demand kind u.parts (project_names t) ys s.section (line_demand (string_line file s) marker k.needed))
@@ -480,21 +487,21 @@ module _ (documents : List Document) where
   nothing_beside Project together names xs f = All-nil Right
   nothing_beside (Lock kind) together names xs f = All-nil Right
 
-  nothing_of_lock : (kind : DocumentKind) (parts : List (List ℕ)) (ys : List LockedReading) (ms fs : List LineMeaning) (y : DocumentReading) → All Right (found_beside kind (IsLock parts ys ms fs) y)
+  nothing_of_lock : (kind : DocumentKind) (parts : LockParts) (ys : List LockedReading) (ms fs : List LineMeaning) (y : DocumentReading) → All Right (found_beside kind (IsLock parts ys ms fs) y)
   nothing_of_lock Project parts ys ms fs y = All-nil Right
   nothing_of_lock (Lock kind) parts ys ms fs y = All-nil Right
 
   broken_right : (kind : DocumentKind) (file : File) (x y : DocumentReading) → IsBrokenReading file x → All Right (found_beside kind x y)
-  broken_right kind file x y (line, reason, column, place, is) = subst (λ (z : DocumentReading). All Right (found_beside kind z y)) (sym is) (nothing_broken kind (NoRequirement line reason column) y)
+  broken_right kind file x y (position, reason, is) = subst (λ (z : DocumentReading). All Right (found_beside kind z y)) (sym is) (nothing_broken kind (NoRequirement (position_line file position) reason (last_bytes (take position file.text))) y)
 
   module _ (file : File) (t : Members) (known : HasProject documents file t) (xs : List StringReading) (g : AllZip (IsStringReading (groups t) file) (sources t) xs) where
     beside_broken : (kind : DocumentKind) (other : File) (y : DocumentReading) → IsBrokenReading other y → All Right (found_beside kind (IsProject (has_group_tool t) (project_names t) xs) y)
-    beside_broken kind other y (line, reason, column, place, is) =
-        subst (λ (z : DocumentReading). All Right (found_beside kind (IsProject (has_group_tool t) (project_names t) xs) z)) (sym is) (nothing_beside kind (has_group_tool t) (project_names t) xs (NoRequirement line reason column))
+    beside_broken kind other y (position, reason, is) =
+        subst (λ (z : DocumentReading). All Right (found_beside kind (IsProject (has_group_tool t) (project_names t) xs) z)) (sym is) (nothing_beside kind (has_group_tool t) (project_names t) xs (NoRequirement (position_line other position) reason (last_bytes (take position other.text))))
 
     beside_project : (kind : DocumentKind) (other : File) (y : DocumentReading) → Contains documents (record { kind = kind; file = other }) → IsDocumentReading (record { kind = kind; file = other }) y
         → All Right (found_beside kind (IsProject (has_group_tool t) (project_names t) xs) y)
-    beside_project kind other y at (inl (none, broken)) = beside_broken kind other y broken
+    beside_project kind other y at (inl (none, (position, told))) = beside_broken kind other y (position, _, told)
     beside_project Project other y at (inr (text, inr (none, broken))) = beside_broken Project other y broken
     beside_project (Lock kind) other y at (inr (text, inr (none, broken))) = beside_broken (Lock kind) other y broken
     beside_project Project other y at (inr (text, inl (u, e, (zs, h, is)))) = subst (λ (z : DocumentReading). All Right (found_beside Project (IsProject (has_group_tool t) (project_names t) xs) z)) (sym is) (All-nil Right)
@@ -503,7 +510,7 @@ module _ (documents : List Document) where
 
   beside_right : (kind : DocumentKind) (file : File) (other : Document) (x y : DocumentReading) → Contains documents (record { kind = kind; file = file }) → Contains documents other → IsDocumentReading (record { kind = kind; file = file }) x
       → IsDocumentReading other y → All Right (found_beside other.kind x y)
-  beside_right kind file other x y known at (inl (none, broken)) r = broken_right other.kind file x y broken
+  beside_right kind file other x y known at (inl (none, (position, told))) r = broken_right other.kind file x y (position, _, told)
   beside_right Project file other x y known at (inr (text, inr (none, broken))) r = broken_right other.kind file x y broken
   beside_right (Lock kind) file other x y known at (inr (text, inr (none, broken))) r = broken_right other.kind file x y broken
   beside_right (Lock kind) file other x y known at (inr (text, inl (t, e, (ys, ms, fs, g, h, k, is)))) r = subst (λ (z : DocumentReading). All Right (found_beside other.kind z y)) (sym is) (nothing_of_lock other.kind t.parts ys ms (fs ++ map (fault_meaning file.name) t.faults) y)
@@ -535,36 +542,36 @@ module _ (documents : List Document) where
       (λ e y at s. counted_right (is_beside documents d e) (found_beside e.kind x y) (beside_right d.kind d.file e x y known at r s)) documents xs (All-contains_itself documents) h)) documents xs
       (All-contains_itself documents) h))
 
--- what is found of a document under several markers
+-- what is found of the requirements of a document
 module _ (documents : List Document) where
   none_found : (fs : List Finding) → fs ≡ [] → All (IsDocumentFinding documents) fs
   none_found fs none = subst (All (IsDocumentFinding documents)) (sym none) (All-nil (IsDocumentFinding documents))
 
-  broken_pairs : (file : File) (x : DocumentReading) → IsBrokenReading file x → (fs : List Finding) (cs : List Cause) → FindsOfReading x fs cs → All (IsDocumentFinding documents) fs
-  broken_pairs file x (line, reason, column, place, is) fs cs finds = none_found fs (subst (λ (z : DocumentReading). FindsOfReading z fs cs) is finds).0
+  broken_conflicts : (file : File) (x : DocumentReading) → IsBrokenReading file x → (fs : List Finding) (cs : List Cause) → FindsOfReading x fs cs → All (IsDocumentFinding documents) fs
+  broken_conflicts file x (position, reason, is) fs cs finds = none_found fs (subst (λ (z : DocumentReading). FindsOfReading z fs cs) is finds).0
 
-  reading_pairs : (kind : DocumentKind) (file : File) (x : DocumentReading) → Contains documents (record { kind = kind; file = file }) → IsDocumentReading (record { kind = kind; file = file }) x → (fs : List Finding) (cs : List Cause)
+  reading_conflicts : (kind : DocumentKind) (file : File) (x : DocumentReading) → Contains documents (record { kind = kind; file = file }) → IsDocumentReading (record { kind = kind; file = file }) x → (fs : List Finding) (cs : List Cause)
       → FindsOfReading x fs cs → All (IsDocumentFinding documents) fs
-  reading_pairs kind file x known (inl (none, broken)) fs cs finds = broken_pairs file x broken fs cs finds
-  reading_pairs Project file x known (inr (text, inr (none, broken))) fs cs finds = broken_pairs file x broken fs cs finds
-  reading_pairs (Lock kind) file x known (inr (text, inr (none, broken))) fs cs finds = broken_pairs file x broken fs cs finds
-  reading_pairs (Lock kind) file x known (inr (text, inl (t, e, (ys, ms, files, g, h, k, is)))) fs cs finds = none_found fs (subst (λ (z : DocumentReading). FindsOfReading z fs cs) is finds).0
-  reading_pairs Project file x known (inr (text, inl (t, e, (xs, h, is)))) fs cs finds =
-      pairs_hold (IsDocumentFinding documents) file t
-      (λ part f right. inr (inr (inr (inr (inr (inl (record { file = file; table = t; part = part; has = (known, (text, e)); right = inr right }))))))) xs h fs cs (subst (λ (z : DocumentReading). FindsOfReading z fs cs) is finds)
+  reading_conflicts kind file x known (inl (none, (position, told))) fs cs finds = broken_conflicts file x (position, _, told) fs cs finds
+  reading_conflicts Project file x known (inr (text, inr (none, broken))) fs cs finds = broken_conflicts file x broken fs cs finds
+  reading_conflicts (Lock kind) file x known (inr (text, inr (none, broken))) fs cs finds = broken_conflicts file x broken fs cs finds
+  reading_conflicts (Lock kind) file x known (inr (text, inl (t, e, (ys, ms, files, g, h, k, is)))) fs cs finds = none_found fs (subst (λ (z : DocumentReading). FindsOfReading z fs cs) is finds).0
+  reading_conflicts Project file x known (inr (text, inl (t, e, (xs, h, is)))) fs cs finds =
+      conflicts_hold (IsDocumentFinding documents) file t
+      (λ part f right. inr (inr (inr (inr (inr (inl (record { file = file; table = t; part = part; has = (known, (text, e)); right = right }))))))) xs h fs cs (subst (λ (z : DocumentReading). FindsOfReading z fs cs) is finds)
 
 pub findings_hold : DocumentFindingsHold
 findings_hold documents r (xs, h, fs, cs, finds, is) =
     let P = IsDocumentFinding documents in
     subst (λ (q : Report). All P q.findings) (sym is)
     (All-append P (documents_report documents xs).findings fs (all_right documents xs h)
-    (known_each P FindsOfReading xs (zip_each IsDocumentReading (Contains documents) (λ x. (gs : List Finding) (ds : List Cause) → FindsOfReading x gs ds → All P gs) (λ d x known one. reading_pairs documents d.kind d.file x known one) documents xs (All-contains_itself documents) h) fs cs finds))
+    (known_each P FindsOfReading xs (zip_each IsDocumentReading (Contains documents) (λ x. (gs : List Finding) (ds : List Cause) → FindsOfReading x gs ds → All P gs) (λ d x known one. reading_conflicts documents d.kind d.file x known one) documents xs (All-contains_itself documents) h) fs cs finds))
 
 sound_broken : (file : File) (x : DocumentReading) → IsBrokenReading file x → IsSoundDocument x
-sound_broken file x (line, reason, column, place, is) = subst (λ (y : DocumentReading). IsSoundDocument y) (sym is) tt
+sound_broken file x (position, reason, is) = subst (λ (y : DocumentReading). IsSoundDocument y) (sym is) tt
 
 sound_document : (kind : DocumentKind) (file : File) (x : DocumentReading) → IsDocumentReading (record { kind = kind; file = file }) x → IsSoundDocument x
-sound_document kind file x (inl (none, broken)) = sound_broken file x broken
+sound_document kind file x (inl (none, (position, told))) = sound_broken file x (position, _, told)
 sound_document Project file x (inr (text, inr (none, broken))) = sound_broken file x broken
 sound_document (Lock kind) file x (inr (text, inr (none, broken))) = sound_broken file x broken
 sound_document Project file x (inr (text, inl (t, e, (xs, h, is)))) =
@@ -574,10 +581,3 @@ sound_document (Lock kind) file x (inr (text, inl (l, e, (ys, ms, fs, g, h, k, i
 
 pub sound_documents : (documents : List Document) (xs : List DocumentReading) → AllZip IsDocumentReading documents xs → All IsSoundDocument xs
 sound_documents documents xs h = zip_each IsDocumentReading (Contains documents) IsSoundDocument (λ d x known r. sound_document d.kind d.file x r) documents xs (All-contains_itself documents) h
-
--- of documents that are taken one after another
-pub sound_head : (x : ReadDocument) (rest all : List ReadDocument) → all ≡ x ∷ rest → All IsSoundDocument (map reading_in all) → IsSoundDocument (reading_in x)
-sound_head x rest all is k = All-head IsSoundDocument (reading_in x) (map reading_in rest) (subst (λ (xs : List ReadDocument). All IsSoundDocument (map reading_in xs)) is k)
-
-pub sound_rest : (x : ReadDocument) (rest all : List ReadDocument) → all ≡ x ∷ rest → All IsSoundDocument (map reading_in all) → All IsSoundDocument (map reading_in rest)
-sound_rest x rest all is k = All-tail IsSoundDocument (reading_in x) (map reading_in rest) (subst (λ (xs : List ReadDocument). All IsSoundDocument (map reading_in xs)) is k)

@@ -1,13 +1,14 @@
 -- The variables of known environments, markers that do not hold there, and packages that a lock leaves out there; requirements beside the packages of a
 -- lock, which exclude them, or which none of them meets.
-use Rattle.std.proofs.Common.{◌≡◌, ◌==◌, ◌∙◌, ◌&&◌, ◌||◌, ℕ, Bor, List, [], ◌∷◌, Bool, true, false, Option, Some, None, IfOk, Result, Ok, Err, ap, arith, cond, is_none, length, map, option_map, refl, subst, suc, sym, zero, get_or, if◌then◌else◌, inl, inr, ◌<◌}
+use Rattle.std.proofs.Common.{◌≡◌, ◌==◌, ◌∙◌, ◌&&◌, ◌||◌, ℕ, Bor, List, [], ◌∷◌, Bool, true, false, Option, Some, None, IfOk, Result, Ok, Err, ap, arith, cond, is_none, length, map, option_map, refl, subst, suc, sym, zero, get_or, if◌then◌else◌, inl, inr, ◌<◌, drop, ◌+◌}
 use Rattle.std.proofs.lemmas.Bool.{true≢false}
-use Rattle.std.specs.List.{AllZip, Contains, find, list_any, All, filter, flat_map}
-use Rattle.std.specs.Prelude.{bytes_eq}
+use Rattle.std.proofs.lemmas.List.{drop_more}
+use Rattle.std.specs.List.{AllZip, Contains, find, list_all, list_any, All, filter, flat_map}
+use Rattle.std.specs.Prelude.{bytes_eq, codes}
 use Rattle.std.specs.declared.alloc.AllocError.{AllocError}
 use Rattle.pyver_markers.proofs.Steps.{last_is_value}
 use Rattle.pyver_markers.specs.EnvironmentViews.{environment_of, setting_of}
-use Rattle.pyver_markers.specs.Environments.{Assignment, Environment, Text, assigned}
+use Rattle.pyver_markers.specs.Environments.{Assignment, Environment, Names, Setting, Text, assigned}
 use Rattle.pyver_markers.specs.MarkerValues.{value}
 use Rattle.pyver_markers.specs.declared.environment.Variable.{Variable}
 use Rattle.pyver_requirements.proofs.MarkerDerivations.{read_steps_are_derived}
@@ -16,7 +17,7 @@ use Rattle.pyver_requirements.specs.MarkerGrammar.{DenotesMarker, Marker}
 use Rattle.pyver_requirements.specs.MarkerSteps.{Misfit, Step, marker_steps, steps}
 use Rattle.pyver_findings.specs.FileLines.{FileLine, Conflicting, Finding}
 use Rattle.pyver_projects.specs.Comparing.{lack_finding, leaves_out_all, partly_locked, absent, accepts_version, excluded, has_name, is_allowed, lack_in, may_take, named_line, outside, taken_packages, unlocked}
-use Rattle.pyver_projects.specs.KnownEnvironments.{ReadCondition, is_false, is_left_out_in, is_read_false, known_environments, known_environment, python_record}
+use Rattle.pyver_projects.specs.KnownEnvironments.{ReadCondition, is_false, is_for, is_left_out_in, known_environments, known_environment, python_record, read_value, marker_value, with_names}
 use Rattle.pyver_projects.specs.Meanings.{LockedReading, IsConditionReading, IsLockedReading, IsVersionReading, package_line}
 use Rattle.pyver_projects.specs.ProjectViews.{locked_reading_of, read_condition_of}
 use Rattle.pyver_projects.specs.declared.known_environment.ReadCondition.{ReadCondition as ReadConditionValue}
@@ -39,8 +40,7 @@ use Rattle.pyver_findings.specs.Demands.{Demand, line_demand}
 use Rattle.pyver_findings.specs.declared.finding.Conflict.TheVariants.{PinOutside}
 use Rattle.pyver_projects.proofs.Walks.{all_flat, any-both, beside_it, beside_some, filter_some, left_false, left_nil, nil_at, right_false, right_nil, zip_each}
 use Rattle.pyver_projects.specs.Documents.{locked}
-use Rattle.pyver_projects.specs.ProjectStrings.{LockedPackage, PackageCondition}
-use Rattle.pyver_findings.specs.declared.cause.Cause.TheVariants as cause
+use Rattle.pyver_projects.specs.ProjectStrings.{LockParts, LockedPackage, PackageCondition}
 
 -- ---- variables
 
@@ -62,20 +62,44 @@ each_so (v ∷ vs) (a ∷ all) name h =
     first_so (bytes_eq v.name.now name) v a (find (λ (w : Variable). bytes_eq w.name.now name) vs) (find (λ (w : Assignment). bytes_eq w.name name) all) h.0.1 (each_so vs all name h.1)
     ∙ ap (λ n. option_map (λ (w : Assignment). Text w.text) (cond (bytes_eq n name) (Some a) (find (λ (w : Assignment). bytes_eq w.name name) all))) h.0.0
 
--- what is evaluated with variables is what is in the environment that they are assigned in
-pub evaluated_so : (r : Result (Option Bool) AllocError) (m : Marker) (vs : List Variable) (all : List Assignment) → IfOk r (λ v. v ≡ value (environment_of vs) m) → AllZip IsAssigned vs all
-    → IfOk r (λ v. v ≡ value (assigned all) m)
-evaluated_so r m vs all evaluated h = subst (λ (e : Environment). IfOk r (λ v. v ≡ value e m)) (λ i. λ name. each_so vs all name h i) evaluated
+found_or : (b : Bool) (v : Variable) (s : Setting) (later : Option Variable) (others : Option Setting) → setting_of v.setting ≡ s
+    → option_map (λ (w : Variable). setting_of w.setting) later ≡ others → option_map (λ (w : Variable). setting_of w.setting) (cond b (Some v) later) ≡ cond b (Some s) others
+found_or true v s later others is rest = ap (λ t. Some t) is
+found_or false v s later others is rest = rest
+
+-- the variable is these names
+abbrev pub AreNames : List ℕ → List (List ℕ) → Variable → Type 0
+AreNames name names v = (v.name.now ≡ name) × (setting_of v.setting ≡ Names names)
+
+module _ (extras groups : List (List ℕ)) (x g : Variable) (are : AreNames (codes "extras") extras x) (those : AreNames (codes "dependency_groups") groups g) where
+  names_so : (vs : List Variable) (all : List Assignment) (name : List ℕ) → AllZip IsAssigned vs all → environment_of (x ∷ (g ∷ vs)) name ≡ with_names extras groups (assigned all) name
+  names_so vs all name h =
+      found_or (bytes_eq x.name.now name) x (Names extras) (find (λ (w : Variable). bytes_eq w.name.now name) (g ∷ vs)) (cond (bytes_eq g.name.now name) (Some (Names groups)) (assigned all name)) are.1
+      (found_or (bytes_eq g.name.now name) g (Names groups) (find (λ (w : Variable). bytes_eq w.name.now name) vs) (assigned all name) those.1 (each_so vs all name h))
+      ∙ (λ i. cond (bytes_eq (are.0 i) name) (Some (Names extras)) (cond (bytes_eq (those.0 i) name) (Some (Names groups)) (assigned all name)))
+
+  -- what is evaluated with variables is what is in the environment that they are assigned in
+  pub evaluated_so : (r : Result (Option Bool) AllocError) (m : Marker) (vs : List Variable) (all : List Assignment) → IfOk r (λ v. v ≡ value (environment_of (x ∷ (g ∷ vs))) m) → AllZip IsAssigned vs all
+      → IfOk r (λ v. v ≡ value (with_names extras groups (assigned all)) m)
+  evaluated_so r m vs all evaluated h = subst (λ (e : Environment). IfOk r (λ v. v ≡ value e m)) (λ i. λ name. names_so vs all name h i) evaluated
 
 -- ---- markers
 
-pub read_false_so : (e : Environment) (text : List ℕ) (all : List Step) (v : Option Bool) (b : Bool) → ((m : Marker) × DenotesMarker text m × (all ≡ steps m)) → ((m : Marker) → all ≡ steps m → v ≡ value e m)
-    → b ≡ is_false v → b ≡ is_read_false e (marker_steps text)
-read_false_so e text all v b (m, denoted, is) evaluated found =
-    found ∙ ap is_false (evaluated m is ∙ sym (last_is_value e m (steps m) refl)) ∙ ap (is_read_false e) (sym (steps_are_read text m denoted))
+pub read_value_so : (e : Environment) (text : List ℕ) (all : List Step) (r : Result (Option Bool) AllocError) → ((m : Marker) × DenotesMarker text m × (all ≡ steps m)) → ((m : Marker) → all ≡ steps m → IfOk r (λ v. v ≡ value e m))
+    → IfOk r (λ v. v ≡ read_value e (marker_steps text))
+read_value_so e text all r (m, denoted, is) evaluated =
+    subst (λ w. IfOk r (λ v. v ≡ w)) (sym (last_is_value e m (steps m) refl) ∙ ap (read_value e) (sym (steps_are_read text m denoted))) (evaluated m is)
 
-pub none_false : (e : Environment) (f : Misfit) (found : Result (List Step) Misfit) → found ≡ Err f → false ≡ is_read_false e found
-none_false e f found is = ap (is_read_false e) (sym is)
+pub no_value : (e : Environment) (f : Misfit) (found : Result (List Step) Misfit) → found ≡ Err f → None ≡ read_value e found
+no_value e f found is = ap (read_value e) (sym is)
+
+-- the element at a place fails, or holds, and all before it hold
+module _ {X : Type 0} (f : X → Bool) (xs : List X) (i : ℕ) (d : X) (b : Bool) (inside : i < length xs) (is : b ≡ f (get_or xs i d)) (so : list_all f xs ≡ list_all f (drop i xs)) where
+  pub all_fail : b ≡ false → false ≡ list_all f xs
+  all_fail fails_here = sym (so ∙ ap (list_all f) (drop_more xs i d inside) ∙ ap (λ a. a && list_all f (drop (i + 1) xs)) (sym is ∙ fails_here))
+
+  pub all_hold : b ≡ true → list_all f xs ≡ list_all f (drop (i + 1) xs)
+  all_hold holds_here = so ∙ ap (list_all f) (drop_more xs i d inside) ∙ ap (λ a. a && list_all f (drop (i + 1) xs)) (sym is ∙ holds_here)
 
 and_false : (b : Bool) → (b && false) ≡ false
 and_false true = refl
@@ -87,14 +111,14 @@ false_so (Some true) e = absurd (true≢false (sym e))
 false_so None e = absurd (true≢false (sym e))
 
 -- a marker that does not hold is read so
-pub fails : (e : Environment) (text : List ℕ) (r : Result (List Step) Misfit) → marker_steps text ≡ r → is_read_false e r ≡ true → FailsIn e text
+pub fails : (e : Environment) (text : List ℕ) (r : Result (List Step) Misfit) → marker_steps text ≡ r → is_false (read_value e r) ≡ true → FailsIn e text
 fails e text (Ok all) is so =
     let (m, denoted, same) = read_steps_are_derived text all is in
     (m, denoted, false_so (value e m) (ap is_false (sym (last_is_value e m all same)) ∙ so))
 fails e text (Err f) is so = absurd (true≢false (sym so))
 
-pub read_to_fail : (e : Environment) (text : List ℕ) → FailsIn e text → is_read_false e (marker_steps text) ≡ true
-read_to_fail e text (m, denoted, so) = ap (is_read_false e) (steps_are_read text m denoted) ∙ ap is_false (last_is_value e m (steps m) refl ∙ so)
+pub read_to_fail : (e : Environment) (text : List ℕ) → FailsIn e text → is_false (read_value e (marker_steps text)) ≡ true
+read_to_fail e text (m, denoted, so) = ap (λ r. is_false (read_value e r)) (steps_are_read text m denoted) ∙ ap is_false (last_is_value e m (steps m) refl ∙ so)
 
 -- ---- what is found
 
@@ -122,14 +146,14 @@ pub nothing_found : {X : Type 0} (p : X → Bool) (xs : List X) → ((x : X) →
 nothing_found p [] none = refl
 nothing_found p (x ∷ xs) none = ap (λ b. cond b (Some x) (find p xs)) (none x) ∙ nothing_found p xs none
 
-stays : (k : KnownEnvironment) (b : Bool) (y : LockedReading) (c : Option ReadCondition) (rest : List LockedReading) → y.condition ≡ c → is_none c ≡ b → (b ≡ false → leaves_out_all rest k ≡ false) → (is_left_out_in k c && leaves_out_all rest k) ≡ false
-stays k b y None rest is none later = refl
-stays k true y (Some c) rest is none later = absurd (true≢false (sym none))
-stays k false y (Some c) rest is none later = ap (λ a. is_left_out_in k (Some c) && a) (later refl) ∙ and_false (is_left_out_in k (Some c))
+stays : (parts : LockParts) (k : KnownEnvironment) (b : Bool) (y : LockedReading) (c : Option ReadCondition) (rest : List LockedReading) → y.condition ≡ c → is_none c ≡ b → (b ≡ false → leaves_out_all parts rest k ≡ false) → (is_left_out_in parts k c && leaves_out_all parts rest k) ≡ false
+stays parts k b y None rest is none later = refl
+stays parts k true y (Some c) rest is none later = absurd (true≢false (sym none))
+stays parts k false y (Some c) rest is none later = ap (λ a. is_left_out_in parts k (Some c) && a) (later refl) ∙ and_false (is_left_out_in parts k (Some c))
 
-not_all : (k : KnownEnvironment) (taken : List LockedReading) → list_any (λ (y : LockedReading). is_none y.condition) taken ≡ true → leaves_out_all taken k ≡ false
-not_all k [] some = absurd (true≢false (sym some))
-not_all k (y ∷ taken) some = stays k (is_none y.condition) y y.condition taken refl refl (λ other. not_all k taken (ap (λ b. b || list_any (λ (z : LockedReading). is_none z.condition) taken) (sym other) ∙ some))
+not_all : (parts : LockParts) (k : KnownEnvironment) (taken : List LockedReading) → list_any (λ (y : LockedReading). is_none y.condition) taken ≡ true → leaves_out_all parts taken k ≡ false
+not_all parts k [] some = absurd (true≢false (sym some))
+not_all parts k (y ∷ taken) some = stays parts k (is_none y.condition) y y.condition taken refl refl (λ other. not_all parts k taken (ap (λ b. b || list_any (λ (z : LockedReading). is_none z.condition) taken) (sym other) ∙ some))
 
 same_conditions : (b : Bool) (values : List (Bor LockedReadingValue)) → b ≡ list_any (λ y. is_none y.now.condition) values → b ≡ list_any (λ (y : LockedReading). is_none y.condition) (map (λ y. locked_reading_of y.now) values)
 same_conditions b values is = is ∙ each values
@@ -143,19 +167,19 @@ same_conditions b values is = is ∙ each values
     each (y ∷ all) = λ i. read_none y.now.condition i || each all i
 
 -- a package that is everywhere is left out in no environment
-pub nowhere_lacking : (line : FileLine) (values : List (Bor LockedReadingValue)) (b : Bool) → b ≡ list_any (λ y. is_none y.now.condition) values → b ≡ true → partly_locked line (map (λ y. locked_reading_of y.now) values) ≡ []
-nowhere_lacking line [] b is some = refl
-nowhere_lacking line (y ∷ values) b is some =
+pub nowhere_lacking : (parts : LockParts) (line : FileLine) (values : List (Bor LockedReadingValue)) (b : Bool) → b ≡ list_any (λ y. is_none y.now.condition) values → b ≡ true → partly_locked parts line (map (λ y. locked_reading_of y.now) values) ≡ []
+nowhere_lacking parts line [] b is some = refl
+nowhere_lacking parts line (y ∷ values) b is some =
     let taken = map (λ (z : Bor LockedReadingValue). locked_reading_of z.now) (y ∷ values) in
-    ap (lack_finding line) (nothing_found (leaves_out_all taken) known_environments (λ k. not_all k taken (sym (same_conditions b (y ∷ values) is) ∙ some)))
+    ap (lack_finding line) (nothing_found (leaves_out_all parts taken) known_environments (λ k. not_all parts k taken (sym (same_conditions b (y ∷ values) is) ∙ some)))
 
 no_zero : (n : ℕ) → (suc n == 0) ≡ false
 no_zero n = grind arith
 
 -- nothing is left out where there is nothing
-pub none_lacking : (line : FileLine) (values : List (Bor LockedReadingValue)) (b : Bool) → b ≡ (length values == 0) → b ≡ true → partly_locked line (map (λ y. locked_reading_of y.now) values) ≡ []
-none_lacking line [] b is none = refl
-none_lacking line (y ∷ values) b is none = absurd (true≢false (sym none ∙ is ∙ no_zero (length values)))
+pub none_lacking : (parts : LockParts) (line : FileLine) (values : List (Bor LockedReadingValue)) (b : Bool) → b ≡ (length values == 0) → b ≡ true → partly_locked parts line (map (λ y. locked_reading_of y.now) values) ≡ []
+none_lacking parts line [] b is none = refl
+none_lacking parts line (y ∷ values) b is none = absurd (true≢false (sym none ∙ is ∙ no_zero (length values)))
 
 -- ---- versions that a requirement excludes
 
@@ -232,8 +256,8 @@ module _ (lock : List ℕ) (ps : List LockedPackage) (line : FileLine) (n : Need
 
   -- ---- environments in which no package meets the requirement
 
-  abbrev pub IsLackHere : Finding → Type 0
-  IsLackHere = IsLack ps n.name n.specifiers line
+  abbrev pub IsLackHere : LockParts → Finding → Type 0
+  IsLackHere parts = IsLack parts ps n.name n.specifiers line
 
   -- a package whose version the list does not contain
   other_version : (p : LockedPackage) (w : Option (List ℕ)) (y : LockedReading) → p.version ≡ w → IsVersionReading (package_line lock p) p.name y.condition w y → may_take n.specifiers y ≡ false → IsOutsideList n.specifiers p
@@ -241,40 +265,41 @@ module _ (lock : List ℕ) (ps : List LockedPackage) (line : FileLine) (n : Need
   other_version p (Some text) y written (inl (r, d, is)) not_taken = (text, r, written, d, ap (λ (z : LockedReading). may_take n.specifiers z) (sym is) ∙ not_taken)
   other_version p (Some text) y written (inr (f, r, is)) not_taken = absurd (true≢false (ap (λ (z : LockedReading). may_take n.specifiers z) (sym is) ∙ not_taken))
 
-  module _ (k : KnownEnvironment) where
-    left_out : (p : LockedPackage) (w : Option PackageCondition) (c : Option ReadCondition) → p.condition ≡ w → IsConditionReading w c → is_left_out_in k c ≡ true → IsLeftOut k p
-    left_out p None c written is out = absurd (true≢false (sym (ap (is_left_out_in k) (sym is) ∙ out)))
-    left_out p (Some w) c written (inr (f, r, is)) out = absurd (true≢false (sym (ap (is_left_out_in k) (sym is) ∙ out)))
+  module _ (parts : LockParts) (k : KnownEnvironment) where
+    left_out : (p : LockedPackage) (w : Option PackageCondition) (c : Option ReadCondition) → p.condition ≡ w → IsConditionReading w c → is_left_out_in parts k c ≡ true → IsLeftOut parts k p
+    left_out p None c written is out = absurd (true≢false (sym (ap (is_left_out_in parts k) (sym is) ∙ out)))
+    left_out p (Some w) c written (inr (f, r, is)) out = absurd (true≢false (sym (ap (is_left_out_in parts k) (sym is) ∙ out)))
     left_out p (Some w) c written (inl (list, d, is)) out =
-        let both : (list_matches_literally list (python_record k.minor) && is_read_false (known_environment k) (marker_steps w.marker)) ≡ true = ap (is_left_out_in k) (sym is) ∙ out in
-        let so = and_right (list_matches_literally list (python_record k.minor)) (is_read_false (known_environment k) (marker_steps w.marker)) both in (
+        let both : (list_matches_literally list (python_record k.minor) && (is_false (marker_value parts k w.marker) && is_for parts k)) ≡ true = ap (is_left_out_in parts k) (sym is) ∙ out in
+        let so = and_right (list_matches_literally list (python_record k.minor)) (is_false (marker_value parts k w.marker) && is_for parts k) both in (
           w,
           list,
           written,
           d,
-          and_left (list_matches_literally list (python_record k.minor)) (is_read_false (known_environment k) (marker_steps w.marker)) both,
-          fails (known_environment k) w.marker (marker_steps w.marker) refl so,
+          and_left (list_matches_literally list (python_record k.minor)) (is_false (marker_value parts k w.marker) && is_for parts k) both,
+          and_right (is_false (marker_value parts k w.marker)) (is_for parts k) so,
+          fails (known_environment parts k) w.marker (marker_steps w.marker) refl (and_left (is_false (marker_value parts k w.marker)) (is_for parts k) so),
         )
 
     -- a package that cannot be taken there
-    one_lacks : (b c d : Bool) (p : LockedPackage) (y : LockedReading) (rest : List LockedReading) → IsLockedReading lock p y → has_name always y ≡ b → may_take n.specifiers y ≡ c → is_left_out_in k y.condition ≡ d
-        → leaves_out_all (filter (may_take n.specifiers) (cond b (y ∷ rest) rest)) k ≡ true → CannotMeet n.name n.specifiers k p × (leaves_out_all (filter (may_take n.specifiers) rest) k ≡ true)
+    one_lacks : (b c d : Bool) (p : LockedPackage) (y : LockedReading) (rest : List LockedReading) → IsLockedReading lock p y → has_name always y ≡ b → may_take n.specifiers y ≡ c → is_left_out_in parts k y.condition ≡ d
+        → leaves_out_all parts (filter (may_take n.specifiers) (cond b (y ∷ rest) rest)) k ≡ true → CannotMeet parts n.name n.specifiers k p × (leaves_out_all parts (filter (may_take n.specifiers) rest) k ≡ true)
     one_lacks false c d p y rest r named taken out all = (inl (sym (name_is p p.version y r.1) ∙ named), all)
     one_lacks true false d p y rest r named taken out all =
-        (inr (inl (other_version p p.version y refl r.1 taken)), ap (λ f. leaves_out_all (cond f (y ∷ filter (may_take n.specifiers) rest) (filter (may_take n.specifiers) rest)) k) (sym taken) ∙ all)
+        (inr (inl (other_version p p.version y refl r.1 taken)), ap (λ f. leaves_out_all parts (cond f (y ∷ filter (may_take n.specifiers) rest) (filter (may_take n.specifiers) rest)) k) (sym taken) ∙ all)
     one_lacks true true d p y rest r named taken out all =
-        let both : (is_left_out_in k y.condition && leaves_out_all (filter (may_take n.specifiers) rest) k) ≡ true =
-        ap (λ f. leaves_out_all (cond f (y ∷ filter (may_take n.specifiers) rest) (filter (may_take n.specifiers) rest)) k) (sym taken) ∙ all in (
-          inr (inr (left_out p p.condition y.condition refl r.0 (and_left (is_left_out_in k y.condition) (leaves_out_all (filter (may_take n.specifiers) rest) k) both))),
-          and_right (is_left_out_in k y.condition) (leaves_out_all (filter (may_take n.specifiers) rest) k) both,
+        let both : (is_left_out_in parts k y.condition && leaves_out_all parts (filter (may_take n.specifiers) rest) k) ≡ true =
+        ap (λ f. leaves_out_all parts (cond f (y ∷ filter (may_take n.specifiers) rest) (filter (may_take n.specifiers) rest)) k) (sym taken) ∙ all in (
+          inr (inr (left_out p p.condition y.condition refl r.0 (and_left (is_left_out_in parts k y.condition) (leaves_out_all parts (filter (may_take n.specifiers) rest) k) both))),
+          and_right (is_left_out_in parts k y.condition) (leaves_out_all parts (filter (may_take n.specifiers) rest) k) both,
         )
 
-    all_lack : (qs : List LockedPackage) (ys : List LockedReading) → AllZip (IsLockedReading lock) qs ys → leaves_out_all (taken_packages ys always) k ≡ true → All (CannotMeet n.name n.specifiers k) qs
-    all_lack [] ys h all = All-nil (CannotMeet n.name n.specifiers k)
+    all_lack : (qs : List LockedPackage) (ys : List LockedReading) → AllZip (IsLockedReading lock) qs ys → leaves_out_all parts (taken_packages ys always) k ≡ true → All (CannotMeet parts n.name n.specifiers k) qs
+    all_lack [] ys h all = All-nil (CannotMeet parts n.name n.specifiers k)
     all_lack (p ∷ qs) [] h all = absurd h
     all_lack (p ∷ qs) (y ∷ ys) h all =
-        let (here, later) = one_lacks (has_name always y) (may_take n.specifiers y) (is_left_out_in k y.condition) p y (filter (has_name always) ys) h.0 refl refl refl all in
-        All-cons (CannotMeet n.name n.specifiers k) p qs here (all_lack qs ys h.1 later)
+        let (here, later) = one_lacks (has_name always y) (may_take n.specifiers y) (is_left_out_in parts k y.condition) p y (filter (has_name always) ys) h.0 refl refl refl all in
+        All-cons (CannotMeet parts n.name n.specifiers k) p qs here (all_lack qs ys h.1 later)
 
   -- the list contains the version of a package that it may take
   inside_list : (p : LockedPackage) (y : LockedReading) → IsOutsideList n.specifiers p → IsLockedReading lock p y → may_take n.specifiers y ≡ true → ⊥
@@ -291,38 +316,38 @@ module _ (lock : List ℕ) (ps : List LockedPackage) (line : FileLine) (n : Need
           true≢false (sym taken ∙ ap (λ (z : LockedReading). may_take n.specifiers z) read ∙ ap (list_matches_literally n.specifiers) one ∙ differs)
 
   -- a package that is left out is read so
-  is_out : (k : KnownEnvironment) (p : LockedPackage) (y : LockedReading) → IsLeftOut k p → IsLockedReading lock p y → is_left_out_in k y.condition ≡ true
-  is_out k p y (c, list, written, d, for_python, fails_there) r = out_by p.condition written r.0
+  is_out : (parts : LockParts) (k : KnownEnvironment) (p : LockedPackage) (y : LockedReading) → IsLeftOut parts k p → IsLockedReading lock p y → is_left_out_in parts k y.condition ≡ true
+  is_out parts k p y (c, list, written, d, for_python, for_it, fails_there) r = out_by p.condition written r.0
     where
-      same_list : (q : List Spec) → q ≡ list → is_left_out_in k (Some (record { python = q; marker = c.marker })) ≡ true
+      same_list : (q : List Spec) → q ≡ list → is_left_out_in parts k (Some (record { python = q; marker = c.marker })) ≡ true
       same_list q one =
-          ap (λ (s : List Spec). list_matches_literally s (python_record k.minor) && is_read_false (known_environment k) (marker_steps c.marker)) one
-          ∙ ap (λ b. b && is_read_false (known_environment k) (marker_steps c.marker)) for_python ∙ read_to_fail (known_environment k) c.marker fails_there
+          ap (λ (s : List Spec). list_matches_literally s (python_record k.minor) && (is_false (marker_value parts k c.marker) && is_for parts k)) one
+          ∙ ap (λ b. b && (is_false (marker_value parts k c.marker) && is_for parts k)) for_python ∙ ap (λ b. b && is_for parts k) (read_to_fail (known_environment parts k) c.marker fails_there) ∙ for_it
 
-      out_by : (w : Option PackageCondition) → w ≡ Some c → IsConditionReading w y.condition → is_left_out_in k y.condition ≡ true
+      out_by : (w : Option PackageCondition) → w ≡ Some c → IsConditionReading w y.condition → is_left_out_in parts k y.condition ≡ true
       out_by None is read = cc is
       out_by (Some q) is (inr (f, rejected, read)) =
           let equal : q ≡ c = cc is in
           absurd (not_both_list c.python list f d (subst (λ (z : PackageCondition). RejectsList z.python f) equal rejected))
       out_by (Some q) is (inl (s, derived, read)) =
           let equal : q ≡ c = cc is in
-          ap (is_left_out_in k) read ∙ ap (λ (z : PackageCondition). is_left_out_in k (Some (record { python = s; marker = z.marker }))) equal
+          ap (is_left_out_in parts k) read ∙ ap (λ (z : PackageCondition). is_left_out_in parts k (Some (record { python = s; marker = z.marker }))) equal
           ∙ same_list s (one_list c.python s list (subst (λ (z : PackageCondition). DerivesList z.python s) equal derived) d)
 
   module _ (ys : List LockedReading) (h : AllZip (IsLockedReading lock) ps ys) where
-    lack_right : (found : Option KnownEnvironment) → find (leaves_out_all (taken_packages ys always)) known_environments ≡ found → All IsLackHere (lack_finding line found)
-    lack_right None is = All-nil IsLackHere
-    lack_right (Some k) is =
-        let all = found_so (leaves_out_all (taken_packages ys always)) known_environments k is in
-        All-cons IsLackHere (lack_in line k) [] (record { environment = k; none = all_lack k ps ys h all; is = refl }) (All-nil IsLackHere)
+    lack_right : (parts : LockParts) (found : Option KnownEnvironment) → find (leaves_out_all parts (taken_packages ys always)) known_environments ≡ found → All (IsLackHere parts) (lack_finding line found)
+    lack_right parts None is = All-nil (IsLackHere parts)
+    lack_right parts (Some k) is =
+        let all = found_so (leaves_out_all parts (taken_packages ys always)) known_environments k is in
+        All-cons (IsLackHere parts) (lack_in line k) [] (record { environment = k; none = all_lack parts k ps ys h all; is = refl }) (All-nil (IsLackHere parts))
 
-    partly_by : (taken : List LockedReading) → taken_packages ys always ≡ taken → All IsLackHere (partly_locked line taken)
-    partly_by [] is = All-nil IsLackHere
-    partly_by (y ∷ taken) is = subst (λ (all : List LockedReading). All IsLackHere (lack_finding line (find (leaves_out_all all) known_environments))) is (lack_right (find (leaves_out_all (taken_packages ys always)) known_environments) refl)
+    partly_by : (parts : LockParts) (taken : List LockedReading) → taken_packages ys always ≡ taken → All (IsLackHere parts) (partly_locked parts line taken)
+    partly_by parts [] is = All-nil (IsLackHere parts)
+    partly_by parts (y ∷ taken) is = subst (λ (all : List LockedReading). All (IsLackHere parts) (lack_finding line (find (leaves_out_all parts all) known_environments))) is (lack_right parts (find (leaves_out_all parts (taken_packages ys always)) known_environments) refl)
 
     -- what is said of an environment is right
-    pub partly_right : All IsLackHere (partly_locked line (taken_packages ys always))
-    partly_right = partly_by (taken_packages ys always) refl
+    pub partly_right : (parts : LockParts) → All (IsLackHere parts) (partly_locked parts line (taken_packages ys always))
+    partly_right parts = partly_by parts (taken_packages ys always) refl
 
     none_contained : list_any (is_allowed always) ys ≡ false → SomeContained ps n.name n.specifiers → ⊥
     none_contained none (p, v, (k, inside, at), (same, text, written, d), contained) =
@@ -401,6 +426,12 @@ module _ (lock : List ℕ) (ps : List LockedPackage) (line : FileLine) (n : Need
         let (y, (m, among, is), s) = beside_it (IsLockedReading lock) ps ys q i under found h in
         also_taken m y among is (allowed_is q y letters w e alike spelled s ∙ contained)
 
+    -- a package has the name of the requirement, where none is absent
+    pub some_named : absent ys always ≡ [] → (p : LockedPackage) × Contains ps p × (same_name n.name p.name ≡ true)
+    some_named present =
+        let (p, y, here, r, named) = beside_some (IsLockedReading lock) (has_name always) ps ys h (no_nil (list_any (has_name always) ys) _ present) in
+        (p, here, sym (name_is p p.version y r.1) ∙ named)
+
     some_taken : absent ys always ≡ [] → excluded always ys ≡ [] → list_any may_be_taken ys ≡ true
     some_taken present none =
         let (p, y, (k, inside, at), r, named) = beside_some (IsLockedReading lock) (has_name always) ps ys h (no_nil (list_any (has_name always) ys) _ present) in
@@ -408,40 +439,40 @@ module _ (lock : List ℕ) (ps : List LockedPackage) (line : FileLine) (n : Need
         taken_by (may_take n.specifiers z) p z (k, inside, at) there s (name_is p p.version z s.1 ∙ sym (name_is p p.version y r.1) ∙ named) refl none
 
     -- the first of them, or one of the others
-    one_of : (k : KnownEnvironment) (b c d : Bool) (p : LockedPackage) (z : LockedReading) (qs : List LockedPackage) (zs : List LockedReading) → IsLockedReading lock p z → has_name always z ≡ b → may_take n.specifiers z ≡ c
-        → is_left_out_in k z.condition ≡ d → (leaves_out_all (taken_packages zs always) k ≡ false → (q : LockedPackage) × Contains (p ∷ qs) q × MeetsIn n.name n.specifiers k q)
-        → leaves_out_all (filter (may_take n.specifiers) (cond b (z ∷ filter (has_name always) zs) (filter (has_name always) zs))) k ≡ false
-        → (q : LockedPackage) × Contains (p ∷ qs) q × MeetsIn n.name n.specifiers k q
-    one_of k false c d p z qs zs r named taken out later rest = later rest
-    one_of k true false d p z qs zs r named taken out later rest = later (ap (λ f. leaves_out_all (cond f (z ∷ taken_packages zs always) (taken_packages zs always)) k) (sym taken) ∙ rest)
-    one_of k true true true p z qs zs r named taken out later rest =
-        later (ap (λ f. f && leaves_out_all (taken_packages zs always) k) (sym out) ∙ ap (λ f. leaves_out_all (cond f (z ∷ taken_packages zs always) (taken_packages zs always)) k) (sym taken) ∙ rest)
-    one_of k true true false p z qs zs r named taken out later rest =
-        (p, (zero, omega arith, refl), (sym (name_is p p.version z r.1) ∙ named, (λ outside. inside_list p z outside r taken), (λ leaves. true≢false (sym (is_out k p z leaves r) ∙ out))))
+    one_of : (parts : LockParts) (k : KnownEnvironment) (b c d : Bool) (p : LockedPackage) (z : LockedReading) (qs : List LockedPackage) (zs : List LockedReading) → IsLockedReading lock p z → has_name always z ≡ b → may_take n.specifiers z ≡ c
+        → is_left_out_in parts k z.condition ≡ d → (leaves_out_all parts (taken_packages zs always) k ≡ false → (q : LockedPackage) × Contains (p ∷ qs) q × MeetsIn parts n.name n.specifiers k q)
+        → leaves_out_all parts (filter (may_take n.specifiers) (cond b (z ∷ filter (has_name always) zs) (filter (has_name always) zs))) k ≡ false
+        → (q : LockedPackage) × Contains (p ∷ qs) q × MeetsIn parts n.name n.specifiers k q
+    one_of parts k false c d p z qs zs r named taken out later rest = later rest
+    one_of parts k true false d p z qs zs r named taken out later rest = later (ap (λ f. leaves_out_all parts (cond f (z ∷ taken_packages zs always) (taken_packages zs always)) k) (sym taken) ∙ rest)
+    one_of parts k true true true p z qs zs r named taken out later rest =
+        later (ap (λ f. f && leaves_out_all parts (taken_packages zs always) k) (sym out) ∙ ap (λ f. leaves_out_all parts (cond f (z ∷ taken_packages zs always) (taken_packages zs always)) k) (sym taken) ∙ rest)
+    one_of parts k true true false p z qs zs r named taken out later rest =
+        (p, (zero, omega arith, refl), (sym (name_is p p.version z r.1) ∙ named, (λ outside. inside_list p z outside r taken), (λ leaves. true≢false (sym (is_out parts k p z leaves r) ∙ out))))
 
-    further : (k : KnownEnvironment) (p : LockedPackage) (qs : List LockedPackage) → ((q : LockedPackage) × Contains qs q × MeetsIn n.name n.specifiers k q) → (q : LockedPackage) × Contains (p ∷ qs) q × MeetsIn n.name n.specifiers k q
-    further k p qs (q, (i, inside, at), meets) = (q, (suc i, omega (arith, inside), at), meets)
+    further : (parts : LockParts) (k : KnownEnvironment) (p : LockedPackage) (qs : List LockedPackage) → ((q : LockedPackage) × Contains qs q × MeetsIn parts n.name n.specifiers k q) → (q : LockedPackage) × Contains (p ∷ qs) q × MeetsIn parts n.name n.specifiers k q
+    further parts k p qs (q, (i, inside, at), meets) = (q, (suc i, omega (arith, inside), at), meets)
 
     -- one of those that may be taken is there, where not all are left out
-    not_all_out : (k : KnownEnvironment) (qs : List LockedPackage) (zs : List LockedReading) → AllZip (IsLockedReading lock) qs zs → leaves_out_all (taken_packages zs always) k ≡ false → (p : LockedPackage) × Contains qs p × MeetsIn n.name n.specifiers k p
-    not_all_out k [] [] r none = absurd (true≢false none)
-    not_all_out k [] (z ∷ zs) r none = absurd r
-    not_all_out k (p ∷ qs) [] r none = absurd r
-    not_all_out k (p ∷ qs) (z ∷ zs) (r, others) none =
-        one_of k (has_name always z) (may_take n.specifiers z) (is_left_out_in k z.condition) p z qs zs r refl refl refl (λ rest. further k p qs (not_all_out k qs zs others rest)) none
+    not_all_out : (parts : LockParts) (k : KnownEnvironment) (qs : List LockedPackage) (zs : List LockedReading) → AllZip (IsLockedReading lock) qs zs → leaves_out_all parts (taken_packages zs always) k ≡ false → (p : LockedPackage) × Contains qs p × MeetsIn parts n.name n.specifiers k p
+    not_all_out parts k [] [] r none = absurd (true≢false none)
+    not_all_out parts k [] (z ∷ zs) r none = absurd r
+    not_all_out parts k (p ∷ qs) [] r none = absurd r
+    not_all_out parts k (p ∷ qs) (z ∷ zs) (r, others) none =
+        one_of parts k (has_name always z) (may_take n.specifiers z) (is_left_out_in parts k z.condition) p z qs zs r refl refl refl (λ rest. further parts k p qs (not_all_out parts k qs zs others rest)) none
 
-    found_none : (taken : List LockedReading) (k : KnownEnvironment) (found : Option KnownEnvironment) → find (leaves_out_all taken) known_environments ≡ found → lack_finding line found ≡ [] → Contains known_environments k → leaves_out_all taken k ≡ false
-    found_none taken k (Some e) so nil inside = cc nil
-    found_none taken k None so nil inside = none_so (leaves_out_all taken) known_environments k inside so
+    found_none : (parts : LockParts) (taken : List LockedReading) (k : KnownEnvironment) (found : Option KnownEnvironment) → find (leaves_out_all parts taken) known_environments ≡ found → lack_finding line found ≡ [] → Contains known_environments k → leaves_out_all parts taken k ≡ false
+    found_none parts taken k (Some e) so nil inside = cc nil
+    found_none parts taken k None so nil inside = none_so (leaves_out_all parts taken) known_environments k inside so
 
-    met_in : (taken : List LockedReading) (k : KnownEnvironment) → (taken ≡ [] → ⊥) → partly_locked line taken ≡ [] → Contains known_environments k → leaves_out_all taken k ≡ false
-    met_in [] k some none inside = absurd (some refl)
-    met_in (y ∷ taken) k some none inside = found_none (y ∷ taken) k (find (leaves_out_all (y ∷ taken)) known_environments) refl none inside
+    met_in : (parts : LockParts) (taken : List LockedReading) (k : KnownEnvironment) → (taken ≡ [] → ⊥) → partly_locked parts line taken ≡ [] → Contains known_environments k → leaves_out_all parts taken k ≡ false
+    met_in parts [] k some none inside = absurd (some refl)
+    met_in parts (y ∷ taken) k some none inside = found_none parts (y ∷ taken) k (find (leaves_out_all parts (y ∷ taken)) known_environments) refl none inside
 
     -- where nothing is lacking or excluded, some package meets the requirement in each environment
-    pub met_everywhere : unlocked ys always ≡ [] → excluded always ys ≡ [] → (k : KnownEnvironment) → Contains known_environments k → (p : LockedPackage) × Contains ps p × MeetsIn n.name n.specifiers k p
-    met_everywhere locked none k inside =
-        let present = left_nil (absent ys always) (partly_locked line (taken_packages ys always)) locked in
-        let there = right_nil (absent ys always) (partly_locked line (taken_packages ys always)) locked in
+    pub met_everywhere : (parts : LockParts) → unlocked parts ys always ≡ [] → excluded always ys ≡ [] → (k : KnownEnvironment) → Contains known_environments k → (p : LockedPackage) × Contains ps p × MeetsIn parts n.name n.specifiers k p
+    met_everywhere parts locked none k inside =
+        let present = left_nil (absent ys always) (partly_locked parts line (taken_packages ys always)) locked in
+        let there = right_nil (absent ys always) (partly_locked parts line (taken_packages ys always)) locked in
         let some : list_any (may_take n.specifiers) (filter (has_name always) ys) ≡ true = any-both (has_name always) (may_take n.specifiers) ys ∙ some_taken present none in
-        not_all_out k ps ys h (met_in (taken_packages ys always) k (λ nil. filter_some (may_take n.specifiers) (filter (has_name always) ys) some nil) there inside)
+        not_all_out parts k ps ys h (met_in parts (taken_packages ys always) k (λ nil. filter_some (may_take n.specifiers) (filter (has_name always) ys) some nil) there inside)

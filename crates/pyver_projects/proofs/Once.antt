@@ -27,14 +27,14 @@ use Rattle.pyver_projects.specs.Comparing.{FindsOfReading, documents_report, wit
 use Rattle.pyver_projects.specs.Documents.{has_group_tool, project_names, sources}
 use Rattle.pyver_projects.specs.Groups.{Groups, groups, inclusions}
 use Rattle.pyver_projects.specs.KnownEnvironments.{ReadCondition}
-use Rattle.pyver_projects.specs.Meanings.{ArePythons, DocumentReading, IsBroken, IsConditionReading, IsDocumentReading, IsFileReading, IsLock, IsLockReading, IsLockedReading, IsProject, IsProjectReading, IsRequirementReading, IsSectionMeaning, IsStringReading, IsVersionReading, LockedReading, StringReading, fault_meaning, file_meaning, is_of_version, package_line, requirement_line, string_line, list_versions}
+use Rattle.pyver_projects.specs.Meanings.{ArePythons, DocumentReading, IsBroken, IsConditionReading, IsDocumentReading, IsFileReading, IsLock, IsLockReading, IsLockedReading, IsProject, IsProjectReading, IsRequirementReading, reference_marker, IsSectionMeaning, IsStringReading, IsVersionReading, LockedReading, StringReading, fault_meaning, file_meaning, is_of_version, package_line, requirement_line, string_line, list_versions}
 use Rattle.pyver_projects.specs.ProjectLaws.{DocumentReportsOnce, IsReadable, IsReadableAs}
 use Rattle.pyver_projects.specs.ProjectStrings.{Build, Dependencies, Extra, Group, Include, Invalid, LockContents, LockedFile, LockedPackage, LockedRequirement, PackageCondition, Section, Python, ProjectString, Version}
 use Rattle.pyver_projects.specs.declared.document_kind.DocumentKind.{DocumentKind}
 use Rattle.pyver_projects.specs.declared.document_kind.DocumentKind.TheVariants.{Lock, Project}
-use Rattle.pyver_findings.proofs.MarkerPairs.{IsOnce, IsTold, each_once, each_told, names_once, names_tell, no_causes}
+use Rattle.pyver_findings.proofs.MarkedConflicts.{IsOnce, IsTold, each_once, each_told, names_once, names_tell, no_causes}
 use Rattle.pyver_findings.specs.FindingLaws.{IsUndecided, without_environment, without_environments}
-use Rattle.pyver_findings.specs.MarkerPairs.{FindsOfEach}
+use Rattle.pyver_findings.specs.MarkedConflicts.{FindsOfEach}
 use Rattle.pyver_findings.specs.Reports.{Report}
 use Rattle.pyver_findings.specs.declared.cause.Cause.{Cause}
 use Rattle.pyver_findings.specs.declared.cause.Cause.TheVariants as cause
@@ -103,7 +103,7 @@ one_project file t x y (xs, g, a) (ys, h, b) =
 
 one_requirement : (file : List ℕ) (q : LockedRequirement) (x y : LineMeaning) → IsRequirementReading file q x → IsRequirementReading file q y → x ≡ y
 one_requirement file q x y (inl (l, d, a)) (inl (m, e, b)) =
-    a ∙ ap (λ (list : List Spec). Asks (line_demand (requirement_line file q) None (record { name = q.name; extras = []; specifiers = list }))) (one_list q.list l m d e) ∙ sym b
+    a ∙ ap (λ (list : List Spec). Asks (line_demand (requirement_line file q) (reference_marker q.is_reference) (record { name = q.name; extras = []; specifiers = list }))) (one_list q.list l m d e) ∙ sym b
 one_requirement file q x y (inl (l, d, a)) (inr (f, r, b)) = absurd (not_both_list q.list l f d r)
 one_requirement file q x y (inr (f, r, a)) (inl (l, d, b)) = absurd (not_both_list q.list l f d r)
 one_requirement file q x y (inr (f, r, a)) (inr (g, s, b)) = a ∙ sym b
@@ -142,7 +142,7 @@ one_document (Lock kind) file x y (ps, (text, e)) (inr (u, inl (ms, f, a))) (inr
     let equal : ns ≡ ms = cc same in
     one_lock file.name ms x y a (subst (λ (l : LockContents). IsLockReading file.name l y) equal b)
 
--- ---- under several markers
+-- ---- requirements that have no version in common
 
 part_told : (together : Bool) (xs : List StringReading) (part : Section) (fs : List Finding) (cs : List Cause) → FindsOfPart together xs part fs cs → IsTold cs
 part_told together xs part fs cs finds = names_tell (project_domain xs) (part_demands together (inclusions (sections xs)) part xs) fs cs finds

@@ -7,14 +7,14 @@ use Rattle.pep440_version.specs.Record.{Record}
 use Rattle.pyver_findings.specs.Demands.{Demand}
 use Rattle.pyver_findings.specs.FileLines.{Conflicting, FileLine, Finding, NoRequirement}
 use Rattle.pyver_findings.specs.LineMeanings.{LineMeaning}
-use Rattle.pyver_findings.specs.MarkerPairs.{FindsNothing, FindsOfEach}
+use Rattle.pyver_findings.specs.MarkedConflicts.{FindsNothing, FindsOfEach}
 use Rattle.pyver_findings.specs.Reports.{Report, demands_in, empty_report, invalid_in, joined_report, left_out_in}
 use Rattle.pyver_findings.specs.declared.cause.Cause.{Cause}
 use Rattle.pyver_findings.specs.declared.finding.Conflict.TheVariants.{PinOutside}
 use Rattle.pyver_projects.specs.KnownEnvironments.{environment_name, is_left_out_in, known_environments}
 use Rattle.pyver_projects.specs.Meanings.{Document, DocumentReading, IsBroken, IsDocumentReading, IsLock, IsProject, LockedReading, StringReading}
-use Rattle.pyver_projects.specs.ProjectStrings.{Dependencies, Extra, Group, Section}
-use Rattle.pyver_projects.specs.Together.{FindsOfParts, project_conflicts}
+use Rattle.pyver_projects.specs.ProjectStrings.{Dependencies, Extra, Group, LockParts, Section}
+use Rattle.pyver_projects.specs.Together.{FindsOfParts}
 use Rattle.pyver_findings.specs.NamedFiles.{folder}
 use Rattle.pyver_projects.specs.Documents.{is_listed_part, lies_above}
 use Rattle.pyver_projects.specs.declared.document_kind.DocumentKind.{DocumentKind}
@@ -80,9 +80,9 @@ absent ys a = if list_any (has_name a) ys then [] else NoRequirement a.line (cod
 abbrev pub may_take : List Spec → LockedReading → Bool
 may_take list y = is_none y.version || accepts_version list y.version
 
--- in the environment the lock leaves out all of these
-abbrev pub leaves_out_all : List LockedReading → KnownEnvironment → Bool
-leaves_out_all taken k = list_all (λ (y : LockedReading). is_left_out_in k y.condition) taken
+-- in the environment the lock with these parts leaves out all of these
+abbrev pub leaves_out_all : LockParts → List LockedReading → KnownEnvironment → Bool
+leaves_out_all parts taken k = list_all (λ (y : LockedReading). is_left_out_in parts k y.condition) taken
 
 -- that no package meets the requirement on this line in the environment
 abbrev pub lack_in : FileLine → KnownEnvironment → Finding
@@ -94,17 +94,17 @@ lack_finding line None = []
 lack_finding line (Some k) = lack_in line k ∷ []
 
 -- the first environment in which the lock leaves out all packages that a requirement on this line may take, if there are some
-abbrev pub partly_locked : FileLine → List LockedReading → List Finding
-partly_locked line [] = []
-partly_locked line (y ∷ taken) = lack_finding line (find (leaves_out_all (y ∷ taken)) known_environments)
+abbrev pub partly_locked : LockParts → FileLine → List LockedReading → List Finding
+partly_locked parts line [] = []
+partly_locked parts line (y ∷ taken) = lack_finding line (find (leaves_out_all parts (y ∷ taken)) known_environments)
 
 -- the packages that the requirement may take
 abbrev pub taken_packages : List LockedReading → Demand → List LockedReading
 taken_packages ys a = filter (may_take a.specifiers) (filter (has_name a) ys)
 
--- the lock has no package of the name of the requirement, or in some environment none that it may take
-abbrev pub unlocked : List LockedReading → Demand → List Finding
-unlocked ys a = absent ys a ++ partly_locked a.line (taken_packages ys a)
+-- the lock has no package of the name of the requirement, or, if that has no marker, in some environment none that it may take
+abbrev pub unlocked : LockParts → List LockedReading → Demand → List Finding
+unlocked parts ys a = absent ys a ++ (if is_none a.marker then partly_locked parts a.line (taken_packages ys a) else [])
 
 -- a tool that builds or installs, which older releases of Poetry do not lock
 abbrev pub is_installer : List ℕ → Bool
@@ -128,17 +128,17 @@ is_excused xs name = is_installer name || (not (list_any is_project_reading xs) 
 
 module _ (excused : List ℕ → Bool) where
   -- the lock lacks what a package requires
-  abbrev pub lacking : List LockedReading → Demand → List Finding
-  lacking ys a = if excused a.name then [] else unlocked ys a
+  abbrev pub lacking : LockParts → List LockedReading → Demand → List Finding
+  lacking parts ys a = if excused a.name then [] else unlocked parts ys a
 
   -- what the requirement of a package lacks and excludes in its own lock
-  abbrev pub unmet : List LockedReading → LineMeaning → List Finding
-  unmet ys m = flat_map (λ a. lacking ys a ++ excluded a ys) (demands_in m)
+  abbrev pub unmet : LockParts → List LockedReading → LineMeaning → List Finding
+  unmet parts ys m = flat_map (λ a. lacking parts ys a ++ excluded a ys) (demands_in m)
 
   -- the report of a document by itself: the strings or the packages count as lines
   abbrev pub own_report : DocumentReading → Report
-  own_report (IsProject together names xs) = record { findings = flat_map invalid_string xs ++ project_conflicts together xs; ignored = []; lines = length xs; files = 1; left_out = flat_map left_out_string xs }
-  own_report (IsLock parts ys ms fs) = record { findings = flat_map invalid_package ys ++ (flat_map invalid_in fs ++ flat_map (unmet ys) ms); ignored = []; lines = length ys; files = 1; left_out = flat_map left_out_in ms }
+  own_report (IsProject together names xs) = record { findings = flat_map invalid_string xs; ignored = []; lines = length xs; files = 1; left_out = flat_map left_out_string xs }
+  own_report (IsLock parts ys ms fs) = record { findings = flat_map invalid_package ys ++ (flat_map invalid_in fs ++ flat_map (unmet parts ys) ms); ignored = []; lines = length ys; files = 1; left_out = flat_map left_out_in ms }
   own_report (IsBroken f) = record { findings = f ∷ []; ignored = []; lines = 0; files = 1; left_out = [] }
 
   -- a report, and after it those of documents
@@ -182,15 +182,15 @@ is_locked (Extra name) = true
 is_locked (Group name) = true
 is_locked _ = false
 
-module _ (kind : LockKind) (parts : List (List ℕ)) (names : List (List ℕ)) where
+module _ (kind : LockKind) (parts : LockParts) (names : List (List ℕ)) where
   -- a lock has the package, if it needs it; but not installers, nor the project itself, which by these names may ask for extras of its own
   abbrev pub missing : List LockedReading → Section → Demand → List Finding
   missing ys section a =
-      if is_installer a.name then [] else (if list_any (bytes_eq a.name) names then [] else (if is_needed kind parts section then unlocked ys a else []))
+      if is_installer a.name then [] else (if list_any (bytes_eq a.name) names then [] else (if is_needed kind parts.names section then unlocked parts ys a else []))
 
   -- a lock has no other version of the package, unless it leaves the part out
   abbrev pub excluded_in : List LockedReading → Section → Demand → List Finding
-  excluded_in ys section a = if leaves_out kind parts section then [] else excluded a ys
+  excluded_in ys section a = if leaves_out kind parts.names section then [] else excluded a ys
 
   -- a requirement beside the lock, which counts if it has no marker
   abbrev pub compared_demand : List LockedReading → Section → Demand → List Finding
@@ -258,7 +258,7 @@ with_findings a found = record { findings = a.findings ++ found; ignored = a.ign
 abbrev pub documents_report : List Document → List DocumentReading → Report
 documents_report documents xs = with_findings (with_own_reports (is_excused xs) empty_report xs) (flat_map (beside_all documents (zip documents xs)) (zip documents xs))
 
--- of a project the requirements that hold together under several markers
+-- of a project the requirements that hold together and have no version in common
 abbrev pub FindsOfReading : DocumentReading → List Finding → List Cause → Type 0
 FindsOfReading (IsProject together names xs) fs cs = FindsOfParts together xs fs cs
 FindsOfReading (IsLock parts ys ms files) fs cs = FindsNothing fs cs
@@ -268,7 +268,7 @@ FindsOfReading (IsBroken f) fs cs = FindsNothing fs cs
 abbrev pub with_found : Report → List Finding → List Cause → Report
 with_found a fs cs = record { findings = a.findings ++ fs; ignored = a.ignored; lines = a.lines; files = a.files; left_out = a.left_out ++ cs }
 
--- the report of the documents: behind these findings those of requirements under several markers
+-- the report of the documents: behind these findings those of requirements that have no version in common
 abbrev pub IsDocumentsReport : List Document → Report → Type 0
 IsDocumentsReport documents r = (xs : List DocumentReading) × AllZip IsDocumentReading documents xs
     × (fs : List Finding) × (cs : List Cause) × FindsOfEach FindsOfReading xs fs cs × (r ≡ with_found (documents_report documents xs) fs cs)

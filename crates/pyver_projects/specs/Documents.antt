@@ -6,8 +6,8 @@ use Rattle.pep440_pick.specs.Names.{is_name, normal}
 use Rattle.toml.specs.Data.{Data, Members, as_str, get, get_member}
 use Rattle.pyver_projects.specs.LockedFiles.{array_faults, files_from, last_section, counted_names, has_markers, locked_python, package_condition, package_faults, package_name_in}
 use Rattle.pyver_projects.specs.PackageRequirements.{requirements_from}
-use Rattle.pyver_projects.specs.ProjectStrings.{Build, Dependencies, Extra, Group, Include, Invalid, LockContents, LockFault, LockedPackage, PackageCondition, ProjectString, Python, Section, Version, header_lines, entries, inside, is_array_or_none, is_table_or_none, listed, text_in}
-use Rattle.pyver_projects.specs.PipfileLocks.{member_packages}
+use Rattle.pyver_projects.specs.ProjectStrings.{Build, Dependencies, Extra, Group, Include, Invalid, LockContents, LockFault, LockParts, LockedPackage, PackageCondition, ProjectString, Python, Section, Version, header_lines, entries, inside, is_array_or_none, is_table_or_none, listed, text_in}
+use Rattle.pyver_projects.specs.PipfileLocks.{document_faults, member_packages}
 use Rattle.pyver_findings.specs.NamedFiles.{folder}
 use Rattle.pyver_projects.specs.declared.document_kind.DocumentKind.{DocumentKind}
 use Rattle.pyver_projects.specs.declared.document_kind.DocumentKind.TheVariants.{Lock, Project}
@@ -201,23 +201,36 @@ abbrev pub named_parts : Members → List (List ℕ)
 named_parts document = names_listed (get_member (codes "dependency-groups") document) ++ names_listed (get_member (codes "extras") document)
 
 -- the groups that a lock names beside its packages: those of PEP 751 and of PDM, where `default` are the dependencies of the project, and each extra is one
-abbrev pub lock_parts : LockKind → Members → List (List ℕ)
-lock_parts Pdm document = names_listed (inside (codes "groups") (get_member (codes "metadata") document))
-lock_parts Pylock document = with_default (named_parts document) (names_listed (get_member (codes "default-groups") document))
-lock_parts kind document = []
+abbrev pub part_names : LockKind → Members → List (List ℕ)
+part_names Pdm document = names_listed (inside (codes "groups") (get_member (codes "metadata") document))
+part_names Pylock document = with_default (named_parts document) (names_listed (get_member (codes "default-groups") document))
+part_names kind document = []
 
--- the groups that a package names: one of Poetry, from format 2.1 on
-abbrev pub package_parts : LockKind → ℕ × Data → List (List ℕ)
-package_parts Poetry e = names_listed (get (codes "groups") e.1)
-package_parts kind e = []
+-- the groups that packages name: those of Poetry, from format 2.1 on
+abbrev pub package_parts : LockKind → List Data → List (List ℕ)
+package_parts Poetry packages = flat_map (λ (d : Data). names_listed (get (codes "groups") d)) packages
+package_parts kind packages = []
 
--- what the tables of packages of a lock of this kind have, each with its line, beside these groups and faults, that have markers or not, for these
+-- the strings in an array
+abbrev pub texts_listed : Option Data → List (List ℕ)
+texts_listed value = flat_map (λ (d : Data). option_to_list (as_str d)) (listed value)
+
+-- the parts of a lock with these packages. Only one of PEP 751 has extras and groups for markers, and environments
+abbrev pub lock_parts : LockKind → Members → List Data → LockParts
+lock_parts kind document packages = record {
+  names = part_names kind document ++ package_parts kind packages;
+  extras = names_listed (get_member (codes "extras") document);
+  groups = names_listed (get_member (codes "dependency-groups") document) ++ names_listed (get_member (codes "default-groups") document);
+  environments = texts_listed (get_member (codes "environments") document);
+}
+
+-- what the tables of packages of a lock of this kind have, each with its line, beside these parts and faults, that have markers or not, for these
 -- Pythons, and are looked at beside those with these names
-abbrev pub table_contents : LockKind → List (List ℕ) → List LockFault → Bool → Option (List ℕ) → List (List ℕ) → List (ℕ × Data) → LockContents
+abbrev pub table_contents : LockKind → LockParts → List LockFault → Bool → Option (List ℕ) → List (List ℕ) → List (ℕ × Data) → LockContents
 table_contents kind parts found marked python names tables = record {
-  parts = parts ++ flat_map (package_parts kind) tables;
+  parts = parts;
   packages = flat_map (package_from python) tables;
-  requirements = flat_map requirements_from tables;
+  requirements = flat_map (requirements_from kind parts) tables;
   files = flat_map files_from tables;
   faults = found ++ flat_map (package_faults kind marked names) tables;
 }
@@ -225,7 +238,7 @@ table_contents kind parts found marked python names tables = record {
 -- what a lock of this kind has in these packages, with these lines of headers, beside these faults
 abbrev pub packages_contents : LockKind → List ℕ → List LockFault → Members → List Data → LockContents
 packages_contents kind lines found document packages =
-    table_contents kind (lock_parts kind document) found (has_markers kind document) (locked_python kind document) (flat_map (counted_names kind) packages) (numbered_tables lines 0 packages)
+    table_contents kind (lock_parts kind document packages) found (has_markers kind document) (locked_python kind document) (flat_map (counted_names kind) packages) (numbered_tables lines 0 packages)
 
 -- in those in the array of tables at this key, each under this header, of a lock with this text
 abbrev pub contents : LockKind → List ℕ → List ℕ → List ℕ → Members → LockContents
@@ -274,9 +287,9 @@ kind_of_word word =
 abbrev pub toml_contents : LockKind → List ℕ → List ℕ → List ℕ → Option LockContents
 toml_contents kind key header text = option_map (contents kind header text key) (parse_document text)
 
--- what `Pipfile.lock` has: only packages
+-- what `Pipfile.lock` with this text has: only packages
 abbrev pub pipfile_contents : List ℕ → JsonData → LockContents
-pipfile_contents text document = record { parts = []; packages = member_packages text document; requirements = []; files = []; faults = [] }
+pipfile_contents text document = record { parts = record { names = []; extras = []; groups = []; environments = [] }; packages = member_packages text document; requirements = []; files = []; faults = document_faults text document }
 
 -- what a lock with this text has, if it is TOML, or JSON, of a known format
 abbrev pub locked : LockKind → List ℕ → Option LockContents

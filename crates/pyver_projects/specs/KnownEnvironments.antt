@@ -1,14 +1,16 @@
--- Environments in which installers of today run, CPython 3.9 to 3.14 on three systems; and those in which a lock leaves a package out by its marker
--- (PEP 508, "Environment Markers").
-use Rattle.std.specs.Prelude.{ℕ, ◌&&◌, List, [], ◌∷◌, ◌++◌, Bool, true, false, Option, Some, None, Result, Ok, Err, codes}
+-- Environments in which installers of today run, CPython 3.9 to 3.14 on three systems, with all that a lock has installed (PEP 751, "Installation"); and
+-- those in which a lock leaves a package out by its marker (PEP 508, "Environment Markers").
+use Rattle.std.specs.Prelude.{ℕ, ◌&&◌, ◌||◌, ◌==◌, List, [], ◌∷◌, ◌++◌, Bool, true, false, Option, Some, None, Result, Ok, Err, bytes_eq, codes, if◌then◌else◌, length, unwrap_or}
 use Rattle.std.specs.Fmt.{decimal}
+use Rattle.std.specs.List.{list_all, list_any}
 use Rattle.pep440_rs.specs.LiteralMatching.{list_matches_literally}
 use Rattle.pep440_rs.specs.Specifiers.{Spec}
 use Rattle.pep440_version.specs.Record.{Record, from_release}
-use Rattle.pyver_markers.specs.Environments.{Assignment, Environment, assigned}
+use Rattle.pyver_markers.specs.Environments.{Assignment, Environment, Names, assigned}
 use Rattle.pyver_markers.specs.MarkerComparisons.{compare}
 use Rattle.pyver_markers.specs.MarkerValues.{after_steps, both_hold, either_holds, last_value}
 use Rattle.pyver_requirements.specs.MarkerSteps.{Misfit, Step, marker_steps}
+use Rattle.pyver_projects.specs.ProjectStrings.{LockParts}
 use Rattle.pyver_projects.specs.declared.known_environment.KnownEnvironment.{KnownEnvironment}
 use Rattle.pyver_projects.specs.declared.known_environment.System.{System}
 use Rattle.pyver_projects.specs.declared.known_environment.System.TheVariants.{Linux, MacOs, Windows}
@@ -56,8 +58,14 @@ cpython_variables system short full = record { name = codes "python_version"; te
     ∷ (record { name = codes "platform_system"; text = platform_system system }
     ∷ (record { name = codes "platform_machine"; text = platform_machine system } ∷ []))))))))
 
-abbrev pub known_environment : KnownEnvironment → Environment
-known_environment k = assigned (cpython_variables k.system (python_text k.minor) (python_text k.minor ++ codes ".0"))
+-- the environment with these extras and groups
+abbrev pub with_names : (extras groups : List (List ℕ)) → Environment → Environment
+with_names extras groups e name = if bytes_eq (codes "extras") name then Some (Names extras)
+    else (if bytes_eq (codes "dependency_groups") name then Some (Names groups) else e name)
+
+-- where all parts are installed
+abbrev pub known_environment : LockParts → KnownEnvironment → Environment
+known_environment parts k = with_names parts.extras parts.groups (assigned (cpython_variables k.system (python_text k.minor) (python_text k.minor ++ codes ".0")))
 
 -- its name for people
 abbrev pub environment_name : KnownEnvironment → List ℕ
@@ -85,20 +93,36 @@ is_false (Some false) = true
 is_false (Some true) = false
 is_false None = false
 
--- the marker with these steps does not hold in the environment
-abbrev pub is_read_false : Environment → Result (List Step) Misfit → Bool
-is_read_false e (Ok all) = is_false (last_value (after_steps (compare e) both_hold either_holds all []))
-is_read_false e (Err f) = false
+-- the value of the marker with these steps, if it is one
+abbrev pub read_value : Environment → Result (List Step) Misfit → Option Bool
+read_value e (Ok all) = last_value (after_steps (compare e) both_hold either_holds all [])
+read_value e (Err f) = None
 
 -- CPython 3 with this second number
 abbrev pub python_record : ℕ → Record
 python_record minor = from_release (3 ∷ (minor ∷ (0 ∷ [])))
 
--- the lock is for this Python, and leaves out a package with this marker there
-abbrev pub is_left_out : KnownEnvironment → ReadCondition → Bool
-is_left_out k c = list_matches_literally c.python (python_record k.minor) && is_read_false (known_environment k) (marker_steps c.marker)
+module _ (parts : LockParts) where
+  -- what the marker is in the environment
+  abbrev pub marker_value : KnownEnvironment → List ℕ → Option Bool
+  marker_value k marker = read_value (known_environment parts k) (marker_steps marker)
 
--- a package may have no condition
-abbrev pub is_left_out_in : KnownEnvironment → Option ReadCondition → Bool
-is_left_out_in k None = false
-is_left_out_in k (Some c) = is_left_out k c
+  abbrev pub is_true_in : KnownEnvironment → List ℕ → Bool
+  is_true_in k marker = unwrap_or (marker_value k marker) false
+
+  -- the marker holds in all of them
+  abbrev pub holds_everywhere : List ℕ → Bool
+  holds_everywhere marker = list_all (λ (k : KnownEnvironment). is_true_in k marker) known_environments
+
+  -- the lock is for the environment, as for all if it says nothing
+  abbrev pub is_for : KnownEnvironment → Bool
+  is_for k = (length parts.environments == 0) || list_any (is_true_in k) parts.environments
+
+  -- the lock is for this Python and this environment, and leaves out a package with this marker there
+  abbrev pub is_left_out : KnownEnvironment → ReadCondition → Bool
+  is_left_out k c = list_matches_literally c.python (python_record k.minor) && (is_false (marker_value k c.marker) && is_for k)
+
+  -- a package may have no condition
+  abbrev pub is_left_out_in : KnownEnvironment → Option ReadCondition → Bool
+  is_left_out_in k None = false
+  is_left_out_in k (Some c) = is_left_out k c

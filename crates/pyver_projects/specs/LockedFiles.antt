@@ -199,6 +199,7 @@ target_python _ = None
 abbrev pub locked_python : LockKind → Members → Option (List ℕ)
 locked_python Poetry document = if has_markers Poetry document then option_map poetry_python (text_in (inside (codes "python-versions") (get_member (codes "metadata") document))) else None
 locked_python Pdm document = target_python (listed (inside (codes "targets") (get_member (codes "metadata") document)))
+locked_python Pylock document = text_in (get_member (codes "requires-python") document)
 locked_python kind document = None
 
 abbrev pub condition_in : Option (List ℕ) → Option (List ℕ) → Option PackageCondition

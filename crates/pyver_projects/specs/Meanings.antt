@@ -1,5 +1,5 @@
 -- What a string of `pyproject.toml`, a locked package and a document are to the check.
-use Rattle.std.specs.Prelude.{◌≡◌, ◌⊎◌, ℕ, ◌+◌, List, [], ◌++◌, Bool, true, false, Option, Some, None, codes, if◌then◌else◌, length, map, ⊤}
+use Rattle.std.specs.Prelude.{◌≡◌, ◌⊎◌, ℕ, ◌+◌, List, [], ◌++◌, Bool, true, false, Option, Some, None, codes, if◌then◌else◌, length, map, ⊤, ◌-◌, drop, take}
 use Rattle.std.specs.List.{AllZip, All}
 use Rattle.std.specs.Str.{IsUtf8}
 use Rattle.pep440_pick.specs.Names.{normal}
@@ -24,7 +24,7 @@ use Rattle.pyver_projects.specs.Documents.{has_group_tool, locked, project_names
 use Rattle.pyver_projects.specs.Groups.{Groups, groups, include_meaning, no_group}
 use Rattle.pyver_projects.specs.KnownEnvironments.{ReadCondition}
 use Rattle.pyver_projects.specs.PackageRequirements.{package_text, requirement_text}
-use Rattle.pyver_projects.specs.ProjectStrings.{Build, Dependencies, Extra, Group, Include, Invalid, LockContents, LockFault, LockedFile, LockedPackage, LockedRequirement, PackageCondition, ProjectString, Python, Section, Version, string_number}
+use Rattle.pyver_projects.specs.ProjectStrings.{Build, Dependencies, Extra, Group, Include, Invalid, LockContents, LockFault, LockParts, LockedFile, LockedPackage, LockedRequirement, PackageCondition, ProjectString, Python, Section, Version, string_number, last_bytes, line_after, line_at}
 use Rattle.pyver_projects.specs.declared.document_kind.DocumentKind.{DocumentKind}
 use Rattle.pyver_projects.specs.declared.document_kind.DocumentKind.TheVariants.{Lock, Project}
 use Rattle.pyver_findings.specs.Reports.{demands_in}
@@ -114,9 +114,14 @@ IsLockedReading file p y = IsConditionReading p.condition y.condition × IsVersi
 abbrev pub requirement_line : List ℕ → LockedRequirement → FileLine
 requirement_line file q = record { file = file; number = q.line; text = q.requirer ++ (codes " requires " ++ requirement_text q.name q.list); comment = [] }
 
+-- the marker under which it counts: a reference has that of the package, which it does not repeat
+abbrev pub reference_marker : Bool → Option (List ℕ)
+reference_marker true = Some []
+reference_marker false = None
+
 -- what it is: a name with a list, or left out, if the list is none of PEP 440
 abbrev pub IsRequirementReading : List ℕ → LockedRequirement → LineMeaning → Type 0
-IsRequirementReading file q x = ((list : List Spec) × DerivesList q.list list × (x ≡ Asks (line_demand (requirement_line file q) None (record { name = q.name; extras = []; specifiers = list }))))
+IsRequirementReading file q x = ((list : List Spec) × DerivesList q.list list × (x ≡ Asks (line_demand (requirement_line file q) (reference_marker q.is_reference) (record { name = q.name; extras = []; specifiers = list }))))
     ⊎ ((f : PieceRejection) × RejectsList q.list f × (x ≡ LeftOut cause.OtherSyntax))
 
 -- ---- files of locked packages
@@ -158,11 +163,11 @@ pub record Document : Type 0 where
   pub kind : DocumentKind
   pub file : File
 
--- a document that was read: of a project whether its groups hold together with its dependencies, its names, and its strings; the groups and packages of a lock,
+-- a document that was read: of a project whether its groups hold together with its dependencies, its names, and its strings; the parts and packages of a lock,
 -- what they require, and what is wrong with their files and beside one another; or why it was not read
 pub data DocumentReading : Type 0 where
   IsProject : Bool → (names : List (List ℕ)) → List StringReading → DocumentReading
-  IsLock : (parts : List (List ℕ)) → List LockedReading → (requirements faults : List LineMeaning) → DocumentReading
+  IsLock : (parts : LockParts) → List LockedReading → (requirements faults : List LineMeaning) → DocumentReading
   IsBroken : Finding → DocumentReading
 
 -- what a project with this table is
@@ -174,9 +179,19 @@ abbrev pub IsLockReading : List ℕ → LockContents → DocumentReading → Typ
 IsLockReading file l x = (ys : List LockedReading) × (ms fs : List LineMeaning) × AllZip (IsLockedReading file) l.packages ys × AllZip (IsRequirementReading file) l.requirements ms
     × AllZip (IsFileReading file) l.files fs × (x ≡ IsLock l.parts ys ms (fs ++ map (fault_meaning file) l.faults))
 
+-- the line of a position in the file
+abbrev pub position_line : File → ℕ → FileLine
+position_line file position =
+    let before = take position file.text in
+    record { file = file.name; number = line_after before; text = line_at (drop (length before - last_bytes before) file.text); comment = [] }
+
+-- that the document is not read, for this reason at this position
+abbrev pub broken_at : File → ℕ → List ℕ → DocumentReading
+broken_at file position reason = IsBroken (NoRequirement (position_line file position) reason (last_bytes (take position file.text)))
+
 -- the document is not read, for some reason at some position of it
 abbrev pub IsBrokenReading : File → DocumentReading → Type 0
-IsBrokenReading file d = (line : FileLine) × (reason : List ℕ) × (column : ℕ) × (line.file ≡ file.name) × (d ≡ IsBroken (NoRequirement line reason column))
+IsBrokenReading file d = (position : ℕ) × (reason : List ℕ) × (d ≡ broken_at file position reason)
 
 -- what a lock is that has this, or cannot be read
 abbrev pub IsContentsReading : File → Option LockContents → DocumentReading → Type 0
@@ -189,7 +204,7 @@ IsTextReading (Lock kind) file x = IsContentsReading file (locked kind file.text
 
 -- what a document is
 abbrev pub IsDocumentReading : Document → DocumentReading → Type 0
-IsDocumentReading d x = ((¬ IsUtf8 d.file.text) × IsBrokenReading d.file x) ⊎ (IsUtf8 d.file.text × IsTextReading d.kind d.file x)
+IsDocumentReading d x = ((¬ IsUtf8 d.file.text) × ((position : ℕ) × (x ≡ broken_at d.file position (codes "not UTF-8")))) ⊎ (IsUtf8 d.file.text × IsTextReading d.kind d.file x)
 
 -- strings can give the list of the requirement
 abbrev pub IsSoundString : StringReading → Type 0

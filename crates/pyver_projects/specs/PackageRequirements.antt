@@ -1,6 +1,6 @@
 -- What locked packages require of one another.
-use Rattle.std.specs.Prelude.{ℕ, ◌&&◌, ◌||◌, List, [], ◌∷◌, ◌++◌, Bool, false, true, Option, Some, None, bytes_eq, codes, if◌then◌else◌, is_none, nat_eq, not, option_map}
-use Rattle.std.specs.List.{ends_with, flat_map}
+use Rattle.std.specs.Prelude.{ℕ, ◌&&◌, List, [], ◌∷◌, ◌++◌, Bool, false, true, Option, Some, None, bytes_eq, codes, if◌then◌else◌, is_none, not, option_map}
+use Rattle.std.specs.List.{flat_map}
 use Rattle.std.specs.Option.{option_map_or, unwrap_or}
 use Rattle.pep440_pick.specs.Names.{is_name, is_name_byte}
 use Rattle.pep440_pick.specs.RequirementGrammar.{has_byte}
@@ -8,7 +8,10 @@ use Rattle.pep440_pick.specs.RequirementReading.{split_at_byte}
 use Rattle.pep440_rs.specs.Blanks.{opens}
 use Rattle.pep440_version.specs.Reading.{lead, past}
 use Rattle.toml.specs.Data.{Data, as_str, get}
-use Rattle.pyver_projects.specs.ProjectStrings.{LockedRequirement, entries, inside, listed, text_in}
+use Rattle.pyver_projects.specs.KnownEnvironments.{holds_everywhere}
+use Rattle.pyver_projects.specs.ProjectStrings.{LockParts, LockedRequirement, entries, inside, listed, text_in}
+use Rattle.pyver_projects.specs.declared.document_kind.LockKind.{LockKind}
+use Rattle.pyver_projects.specs.declared.document_kind.LockKind.TheVariants.{Pylock}
 
 -- the name and the version of a package
 abbrev pub package_text : List ℕ → Option (List ℕ) → List ℕ
@@ -39,7 +42,7 @@ is_plain_string text = is_name (lead is_name_byte text) && (not (has_byte 59 tex
 module _ (line : ℕ) (requirer : List ℕ) where
   -- a requirement of this name with this list
   abbrev pub requirement : List ℕ → List ℕ → LockedRequirement
-  requirement name list = record { line = line; requirer = requirer; name = name; list = list }
+  requirement name list = record { line = line; requirer = requirer; name = name; list = list; is_reference = false }
 
   -- a requirement of this name, if it has a list
   abbrev pub requirement_in : List ℕ → Option (List ℕ) → List LockedRequirement
@@ -73,32 +76,45 @@ module _ (line : ℕ) (requirer : List ℕ) where
   abbrev pub member_requirements : List ℕ × Data → List LockedRequirement
   member_requirements e = version_requirements e.0 e.1 ++ flat_map (version_requirements e.0) (listed (Some e.1))
 
-  -- the requirements of uv, of uv, of PDM and of PEP 751, of PDM in `pylock.toml`, and of Poetry
-  abbrev pub table_requirements : Data → List LockedRequirement
-  table_requirements d = flat_map item_requirements (listed (inside (codes "requires-dist") (get (codes "metadata") d)))
+  -- a reference to a package, if it has a name
+  abbrev pub reference_to : Option (List ℕ) → List LockedRequirement
+  reference_to None = []
+  reference_to (Some name) = record { line = line; requirer = requirer; name = name; list = []; is_reference = true } ∷ []
+
+  abbrev pub reference : Data → List LockedRequirement
+  reference d = reference_to (text_in (get (codes "name") d))
+
+  -- the requirements of PEP 751, and of PDM in `pylock.toml`
+  abbrev pub pylock_requirements : Data → List LockedRequirement
+  pylock_requirements d = flat_map reference (listed (get (codes "dependencies") d))
+      ++ flat_map item_requirements (listed (inside (codes "dependencies") (inside (codes "pdm") (get (codes "tool") d))))
+
+  -- the requirements of uv, of uv and PDM, and of Poetry
+  abbrev pub tool_requirements : Data → List LockedRequirement
+  tool_requirements d = flat_map item_requirements (listed (inside (codes "requires-dist") (get (codes "metadata") d)))
       ++ (flat_map item_requirements (listed (get (codes "dependencies") d))
-      ++ (flat_map item_requirements (listed (inside (codes "dependencies") (inside (codes "pdm") (get (codes "tool") d))))
-      ++ flat_map member_requirements (entries (get (codes "dependencies") d))))
+      ++ flat_map member_requirements (entries (get (codes "dependencies") d)))
 
--- it compares by `in` alone, and ends with groups or extras, which it chooses
-abbrev pub chooses_parts : List ℕ → Bool
-chooses_parts text = (ends_with nat_eq text (codes " in dependency_groups") || ends_with nat_eq text (codes " in extras"))
-    && (not (has_byte 61 text) && (not (has_byte 60 text) && not (has_byte 62 text)))
+  -- the requirements in the table of a package of a lock of this kind
+  abbrev pub table_requirements : LockKind → Data → List LockedRequirement
+  table_requirements Pylock d = pylock_requirements d
+  table_requirements kind d = tool_requirements d
 
--- the string does, if there is a value
-abbrev pub chooses_parts_alone : Option Data → Bool
-chooses_parts_alone None = true
-chooses_parts_alone (Some d) = option_map_or chooses_parts (as_str d) false
+module _ (parts : LockParts) where
+  -- the marker, if there is one, holds wherever all parts are installed
+  abbrev pub is_everywhere : Option Data → Bool
+  is_everywhere None = true
+  is_everywhere (Some d) = option_map_or (holds_everywhere parts) (as_str d) false
 
--- the package is locked without markers of environments: those of Poetry, of PDM and PEP 751, and of uv
-abbrev pub is_unconditional : Data → Bool
-is_unconditional d = lacks (codes "markers") d && (chooses_parts_alone (get (codes "marker") d) && lacks (codes "resolution-markers") d)
+  -- the package is locked for each environment: it has no markers as Poetry and uv write them, and one of PDM or PEP 751 holds everywhere
+  abbrev pub is_unconditional : Data → Bool
+  is_unconditional d = lacks (codes "markers") d && (is_everywhere (get (codes "marker") d) && lacks (codes "resolution-markers") d)
 
 -- the requirements of a package with this name, if it has one
-abbrev pub requirements_by : ℕ → Option (List ℕ) → Data → List LockedRequirement
-requirements_by line None d = []
-requirements_by line (Some name) d = table_requirements line (package_text name (text_in (get (codes "version") d))) d
+abbrev pub requirements_by : LockKind → ℕ → Option (List ℕ) → Data → List LockedRequirement
+requirements_by kind line None d = []
+requirements_by kind line (Some name) d = table_requirements line (package_text name (text_in (get (codes "version") d))) kind d
 
--- the requirements of the package on this line, unless it has markers
-abbrev pub requirements_from : ℕ × Data → List LockedRequirement
-requirements_from e = if is_unconditional e.1 then requirements_by e.0 (text_in (get (codes "name") e.1)) e.1 else []
+-- the requirements of the package on this line, if it is locked for each environment
+abbrev pub requirements_from : LockKind → LockParts → ℕ × Data → List LockedRequirement
+requirements_from kind parts e = if is_unconditional parts e.1 then requirements_by kind e.0 (text_in (get (codes "name") e.1)) e.1 else []

@@ -1,6 +1,6 @@
 -- What holds of reports of documents: each finding is right; where there is none, each requirement contains a locked version of its
 -- name; there is one report.
-use Rattle.std.specs.Prelude.{◌≡◌, ◌⊎◌, ℕ, ◌+◌, List, [], ◌∷◌, Bool, false, true, IsTrue, if◌then◌else◌, Option, None, Some, bytes_eq, codes, length}
+use Rattle.std.specs.Prelude.{◌≡◌, ◌⊎◌, ℕ, ◌+◌, List, [], ◌∷◌, Bool, false, true, IsTrue, if◌then◌else◌, None, Some, bytes_eq, codes, length}
 use Rattle.std.specs.List.{All, AllZip, Contains, filter, flat_map, list_any}
 use Rattle.std.specs.Str.{IsUtf8}
 use Rattle.pep440_pick.specs.Names.{normal, same_name}
@@ -12,14 +12,14 @@ use Rattle.pep440_version.specs.ErrorTexts.{rejection_text}
 use Rattle.pep440_version.specs.Grammar.{Derives}
 use Rattle.pep440_version.specs.Record.{Record}
 use Rattle.pep440_version.specs.Rejections.{Rejection, Rejects}
-use Rattle.pyver_findings.specs.Conflicts.{has_same_name, holds_nowhere, under}
+use Rattle.pyver_findings.specs.Conflicts.{has_same_name, unmarked}
 use Rattle.pyver_findings.specs.Demands.{Demand}
 use Rattle.pyver_findings.specs.FileLines.{Conflicting, File, FileLine, Finding, NoRequirement}
-use Rattle.pyver_findings.specs.FindingLaws.{AreAlike, HaveNone, IsRightConflict, IsRightPair, IsUndecided}
+use Rattle.pyver_findings.specs.FindingLaws.{AreAlike, HaveNone, IsOneIn, IsRightConflict, IsUndecided}
 use Rattle.pyver_findings.specs.LineMeanings.{IsNone, IsPlain}
 use Rattle.pyver_findings.specs.Reports.{Report}
 use Rattle.pyver_findings.specs.declared.finding.Conflict.TheVariants.{PinOutside}
-use Rattle.pyver_markers.specs.Conditions.{Domain}
+use Rattle.pyver_markers.specs.Conditions.{Domain, IsEnvironment}
 use Rattle.pyver_markers.specs.Environments.{Environment}
 use Rattle.pyver_markers.specs.MarkerValues.{value}
 use Rattle.pyver_requirements.specs.LineParts.{line_parts}
@@ -29,9 +29,9 @@ use Rattle.toml.specs.Parse.{parse_document}
 use Rattle.pyver_projects.specs.Comparing.{IsDocumentsReport, is_beside, is_installer, is_locked, is_needed, lack_in, leaves_out}
 use Rattle.pyver_projects.specs.Documents.{has_group_tool, locked, project_names, sources}
 use Rattle.pyver_projects.specs.Groups.{groups}
-use Rattle.pyver_projects.specs.KnownEnvironments.{known_environment, known_environments, python_record}
+use Rattle.pyver_projects.specs.KnownEnvironments.{is_for, known_environment, known_environments, python_record}
 use Rattle.pyver_projects.specs.Meanings.{Document, IsSectionMeaning, IsStringReading, StringReading, fault_meaning, file_meaning, is_of_version, package_line, requirement_line, string_line}
-use Rattle.pyver_projects.specs.ProjectStrings.{LockContents, LockFault, LockedFile, LockedPackage, LockedRequirement, PackageCondition, ProjectString, Section}
+use Rattle.pyver_projects.specs.ProjectStrings.{LockContents, LockFault, LockParts, LockedFile, LockedPackage, LockedRequirement, PackageCondition, ProjectString, Section}
 use Rattle.pyver_projects.specs.Together.{has_group, holds_in, part_demands, project_domain, section_part}
 use Rattle.pyver_projects.specs.declared.document_kind.DocumentKind.{DocumentKind}
 use Rattle.pyver_projects.specs.declared.document_kind.DocumentKind.TheVariants.{Lock, Project}
@@ -86,22 +86,22 @@ IsLineOfName lock ps name line = (p : LockedPackage) × (v : Record) × Contains
 abbrev pub FailsIn : Environment → List ℕ → Type 0
 FailsIn e text = (m : Marker) × DenotesMarker text m × (value e m ≡ Some false)
 
--- the lock is for the Python of the environment, where the marker of the package does not hold
-abbrev pub IsLeftOut : KnownEnvironment → LockedPackage → Type 0
-IsLeftOut k p = (c : PackageCondition) × (list : List Spec) × (p.condition ≡ Some c) × DerivesList c.python list × IsTrue (list_matches_literally list (python_record k.minor))
-    × FailsIn (known_environment k) c.marker
+-- a lock with these parts is for the environment and its Python, where the marker of the package does not hold
+abbrev pub IsLeftOut : LockParts → KnownEnvironment → LockedPackage → Type 0
+IsLeftOut parts k p = (c : PackageCondition) × (list : List Spec) × (p.condition ≡ Some c) × DerivesList c.python list × IsTrue (list_matches_literally list (python_record k.minor))
+    × IsTrue (is_for parts k) × FailsIn (known_environment parts k) c.marker
 
 -- the list does not contain the version of the package
 abbrev pub IsOutsideList : List Spec → LockedPackage → Type 0
 IsOutsideList list p = (text : List ℕ) × (v : Record) × (p.version ≡ Some text) × Derives text v × (list_matches_literally list v ≡ false)
 
 -- the package does not meet a requirement for this name with this list in the environment
-abbrev pub CannotMeet : List ℕ → List Spec → KnownEnvironment → LockedPackage → Type 0
-CannotMeet name list k p = (same_name name p.name ≡ false) ⊎ (IsOutsideList list p ⊎ IsLeftOut k p)
+abbrev pub CannotMeet : LockParts → List ℕ → List Spec → KnownEnvironment → LockedPackage → Type 0
+CannotMeet parts name list k p = (same_name name p.name ≡ false) ⊎ (IsOutsideList list p ⊎ IsLeftOut parts k p)
 
 -- the package meets it there
-abbrev pub MeetsIn : List ℕ → List Spec → KnownEnvironment → LockedPackage → Type 0
-MeetsIn name list k p = IsTrue (same_name name p.name) × (¬ IsOutsideList list p) × (¬ IsLeftOut k p)
+abbrev pub MeetsIn : LockParts → List ℕ → List Spec → KnownEnvironment → LockedPackage → Type 0
+MeetsIn parts name list k p = IsTrue (same_name name p.name) × (¬ IsOutsideList list p) × (¬ IsLeftOut parts k p)
 
 -- the string is this requirement, and has no marker and no URL
 abbrev pub AlwaysAsks : ProjectString → Needed → Type 0
@@ -130,17 +130,17 @@ part_lines file t part = flat_map (line_in_part (has_group_tool t) (has_group (g
 abbrev pub IsProjectDomain : File → Members → Domain → Type 0
 IsProjectDomain file t d = (xs : List StringReading) × AllZip (IsStringReading (groups t) file) (sources t) xs × (d ≡ project_domain xs)
 
--- their markers hold in the one of these environments that is named
+-- they ask in the one of these environments that is named, or always
 abbrev pub IsRightPart : File → Members → List FileLine → Finding → Type 0
-IsRightPart file t lines f = (d : Domain) × IsProjectDomain file t d × IsRightPair line_parts d lines f
+IsRightPart file t lines f = (d : Domain) × IsProjectDomain file t d × IsRightConflict line_parts d lines f
 
--- lines that hold together in a part of a project have no version in common, as a finding of requirements files has none, under one marker or two
+-- lines that hold together in a part of a project have no version in common, as a finding of requirements files has none
 pub record IsConflict (documents : List Document) (f : Finding) : Type 0 where
   pub file : File
   pub table : Members
   pub part : Section
   pub has : HasProject documents file table
-  pub right : IsRightConflict line_parts (part_lines file table part) f ⊎ IsRightPart file table (part_lines file table part) f
+  pub right : IsRightPart file table (part_lines file table part) f
 
 -- the version of the package is none
 pub record IsInvalidPackage (documents : List Document) (f : Finding) : Type 0 where
@@ -198,7 +198,7 @@ pub record IsMissing (documents : List Document) (f : Finding) : Type 0 where
   pub contents : LockContents
   pub needed : Needed
   pub has : HasString documents file string
-  pub counts : is_needed kind contents.parts string.section ≡ true
+  pub counts : is_needed kind contents.parts.names string.section ≡ true
   pub asks : AlwaysAsks string needed
   pub known : HasLock documents kind lock contents
   pub none : All (λ (p : LockedPackage). same_name needed.name p.name ≡ false) contents.packages
@@ -221,7 +221,7 @@ pub record IsExcluded (documents : List Document) (f : Finding) : Type 0 where
   pub contents : LockContents
   pub needed : Needed
   pub has : HasString documents file string
-  pub counts : leaves_out kind contents.parts string.section ≡ false
+  pub counts : leaves_out kind contents.parts.names string.section ≡ false
   pub asks : AlwaysAsks string needed
   pub known : HasLock documents kind lock contents
   pub outside : IsOutside lock.name contents.packages needed.name needed.specifiers (string_line file string) f
@@ -249,10 +249,10 @@ pub record IsAbsent (documents : List Document) (f : Finding) : Type 0 where
   pub none : All (λ (p : LockedPackage). same_name requirement.name p.name ≡ false) contents.packages
   pub is : f ≡ NoRequirement (requirement_line lock.name requirement) (codes "the lock has no package of this name") 0
 
--- in some environment none of these packages meets the requirement on this line for this name with this list
-pub record IsLack (ps : List LockedPackage) (name : List ℕ) (list : List Spec) (line : FileLine) (f : Finding) : Type 0 where
+-- in some environment none of these packages of a lock with these parts meets the requirement on this line for this name with this list
+pub record IsLack (parts : LockParts) (ps : List LockedPackage) (name : List ℕ) (list : List Spec) (line : FileLine) (f : Finding) : Type 0 where
   pub environment : KnownEnvironment
-  pub none : All (CannotMeet name list environment) ps
+  pub none : All (CannotMeet parts name list environment) ps
   pub is : f ≡ lack_in line environment
 
 -- in some environment no package of a lock meets a requirement of a project that needs one
@@ -264,10 +264,10 @@ pub record IsPartlyMissing (documents : List Document) (f : Finding) : Type 0 wh
   pub contents : LockContents
   pub needed : Needed
   pub has : HasString documents file string
-  pub counts : is_needed kind contents.parts string.section ≡ true
+  pub counts : is_needed kind contents.parts.names string.section ≡ true
   pub asks : AlwaysAsks string needed
   pub known : HasLock documents kind lock contents
-  pub lack : IsLack contents.packages needed.name needed.specifiers (string_line file string) f
+  pub lack : IsLack contents.parts contents.packages needed.name needed.specifiers (string_line file string) f
 
 -- in some environment no package of a lock meets a requirement of another one
 pub record IsPartlyAbsent (documents : List Document) (f : Finding) : Type 0 where
@@ -279,7 +279,8 @@ pub record IsPartlyAbsent (documents : List Document) (f : Finding) : Type 0 whe
   pub known : HasLock documents kind lock contents
   pub within : Contains contents.requirements requirement
   pub read : DerivesList requirement.list list
-  pub lack : IsLack contents.packages requirement.name list (requirement_line lock.name requirement) f
+  pub always : requirement.is_reference ≡ false
+  pub lack : IsLack contents.parts contents.packages requirement.name list (requirement_line lock.name requirement) f
 
 -- the finding is right
 abbrev pub IsDocumentFinding : List Document → Finding → Type 0
@@ -296,7 +297,7 @@ DocumentFindingsHold = (documents : List Document) (r : Report) → IsDocumentsR
 abbrev pub AllContained : List Document → Type 0
 AllContained documents = (file lock : File) (kind : LockKind) (l : LockContents) (s : ProjectString) (p : LockedPackage) (n : Needed) (v : Record)
     → HasString documents file s → HasLock documents kind lock l → Contains l.packages p → IsTrue (is_beside documents (record { kind = Project; file = file }) (record { kind = Lock kind; file = lock }))
-    → IsTrue (is_locked s.section) → leaves_out kind l.parts s.section ≡ false → AlwaysAsks s n → LocksVersion n.name p v → SomeContained l.packages n.name n.specifiers
+    → IsTrue (is_locked s.section) → leaves_out kind l.parts.names s.section ≡ false → AlwaysAsks s n → LocksVersion n.name p v → SomeContained l.packages n.name n.specifiers
 
 -- each requirement of a package whose list is one contains a version of its name in the same lock, if that has one
 abbrev pub AllMet : List Document → Type 0
@@ -307,11 +308,13 @@ AllMet documents = (lock : File) (kind : LockKind) (l : LockContents) (q : Locke
 abbrev pub IsOtherProject : List ℕ → Members → Type 0
 IsOtherProject name t = list_any (bytes_eq (normal name)) (project_names t) ≡ false
 
--- some package meets the requirement of another one in each environment, where there is a project and none of that name, but for installers
+-- some package has the name that another one requires, where there is a project and none of that name, but for installers; in each environment, if
+-- it does not only refer to one, some package meets the requirement
 abbrev pub AllPresent : List Document → Type 0
-AllPresent documents = (lock file : File) (kind : LockKind) (l : LockContents) (t : Members) (q : LockedRequirement) (list : List Spec) (k : KnownEnvironment) → HasLock documents kind lock l → Contains l.requirements q → DerivesList q.list list
-    → HasProject documents file t → ((other : File) (u : Members) → HasProject documents other u → IsOtherProject q.name u) → is_installer (normal q.name) ≡ false → Contains known_environments k
-    → (p : LockedPackage) × Contains l.packages p × MeetsIn q.name list k p
+AllPresent documents = (lock file : File) (kind : LockKind) (l : LockContents) (t : Members) (q : LockedRequirement) (list : List Spec) → HasLock documents kind lock l → Contains l.requirements q → DerivesList q.list list
+    → HasProject documents file t → ((other : File) (u : Members) → HasProject documents other u → IsOtherProject q.name u) → is_installer (normal q.name) ≡ false
+    → ((p : LockedPackage) × Contains l.packages p × IsTrue (same_name q.name p.name))
+    × ((k : KnownEnvironment) → q.is_reference ≡ false → Contains known_environments k → (p : LockedPackage) × Contains l.packages p × MeetsIn l.parts q.name list k p)
 
 -- each file of a package of a lock whose name has a version has that of the package
 abbrev pub AllOfVersion : List Document → Type 0
@@ -326,16 +329,31 @@ AllAlone documents = (lock : File) (kind : LockKind) (l : LockContents) → HasL
 abbrev pub NoFindingImpliesContained : Type 0
 NoFindingImpliesContained = (documents : List Document) (r : Report) → IsDocumentsReport documents r → r.findings ≡ [] → AllContained documents × (AllMet documents × (AllPresent documents × (AllOfVersion documents × AllAlone documents)))
 
--- the requirements of the part of each string of each project that have one name, and the same marker or none, have a version in common, unless it
--- is contradictory
-abbrev pub AllSatisfiable : List Document → Type 0
-AllSatisfiable documents = (file : File) (t : Members) (s : ProjectString) (xs : List StringReading) (a : Demand) (m : Option (List ℕ)) → HasProject documents file t → Contains (sources t) s
-    → AllZip (IsStringReading (groups t) file) (sources t) xs → Contains (part_demands (has_group_tool t) (groups t).inclusions (section_part s.section) xs) a
-    → holds_nowhere m ≡ false → ¬ HaveNone (under m (filter (has_same_name a) (part_demands (has_group_tool t) (groups t).inclusions (section_part s.section) xs)))
+-- the lines are the requirements of a part of a project, which is installed in the environments of the domain
+pub record IsPart (documents : List Document) (d : Domain) (lines : List Demand) : Type 0 where
+  pub file : File
+  pub table : Members
+  pub string : ProjectString
+  pub readings : List StringReading
+  pub has : HasProject documents file table
+  pub within : Contains (sources table) string
+  pub read : AllZip (IsStringReading (groups table) file) (sources table) readings
+  pub bounds : d ≡ project_domain readings
+  pub are : lines ≡ part_demands (has_group_tool table) (groups table).inclusions (section_part string.section) readings
 
--- where nothing is found, they do
+-- those of one name without a marker have a version in common
+abbrev pub AllSatisfiable : List Document → Type 0
+AllSatisfiable documents = (d : Domain) (lines : List Demand) (a : Demand) → IsPart documents d lines → Contains lines a → ¬ HaveNone (unmarked (filter (has_same_name a) lines))
+
+-- those of one name that ask in an environment in which the project is installed have a version in common
+abbrev pub AllSatisfiableTogether : List Document → Type 0
+AllSatisfiableTogether documents = (d : Domain) (lines : List Demand) (a : Demand) (e : Environment) (asking : List Demand) → IsPart documents d lines → Contains lines a
+    → IsEnvironment d e → All (IsOneIn e a lines) asking → ¬ HaveNone asking
+
+-- where nothing is found, the first have, and if nothing is undecided the second
 abbrev pub NoFindingImpliesSatisfiable : Type 0
-NoFindingImpliesSatisfiable = (documents : List Document) (r : Report) → IsDocumentsReport documents r → r.findings ≡ [] → AllSatisfiable documents
+NoFindingImpliesSatisfiable = (documents : List Document) (r : Report) → IsDocumentsReport documents r → r.findings ≡ []
+    → AllSatisfiable documents × (¬ IsUndecided r → AllSatisfiableTogether documents)
 
 -- ---- one report
 

@@ -1,7 +1,7 @@
 -- What documents have: values of TOML that are tables, arrays or strings; strings that are to be requirements, lists of specifiers or versions,
 -- and locked packages; and where they stand.
 use Rattle.std.specs.Prelude.{Bool, List, None, Option, Some, [], bytes_eq, codes, count_by, drop, if◌then◌else◌, length, nat_eq, nat_lt, not, take, true, ℕ, ◌%◌, ◌&&◌, ◌++◌, ◌+◌, ◌==◌, ◌||◌, ◌∷◌, ◌≡◌, is_some, option_and_then}
-use Rattle.std.specs.List.{filter, prefix_len, starts_with}
+use Rattle.std.specs.List.{filter, prefix_len, starts_with, suffix_len}
 use Rattle.std.specs.Option.{option_or}
 use Rattle.std.specs.BTreeMap.{get_by}
 use Rattle.std.specs.Cmp.Lexicographic.{slice_cmp}
@@ -86,13 +86,14 @@ pub record LockedPackage : Type 0 where
   pub version : Option (List ℕ)
   pub condition : Option PackageCondition
 
--- a requirement of a locked package: the number of the line and the name and version of that package, the name that it requires, and the
--- list of specifiers as it is written
+-- a requirement of a locked package: the number of the line and the name and version of that package, the name that it requires, the list of
+-- specifiers as it is written, and whether it only refers to another package, which may have a marker (PEP 751, `packages.dependencies`)
 pub record LockedRequirement : Type 0 where
   pub line : ℕ
   pub requirer : List ℕ
   pub name : List ℕ
   pub list : List ℕ
+  pub is_reference : Bool
 
 -- a file of a locked package, in whose name a version stands: the number of the line of that package, its name and its version, the name of
 -- the file, and the version in it, as they are written
@@ -109,9 +110,18 @@ pub record LockFault : Type 0 where
   pub text : List ℕ
   pub reason : List ℕ
 
--- what is read of a lock; its parts are the normal names of the groups that it has
+-- the parts of a project that a lock has, in normal form: the names of its groups and extras, with `default` for the dependencies; and what `extras` and
+-- `dependency_groups` are in its markers where all that it has is installed; and the markers of the environments that it is for, or none (PEP 751,
+-- "Installation")
+pub record LockParts : Type 0 where
+  pub names : List (List ℕ)
+  pub extras : List (List ℕ)
+  pub groups : List (List ℕ)
+  pub environments : List (List ℕ)
+
+-- what is read of a lock
 pub record LockContents : Type 0 where
-  pub parts : List (List ℕ)
+  pub parts : LockParts
   pub packages : List LockedPackage
   pub requirements : List LockedRequirement
   pub files : List LockedFile
@@ -192,6 +202,10 @@ key_path table key = table ++ (filter is_key_byte key ++ codes ".")
 -- what the text begins with, up to a newline
 abbrev pub line_at : List ℕ → List ℕ
 line_at text = take (others 10 text) text
+
+-- how many bytes stand behind the last newline
+abbrev pub last_bytes : List ℕ → ℕ
+last_bytes text = suffix_len (λ b. not (b == 10)) text
 
 abbrev pub after_blanks : List ℕ → List ℕ
 after_blanks line = drop (prefix_len (λ b. b == 32 || b == 9) line) line

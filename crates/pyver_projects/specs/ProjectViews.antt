@@ -5,7 +5,7 @@ use Rattle.pyver_findings.specs.Views.{file_line_of, file_of, finding_of, line_m
 use Rattle.pyver_projects.specs.Groups.{Inclusion, Groups}
 use Rattle.pyver_projects.specs.KnownEnvironments.{ReadCondition}
 use Rattle.pyver_projects.specs.Meanings.{Document, DocumentReading, IsBroken, IsLock, IsProject, LockedReading, StringReading}
-use Rattle.pyver_projects.specs.ProjectStrings.{Build, Dependencies, Extra, Group, Include, Invalid, KeyLine, LockContents, LockFault, LockedFile, LockedPackage, LockedRequirement, PackageCondition, Section, Python, ProjectString, Version}
+use Rattle.pyver_projects.specs.ProjectStrings.{Build, Dependencies, Extra, Group, Include, Invalid, KeyLine, LockContents, LockFault, LockParts, LockedFile, LockedPackage, LockedRequirement, PackageCondition, Section, Python, ProjectString, Version}
 use Rattle.pyver_projects.specs.declared.document_kind.Document.{Document as DocumentValue}
 use Rattle.pyver_projects.specs.declared.document_reading.DocumentReading.{DocumentReading as DocumentReadingValue}
 use Rattle.pyver_projects.specs.declared.document_reading.ReadDocument.{ReadDocument as ReadDocumentValue}
@@ -15,6 +15,7 @@ use Rattle.pyver_projects.specs.declared.locked_package.LockContents.{LockConten
 use Rattle.pyver_projects.specs.declared.locked_package.PackageCondition.{PackageCondition as ConditionValue}
 use Rattle.pyver_projects.specs.declared.known_environment.ReadCondition.{ReadCondition as ReadConditionValue}
 use Rattle.pyver_projects.specs.declared.locked_package.LockFault.{LockFault as FaultValue}
+use Rattle.pyver_projects.specs.declared.locked_package.LockParts.{LockParts as PartsValue}
 use Rattle.pyver_projects.specs.declared.locked_package.LockedFile.{LockedFile as FileValue}
 use Rattle.pyver_projects.specs.declared.locked_package.LockedPackage.{LockedPackage as LockedValue}
 use Rattle.pyver_projects.specs.declared.locked_package.LockedRequirement.{LockedRequirement as RequirementValue}
@@ -65,7 +66,7 @@ abbrev pub locked_of : LockedValue → LockedPackage
 locked_of l = record { line = l.line; name = string_bytes l.name; version = option_map string_bytes l.version; condition = option_map condition_of_package l.condition }
 
 abbrev pub requirement_of : RequirementValue → LockedRequirement
-requirement_of q = record { line = q.line; requirer = q.requirer.items; name = string_bytes q.name; list = string_bytes q.list }
+requirement_of q = record { line = q.line; requirer = q.requirer.items; name = string_bytes q.name; list = string_bytes q.list; is_reference = q.is_reference }
 
 abbrev pub locked_file_of : FileValue → LockedFile
 locked_file_of f = record { line = f.line; name = string_bytes f.name; version = string_bytes f.version; file = string_bytes f.file; written = string_bytes f.written }
@@ -73,8 +74,11 @@ locked_file_of f = record { line = f.line; name = string_bytes f.name; version =
 abbrev pub fault_of : FaultValue → LockFault
 fault_of f = record { line = f.line; text = f.text.items; reason = f.reason.now }
 
+abbrev pub parts_of : PartsValue → LockParts
+parts_of p = record { names = map (λ n. n.items) p.names.items; extras = map (λ n. n.items) p.extras.items; groups = map (λ n. n.items) p.groups.items; environments = map (λ t. t.items) p.environments.items }
+
 abbrev pub contents_of : ContentsValue → LockContents
-contents_of l = record { parts = map (λ n. n.items) l.parts.items; packages = map locked_of l.packages.items; requirements = map requirement_of l.requirements.items; files = map locked_file_of l.files.items; faults = map fault_of l.faults.items }
+contents_of l = record { parts = parts_of l.parts; packages = map locked_of l.packages.items; requirements = map requirement_of l.requirements.items; files = map locked_file_of l.files.items; faults = map fault_of l.faults.items }
 
 abbrev pub string_reading_of : StringReadingValue → StringReading
 string_reading_of x = record { section = section_of x.section; meaning = line_meaning_of x.meaning; python = x.python }
@@ -87,7 +91,7 @@ document_of d = record { kind = d.kind; file = file_of d.file }
 
 abbrev pub document_reading_of : DocumentReadingValue → DocumentReading
 document_reading_of (reading.Project p) = IsProject p.together (option_to_list (option_map (λ n. n.items) p.name)) (map string_reading_of p.strings.items)
-document_reading_of (reading.Lock l) = IsLock (map (λ n. n.items) l.parts.items) (map locked_reading_of l.packages.items) (map line_meaning_of l.requirements.items) (map line_meaning_of l.faults.items)
+document_reading_of (reading.Lock l) = IsLock (parts_of l.parts) (map locked_reading_of l.packages.items) (map line_meaning_of l.requirements.items) (map line_meaning_of l.faults.items)
 document_reading_of (reading.Broken f) = IsBroken (finding_of f)
 
 -- what a document was read as
@@ -159,6 +163,9 @@ groups_of all = record { names = indexed_names all.names; inclusions = inclusion
 -- its maps are right
 abbrev pub HasGroups : GroupsValue → Type 0
 HasGroups all = IsNameIndex all.names × IsInclusionIndex all.inclusions × IsGroupOrder (inclusions_of all.inclusions) all.order
+
+abbrev pub index_parts : PackageIndex → LockParts
+index_parts index = parts_of index.parts.now
 
 abbrev pub packages_of : PackageIndex → List LockedReading
 packages_of index = map locked_reading_of index.packages.now

@@ -4,10 +4,9 @@ use Rattle.std.specs.Prelude.{◌≡◌, ℕ, ◌&&◌, List, [], ◌∷◌, ◌
 use Rattle.std.specs.List.{flat_map, list_any}
 use Rattle.std.specs.Option.{option_or}
 use Rattle.pep440_rs.specs.Bounds.{Segments}
-use Rattle.pyver_findings.specs.Conflicts.{conflicts}
 use Rattle.pyver_findings.specs.Demands.{Demand}
 use Rattle.pyver_findings.specs.FileLines.{Conflicting, FileLine, Finding, NoRequirement}
-use Rattle.pyver_findings.specs.MarkerPairs.{FindsOfEach, FindsOfNames}
+use Rattle.pyver_findings.specs.MarkedConflicts.{FindsOfEach, FindsOfNames}
 use Rattle.pyver_findings.specs.Reports.{demands_in}
 use Rattle.pyver_findings.specs.declared.cause.Cause.{Cause}
 use Rattle.pyver_markers.specs.Conditions.{Domain}
@@ -118,16 +117,6 @@ sections xs = map (λ (x : StringReading). x.section) xs
 abbrev pub parts : List StringReading → List Section
 parts xs = with_new same_part [] (map section_part (sections xs))
 
--- the requirements of a part that have no version in common
-abbrev pub part_conflicts : Bool → List StringReading → Section → List Finding
-part_conflicts together xs part = conflicts (part_demands together (inclusions (sections xs)) part xs)
-
--- of each part the requirements that have no version in common, each finding once
-abbrev pub project_conflicts : Bool → List StringReading → List Finding
-project_conflicts together xs = with_new same_finding [] (flat_map (part_conflicts together xs) (parts xs))
-
--- ---- under several markers
-
 -- the requirement has a marker
 abbrev pub is_marked : Demand → Bool
 is_marked a = is_some a.marker
@@ -141,7 +130,7 @@ project_python (x ∷ xs) = option_or x.python (project_python xs)
 abbrev pub project_domain : List StringReading → Domain
 project_domain xs = record { linked = true; python = project_python xs }
 
--- of the requirements of a part those that have no version in common under several markers that hold together
+-- of the requirements of a part those that have no version in common, in an environment in which the project is installed
 abbrev pub FindsOfPart : Bool → List StringReading → Section → List Finding → List Cause → Type 0
 FindsOfPart together xs part = FindsOfNames (project_domain xs) (part_demands together (inclusions (sections xs)) part xs)
 

@@ -20,7 +20,7 @@ ghost use Rattle.pyver_projects.specs.ProjectStrings.{HasPlaces};
 use crate::document_kind::{Document, DocumentKind, LockKind};
 use crate::groups::{Groups, group_names, has_group_tool, string_inclusions};
 use crate::lock_faults::project_name;
-use crate::locked_package::LockContents;
+use crate::locked_package::{LockContents, LockParts};
 use crate::locked_reading::{
     LockedReading, push_faults, read_files, read_packages, read_requirements,
 };
@@ -51,8 +51,7 @@ pub(crate) struct ProjectReading {
 // A lock that was read.
 #[derive(Drop)]
 pub(crate) struct LockReading {
-    // The groups that it has, in their normal form.
-    pub(crate) parts: Vec<Vec<u8>>,
+    pub(crate) parts: LockParts,
     pub(crate) packages: Vec<LockedReading>,
     // What the packages require of one another.
     pub(crate) requirements: Vec<LineMeaning>,

@@ -2,11 +2,10 @@
 ghost use Rattle.std.specs.Prelude.{◌≡◌, ◌++◌, [], IfOk, map};
 ghost use Rattle.std.specs.List.{All, AllZip, flat_map, zip};
 ghost use Rattle.pyver_findings.specs.Reports.{empty_report, invalid_in, left_out_in};
-ghost use Rattle.pyver_findings.specs.MarkerPairs.{FindsOfEach};
+ghost use Rattle.pyver_findings.specs.MarkedConflicts.{FindsOfEach};
 ghost use Rattle.pyver_findings.specs.Views.{AddsFound, finding_of, line_meaning_of, report_of};
 ghost use Rattle.pyver_projects.specs.Comparing.{FindsOfReading, IsDocumentsReport, beside_all, invalid_package, invalid_string, is_excused, left_out_string, own_report, with_own_reports};
-ghost use Rattle.pyver_projects.specs.Meanings.{IsDocumentReading, IsProject, IsSoundDocument, IsSoundString};
-ghost use Rattle.pyver_projects.specs.Together.{project_conflicts};
+ghost use Rattle.pyver_projects.specs.Meanings.{IsDocumentReading, IsProject, IsSoundDocument};
 ghost use Rattle.pyver_projects.specs.declared.document_reading.DocumentReading.TheVariants as reading;
 ghost use Rattle.pyver_projects.specs.ProjectViews.{excuses, document_of, document_reading_of, locked_reading_of, read_pair, reading_in, string_reading_of};
 
@@ -16,7 +15,7 @@ use crate::document_reading::{
 };
 use crate::lock_comparison::{KnownProjects, push_beside_all, push_unmet_requirements};
 use crate::locked_reading::LockedReading;
-use crate::together::{project_conflicts, project_pairs};
+use crate::together::project_conflicts;
 use pyver_findings::{Cause, Finding, LineMeaning, Report};
 use std::alloc::{AllocError, Global};
 
@@ -46,17 +45,14 @@ fn report_strings(
     together: bool,
     strings: Vec<StringReading>,
 ) -> Result<Report, AllocError>
-    requires { All IsSoundString (map string_reading_of strings.items) }
     ensures { IfOk result (λ r. report_of r ≡ own_report (is_excused []) (IsProject together [] (map string_reading_of strings.items))) }
 {
     let mut report = Report::empty(alloc);
     report.lines = strings.len();
     report.files = 1;
-    let mut conflicts = project_conflicts(alloc, together, strings.as_slice())?;
     for string in strings {
         push_string(&mut report, string)?;
     }
-    report.findings.append(&mut conflicts)?;
     Ok(report)
 }
 
@@ -137,7 +133,7 @@ fn report_lock(
     ensures { IfOk result (λ r. report_of r ≡ own_report (excuses projects.now) (document_reading_of (reading.Lock lock))) }
 {
     let LockReading {
-        parts: _parts,
+        parts,
         packages,
         requirements,
         faults,
@@ -151,6 +147,7 @@ fn report_lock(
         alloc,
         &mut unmet,
         projects,
+        &parts,
         packages.as_slice(),
         requirements,
     )?;
@@ -167,7 +164,6 @@ fn report_document(
     projects: &KnownProjects,
     document: DocumentReading,
 ) -> Result<Report, AllocError>
-    requires { IsSoundDocument (document_reading_of document) }
     ensures { IfOk result (λ r. report_of r ≡ own_report (excuses projects.now) (document_reading_of document)) }
 {
     match document {
@@ -194,7 +190,6 @@ fn report_all(
     projects: &KnownProjects,
     documents: Vec<ReadDocument<'_>>,
 ) -> Result<Report, AllocError>
-    requires { All IsSoundDocument (map reading_in documents.items) }
     ensures { IfOk result (λ r. report_of r ≡ with_own_reports (excuses projects.now) empty_report (map reading_in documents.entry.items)) }
 {
     let mut report = Report::empty(alloc);
@@ -223,8 +218,8 @@ fn compare_all(
     Ok(findings)
 }
 
-// Adds what is wrong with the requirements of the document under several markers.
-fn push_reading_pairs(
+// Adds what is wrong with the requirements of the document together.
+fn push_reading_conflicts(
     alloc: Global,
     findings: &mut Vec<Finding>,
     left_out: &mut Vec<Cause>,
@@ -236,8 +231,8 @@ fn push_reading_pairs(
     match reading {
         DocumentReading::Project(project) => {
             let strings = project.strings.as_slice();
-            let mut pairs = project_pairs(alloc, left_out, project.together, strings)?;
-            findings.append(&mut pairs)?;
+            let mut found = project_conflicts(alloc, left_out, project.together, strings)?;
+            findings.append(&mut found)?;
             Ok(())
         }
         DocumentReading::Lock(_) => Ok(()),
@@ -245,8 +240,8 @@ fn push_reading_pairs(
     }
 }
 
-// Adds what is wrong with the requirements of each document under several markers.
-fn push_all_pairs(
+// Adds what is wrong with the requirements of each document together.
+fn push_all_conflicts(
     alloc: Global,
     findings: &mut Vec<Finding>,
     left_out: &mut Vec<Cause>,
@@ -256,7 +251,7 @@ fn push_all_pairs(
     ensures { IfOk result (λ _. AddsFound (FindsOfEach FindsOfReading (map reading_in read.now)) findings.old.items findings.new.items left_out.old.items left_out.new.items) }
 {
     for document in read {
-        push_reading_pairs(alloc, findings, left_out, &document.reading)?;
+        push_reading_conflicts(alloc, findings, left_out, &document.reading)?;
     }
     Ok(())
 }
@@ -281,44 +276,45 @@ fn read_documents<'a>(
 /// strings that are no requirement, no list of specifiers or no version, a list that no version satisfies, groups (PEP 735) with the
 /// normal name of another, with an item that is neither a string nor a table of `include-group` only, or that include a group that does
 /// not exist or that includes them in turn, versions of a lock that are none, and a document that is not TOML, or JSON, in UTF-8. After
-/// the strings of a project its requirements that hold together and have no version in common, as `pyver_findings` reports them, each
-/// once: `project.dependencies`; these with each extra; each group with all that it includes, and with these if there is a table
-/// `tool.uv` or `tool.poetry`; and what the build requires. After the packages of a lock the files of those from an index in whose
+/// the packages of a lock the files of those from an index in whose
 /// names is a version (PEP 427, "File name convention"; PEP 625, "Specification") that `==` with the package's does not match, of those that
 /// follow one another with one version the first; the packages of one name with the same marker or none (PEP 751 ("Specification"),
 /// `poetry.lock` from format 2.1 on and `pdm.lock` with at most one target have one), and in `uv.lock` each dependency without a source on a name
-/// of more than one package; packages that are no array of tables, and names and versions that are
-/// no strings; and for each requirement of a package, beside projects, whether no package has its name, or the first environment
+/// of more than one package; packages that are no array of tables, or in `Pipfile.lock` no object of objects, and names and versions
+/// that are no strings; and for each requirement of a package, beside projects, whether no package has its name, or the first environment
 /// in which the lock leaves out all packages that it may take, unless that is one of them, setuptools, distribute, pip or wheel, and the locked
 /// versions of its name, if it contains none.
 /// Then what is wrong in each project beside each lock in its folder, or in the nearest above that has one of its kind, and beside each
 /// lock for which that is no project: for each requirement, in order, whether the lock lacks a package of its name, or such an environment,
 /// and the lines of the locked versions of its name with the line of the requirement, if it contains none. Then the requirements of each project that hold
-/// together and have no version in common under several markers, as `pyver_findings` reports them, in an environment with a version of Python that
-/// `project.requires-python` contains, if that is a list without `===`.
+/// together and have no version in common, as `pyver_findings` reports them, each once: `project.dependencies`; these with each extra; each group with
+/// all that it includes, and with these if there is a table `tool.uv` or `tool.poetry`; and what the build requires. Those with markers are reported in an
+/// environment with a version of Python that `project.requires-python` contains, if that is a list without `===`.
 ///
 /// Of `pyproject.toml` these are read: `project.dependencies`, `project.optional-dependencies`, `project.requires-python`,
 /// `project.version`, `dependency-groups` with the names of included groups, and `build-system.requires`; of a lock the names and
 /// versions of its packages, in `Pipfile.lock` of the members of `default` and of those of `develop` that are not there with the same
 /// version. Their requirements are the names in uv's `metadata.requires-dist`, each with its `specifier`, those in an array
 /// `dependencies`, or its strings, as PDM writes them, there or, in `pylock.toml`, at `tool.pdm`, and those in Poetry's table `dependencies` with their lists; one that PEP 440 does
-/// not know, as `^1.0`, is left out. The names of a project are `project.name` and `tool.poetry.name`. The files of packages are `files`,
+/// not know, as `^1.0`, is left out. An array `dependencies` in `pylock.toml` only refers to packages, wherever these are (PEP 751, `packages.dependencies`). The names of a project are `project.name` and `tool.poetry.name`. The files of packages are `files`,
 /// `wheels` and `sdist`, each named by its `file`, `name`, `url` or `path`. Other values of other types in a lock are passed over. Extras and groups come in the order of
 /// their names. A string has the number of the first line on which it stands in quotes, a package of `Pipfile.lock` the number of the first line with its name in quotes, another
 /// package, with what it requires, the number of its header. Either has 1 without one. Each string and each package counts as a line.
 ///
-/// A requirement with a marker or a URL, of a package with markers but of groups and extras, of the build, or that is optional, is not compared. Each lock is to
+/// A requirement with a marker or a URL, of a package with markers that may not hold, of the build, or that is optional, is not compared. Each lock is to
 /// have packages for `project.dependencies`, `poetry.lock` and `uv.lock` for extras, `uv.lock` for groups, too; `poetry.lock` for the groups
 /// that its packages name, and `pdm.lock` and `pylock.toml` (PEP 751, `dependency-groups`, `extras`) for those that they name: `default` are the
 /// dependencies, and extras are groups; with what they then do not have nothing is compared. `pylock.toml` has the dependencies, unless its
 /// `default-groups` are some, each of them named, or `default`.
 ///
 /// The environments are CPython 3.9 to 3.14 on Linux, Windows and macOS, of those for which the lock is: `poetry.lock` from format 2.1 on by its
-/// `metadata.python-versions`, where `^3.9` is `>=3.9`, and `pdm.lock` by the `requires_python` of its one target. It leaves a package out where its
-/// marker, a string at `markers` or `marker`, does not hold (PEP 508, "Environment Markers"); what depends on other variables is not left out.
+/// `metadata.python-versions`, where `^3.9` is `>=3.9`, `pdm.lock` by the `requires_python` of its one target, and `pylock.toml` by `requires-python` and
+/// `environments`. It leaves a package out if its marker, a string at `markers` or `marker`, does not hold with all its `extras`, `dependency-groups` and
+/// `default-groups` installed (PEP 508, "Environment Markers"; PEP 751, "Installation"); what depends on other variables is not left out. A string at
+/// `marker` may not hold, unless it does in all of these environments; one at `markers` or `resolution-markers` may not.
 ///
 /// Takes time for each requirement, each package, each pair of them with one name, and, if not all requirements of a project have a version in
-/// common, for each extra or group and requirement.
+/// common, or one has a marker, for each extra or group and requirement.
 ///
 /// Allocates.
 pub fn find_document_problems(alloc: Global, documents: &[Document]) -> Result<Report, AllocError>
@@ -326,12 +322,12 @@ pub fn find_document_problems(alloc: Global, documents: &[Document]) -> Result<R
 {
     let read = read_documents(alloc, documents)?;
     let mut compared = compare_all(alloc, documents, read.as_slice())?;
-    let (mut pairs, mut undecided) = (Vec::new(alloc), Vec::new(alloc));
-    push_all_pairs(alloc, &mut pairs, &mut undecided, read.as_slice())?;
+    let (mut conflicts, mut undecided) = (Vec::new(alloc), Vec::new(alloc));
+    push_all_conflicts(alloc, &mut conflicts, &mut undecided, read.as_slice())?;
     let projects = KnownProjects::new(alloc, read.as_slice())?;
     let mut report = report_all(alloc, &projects, read)?;
     report.findings.append(&mut compared)?;
-    report.findings.append(&mut pairs)?;
+    report.findings.append(&mut conflicts)?;
     report.left_out.append(&mut undecided)?;
     Ok(report)
 }

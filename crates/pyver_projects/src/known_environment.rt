@@ -1,13 +1,15 @@
 //! Environments in which installers of today run, and whether a lock leaves a package out there.
-ghost use Rattle.std.specs.Prelude.{◌≡◌, ◌++◌, IfOk, option_map, string_bytes};
+ghost use Rattle.std.specs.Prelude.{◌≡◌, ◌++◌, IfOk, map, option_map, string_bytes};
+ghost use Rattle.std.specs.List.{list_all, list_any};
 ghost use Rattle.pyver_markers.specs.EnvironmentViews.{setting_of};
-ghost use Rattle.pyver_markers.specs.Environments.{Text, assigned};
+ghost use Rattle.pyver_markers.specs.Environments.{Names, Text, assigned};
 ghost use Rattle.pyver_markers.specs.MarkerValues.{value};
 ghost use Rattle.pyver_requirements.specs.MarkerGrammar.{Marker};
 ghost use Rattle.pyver_requirements.specs.MarkerSteps.{marker_steps, steps};
-ghost use Rattle.pyver_projects.specs.KnownEnvironments.{cpython_variables, environment_name, environments_of, is_false, is_left_out, is_left_out_in, is_read_false, known_environment, known_environments, os_name, platform_machine, platform_system, python_text, sys_platform, system_name};
-ghost use Rattle.pyver_projects.specs.ProjectViews.{read_condition_of};
+ghost use Rattle.pyver_projects.specs.KnownEnvironments.{cpython_variables, environment_name, environments_of, holds_everywhere, is_true_in, is_false, is_for, is_left_out, is_left_out_in, known_environment, known_environments, os_name, platform_machine, platform_system, python_text, sys_platform, system_name, marker_value, with_names};
+ghost use Rattle.pyver_projects.specs.ProjectViews.{parts_of, read_condition_of};
 
+use crate::locked_package::LockParts;
 use pep440_rs::{Version, VersionSpecifiers};
 use pyver_markers::{EnvironmentMarker, Setting, Variable};
 use pyver_requirements::MarkerError;
@@ -107,17 +109,43 @@ fn assign<'a>(name: &'a str, text: &'a [u8]) -> Variable<'a>
     }
 }
 
-// What the marker is with these versions of CPython.
-fn evaluate_with<'a>(
+// The variable that is these names.
+fn assign_names<'a, 'b>(name: &'b str, names: &'b [&'a [u8]]) -> Variable<'b>
+    ensures name { result.name.now ≡ name.now }
+    ensures setting { setting_of result.setting ≡ Names (map (λ n. n.now) names.now) }
+{
+    Variable {
+        name: name.as_bytes(),
+        setting: Setting::Names(names),
+    }
+}
+
+fn borrow_names<'a>(alloc: Global, names: &'a [Vec<u8>]) -> Result<Vec<&'a [u8]>, AllocError>
+    ensures { IfOk result (λ borrowed. map (λ n. n.now) borrowed.items ≡ map (λ n. n.items) names.now) }
+{
+    let mut borrowed = Vec::new(alloc);
+    for name in names {
+        borrowed.push(name.as_slice())?;
+    }
+    Ok(borrowed)
+}
+
+// What the marker is with these versions of CPython, where these extras and groups are installed.
+fn evaluate_with<'a, 'b>(
     alloc: Global,
     marker: &EnvironmentMarker<'_>,
     system: System,
-    short: &'a [u8],
-    full: &'a [u8],
+    extras: &'b [&'a [u8]],
+    groups: &'b [&'a [u8]],
+    short: &'b [u8],
+    full: &'b [u8],
 ) -> Result<Option<bool>, AllocError>
-    ensures { (m : Marker) → marker.now ≡ steps m → IfOk result (λ v. v ≡ value (assigned (cpython_variables system short.now full.now)) m) }
+    ensures { (m : Marker) → marker.now ≡ steps m
+        → IfOk result (λ v. v ≡ value (with_names (map (λ n. n.now) extras.now) (map (λ n. n.now) groups.now) (assigned (cpython_variables system short.now full.now))) m) }
 {
     let variables = [
+        assign_names("extras", extras),
+        assign_names("dependency_groups", groups),
         assign("python_version", short),
         assign("python_full_version", full),
         assign("implementation_version", full),
@@ -131,21 +159,26 @@ fn evaluate_with<'a>(
     marker.evaluate(alloc, &variables)
 }
 
-// What the marker is in the environment.
+// What the marker is in the environment, where the parts are installed.
 fn evaluate_in(
     alloc: Global,
+    parts: &LockParts,
     marker: &EnvironmentMarker<'_>,
     environment: KnownEnvironment,
 ) -> Result<Option<bool>, AllocError>
-    ensures { (m : Marker) → marker.now ≡ steps m → IfOk result (λ v. v ≡ value (known_environment environment) m) }
+    ensures { (m : Marker) → marker.now ≡ steps m → IfOk result (λ v. v ≡ value (known_environment (parts_of parts.now) environment) m) }
 {
     let short = python_text(alloc, environment.minor)?;
     let mut full = Vec::from_slice(alloc, short.as_slice())?;
     full.extend_from_slice(b".0")?;
+    let extras = borrow_names(alloc, parts.extras.as_slice())?;
+    let groups = borrow_names(alloc, parts.groups.as_slice())?;
     evaluate_with(
         alloc,
         marker,
         environment.system,
+        extras.as_slice(),
+        groups.as_slice(),
         short.as_slice(),
         full.as_slice(),
     )
@@ -160,23 +193,63 @@ fn is_false(value: Option<bool>) -> bool
     }
 }
 
-// The marker does not hold in the environment.
-#[tactic(auto, using(crate::proofs::LockedPackages::none_false))]
-fn is_false_in(
+// What the marker is in the environment, if the string is one.
+#[tactic(auto, using(crate::proofs::LockedPackages::no_value))]
+fn evaluate_text(
     alloc: Global,
+    parts: &LockParts,
+    marker: &[u8],
+    environment: KnownEnvironment,
+) -> Result<Option<bool>, AllocError>
+    ensures { IfOk result (λ v. v ≡ marker_value (parts_of parts.now) environment marker.now) }
+{
+    match EnvironmentMarker::parse(alloc, marker) {
+        Ok(marker) => evaluate_in(alloc, parts, &marker, environment),
+        Err(MarkerError::Invalid(_, _)) => Ok(None),
+        Err(MarkerError::OutOfMemory) => Err(AllocError),
+    }
+}
+
+// The marker holds in the environment, where the parts are installed.
+fn is_true_in(
+    alloc: Global,
+    parts: &LockParts,
     marker: &[u8],
     environment: KnownEnvironment,
 ) -> Result<bool, AllocError>
-    ensures { IfOk result (λ b. b ≡ is_read_false (known_environment environment) (marker_steps marker.now)) }
+    ensures { IfOk result (λ b. b ≡ is_true_in (parts_of parts.now) environment marker.now) }
 {
-    match EnvironmentMarker::parse(alloc, marker) {
-        Ok(marker) => {
-            let value = evaluate_in(alloc, &marker, environment)?;
-            Ok(is_false(value))
+    let value = evaluate_text(alloc, parts, marker, environment)?;
+    Ok(value.unwrap_or(false))
+}
+
+// The marker holds in each of these environments.
+fn is_true_in_all(
+    alloc: Global,
+    parts: &LockParts,
+    marker: &[u8],
+    environments: &[KnownEnvironment],
+) -> Result<bool, AllocError>
+    ensures { IfOk result (λ b. b ≡ list_all (λ k. is_true_in (parts_of parts.now) k marker.now) environments.now) }
+{
+    for environment in environments {
+        if !is_true_in(alloc, parts, marker, *environment)? {
+            return Ok(false);
         }
-        Err(MarkerError::Invalid(_, _)) => Ok(false),
-        Err(MarkerError::OutOfMemory) => Err(AllocError),
     }
+    Ok(true)
+}
+
+// The marker holds in all known environments.
+pub(crate) fn holds_everywhere(
+    alloc: Global,
+    parts: &LockParts,
+    marker: &[u8],
+) -> Result<bool, AllocError>
+    ensures { IfOk result (λ b. b ≡ holds_everywhere (parts_of parts.now) marker.now) }
+{
+    let environments = known_environments(alloc)?;
+    is_true_in_all(alloc, parts, marker, environments.as_slice())
 }
 
 impl KnownEnvironment {
@@ -190,30 +263,71 @@ impl KnownEnvironment {
         Ok(name)
     }
 
-    // A lock under this condition leaves the package out.
-    fn is_left_out(self, alloc: Global, condition: &ReadCondition) -> Result<bool, AllocError>
-        ensures { IfOk result (λ b. b ≡ is_left_out self (read_condition_of condition.now)) }
+    // A lock with these parts leaves a package under this condition out.
+    fn is_left_out(
+        self,
+        alloc: Global,
+        parts: &LockParts,
+        condition: &ReadCondition,
+    ) -> Result<bool, AllocError>
+        ensures { IfOk result (λ b. b ≡ is_left_out (parts_of parts.now) self (read_condition_of condition.now)) }
     {
         let version = Version::new(alloc, &[3, self.minor, 0])?;
         if !condition.python.matches_literally(alloc, &version)? {
             return Ok(false);
         }
-        is_false_in(alloc, condition.marker.as_slice(), self)
+        let value = evaluate_text(alloc, parts, condition.marker.as_slice(), self)?;
+        if !is_false(value) {
+            return Ok(false);
+        }
+        is_for(alloc, parts, self)
     }
 
-    // A lock leaves the package out, if it has a condition.
+    // A lock with these parts leaves the package out, if it has a condition.
     pub(crate) fn is_left_out_in(
         self,
         alloc: Global,
+        parts: &LockParts,
         condition: &Option<ReadCondition>,
     ) -> Result<bool, AllocError>
-        ensures { IfOk result (λ b. b ≡ is_left_out_in self (option_map read_condition_of condition.now)) }
+        ensures { IfOk result (λ b. b ≡ is_left_out_in (parts_of parts.now) self (option_map read_condition_of condition.now)) }
     {
         match condition {
-            Some(condition) => self.is_left_out(alloc, condition),
+            Some(condition) => self.is_left_out(alloc, parts, condition),
             None => Ok(false),
         }
     }
+}
+
+// One of the markers holds in the environment, where the parts are installed.
+fn has_true_marker(
+    alloc: Global,
+    parts: &LockParts,
+    markers: &[Vec<u8>],
+    environment: KnownEnvironment,
+) -> Result<bool, AllocError>
+    ensures { IfOk result (λ b. b ≡ list_any (is_true_in (parts_of parts.now) environment) (map (λ m. m.items) markers.now)) }
+{
+    for marker in markers {
+        if is_true_in(alloc, parts, marker.as_slice(), environment)? {
+            return Ok(true);
+        }
+    }
+    Ok(false)
+}
+
+// A lock with these parts is for the environment.
+fn is_for(
+    alloc: Global,
+    parts: &LockParts,
+    environment: KnownEnvironment,
+) -> Result<bool, AllocError>
+    ensures { IfOk result (λ b. b ≡ is_for (parts_of parts.now) environment) }
+{
+    if parts.environments.is_empty() {
+        return Ok(true);
+    }
+    has_true_marker(alloc, parts, parts.environments.as_slice(), environment)
 }
 
 fn push_environments_of(

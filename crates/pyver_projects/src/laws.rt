@@ -21,9 +21,9 @@ pub fn no_finding_means_contained()
     ensures { NoFindingImpliesContained }
 {}
 
-/// Where nothing is reported, the requirements of a project that hold together, of one name and with the same marker or none, have a version
+/// Where nothing is reported, the requirements of a project that hold together, of one name and without a marker, have a version
 /// in common: its dependencies; these with an extra; a group with all that it includes, and with these if there is a table `tool.uv` or
-/// `tool.poetry`; and what its build requires.
+/// `tool.poetry`; and what its build requires. If nothing is undecided, those that ask in an environment for which the project is have one, too.
 pub fn no_finding_means_satisfiable()
     ensures { NoFindingImpliesSatisfiable }
 {}

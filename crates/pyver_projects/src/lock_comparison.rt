@@ -5,7 +5,7 @@ ghost use Rattle.pyver_findings.specs.Reports.{demands_in};
 ghost use Rattle.pyver_findings.specs.Views.{demand_of, file_line_of, finding_of, line_meaning_of};
 ghost use Rattle.pyver_projects.specs.Comparing.{absent, found_beside, found_in_pair, beside_all, compared, compared_demand, accepts_version, excluded, excluded_in, leaves_out, names_groups, locks_extras, locks_groups, has_name, is_excused, is_installer, is_project_reading, is_locked, is_needed, lack_finding, lack_in, lacking, leaves_out_all, locked_line, may_take, missing, names_read, outside, partly_locked, taken_packages, unlocked, unmet};
 ghost use Rattle.pyver_projects.specs.KnownEnvironments.{known_environments};
-ghost use Rattle.pyver_projects.specs.ProjectViews.{IsIndex, excuses, packages_of, document_of, document_reading_of, locked_reading_of, read_pair, reading_in, section_of, string_reading_of};
+ghost use Rattle.pyver_projects.specs.ProjectViews.{IsIndex, excuses, index_parts, packages_of, parts_of, document_of, document_reading_of, locked_reading_of, read_pair, reading_in, section_of, string_reading_of};
 ghost use Rattle.std.specs.HashMap.{get_by};
 ghost use Rattle.std.specs.Option.{option_map_or};
 
@@ -13,6 +13,7 @@ use crate::document_kind::{Document, DocumentKind, LockKind, is_beside};
 use crate::document_reading::{DocumentReading, ReadDocument, StringReading};
 use crate::known_environment::{KnownEnvironment, known_environments};
 use crate::lock_faults::is_listed_part;
+use crate::locked_package::LockParts;
 use crate::locked_reading::LockedReading;
 use crate::project::Section;
 use pep440_rs::Version;
@@ -20,9 +21,10 @@ use pyver_findings::{Conflict, Demand, FileLine, Finding, LineMeaning};
 use std::alloc::{AllocError, Global};
 use std::collections::HashMap;
 
-// All packages, and the packages of each name in their order.
+// The parts of a lock, all its packages, and the packages of each name in their order.
 #[derive(Drop)]
 pub(crate) struct PackageIndex<'a> {
+    pub(crate) parts: &'a LockParts,
     pub(crate) packages: &'a [LockedReading],
     by_name: HashMap<&'a [u8], Vec<&'a LockedReading>>,
 }
@@ -58,16 +60,22 @@ fn push_to_group<'a>(
 impl<'a> PackageIndex<'a> {
     pub(crate) fn new(
         alloc: Global,
+        parts: &'a LockParts,
         packages: &'a [LockedReading],
     ) -> Result<PackageIndex<'a>, AllocError>
         ensures index { IfOk result (λ index. IsIndex index) }
+        ensures parts { IfOk result (λ index. index_parts index ≡ parts_of parts.now) }
         ensures packages { IfOk result (λ index. packages_of index ≡ map locked_reading_of packages.now) }
     {
         let mut by_name: HashMap<&'a [u8], Vec<&'a LockedReading>> = HashMap::new(alloc);
         for locked in packages {
             push_to_group(alloc, &mut by_name, locked)?;
         }
-        Ok(PackageIndex { packages, by_name })
+        Ok(PackageIndex {
+            parts,
+            packages,
+            by_name,
+        })
     }
 
     // The packages with this name, if there are any.
@@ -79,12 +87,10 @@ impl<'a> PackageIndex<'a> {
     }
 }
 
-// A lock beside a project: its groups, and its packages by their names.
+// A lock beside a project.
 #[derive(Drop)]
 struct IndexedLock<'a> {
     kind: LockKind,
-    // The groups that it has, in their normal form.
-    parts: &'a [Vec<u8>],
     // The name of the project beside it, in its normal form.
     project: &'a Option<Vec<u8>>,
     packages: PackageIndex<'a>,
@@ -299,16 +305,17 @@ fn filter_taken<'a>(
     Ok(taken)
 }
 
-// In the environment the lock leaves out all of these.
+// In the environment the lock with these parts leaves out all of these.
 fn leaves_out_all(
     alloc: Global,
+    parts: &LockParts,
     taken: &[&LockedReading],
     environment: KnownEnvironment,
 ) -> Result<bool, AllocError>
-    ensures { IfOk result (λ b. b ≡ leaves_out_all (map (λ y. locked_reading_of y.now) taken.now) environment) }
+    ensures { IfOk result (λ b. b ≡ leaves_out_all (parts_of parts.now) (map (λ y. locked_reading_of y.now) taken.now) environment) }
 {
     for locked in taken {
-        if !environment.is_left_out_in(alloc, &locked.condition)? {
+        if !environment.is_left_out_in(alloc, parts, &locked.condition)? {
             return Ok(false);
         }
     }
@@ -318,13 +325,14 @@ fn leaves_out_all(
 // The first environment in which it does.
 fn find_lack(
     alloc: Global,
+    parts: &LockParts,
     taken: &[&LockedReading],
 ) -> Result<Option<KnownEnvironment>, AllocError>
-    ensures { IfOk result (λ found. found ≡ find (leaves_out_all (map (λ y. locked_reading_of y.now) taken.now)) known_environments) }
+    ensures { IfOk result (λ found. found ≡ find (leaves_out_all (parts_of parts.now) (map (λ y. locked_reading_of y.now) taken.now)) known_environments) }
 {
     let environments = known_environments(alloc)?;
     for environment in &environments {
-        if leaves_out_all(alloc, taken, *environment)? {
+        if leaves_out_all(alloc, parts, taken, *environment)? {
             return Ok(Some(*environment));
         }
     }
@@ -370,10 +378,11 @@ fn push_lack(
 fn push_first_lack(
     alloc: Global,
     findings: &mut Vec<Finding>,
+    parts: &LockParts,
     line: &FileLine,
     taken: &[&LockedReading],
 ) -> Result<(), AllocError>
-    ensures { IfOk result (λ _. map finding_of findings.new.items ≡ map finding_of findings.old.items ++ partly_locked (file_line_of line.now) (map (λ y. locked_reading_of y.now) taken.now)) }
+    ensures { IfOk result (λ _. map finding_of findings.new.items ≡ map finding_of findings.old.items ++ partly_locked (parts_of parts.now) (file_line_of line.now) (map (λ y. locked_reading_of y.now) taken.now)) }
 {
     if taken.is_empty() {
         return Ok(());
@@ -381,20 +390,21 @@ fn push_first_lack(
     if has_unconditional(taken) {
         return Ok(());
     }
-    let environment = find_lack(alloc, taken)?;
+    let environment = find_lack(alloc, parts, taken)?;
     push_lack(alloc, findings, line, environment)
 }
 
 fn push_lack_of_group(
     alloc: Global,
     findings: &mut Vec<Finding>,
+    parts: &LockParts,
     demand: &Demand,
     group: &[&LockedReading],
 ) -> Result<(), AllocError>
-    ensures { IfOk result (λ _. map finding_of findings.new.items ≡ map finding_of findings.old.items ++ partly_locked (demand_of demand.now).line (filter (may_take (demand_of demand.now).specifiers) (map (λ y. locked_reading_of y.now) group.now))) }
+    ensures { IfOk result (λ _. map finding_of findings.new.items ≡ map finding_of findings.old.items ++ partly_locked (parts_of parts.now) (demand_of demand.now).line (filter (may_take (demand_of demand.now).specifiers) (map (λ y. locked_reading_of y.now) group.now))) }
 {
     let taken = filter_taken(alloc, demand, group)?;
-    push_first_lack(alloc, findings, &demand.line, taken.as_slice())
+    push_first_lack(alloc, findings, parts, &demand.line, taken.as_slice())
 }
 
 fn push_lack_of_name(
@@ -404,15 +414,17 @@ fn push_lack_of_name(
     demand: &Demand,
 ) -> Result<(), AllocError>
     requires { IsIndex packages.now }
-    ensures { IfOk result (λ _. map finding_of findings.new.items ≡ map finding_of findings.old.items ++ partly_locked (demand_of demand.now).line (taken_packages (packages_of packages.now) (demand_of demand.now))) }
+    ensures { IfOk result (λ _. map finding_of findings.new.items ≡ map finding_of findings.old.items ++ partly_locked (index_parts packages.now) (demand_of demand.now).line (taken_packages (packages_of packages.now) (demand_of demand.now))) }
 {
     match packages.of_name(demand.name.as_slice()) {
-        Some(group) => push_lack_of_group(alloc, findings, demand, group.as_slice()),
+        Some(group) => {
+            push_lack_of_group(alloc, findings, packages.parts, demand, group.as_slice())
+        }
         None => Ok(()),
     }
 }
 
-// Adds that the lock has no package of the name of the requirement, or in some environment none that it may take.
+// Adds that the lock has no package of the name of the requirement, or, if that has no marker, in some environment none that it may take.
 fn push_absence_or_lack(
     alloc: Global,
     findings: &mut Vec<Finding>,
@@ -420,10 +432,13 @@ fn push_absence_or_lack(
     demand: &Demand,
 ) -> Result<(), AllocError>
     requires { IsIndex packages.now }
-    ensures { IfOk result (λ _. map finding_of findings.new.items ≡ map finding_of findings.old.items ++ unlocked (packages_of packages.now) (demand_of demand.now)) }
+    ensures { IfOk result (λ _. map finding_of findings.new.items ≡ map finding_of findings.old.items ++ unlocked (index_parts packages.now) (packages_of packages.now) (demand_of demand.now)) }
 {
     push_absent(alloc, findings, packages, demand)?;
-    push_lack_of_name(alloc, findings, packages, demand)
+    if demand.marker.is_none() {
+        push_lack_of_name(alloc, findings, packages, demand)?;
+    }
+    Ok(())
 }
 
 // The projects that are checked: whether there are some, and their names.
@@ -532,7 +547,7 @@ fn push_lacking(
     demand: &Demand,
 ) -> Result<(), AllocError>
     requires { IsIndex packages.now }
-    ensures { IfOk result (λ _. map finding_of findings.new.items ≡ map finding_of findings.old.items ++ lacking (excuses projects.now) (packages_of packages.now) (demand_of demand.now)) }
+    ensures { IfOk result (λ _. map finding_of findings.new.items ≡ map finding_of findings.old.items ++ lacking (excuses projects.now) (index_parts packages.now) (packages_of packages.now) (demand_of demand.now)) }
 {
     if projects.excuses(demand.name.as_slice()) {
         return Ok(());
@@ -549,7 +564,7 @@ fn push_unmet(
     requirement: &LineMeaning,
 ) -> Result<(), AllocError>
     requires { IsIndex packages.now }
-    ensures { IfOk result (λ _. map finding_of findings.new.items ≡ map finding_of findings.old.items ++ unmet (excuses projects.now) (packages_of packages.now) (line_meaning_of requirement.now)) }
+    ensures { IfOk result (λ _. map finding_of findings.new.items ≡ map finding_of findings.old.items ++ unmet (excuses projects.now) (index_parts packages.now) (packages_of packages.now) (line_meaning_of requirement.now)) }
 {
     match requirement {
         LineMeaning::Asks(demand) => {
@@ -568,7 +583,7 @@ fn push_unmet_in_index(
     requirements: &[LineMeaning],
 ) -> Result<(), AllocError>
     requires { IsIndex packages.now }
-    ensures { IfOk result (λ _. map finding_of findings.new.items ≡ map finding_of findings.old.items ++ flat_map (unmet (excuses projects.now) (packages_of packages.now)) (map line_meaning_of requirements.now)) }
+    ensures { IfOk result (λ _. map finding_of findings.new.items ≡ map finding_of findings.old.items ++ flat_map (unmet (excuses projects.now) (index_parts packages.now) (packages_of packages.now)) (map line_meaning_of requirements.now)) }
 {
     for requirement in requirements {
         push_unmet(alloc, findings, projects, packages, requirement)?;
@@ -581,12 +596,13 @@ pub(crate) fn push_unmet_requirements(
     alloc: Global,
     findings: &mut Vec<Finding>,
     projects: &KnownProjects,
+    parts: &LockParts,
     packages: &[LockedReading],
     requirements: &[LineMeaning],
 ) -> Result<(), AllocError>
-    ensures { IfOk result (λ _. map finding_of findings.new.items ≡ map finding_of findings.old.items ++ flat_map (unmet (excuses projects.now) (map locked_reading_of packages.now)) (map line_meaning_of requirements.now)) }
+    ensures { IfOk result (λ _. map finding_of findings.new.items ≡ map finding_of findings.old.items ++ flat_map (unmet (excuses projects.now) (parts_of parts.now) (map locked_reading_of packages.now)) (map line_meaning_of requirements.now)) }
 {
-    let packages = PackageIndex::new(alloc, packages)?;
+    let packages = PackageIndex::new(alloc, parts, packages)?;
     push_unmet_in_index(alloc, findings, projects, &packages, requirements)
 }
 
@@ -609,7 +625,7 @@ fn push_missing(
     demand: &Demand,
 ) -> Result<(), AllocError>
     requires { IsIndex lock.now.packages }
-    ensures { IfOk result (λ _. map finding_of findings.new.items ≡ map finding_of findings.old.items ++ missing lock.now.kind (map (λ n. n.items) lock.now.parts.now) (option_to_list (option_map (λ n. n.items) lock.now.project.now)) (packages_of lock.now.packages) (section_of section.now) (demand_of demand.now)) }
+    ensures { IfOk result (λ _. map finding_of findings.new.items ≡ map finding_of findings.old.items ++ missing lock.now.kind (index_parts lock.now.packages) (option_to_list (option_map (λ n. n.items) lock.now.project.now)) (packages_of lock.now.packages) (section_of section.now) (demand_of demand.now)) }
 {
     if is_installer(demand.name.as_slice()) {
         return Ok(());
@@ -617,7 +633,7 @@ fn push_missing(
     if is_project_name(lock.project, demand.name.as_slice()) {
         return Ok(());
     }
-    if !is_needed(lock.kind, lock.parts, section) {
+    if !is_needed(lock.kind, lock.packages.parts.names.as_slice(), section) {
         return Ok(());
     }
     push_absence_or_lack(alloc, findings, &lock.packages, demand)
@@ -632,9 +648,9 @@ fn push_excluded_in(
     demand: &Demand,
 ) -> Result<(), AllocError>
     requires { IsIndex lock.now.packages }
-    ensures { IfOk result (λ _. map finding_of findings.new.items ≡ map finding_of findings.old.items ++ excluded_in lock.now.kind (map (λ n. n.items) lock.now.parts.now) (option_to_list (option_map (λ n. n.items) lock.now.project.now)) (packages_of lock.now.packages) (section_of section.now) (demand_of demand.now)) }
+    ensures { IfOk result (λ _. map finding_of findings.new.items ≡ map finding_of findings.old.items ++ excluded_in lock.now.kind (index_parts lock.now.packages) (option_to_list (option_map (λ n. n.items) lock.now.project.now)) (packages_of lock.now.packages) (section_of section.now) (demand_of demand.now)) }
 {
-    if leaves_out(lock.kind, lock.parts, section) {
+    if leaves_out(lock.kind, lock.packages.parts.names.as_slice(), section) {
         return Ok(());
     }
     push_all_excluded(alloc, findings, demand, &lock.packages)
@@ -648,7 +664,7 @@ fn push_compared_demand(
     demand: &Demand,
 ) -> Result<(), AllocError>
     requires { IsIndex lock.now.packages }
-    ensures { IfOk result (λ _. map finding_of findings.new.items ≡ map finding_of findings.old.items ++ compared_demand lock.now.kind (map (λ n. n.items) lock.now.parts.now) (option_to_list (option_map (λ n. n.items) lock.now.project.now)) (packages_of lock.now.packages) (section_of section.now) (demand_of demand.now)) }
+    ensures { IfOk result (λ _. map finding_of findings.new.items ≡ map finding_of findings.old.items ++ compared_demand lock.now.kind (index_parts lock.now.packages) (option_to_list (option_map (λ n. n.items) lock.now.project.now)) (packages_of lock.now.packages) (section_of section.now) (demand_of demand.now)) }
 {
     if demand.marker.is_some() {
         return Ok(());
@@ -665,7 +681,7 @@ fn push_compared_meaning(
     meaning: &LineMeaning,
 ) -> Result<(), AllocError>
     requires { IsIndex lock.now.packages }
-    ensures { IfOk result (λ _. map finding_of findings.new.items ≡ map finding_of findings.old.items ++ flat_map (compared_demand lock.now.kind (map (λ n. n.items) lock.now.parts.now) (option_to_list (option_map (λ n. n.items) lock.now.project.now)) (packages_of lock.now.packages) (section_of section.now)) (demands_in (line_meaning_of meaning.now))) }
+    ensures { IfOk result (λ _. map finding_of findings.new.items ≡ map finding_of findings.old.items ++ flat_map (compared_demand lock.now.kind (index_parts lock.now.packages) (option_to_list (option_map (λ n. n.items) lock.now.project.now)) (packages_of lock.now.packages) (section_of section.now)) (demands_in (line_meaning_of meaning.now))) }
 {
     match meaning {
         LineMeaning::Asks(demand) => {
@@ -682,7 +698,7 @@ fn push_compared(
     string: &StringReading,
 ) -> Result<(), AllocError>
     requires { IsIndex lock.now.packages }
-    ensures { IfOk result (λ _. map finding_of findings.new.items ≡ map finding_of findings.old.items ++ compared lock.now.kind (map (λ n. n.items) lock.now.parts.now) (option_to_list (option_map (λ n. n.items) lock.now.project.now)) (packages_of lock.now.packages) (string_reading_of string.now)) }
+    ensures { IfOk result (λ _. map finding_of findings.new.items ≡ map finding_of findings.old.items ++ compared lock.now.kind (index_parts lock.now.packages) (option_to_list (option_map (λ n. n.items) lock.now.project.now)) (packages_of lock.now.packages) (string_reading_of string.now)) }
 {
     if !is_locked(&string.section) {
         return Ok(());
@@ -697,7 +713,7 @@ fn push_all_compared(
     strings: &[StringReading],
 ) -> Result<(), AllocError>
     requires { IsIndex lock.now.packages }
-    ensures { IfOk result (λ _. map finding_of findings.new.items ≡ map finding_of findings.old.items ++ flat_map (compared lock.now.kind (map (λ n. n.items) lock.now.parts.now) (option_to_list (option_map (λ n. n.items) lock.now.project.now)) (packages_of lock.now.packages)) (map string_reading_of strings.now)) }
+    ensures { IfOk result (λ _. map finding_of findings.new.items ≡ map finding_of findings.old.items ++ flat_map (compared lock.now.kind (index_parts lock.now.packages) (option_to_list (option_map (λ n. n.items) lock.now.project.now)) (packages_of lock.now.packages)) (map string_reading_of strings.now)) }
 {
     for string in strings {
         push_compared(alloc, findings, lock, string)?;
@@ -724,11 +740,9 @@ fn push_beside<'a>(
     let DocumentReading::Lock(lock) = other else {
         return Ok(());
     };
-    let packages = PackageIndex::new(alloc, lock.packages.as_slice())?;
-    let parts = lock.parts.as_slice();
+    let packages = PackageIndex::new(alloc, &lock.parts, lock.packages.as_slice())?;
     let lock = IndexedLock {
         kind,
-        parts,
         project: &project.name,
         packages,
     };

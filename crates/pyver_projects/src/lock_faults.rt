@@ -2,15 +2,18 @@
 ghost use Rattle.std.specs.Prelude.{◌≡◌, ◌++◌, IfOk, ◌∷◌, [], Some, bytes_eq, codes, map, option_copied, option_map, option_to_list, string_bytes};
 ghost use Rattle.pep440_version.specs.Changes.ChangeWords.{after};
 ghost use Rattle.std.specs.List.{flat_map, list_any};
-ghost use Rattle.pyver_projects.specs.Documents.{has_default, is_new_group, lock_parts, named_parts, names_listed, with_default, package_parts, project_names, written_name};
+ghost use Rattle.pyver_projects.specs.Documents.{has_default, is_new_group, lock_parts, named_parts, names_listed, part_names, with_default, package_parts, project_names, written_name};
 ghost use Rattle.pyver_projects.specs.LockedFiles.{ambiguous, ambiguous_by, ambiguous_fault, ambiguous_item, ambiguous_name, fault_unless, faults_beside, text_faults, value_faults, counted_names, is_for_extras, has_markers, is_shared, is_uv, locked_python, package_condition, poetry_python, target_python, written_marker, marked_name, marked_names, marker_text, package_faults, package_name_in, twin_fault, twin_in, twins};
-ghost use Rattle.pyver_projects.specs.ProjectViews.{IsNameIndex, condition_of_package, indexed_names, fault_of};
+ghost use Rattle.pyver_projects.specs.ProjectViews.{IsNameIndex, condition_of_package, indexed_names, fault_of, parts_of};
 ghost use Rattle.pyver_projects.specs.declared.document_kind.LockKind.TheVariants as lock_kind;
+ghost use Rattle.toml.specs.Data.{as_str};
 ghost use Rattle.toml.specs.View.{table_view, view};
 
 use crate::document_kind::LockKind;
 use crate::groups::NameIndex;
-use crate::locked_package::{LockFault, PackageCondition, copy_text, first_of, package_text};
+use crate::locked_package::{
+    LockFault, LockParts, PackageCondition, copy_text, first_of, package_text,
+};
 use crate::package_requirements::{lacks, plain_list};
 use crate::table::{inside, is_table_or_none, is_text_or_none, items, text, top};
 use pyver_findings::normalize_name;
@@ -87,6 +90,7 @@ pub(crate) fn locked_python(
             poetry_python_or_none(alloc, text(inside(metadata, "python-versions")))
         }
         LockKind::Pdm => copy_text(alloc, target_python(items(inside(metadata, "targets")))),
+        LockKind::Pylock => copy_text(alloc, text(top(document, "requires-python"))),
         _ => Ok(None),
     }
 }
@@ -274,7 +278,7 @@ fn with_default(
 
 // Those of `pylock.toml`, with `default` for the dependencies of the project.
 fn pylock_parts(alloc: Global, document: &Table) -> Result<Vec<Vec<u8>>, AllocError>
-    ensures { IfOk result (λ names. map (λ n. n.items) names.items ≡ lock_parts lock_kind.Pylock (table_view document.now)) }
+    ensures { IfOk result (λ names. map (λ n. n.items) names.items ≡ part_names lock_kind.Pylock (table_view document.now)) }
 {
     let named = named_parts(alloc, document)?;
     let defaults = listed_names(alloc, top(document, "default-groups"))?;
@@ -282,12 +286,8 @@ fn pylock_parts(alloc: Global, document: &Table) -> Result<Vec<Vec<u8>>, AllocEr
 }
 
 // The groups that a lock of this kind names beside its packages, in their normal form.
-pub(crate) fn lock_parts(
-    alloc: Global,
-    kind: LockKind,
-    document: &Table,
-) -> Result<Vec<Vec<u8>>, AllocError>
-    ensures { IfOk result (λ names. map (λ n. n.items) names.items ≡ lock_parts kind (table_view document.now)) }
+fn part_names(alloc: Global, kind: LockKind, document: &Table) -> Result<Vec<Vec<u8>>, AllocError>
+    ensures { IfOk result (λ names. map (λ n. n.items) names.items ≡ part_names kind (table_view document.now)) }
 {
     match kind {
         LockKind::Pdm => listed_names(alloc, inside(top(document, "metadata"), "groups")),
@@ -296,20 +296,76 @@ pub(crate) fn lock_parts(
     }
 }
 
-// Adds the groups that the package names.
-pub(crate) fn push_package_parts(
+// Adds the groups that the packages name.
+fn push_group_names(
     alloc: Global,
-    parts: &mut Vec<Vec<u8>>,
-    kind: LockKind,
-    line: u64,
-    table: &Value,
+    names: &mut Vec<Vec<u8>>,
+    packages: &[Value],
 ) -> Result<(), AllocError>
-    ensures { IfOk result (λ _. map (λ n. n.items) parts.new.items ≡ map (λ n. n.items) parts.old.items ++ package_parts kind (line, view table.now)) }
+    ensures { IfOk result (λ _. map (λ n. n.items) names.new.items ≡ map (λ n. n.items) names.old.items ++ package_parts lock_kind.Poetry (map view packages.now)) }
 {
-    if matches!(kind, LockKind::Poetry) {
-        return push_listed_names(alloc, parts, table.get("groups"));
+    for table in packages {
+        push_listed_names(alloc, names, table.get("groups"))?;
     }
     Ok(())
+}
+
+// The same, if the lock is Poetry's.
+fn push_package_parts(
+    alloc: Global,
+    names: &mut Vec<Vec<u8>>,
+    kind: LockKind,
+    packages: &[Value],
+) -> Result<(), AllocError>
+    ensures { IfOk result (λ _. map (λ n. n.items) names.new.items ≡ map (λ n. n.items) names.old.items ++ package_parts kind (map view packages.now)) }
+{
+    match kind {
+        LockKind::Poetry => push_group_names(alloc, names, packages),
+        _ => Ok(()),
+    }
+}
+
+// Adds the string, if it is one.
+fn push_text(alloc: Global, texts: &mut Vec<Vec<u8>>, item: &Value) -> Result<(), AllocError>
+    ensures { IfOk result (λ _. map (λ t. t.items) texts.new.items ≡ map (λ t. t.items) texts.old.items ++ option_to_list (as_str (view item.now))) }
+{
+    if let Some(text) = item.as_str() {
+        texts.push(Vec::from_slice(alloc, text.as_bytes())?)?;
+    }
+    Ok(())
+}
+
+fn listed_texts(alloc: Global, list: &[Value]) -> Result<Vec<Vec<u8>>, AllocError>
+    ensures { IfOk result (λ texts. map (λ t. t.items) texts.items ≡ flat_map (λ d. option_to_list (as_str d)) (map view list.now)) }
+{
+    let mut texts = Vec::new(alloc);
+    for item in list {
+        push_text(alloc, &mut texts, item)?;
+    }
+    Ok(texts)
+}
+
+// The parts of a lock of this kind with these packages.
+pub(crate) fn lock_parts(
+    alloc: Global,
+    kind: LockKind,
+    document: &Table,
+    packages: &[Value],
+) -> Result<LockParts, AllocError>
+    ensures { IfOk result (λ parts. parts_of parts ≡ lock_parts kind (table_view document.now) (map view packages.now)) }
+{
+    let mut names = part_names(alloc, kind, document)?;
+    push_package_parts(alloc, &mut names, kind, packages)?;
+    let extras = listed_names(alloc, top(document, "extras"))?;
+    let mut groups = listed_names(alloc, top(document, "dependency-groups"))?;
+    push_listed_names(alloc, &mut groups, top(document, "default-groups"))?;
+    let environments = listed_texts(alloc, items(top(document, "environments")))?;
+    Ok(LockParts {
+        names,
+        extras,
+        groups,
+        environments,
+    })
 }
 
 // Adds the name and the marker, if the package has both.

@@ -42,6 +42,8 @@ pub(crate) struct LockedRequirement {
     pub(crate) name: String,
     // The list of specifiers; empty if it has none.
     pub(crate) list: String,
+    // It only refers to a package, which may have a marker.
+    pub(crate) is_reference: bool,
 }
 
 // A file of a package in a lock, in whose name a version stands.
@@ -67,11 +69,22 @@ pub(crate) struct LockFault {
     pub(crate) reason: &'static str,
 }
 
+// The parts of a project that a lock has, in normal form.
+#[derive(Drop)]
+pub(crate) struct LockParts {
+    // The names of its groups and extras, with `default` for the dependencies.
+    pub(crate) names: Vec<Vec<u8>>,
+    // What `extras` and `dependency_groups` are in its markers where all that it has is installed.
+    pub(crate) extras: Vec<Vec<u8>>,
+    pub(crate) groups: Vec<Vec<u8>>,
+    // The markers of the environments that it is for, or none.
+    pub(crate) environments: Vec<Vec<u8>>,
+}
+
 // What is read of a lock.
 #[derive(Drop)]
 pub(crate) struct LockContents {
-    // The groups that it has, in their normal form.
-    pub(crate) parts: Vec<Vec<u8>>,
+    pub(crate) parts: LockParts,
     pub(crate) packages: Vec<LockedPackage>,
     pub(crate) requirements: Vec<LockedRequirement>,
     pub(crate) files: Vec<LockedFile>,

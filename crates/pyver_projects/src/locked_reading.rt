@@ -8,7 +8,7 @@ ghost use Rattle.pep440_version.specs.Grammar.{Derives};
 ghost use Rattle.pep440_version.specs.Rejections.{Rejection};
 ghost use Rattle.pyver_findings.specs.FileLines.{NoRequirement};
 ghost use Rattle.pyver_findings.specs.Views.{file_line_of, line_meaning_of};
-ghost use Rattle.pyver_projects.specs.Meanings.{IsConditionReading, IsFileReading, IsLockedReading, IsNoVersion, IsVersionReading, fault_meaning, file_meaning, file_package_line, package_line, IsRequirementReading, requirement_line};
+ghost use Rattle.pyver_projects.specs.Meanings.{IsConditionReading, IsFileReading, IsLockedReading, IsNoVersion, IsVersionReading, fault_meaning, file_meaning, file_package_line, package_line, IsRequirementReading, reference_marker, requirement_line};
 ghost use Rattle.pyver_projects.specs.ProjectViews.{condition_of_package, fault_of, locked_file_of, locked_of, locked_reading_of, read_condition_of, requirement_of};
 ghost use Rattle.pep440_rs.specs.Lists.ListGrammar.{DerivesList, PieceRejection, RejectsList};
 ghost use Rattle.pyver_findings.specs.Demands.{line_demand};
@@ -340,6 +340,17 @@ fn requirement_line(
     })
 }
 
+// The marker under which a requirement counts.
+fn reference_marker(alloc: Global, is_reference: bool) -> Option<Vec<u8>>
+    ensures { option_map (λ m. m.items) result ≡ reference_marker is_reference }
+{
+    if is_reference {
+        Some(Vec::new(alloc))
+    } else {
+        None
+    }
+}
+
 // What the requirement asks for, whose list is this.
 fn ask(
     alloc: Global,
@@ -347,7 +358,7 @@ fn ask(
     requirement: &LockedRequirement,
     specifiers: VersionSpecifiers,
 ) -> Result<LineMeaning, AllocError>
-    ensures { IfOk result (λ x. line_meaning_of x ≡ Asks (line_demand (requirement_line file.now (requirement_of requirement.now)) None (record { name = string_bytes requirement.now.name; extras = []; specifiers = specifiers }))) }
+    ensures { IfOk result (λ x. line_meaning_of x ≡ Asks (line_demand (requirement_line file.now (requirement_of requirement.now)) (reference_marker requirement.now.is_reference) (record { name = string_bytes requirement.now.name; extras = []; specifiers = specifiers }))) }
 {
     let line = requirement_line(alloc, file, requirement)?;
     let asked = Requirement {
@@ -355,7 +366,8 @@ fn ask(
         extras: Vec::new(alloc),
         specifiers,
     };
-    Ok(LineMeaning::Asks(Demand::new(alloc, &line, None, &asked)?))
+    let marker = reference_marker(alloc, requirement.is_reference);
+    Ok(LineMeaning::Asks(Demand::new(alloc, &line, marker, &asked)?))
 }
 
 // What the requirement is.

@@ -1,16 +1,18 @@
 //! What locked packages require of one another, as it is written.
-ghost use Rattle.std.specs.Prelude.{◌≡◌, ◌∷◌, ◌++◌, ◌≤◌, ◌||◌, [], IfOk, codes, length, map, nat_eq, option_map, string_bytes};
-ghost use Rattle.std.specs.List.{ends_with, flat_map, prefix_len};
+ghost use Rattle.std.specs.Prelude.{◌≡◌, ◌∷◌, ◌++◌, ◌≤◌, [], IfOk, length, map, option_map, string_bytes};
+ghost use Rattle.std.specs.List.{flat_map, prefix_len};
 ghost use Rattle.std.specs.Option.{unwrap_or};
 ghost use Rattle.pep440_pick.specs.Names.{is_name_byte};
 ghost use Rattle.pep440_rs.specs.Blanks.{opens};
 ghost use Rattle.pep440_version.specs.Reading.{lead, past};
-ghost use Rattle.pyver_projects.specs.PackageRequirements.{chooses_parts, chooses_parts_alone, is_unconditional, item_requirements, lacks, member_requirements, plain_list, requirement, requirement_in, is_plain_string, named_requirement, past_extras, requirement_of_text, requirements_by, string_requirement, requirements_from, table_requirements, version_requirements};
-ghost use Rattle.pyver_projects.specs.ProjectViews.{requirement_of};
+ghost use Rattle.pyver_projects.specs.PackageRequirements.{pylock_requirements, reference, is_everywhere, tool_requirements, is_unconditional, item_requirements, lacks, member_requirements, plain_list, requirement, requirement_in, is_plain_string, named_requirement, past_extras, requirement_of_text, requirements_by, string_requirement, requirements_from, table_requirements, version_requirements};
+ghost use Rattle.pyver_projects.specs.ProjectViews.{parts_of, requirement_of};
 ghost use Rattle.pyver_projects.specs.ProjectStrings.{entries, listed, members_list};
 ghost use Rattle.toml.specs.View.{table_view, view};
 
-use crate::locked_package::{LockedRequirement, package_text, split_at_byte};
+use crate::document_kind::LockKind;
+use crate::known_environment::holds_everywhere;
+use crate::locked_package::{LockParts, LockedRequirement, package_text, split_at_byte};
 use crate::table::{inside, items, table, text};
 use pep440_pick::is_name;
 use std::alloc::{AllocError, Global};
@@ -37,6 +39,7 @@ fn push_requirement(
         requirer: Vec::from_slice(alloc, requirer)?,
         name: String::from_str(alloc, name)?,
         list: String::from_str(alloc, list)?,
+        is_reference: false,
     })?;
     Ok(())
 }
@@ -292,87 +295,151 @@ fn push_dependencies(
     }
 }
 
-// Adds the requirements of uv, of uv, of PDM and of PEP 751, of PDM in `pylock.toml`, and of Poetry.
-fn push_table(
+// Adds the reference to another package, if the item has a name.
+fn push_reference(
+    alloc: Global,
+    found: &mut Vec<LockedRequirement>,
+    line: u64,
+    requirer: &[u8],
+    item: &Value,
+) -> Result<(), AllocError>
+    ensures { IfOk result (λ _. map requirement_of found.new.items ≡ map requirement_of found.old.items ++ reference line requirer.now (view item.now)) }
+{
+    let Some(name) = text(item.get("name")) else {
+        return Ok(());
+    };
+    found.push(LockedRequirement {
+        line,
+        requirer: Vec::from_slice(alloc, requirer)?,
+        name: String::from_str(alloc, name)?,
+        list: String::new(alloc),
+        is_reference: true,
+    })?;
+    Ok(())
+}
+
+fn push_references(
+    alloc: Global,
+    found: &mut Vec<LockedRequirement>,
+    line: u64,
+    requirer: &[u8],
+    list: &[Value],
+) -> Result<(), AllocError>
+    ensures { IfOk result (λ _. map requirement_of found.new.items ≡ map requirement_of found.old.items ++ flat_map (reference line requirer.now) (map view list.now)) }
+{
+    for item in list {
+        push_reference(alloc, found, line, requirer, item)?;
+    }
+    Ok(())
+}
+
+// Adds the requirements in `pylock.toml`, of PEP 751 and of PDM.
+fn push_pylock(
     alloc: Global,
     found: &mut Vec<LockedRequirement>,
     line: u64,
     requirer: &[u8],
     table: &Value,
 ) -> Result<(), AllocError>
-    ensures { IfOk result (λ _. map requirement_of found.new.items ≡ map requirement_of found.old.items ++ table_requirements line requirer.now (view table.now)) }
+    ensures { IfOk result (λ _. map requirement_of found.new.items ≡ map requirement_of found.old.items ++ pylock_requirements line requirer.now (view table.now)) }
+{
+    let list = items(table.get("dependencies"));
+    push_references(alloc, found, line, requirer, list)?;
+    let list = items(inside(inside(table.get("tool"), "pdm"), "dependencies"));
+    push_items(alloc, found, line, requirer, list)
+}
+
+// Adds the requirements of uv, of uv and PDM, and of Poetry.
+fn push_tool(
+    alloc: Global,
+    found: &mut Vec<LockedRequirement>,
+    line: u64,
+    requirer: &[u8],
+    table: &Value,
+) -> Result<(), AllocError>
+    ensures { IfOk result (λ _. map requirement_of found.new.items ≡ map requirement_of found.old.items ++ tool_requirements line requirer.now (view table.now)) }
 {
     let list = items(inside(table.get("metadata"), "requires-dist"));
     push_items(alloc, found, line, requirer, list)?;
     let list = items(table.get("dependencies"));
     push_items(alloc, found, line, requirer, list)?;
-    let list = items(inside(inside(table.get("tool"), "pdm"), "dependencies"));
-    push_items(alloc, found, line, requirer, list)?;
     push_dependencies(alloc, found, line, requirer, table.get("dependencies"))
+}
+
+// Adds the requirements in the table of a package of a lock of this kind.
+fn push_table(
+    alloc: Global,
+    found: &mut Vec<LockedRequirement>,
+    kind: LockKind,
+    line: u64,
+    requirer: &[u8],
+    table: &Value,
+) -> Result<(), AllocError>
+    ensures { IfOk result (λ _. map requirement_of found.new.items ≡ map requirement_of found.old.items ++ table_requirements line requirer.now kind (view table.now)) }
+{
+    match kind {
+        LockKind::Pylock => push_pylock(alloc, found, line, requirer, table),
+        _ => push_tool(alloc, found, line, requirer, table),
+    }
 }
 
 fn push_by(
     alloc: Global,
     found: &mut Vec<LockedRequirement>,
+    kind: LockKind,
     line: u64,
     name: Option<&str>,
     table: &Value,
 ) -> Result<(), AllocError>
-    ensures { IfOk result (λ _. map requirement_of found.new.items ≡ map requirement_of found.old.items ++ requirements_by line (option_map (λ t. t.now) name.entry) (view table.now)) }
+    ensures { IfOk result (λ _. map requirement_of found.new.items ≡ map requirement_of found.old.items ++ requirements_by kind line (option_map (λ t. t.now) name.entry) (view table.now)) }
 {
     let Some(name) = name else {
         return Ok(());
     };
     let requirer = package_text(alloc, name, text(table.get("version")))?;
-    push_table(alloc, found, line, requirer.as_slice(), table)
+    push_table(alloc, found, kind, line, requirer.as_slice(), table)
 }
 
-fn ends_with_parts(text: &[u8]) -> bool
-    ensures { result ≡ (ends_with nat_eq text.now (codes " in dependency_groups") || ends_with nat_eq text.now (codes " in extras")) }
-{
-    text.ends_with(b" in dependency_groups") || text.ends_with(b" in extras")
-}
-
-// The marker compares by `in` alone, and ends with groups or extras, which it chooses.
-fn chooses_parts(text: &[u8]) -> bool
-    ensures { result ≡ chooses_parts text.now }
-{
-    ends_with_parts(text) && !text.contains(&b'=') && !text.contains(&b'<') && !text.contains(&b'>')
-}
-
-// The string does, if there is a value.
-fn chooses_parts_alone(value: Option<&Value>) -> bool
-    ensures { result ≡ chooses_parts_alone (option_map (λ v. view v.now) value.entry) }
+// The marker, if there is one, holds wherever the parts are installed.
+fn is_everywhere(
+    alloc: Global,
+    parts: &LockParts,
+    value: Option<&Value>,
+) -> Result<bool, AllocError>
+    ensures { IfOk result (λ b. b ≡ is_everywhere (parts_of parts.now) (option_map (λ v. view v.now) value.entry)) }
 {
     let Some(value) = value else {
-        return true;
+        return Ok(true);
     };
     match value.as_str() {
-        Some(text) => chooses_parts(text.as_bytes()),
-        None => false,
+        Some(text) => holds_everywhere(alloc, parts, text.as_bytes()),
+        None => Ok(false),
     }
 }
 
-// The package is locked without markers of environments.
-fn is_unconditional(table: &Value) -> bool
-    ensures { result ≡ is_unconditional (view table.now) }
+// The package is locked for each environment.
+fn is_unconditional(alloc: Global, parts: &LockParts, table: &Value) -> Result<bool, AllocError>
+    ensures { IfOk result (λ b. b ≡ is_unconditional (parts_of parts.now) (view table.now)) }
 {
-    lacks(table, "markers")
-        && chooses_parts_alone(table.get("marker"))
-        && lacks(table, "resolution-markers")
+    if !lacks(table, "markers") || !lacks(table, "resolution-markers") {
+        return Ok(false);
+    }
+    is_everywhere(alloc, parts, table.get("marker"))
 }
 
-// Adds the requirements of the package on this line, unless it has markers.
+// Adds the requirements of the package on this line, if it is locked for each environment.
 pub(crate) fn push_requirements(
     alloc: Global,
     found: &mut Vec<LockedRequirement>,
+    kind: LockKind,
+    parts: &LockParts,
     line: u64,
     table: &Value,
 ) -> Result<(), AllocError>
-    ensures { IfOk result (λ _. map requirement_of found.new.items ≡ map requirement_of found.old.items ++ requirements_from (line, view table.now)) }
+    ensures { IfOk result (λ _. map requirement_of found.new.items ≡ map requirement_of found.old.items ++ requirements_from kind (parts_of parts.now) (line, view table.now)) }
 {
-    if !is_unconditional(table) {
+    if !is_unconditional(alloc, parts, table)? {
         return Ok(());
     }
-    push_by(alloc, found, line, text(table.get("name")), table)
+    push_by(alloc, found, kind, line, text(table.get("name")), table)
 }

@@ -1,15 +1,17 @@
-//! The packages of `Pipfile.lock`.
-ghost use Rattle.std.specs.Prelude.{◌≡◌, ◌++◌, IfOk, codes, map, option_and_then, option_copied, option_map, string_bytes};
+//! The packages of `Pipfile.lock`, and its values of other types.
+ghost use Rattle.std.specs.Prelude.{◌≡◌, ◌++◌, IfOk, Some, codes, map, option_and_then, option_copied, option_map, string_bytes, true};
 ghost use Rattle.std.specs.List.{flat_map};
+ghost use Rattle.std.specs.Option.{option_map_or};
 ghost use Rattle.pep440_version.specs.Changes.ChangeWords.{after};
-ghost use Rattle.pyver_projects.specs.PipfileLocks.{has_version, member_package, new_package, object_entries, object_entries_or_none, package_version, pinned_version, same_version, section_members};
+ghost use Rattle.pyver_projects.specs.PipfileLocks.{document_faults, invalid_value, has_version, is_object, is_string, member_faults, member_package, named_fault, section_faults, new_package, object_entries, object_entries_or_none, package_version, pinned_version, same_version, section_members};
 ghost use Rattle.pyver_projects.specs.Documents.{pipfile_contents};
-ghost use Rattle.pyver_projects.specs.ProjectViews.{contents_of, locked_of};
+ghost use Rattle.pyver_projects.specs.ProjectViews.{contents_of, fault_of, locked_of};
 ghost use Rattle.pyver_projects.specs.ProjectStrings.{HasQuotedLines};
 ghost use Rattle.serde_json.specs.Find.{as_object, as_str, get};
 ghost use Rattle.serde_json.specs.View.{members_view, view};
 
-use crate::locked_package::{LockContents, LockedPackage, copy_text};
+use crate::lock_faults::push_fault_unless;
+use crate::locked_package::{LockContents, LockFault, LockParts, LockedPackage, copy_text};
 use crate::place::{QuotedLines, line_number};
 use serde_json::{Map, Value};
 use std::alloc::{AllocError, Global};
@@ -144,6 +146,129 @@ fn push_section(
     }
 }
 
+// The value is an object, if there is one.
+fn is_object_or_none(value: Option<&Value>) -> bool
+    ensures { result ≡ option_map_or is_object (option_map (λ v. view v.now) value.entry) true }
+{
+    match value {
+        Some(value) => value.as_object().is_some(),
+        None => true,
+    }
+}
+
+// The value is a string, if there is one.
+fn is_string_or_none(value: Option<&Value>) -> bool
+    ensures { result ≡ option_map_or is_string (option_map (λ v. view v.now) value.entry) true }
+{
+    match value {
+        Some(value) => value.as_str().is_some(),
+        None => true,
+    }
+}
+
+// Adds that what has this name is wrong for this reason, unless it is right.
+fn push_named_fault(
+    alloc: Global,
+    faults: &mut Vec<LockFault>,
+    lines: &QuotedLines,
+    is_right: bool,
+    name: &str,
+    reason: &'static str,
+) -> Result<(), AllocError>
+    requires { HasQuotedLines lines.now }
+    ensures { IfOk result (λ _. map fault_of faults.new.items ≡ map fault_of faults.old.items ++ named_fault lines.now.text.now is_right name.now reason.now) }
+{
+    let line = line_number(lines, name.as_bytes());
+    push_fault_unless(alloc, faults, is_right, line, name, reason)
+}
+
+// Adds that the value at this name is no object, if there is one that is none.
+fn push_object_fault(
+    alloc: Global,
+    faults: &mut Vec<LockFault>,
+    lines: &QuotedLines,
+    name: &str,
+    value: Option<&Value>,
+) -> Result<(), AllocError>
+    requires { HasQuotedLines lines.now }
+    ensures { IfOk result (λ _. map fault_of faults.new.items ≡ map fault_of faults.old.items ++ invalid_value lines.now.text.now name.now (codes "not an object") is_object (option_map (λ v. view v.now) value.entry)) }
+{
+    let is_right = is_object_or_none(value);
+    push_named_fault(alloc, faults, lines, is_right, name, "not an object")
+}
+
+// Adds what is wrong with the package.
+fn push_member_faults(
+    alloc: Global,
+    faults: &mut Vec<LockFault>,
+    lines: &QuotedLines,
+    name: &String,
+    value: &Value,
+) -> Result<(), AllocError>
+    requires { HasQuotedLines lines.now }
+    ensures { IfOk result (λ _. map fault_of faults.new.items ≡ map fault_of faults.old.items ++ member_faults lines.now.text.now (string_bytes name.now, view value.now)) }
+{
+    let name = name.as_str();
+    push_object_fault(alloc, faults, lines, name, Some(value))?;
+    let is_right = is_string_or_none(value.get("version"));
+    let reason = "its version is not a string";
+    push_named_fault(alloc, faults, lines, is_right, name, reason)
+}
+
+fn push_all_member_faults(
+    alloc: Global,
+    faults: &mut Vec<LockFault>,
+    lines: &QuotedLines,
+    members: &Map<String, Value>,
+) -> Result<(), AllocError>
+    requires { HasQuotedLines lines.now }
+    ensures { IfOk result (λ _. map fault_of faults.new.items ≡ map fault_of faults.old.items ++ flat_map (member_faults lines.now.text.now) (object_entries (members_view members.now.entries))) }
+{
+    for (name, value) in members.iter() {
+        push_member_faults(alloc, faults, lines, name, value)?;
+    }
+    Ok(())
+}
+
+// Adds what is wrong with the packages at the key.
+fn push_section_faults(
+    alloc: Global,
+    faults: &mut Vec<LockFault>,
+    lines: &QuotedLines,
+    key: &str,
+    document: &Value,
+) -> Result<(), AllocError>
+    requires { HasQuotedLines lines.now }
+    ensures { IfOk result (λ _. map fault_of faults.new.items ≡ map fault_of faults.old.items ++ section_faults lines.now.text.now key.now (view document.now)) }
+{
+    let section = document.get(key);
+    push_object_fault(alloc, faults, lines, key, section)?;
+    let Some(section) = section else {
+        return Ok(());
+    };
+    match section.as_object() {
+        Some(members) => push_all_member_faults(alloc, faults, lines, members),
+        None => Ok(()),
+    }
+}
+
+// What is wrong with a lock with these lines.
+fn document_faults(
+    alloc: Global,
+    lines: &QuotedLines,
+    document: &Value,
+) -> Result<Vec<LockFault>, AllocError>
+    requires { HasQuotedLines lines.now }
+    ensures { IfOk result (λ faults. map fault_of faults.items ≡ document_faults lines.now.text.now (view document.now)) }
+{
+    let mut faults = Vec::new(alloc);
+    let is_right = document.as_object().is_some();
+    push_fault_unless(alloc, &mut faults, is_right, 1, "document", "not an object")?;
+    push_section_faults(alloc, &mut faults, lines, "default", document)?;
+    push_section_faults(alloc, &mut faults, lines, "develop", document)?;
+    Ok(faults)
+}
+
 // What a lock with these lines has.
 pub(crate) fn pipfile_contents(
     alloc: Global,
@@ -158,10 +283,15 @@ pub(crate) fn pipfile_contents(
     let before = document.get("default");
     push_section(alloc, &mut packages, lines, before, "develop", document)?;
     Ok(LockContents {
-        parts: Vec::new(alloc),
+        parts: LockParts {
+            names: Vec::new(alloc),
+            extras: Vec::new(alloc),
+            groups: Vec::new(alloc),
+            environments: Vec::new(alloc),
+        },
         packages,
         requirements: Vec::new(alloc),
         files: Vec::new(alloc),
-        faults: Vec::new(alloc),
+        faults: document_faults(alloc, lines, document)?,
     })
 }

@@ -1,8 +1,8 @@
 //! Where keys, strings and packages stand in a document.
-ghost use Rattle.std.specs.Prelude.{◌≡◌, ◌++◌, IfOk, ◌≤◌, ◌==◌, ◌||◌, ◌%◌, List, count_by, length, map, not, option_map, ℕ};
+ghost use Rattle.std.specs.Prelude.{◌≡◌, ◌++◌, IfOk, ◌≤◌, ◌==◌, ◌||◌, ◌%◌, List, count_by, length, map, not, option_map, take, ℕ};
 ghost use Rattle.pyver_findings.specs.Views.{file_line_of};
-ghost use Rattle.pyver_projects.specs.Meanings.{IsBrokenReading, string_line};
-ghost use Rattle.pyver_projects.specs.ProjectStrings.{HasPlaces, HasQuotedLines, after_blanks, before_next, document_keys, first_key, first_line, header_lines, header_name, is_key_byte, is_string_quote, key_line, key_on, key_path, known_line, line_after, line_at, line_key, line_keys, number_or, number_or_one, opened_string, others, own_line, read_table, section_path, string_number, table_after};
+ghost use Rattle.pyver_projects.specs.Meanings.{IsBrokenReading, broken_at, string_line};
+ghost use Rattle.pyver_projects.specs.ProjectStrings.{HasPlaces, HasQuotedLines, after_blanks, before_next, document_keys, first_key, first_line, header_lines, header_name, is_key_byte, is_string_quote, key_line, key_on, key_path, known_line, last_bytes, line_after, line_at, line_key, line_keys, number_or, number_or_one, opened_string, others, own_line, read_table, section_path, string_number, table_after};
 ghost use Rattle.pyver_projects.specs.ProjectViews.{document_reading_of, key_line_of, project_string_of, section_of};
 ghost use Rattle.std.specs.BTreeMap.{get_by};
 ghost use Rattle.std.specs.List.{filter, prefix_len};
@@ -440,27 +440,21 @@ pub(crate) fn header_lines(
     Ok(lines)
 }
 
-// What stands after the last newline.
-fn last_line(text: &[u8]) -> &[u8] {
-    match text.iter().rposition(|byte| *byte == b'\n') {
-        Some(at) => &text[at + 1..],
-        None => text,
-    }
+// How many bytes stand after the last newline.
+fn count_last_bytes(text: &[u8]) -> usize
+    ensures count { result ≡ last_bytes text.now }
+    ensures inside { result ≤ length text.now }
+{
+    text.iter().rev().take_while(|byte| **byte != b'\n').count()
 }
 
-fn text_before(text: &[u8], position: usize) -> &[u8] {
+fn text_before(text: &[u8], position: usize) -> &[u8]
+    ensures { result.now ≡ take position text.now }
+{
     if position <= text.len() {
         &text[..position]
     } else {
         text
-    }
-}
-
-fn text_from(text: &[u8], position: usize) -> &[u8] {
-    if position <= text.len() {
-        &text[position..]
-    } else {
-        &[]
     }
 }
 
@@ -486,11 +480,12 @@ pub(crate) fn reject_document(
     position: usize,
     reason: &str,
 ) -> Result<DocumentReading, AllocError>
-    ensures { IfOk result (λ x. IsBrokenReading (record { name = name.now; text = text.now }) (document_reading_of x)) }
+    ensures at { IfOk result (λ x. document_reading_of x ≡ broken_at (record { name = name.now; text = text.now }) position reason.now) }
+    ensures broken { IfOk result (λ x. IsBrokenReading (record { name = name.now; text = text.now }) (document_reading_of x)) }
 {
     let before = text_before(text, position);
-    let column = last_line(before).len();
-    let line = line_at(text_from(text, before.len().saturating_sub(column)));
+    let column = count_last_bytes(before);
+    let line = line_at(&text[before.len() - column..]);
     let line = FileLine {
         file: Vec::from_slice(alloc, name)?,
         number: line_after(before) as u64,

@@ -1,24 +1,20 @@
 //! Requirements of a project that hold together.
-ghost use Rattle.std.specs.Prelude.{◌≡◌, ◌++◌, [], IfOk, List, bytes_eq, map, option_map, ℕ};
+ghost use Rattle.std.specs.Prelude.{◌≡◌, ◌++◌, [], Bool, IfOk, List, map, option_map, true, ℕ};
 ghost use Rattle.std.specs.List.{All, flat_map, list_any};
-ghost use Rattle.pyver_findings.specs.Demands.{IsSound};
 ghost use Rattle.pyver_findings.specs.Reports.{demands_in};
-ghost use Rattle.pyver_findings.specs.MarkerPairs.{FindsOfEach};
+ghost use Rattle.pyver_findings.specs.MarkedConflicts.{FindsOfEach};
 ghost use Rattle.pyver_findings.specs.Views.{AddsFound, demand_of, file_line_of, finding_of, line_meaning_of};
 ghost use Rattle.pyver_markers.specs.EnvironmentViews.{domain_of};
 ghost use Rattle.pyver_projects.specs.Groups.{inclusions as inclusions_in};
 ghost use Rattle.pyver_projects.specs.ProjectViews.{IsInclusionIndex, has_key, inclusions_of, section_of, string_reading_of};
 ghost use Rattle.pyver_projects.specs.Meanings.{IsSoundString};
-ghost use Rattle.pyver_projects.specs.Together.{FindsOfPart, FindsOfParts, all_demands, demand_in_part, has_dependencies, has_group, holds_in, is_build, is_extra, is_marked, part_conflicts, part_demands, parts, project_conflicts, project_domain, project_python, same_finding, same_line, same_lines, same_part, section_part, sections, with_new};
-ghost use Rattle.pyver_findings.specs.Conflicts.{conflicts};
+ghost use Rattle.pyver_projects.specs.Together.{FindsOfPart, FindsOfParts, all_demands, demand_in_part, has_dependencies, has_group, holds_in, is_build, is_extra, is_marked, part_demands, parts, project_domain, project_python, same_finding, same_line, same_lines, same_part, section_part, sections, with_new};
 
 use crate::document_reading::StringReading;
 use crate::groups::{InclusionIndex, included_groups, inclusions};
 use crate::project::Section;
 use pep440_sets::VersionSet;
-use pyver_findings::{
-    Cause, Demand, FileLine, Finding, LineMeaning, push_conflicts, push_marker_conflicts,
-};
+use pyver_findings::{Cause, Demand, FileLine, Finding, LineMeaning, push_conflicts};
 use pyver_markers::Domain;
 use std::alloc::{AllocError, Global};
 use std::collections::HashMap;
@@ -210,47 +206,6 @@ fn part_demands(
     demands_of_part(alloc, project.together, &groups, part, project.strings)
 }
 
-// Adds what is wrong with the requirements of the part together.
-fn push_part_conflicts(
-    alloc: Global,
-    findings: &mut Vec<Finding>,
-    project: &ProjectParts<'_>,
-    part: &Section,
-) -> Result<(), AllocError>
-    requires sound { All IsSoundString (map string_reading_of project.now.strings.now) }
-    requires known { inclusions_of project.now.inclusions ≡ inclusions_in (sections (map string_reading_of project.now.strings.now)) }
-    requires index { IsInclusionIndex project.now.inclusions }
-    ensures { IfOk result (λ _. map finding_of findings.new.items ≡ map finding_of findings.old.items ++ part_conflicts project.now.together (map string_reading_of project.now.strings.now) (section_of part.now)) }
-{
-    let demands = part_demands(alloc, project, part)?;
-    push_conflicts(alloc, findings, demands.as_slice())?;
-    Ok(())
-}
-
-// What is wrong with the requirements of each of the parts together.
-fn conflicts_of_parts(
-    alloc: Global,
-    together: bool,
-    parts: &[Section],
-    strings: &[StringReading],
-) -> Result<Vec<Finding>, AllocError>
-    requires { All IsSoundString (map string_reading_of strings.now) }
-    ensures { IfOk result (λ found. map finding_of found.items ≡ flat_map (part_conflicts together (map string_reading_of strings.now)) (map section_of parts.now)) }
-{
-    let inclusions = inclusions(alloc, strings)?;
-    let inclusions = InclusionIndex::new(alloc, inclusions.as_slice())?;
-    let project = ProjectParts {
-        together,
-        inclusions,
-        strings,
-    };
-    let mut findings = Vec::new(alloc);
-    for part in parts {
-        push_part_conflicts(alloc, &mut findings, &project, part)?;
-    }
-    Ok(findings)
-}
-
 // ---- findings, each once
 
 fn same_line(one: &FileLine, other: &FileLine) -> bool
@@ -308,47 +263,7 @@ fn each_once(alloc: Global, findings: Vec<Finding>) -> Result<Vec<Finding>, Allo
     Ok(found)
 }
 
-// The requirements of all strings.
-fn all_demands(alloc: Global, strings: &[StringReading]) -> Result<Vec<Demand>, AllocError>
-    ensures { IfOk result (λ demands. map demand_of demands.items ≡ all_demands (map string_reading_of strings.now)) }
-{
-    let mut demands = Vec::new(alloc);
-    for string in strings {
-        push_demand(&mut demands, &string.meaning)?;
-    }
-    Ok(demands)
-}
-
-// What is wrong with all requirements, as if they held together.
-fn conflicts_of_all(alloc: Global, strings: &[StringReading]) -> Result<Vec<Finding>, AllocError>
-    requires { All IsSoundString (map string_reading_of strings.now) }
-    ensures { IfOk result (λ found. map finding_of found.items ≡ conflicts (all_demands (map string_reading_of strings.now))) }
-{
-    let demands = all_demands(alloc, strings)?;
-    let mut findings = Vec::new(alloc);
-    push_conflicts(alloc, &mut findings, demands.as_slice())?;
-    Ok(findings)
-}
-
-// What is wrong with requirements of a project together. If nothing is wrong with all of them, nothing is with any part.
-pub(crate) fn project_conflicts(
-    alloc: Global,
-    together: bool,
-    strings: &[StringReading],
-) -> Result<Vec<Finding>, AllocError>
-    requires { All IsSoundString (map string_reading_of strings.now) }
-    ensures { IfOk result (λ found. map finding_of found.items ≡ project_conflicts together (map string_reading_of strings.now)) }
-{
-    let all = conflicts_of_all(alloc, strings)?;
-    if all.is_empty() {
-        return Ok(all);
-    }
-    let parts = parts(alloc, strings)?;
-    let findings = conflicts_of_parts(alloc, together, parts.as_slice(), strings)?;
-    each_once(alloc, findings)
-}
-
-// ---- under several markers
+// ---- requirements that have no version in common
 
 // The versions of Python that the project with these strings is for, or all.
 fn project_python(strings: &[StringReading]) -> Option<&VersionSet>
@@ -374,8 +289,8 @@ fn project_domain(strings: &[StringReading]) -> Domain<'_>
     }
 }
 
-// Adds what is wrong with the requirements of the part under several markers.
-fn push_part_pairs(
+// Adds what is wrong with the requirements of the part together.
+fn push_part_conflicts(
     alloc: Global,
     findings: &mut Vec<Finding>,
     left_out: &mut Vec<Cause>,
@@ -389,12 +304,12 @@ fn push_part_pairs(
 {
     let demands = part_demands(alloc, project, part)?;
     let domain = project_domain(project.strings);
-    push_marker_conflicts(alloc, findings, left_out, demands.as_slice(), domain)?;
+    push_conflicts(alloc, findings, left_out, demands.as_slice(), domain)?;
     Ok(())
 }
 
-// What is wrong with the requirements of each of the parts under several markers.
-fn pairs_of_parts(
+// What is wrong with the requirements of each of the parts together.
+fn conflicts_of_parts(
     alloc: Global,
     left_out: &mut Vec<Cause>,
     together: bool,
@@ -413,9 +328,22 @@ fn pairs_of_parts(
     };
     let mut findings = Vec::new(alloc);
     for part in parts {
-        push_part_pairs(alloc, &mut findings, left_out, &project, part)?;
+        push_part_conflicts(alloc, &mut findings, left_out, &project, part)?;
     }
     Ok(findings)
+}
+
+// ---- all requirements
+
+// The requirements of all strings.
+fn all_demands(alloc: Global, strings: &[StringReading]) -> Result<Vec<Demand>, AllocError>
+    ensures { IfOk result (λ demands. map demand_of demands.items ≡ all_demands (map string_reading_of strings.now)) }
+{
+    let mut demands = Vec::new(alloc);
+    for string in strings {
+        push_demand(&mut demands, &string.meaning)?;
+    }
+    Ok(demands)
 }
 
 fn asks_under_marker(meaning: &LineMeaning) -> bool
@@ -441,8 +369,30 @@ fn has_marker(strings: &[StringReading]) -> bool
     false
 }
 
-// What is wrong with requirements of a project under several markers.
-pub(crate) fn project_pairs(
+// Whether no requirement has a marker, and all that have one name have a version in common, as if they held together; then so have those of each part.
+fn are_satisfiable(alloc: Global, strings: &[StringReading]) -> Result<bool, AllocError>
+    requires { All IsSoundString (map string_reading_of strings.now) }
+    ensures { IfOk result (λ b. b ≡ true → (together : Bool) → FindsOfParts together (map string_reading_of strings.now) [] []) }
+{
+    if has_marker(strings) {
+        return Ok(false);
+    }
+    let demands = all_demands(alloc, strings)?;
+    let domain = project_domain(strings);
+    let mut findings = Vec::new(alloc);
+    let mut left_out = Vec::new(alloc);
+    push_conflicts(
+        alloc,
+        &mut findings,
+        &mut left_out,
+        demands.as_slice(),
+        domain,
+    )?;
+    Ok(findings.is_empty())
+}
+
+// What is wrong with requirements of a project together.
+pub(crate) fn project_conflicts(
     alloc: Global,
     left_out: &mut Vec<Cause>,
     together: bool,
@@ -451,11 +401,11 @@ pub(crate) fn project_pairs(
     requires { All IsSoundString (map string_reading_of strings.now) }
     ensures { IfOk result (λ found. AddsFound (FindsOfParts together (map string_reading_of strings.now)) [] found.items left_out.old.items left_out.new.items) }
 {
-    if !has_marker(strings) {
+    if are_satisfiable(alloc, strings)? {
         return Ok(Vec::new(alloc));
     }
     let parts = parts(alloc, strings)?;
-    let found = pairs_of_parts(alloc, left_out, together, parts.as_slice(), strings)?;
+    let found = conflicts_of_parts(alloc, left_out, together, parts.as_slice(), strings)?;
     let once = each_once(alloc, found)?;
     Ok(once)
 }

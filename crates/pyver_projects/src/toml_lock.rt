@@ -1,7 +1,7 @@
 //! What a TOML lock has.
 ghost use Rattle.std.specs.Prelude.{◌≡◌, ◌++◌, IfOk, codes, get_or, map, option_map, string_bytes};
 ghost use Rattle.pyver_projects.specs.Documents.{contents, numbered_tables, package_from, package_in, table_contents};
-ghost use Rattle.pyver_projects.specs.ProjectViews.{IsNameIndex, condition_of_package, indexed_names, contents_of, fault_of, locked_of};
+ghost use Rattle.pyver_projects.specs.ProjectViews.{IsNameIndex, condition_of_package, indexed_names, contents_of, fault_of, locked_of, parts_of};
 ghost use Rattle.pyver_projects.specs.ProjectStrings.{header_lines};
 ghost use Rattle.pyver_projects.specs.LockedFiles.{array_faults};
 ghost use Rattle.toml.specs.View.{table_view, view};
@@ -10,10 +10,11 @@ use crate::document_kind::LockKind;
 use crate::groups::NameIndex;
 use crate::lock_faults::{
     CountedNames, counted_names, has_markers, lock_parts, locked_python, package_condition,
-    push_fault_unless, push_package_faults, push_package_parts,
+    push_fault_unless, push_package_faults,
 };
 use crate::locked_package::{
-    LockContents, LockFault, LockedPackage, PackageCondition, copy_text, push_locked_files,
+    LockContents, LockFault, LockParts, LockedPackage, PackageCondition, copy_text,
+    push_locked_files,
 };
 use crate::package_requirements::push_requirements;
 use crate::place::header_lines;
@@ -67,28 +68,26 @@ fn line_or_one(lines: &[u64], index: usize) -> u64
     if index < lines.len() { lines[index] } else { 1 }
 }
 
-// What the tables have, with these lines of headers, beside these groups, faults and names.
+// What the tables have, with these lines of headers, beside these parts, faults and names.
 fn read_tables(
     alloc: Global,
-    parts: Vec<Vec<u8>>,
+    parts: LockParts,
     faults: Vec<LockFault>,
     counted: &CountedNames<'_>,
     lines: &[u64],
     tables: &[Value],
 ) -> Result<LockContents, AllocError>
     requires { IsNameIndex counted.now.names }
-    ensures { IfOk result (λ found. contents_of found ≡ table_contents counted.now.kind (map (λ n. n.items) parts.items) (map fault_of faults.items) counted.now.has_markers (option_map string_bytes counted.now.python) (indexed_names counted.now.names) (numbered_tables lines.now 0 (map view tables.now))) }
+    ensures { IfOk result (λ found. contents_of found ≡ table_contents counted.now.kind (parts_of parts) (map fault_of faults.items) counted.now.has_markers (option_map string_bytes counted.now.python) (indexed_names counted.now.names) (numbered_tables lines.now 0 (map view tables.now))) }
 {
-    let mut parts = parts;
     let mut packages = Vec::new(alloc);
     let mut requirements = Vec::new(alloc);
     let mut files = Vec::new(alloc);
     let mut faults = faults;
     for (index, item) in tables.iter().enumerate() {
         let line = line_or_one(lines, index);
-        push_package_parts(alloc, &mut parts, counted.kind, line, item)?;
         push_item(alloc, &mut packages, &counted.python, line, item)?;
-        push_requirements(alloc, &mut requirements, line, item)?;
+        push_requirements(alloc, &mut requirements, counted.kind, &parts, line, item)?;
         push_locked_files(alloc, &mut files, line, item)?;
         push_package_faults(alloc, &mut faults, counted, line, item)?;
     }
@@ -168,6 +167,6 @@ pub(crate) fn toml_contents(
         python,
         names: NameIndex::new(alloc, names.as_slice())?,
     };
-    let parts = lock_parts(alloc, kind, document)?;
+    let parts = lock_parts(alloc, kind, document, tables)?;
     read_tables(alloc, parts, faults, &counted, lines.as_slice(), tables)
 }

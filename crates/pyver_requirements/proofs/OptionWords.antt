@@ -1,11 +1,12 @@
 -- The words of options, one after another.
-use Rattle.std.proofs.Common.{◌≡◌, ◌∙◌, ◌-◌, ◌<◌, ℕ, zero, suc, List, [], ◌∷◌, true, false, Option, arith, drop, length, refl, sym, ap, inl, inr}
+use Rattle.std.proofs.Common.{◌≡◌, ◌∙◌, ◌-◌, ◌<◌, ◌&&◌, ◌||◌, ℕ, zero, suc, Bool, List, [], ◌∷◌, true, false, not, Option, arith, drop, length, refl, sym, ap, inl, inr}
 use Rattle.std.proofs.lemmas.Bool.{cases_Bool}
 use Rattle.std.specs.Char.{is_ascii_whitespace}
 use Rattle.std.specs.List.{prefix_len}
 use Rattle.pep440_version.specs.Grammar.{starts}
 use Rattle.pep440_version.specs.Reading.{past}
-use Rattle.pyver_requirements.specs.OptionFaults.{FaultPosition, OptionWord, WordStep, step_fault, end_fault, option_words, word_step, words_fault}
+use Rattle.pyver_requirements.specs.OptionFaults.{FaultPosition, OptionWord, WordStep, behind_step, end_fault, is_among, option_name, option_words, step_fault, either_step, word_step, words_fault}
+use Rattle.pyver_requirements.specs.OptionNames.{names_option}
 use Rattle.pyver_requirements.specs.OptionValues.{next_state, shell_word}
 use Rattle.pyver_requirements.specs.declared.option_value.ShellState.TheVariants.{Plain}
 
@@ -88,3 +89,46 @@ fault_at_end awaited = refl
 pub at_end : (awaited : Option (List ℕ)) (text : List ℕ) (whole : Option FaultPosition) → length text ≡ 0 → words_fault awaited (option_words 0 text) ≡ whole → end_fault awaited ≡ whole
 at_end awaited [] whole none kept = sym (ap (words_fault awaited) no_words ∙ fault_at_end awaited) ∙ kept
 at_end awaited (b ∷ rest) whole none kept = absurd (omega (arith, none))
+
+-- ---- whether an option is among them
+
+look_at : (option : List ℕ) (is_value : Bool) (w : OptionWord) (ws : List OptionWord)
+    → is_among option is_value (w ∷ ws) ≡ ((not is_value && names_option option (option_name w.text)) || behind_step (either_step is_value w.text) (λ next. is_among option next ws))
+unfolding is_among
+look_at option is_value w ws = refl
+
+module _ (option : List ℕ) (is_value : Bool) where
+  -- by the first word, and what is behind it
+  looked_by : (text word : List ℕ) → 0 < length text → starts is_ascii_whitespace text ≡ false → word ≡ shell_word Plain text
+      → is_among option is_value (option_words 0 text)
+      ≡ ((not is_value && names_option option (option_name word)) || behind_step (either_step is_value word) (λ next. is_among option next (option_words 0 (drop (length word) text))))
+  looked_by [] word some filled is = absurd (omega (arith, some))
+  looked_by (b ∷ rest) word some filled is =
+      ap (is_among option is_value) (split_word b rest (sym filled))
+      ∙ look_at option is_value (record { text = shell_word Plain (b ∷ rest); left = length (b ∷ rest) }) (option_words 0 (drop (length (shell_word Plain (b ∷ rest))) (b ∷ rest)))
+      ∙ ap (λ (w : List ℕ). (not is_value && names_option option (option_name w)) || behind_step (either_step is_value w) (λ next. is_among option next (option_words 0 (drop (length w) (b ∷ rest))))) (sym is)
+
+  -- by what the first word is: this option, or another
+  pub found_here : (text word : List ℕ) (whole : Bool) → 0 < length text → starts is_ascii_whitespace text ≡ false → word ≡ shell_word Plain text
+      → is_among option is_value (option_words 0 text) ≡ whole → (not is_value && names_option option (option_name word)) ≡ true → whole ≡ true
+  found_here text word whole some filled is kept named =
+      sym kept ∙ looked_by text word some filled is
+      ∙ ap (λ b. b || behind_step (either_step is_value word) (λ next. is_among option next (option_words 0 (drop (length word) text)))) named
+
+  pub found_later : (text word : List ℕ) (whole : Bool) → 0 < length text → starts is_ascii_whitespace text ≡ false → word ≡ shell_word Plain text
+      → is_among option is_value (option_words 0 text) ≡ whole → (not is_value && names_option option (option_name word)) ≡ false → (step : WordStep) → either_step is_value word ≡ step
+      → behind_step step (λ next. is_among option next (option_words 0 (past is_ascii_whitespace (drop (length word) text)))) ≡ whole
+  found_later text word whole some filled is kept named step e =
+      ap (λ (ws : List OptionWord). behind_step step (λ next. is_among option next ws)) (behind_blanks (drop (length word) text))
+      ∙ ap (λ (s : WordStep). behind_step s (λ next. is_among option next (option_words 0 (drop (length word) text)))) (sym e)
+      ∙ sym (ap (λ b. b || behind_step (either_step is_value word) (λ next. is_among option next (option_words 0 (drop (length word) text)))) named)
+      ∙ sym (looked_by text word some filled is) ∙ kept
+
+none_among : (option : List ℕ) (is_value : Bool) → is_among option is_value [] ≡ false
+unfolding is_among
+none_among option is_value = refl
+
+-- no words are left
+pub not_found : (option : List ℕ) (is_value : Bool) (text : List ℕ) (whole : Bool) → length text ≡ 0 → is_among option is_value (option_words 0 text) ≡ whole → whole ≡ false
+not_found option is_value [] whole none kept = sym kept ∙ ap (is_among option is_value) no_words ∙ none_among option is_value
+not_found option is_value (b ∷ rest) whole none kept = absurd (omega (arith, none))

@@ -1,5 +1,5 @@
 -- The options of a line of a requirements file, and why pip does not take them. What quotes, backslashes and variables stand for is not judged.
-use Rattle.std.specs.Prelude.{ℕ, zero, suc, ◌-◌, ◌==◌, ◌&&◌, ◌||◌, List, [], ◌∷◌, Bool, Option, Some, None, bytes_eq, codes, drop, length, nat_eq, nat_lt, not, take, if◌then◌else◌}
+use Rattle.std.specs.Prelude.{ℕ, zero, suc, ◌-◌, ◌==◌, ◌&&◌, ◌||◌, List, [], ◌∷◌, Bool, true, false, Option, Some, None, bytes_eq, codes, drop, length, nat_eq, nat_lt, not, take, if◌then◌else◌}
 use Rattle.std.specs.Char.{is_ascii_whitespace}
 use Rattle.std.specs.List.{list_any, starts_with}
 use Rattle.pep440_rs.specs.Blanks.{opens}
@@ -132,3 +132,30 @@ options_fault text = if closes Plain text then words_fault None (option_words 0 
 -- the options of a line
 abbrev pub options_in : List ℕ → List ℕ
 options_in text = if opens 45 text then text else drop (length (before_options text)) text
+
+-- ---- whether an option is among them
+
+-- a word, which is the value of an option if one awaits its value
+abbrev pub either_step : Bool → List ℕ → WordStep
+either_step is_value word = if is_value then Taken else option_step word
+
+-- whether what follows a word has it, by whether the next word is a value; pip reads no options behind one that is wrong
+abbrev pub behind_step : WordStep → (Bool → Bool) → Bool
+behind_step (Wrong f) next = false
+behind_step (Awaits name) next = next true
+behind_step Taken next = next false
+behind_step Ends next = false
+
+-- one of the words is the option with this long name, where the first may be a value
+unfoldable pub is_among : List ℕ → Bool → List OptionWord → Bool
+is_among option is_value [] = false
+is_among option is_value (w ∷ rest) =
+    (not is_value && names_option option (option_name w.text)) || behind_step (either_step is_value w.text) (λ next. is_among option next rest)
+
+-- the options of the line have the one with this long name
+abbrev pub has_option : List ℕ → List ℕ → Bool
+has_option option text = is_among option false (option_words 0 (options_in text))
+
+-- the options of the line have neither quotes nor backslashes nor `$`
+abbrev pub has_plain_options : List ℕ → Bool
+has_plain_options text = not (list_any is_shell_byte (options_in text))

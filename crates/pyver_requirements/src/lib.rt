@@ -31,4 +31,5 @@ pub use marker_operator::MarkerOperator;
 pub use marker_reading::parse_marker;
 pub use marker_steps::{Step, parse_steps};
 pub use marker_token::Side;
+pub use option_fault::{has_option, has_plain_options};
 pub use option_value::value_column;

@@ -1,7 +1,7 @@
-//! Why pip does not take the options of a line.
-ghost use Rattle.std.specs.Prelude.{◌≡◌, ◌||◌, None, bytes_eq, codes, option_map};
+//! Why pip does not take the options of a line, and whether it has one.
+ghost use Rattle.std.specs.Prelude.{◌≡◌, ◌&&◌, ◌||◌, None, bytes_eq, codes, not, option_map};
 ghost use Rattle.std.specs.List.{list_any};
-ghost use Rattle.pyver_requirements.specs.OptionFaults.{end_fault, flag_step, given_step, is_shell_byte, is_strong_hash, known_step, named_step, option_name, option_step, option_words, options_fault, options_in, short_value, taken_if, value_step, word_step, word_value, words_fault};
+ghost use Rattle.pyver_requirements.specs.OptionFaults.{end_fault, flag_step, given_step, has_option, has_plain_options, is_shell_byte, is_strong_hash, known_step, named_step, option_name, option_step, option_words, options_fault, options_in, short_value, taken_if, value_step, either_step, word_step, word_value, words_fault};
 ghost use Rattle.pyver_requirements.specs.LineViews.{fault_position_of, word_step_of};
 ghost use Rattle.pyver_requirements.specs.OptionNames.{name_fault, names_option};
 
@@ -234,4 +234,53 @@ pub(crate) fn line_fault(text: &[u8]) -> Option<FaultPosition>
     ensures { option_map fault_position_of result ≡ options_fault (options_in text.now) }
 {
     options_fault(options_in(text))
+}
+
+// A word, which is the value of an option if one awaits its value.
+fn check_either(is_value: bool, word: &[u8]) -> WordStep<'_>
+    ensures { word_step_of result ≡ either_step is_value word.now }
+{
+    if is_value {
+        return WordStep::Taken;
+    }
+    check_option(word)
+}
+
+// The word is this option, and no value.
+fn is_option(option: &[u8], is_value: bool, word: &[u8]) -> bool
+    ensures { result ≡ (not is_value && names_option option.now (option_name word.now)) }
+{
+    !is_value && names_option(option, option_name(word))
+}
+
+/// Whether the options of the line, which stand after a requirement or without one, have the one with this long name, which may be abbreviated.
+///
+/// Allocates nothing.
+pub fn has_option(text: &[u8], option: &str) -> bool
+    ensures { result ≡ has_option option.now text.now }
+{
+    let mut is_value = false;
+    let mut rest = options_in(text).trim_ascii_start();
+    while !rest.is_empty() {
+        let word = take_word(rest);
+        if is_option(option.as_bytes(), is_value, word) {
+            return true;
+        }
+        match check_either(is_value, word) {
+            WordStep::Awaits(_) => is_value = true,
+            WordStep::Taken => is_value = false,
+            WordStep::Wrong(_) | WordStep::Ends => return false,
+        }
+        rest = rest[word.len()..].trim_ascii_start();
+    }
+    false
+}
+
+/// Whether the options of the line have neither quotes nor backslashes nor `$`, so that `has_option` finds each that pip reads.
+///
+/// Allocates nothing.
+pub fn has_plain_options(text: &[u8]) -> bool
+    ensures { result ≡ has_plain_options text.now }
+{
+    !has_shell_byte(options_in(text))
 }

@@ -1,6 +1,7 @@
 //! The program over any reader and any writers.
 ghost use Rattle.std.specs.Prelude.{◌≡◌, ◌⊎◌, List, Ok, ℕ, map, string_bytes};
 ghost use Rattle.cli_io.specs.Streams.{WroteBeginning};
+ghost use Rattle.cli_io.specs.declared.stream.WriteFailure.TheVariants.{BrokenPipe, Other};
 ghost use Rattle.pyver_commands.specs.Sources.RunFailures.{IsWriteFailure, Reports, memory_message};
 ghost use Rattle.pyver_tool.specs.TaskViews.{AnswerEnds, TaskEnds};
 ghost use Rattle.pyver_tool.specs.Tasks.{NeedsInput, task_of};
@@ -22,7 +23,9 @@ const READ: &str = "pyver: a read failed\n";
 const WRITE: &str = "pyver: a write failed\n";
 
 fn failure_status(failure: WriteFailure) -> u8
-    ensures { (result ≡ 4) ⊎ (result ≡ 141) }
+    ensures either { (result ≡ 4) ⊎ (result ≡ 141) }
+    ensures unread { failure ≡ BrokenPipe → result ≡ 141 }
+    ensures other { failure ≡ Other → result ≡ 4 }
 {
     match failure {
         WriteFailure::BrokenPipe => NOBODY_READS,
@@ -32,7 +35,9 @@ fn failure_status(failure: WriteFailure) -> u8
 
 // Writes that a write failed, unless nobody reads, and returns the status.
 fn report_write_failure<E: Write>(failure: WriteFailure, err: &mut E) -> u8
-    ensures { (message : List ℕ) × IsWriteFailure result message × WroteBeginning (E.contents err.old) (E.contents err.new) message }
+    ensures unread { failure ≡ BrokenPipe → result ≡ 141 }
+    ensures other { failure ≡ Other → result ≡ 4 }
+    ensures told { (message : List ℕ) × IsWriteFailure result message × WroteBeginning (E.contents err.old) (E.contents err.new) message }
 {
     match failure {
         WriteFailure::BrokenPipe => NOBODY_READS,

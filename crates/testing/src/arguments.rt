@@ -1,7 +1,7 @@
 //! Versions as arguments: a version, and the changes to make to it, each after a `~`, as `1.0~min=0`.
 use crate::error::CaseError;
 use pep440_version::{Change, ChangeWordError, ErrorKind, Version, parse_change};
-use std::alloc::Global;
+use std::alloc::{AllocError, Global};
 use std::ops::Bound;
 
 /// The version, which has no changes.
@@ -81,4 +81,13 @@ pub fn version_arguments(alloc: Global, texts: &[String]) -> Result<Vec<Version>
         versions.push(version_argument(alloc, text.as_str())?)?;
     }
     Ok(versions)
+}
+
+/// The words, each between two bars.
+pub fn split_words(alloc: Global, text: &str) -> Result<Vec<String>, AllocError> {
+    let mut words = Vec::new(alloc);
+    for word in text.split('|') {
+        words.push(String::from_str(alloc, word)?)?;
+    }
+    Ok(words)
 }

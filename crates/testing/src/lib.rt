@@ -6,7 +6,6 @@
 
 mod arguments;
 mod case_fields;
-mod command_lines;
 mod error;
 mod run;
 mod sizes;
@@ -14,9 +13,9 @@ mod streams;
 mod values;
 
 pub use arguments::{
-    bound_argument, change_argument, parse_version, version_argument, version_arguments,
+    bound_argument, change_argument, parse_version, split_words, version_argument,
+    version_arguments,
 };
-pub use command_lines::split_words;
 pub use error::CaseError;
 pub use run::{Calls, run_cases};
 pub use sizes::{repeat, sizes_up_to};

@@ -1,5 +1,5 @@
 use Rattle.std.proofs.Common.{◌≡◌, length, map}
-use Rattle.pyver_findings.specs.MarkerPairs.{set_among}
+use Rattle.pyver_findings.specs.MarkedConflicts.{set_among}
 use Rattle.pyver_findings.specs.Views.{demand_of, demands_of_sets}
 use Rattle.pyver_findings.proofs.marker_sets.find_among.Given as goal
 

@@ -1,6 +1,6 @@
 use Rattle.std.proofs.Common.{arith, ◌-◌, ◌==◌, ◌≡◌, ◌∙◌, Bor, ap, inl, inr, map, suc, sym}
 use Rattle.pyver_findings.proofs.SetsFound.{first_removed, search_done, search_more}
-use Rattle.pyver_findings.specs.MarkerPairs.{search_branches}
+use Rattle.pyver_findings.specs.MarkedConflicts.{search_branches}
 use Rattle.pyver_findings.specs.Views.{branch_of, demand_of, demands_of_sets}
 use Rattle.pyver_findings.specs.declared.demand.Demand.{Demand as DemandValue}
 use Rattle.pyver_findings.proofs.marker_sets.find_conflicting_sets.Goals as goal

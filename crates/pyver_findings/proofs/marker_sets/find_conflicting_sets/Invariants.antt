@@ -1,5 +1,5 @@
 use Rattle.std.proofs.Common.{◌≡◌, map}
-use Rattle.pyver_findings.specs.MarkerPairs.{conflicting_sets, search_branches}
+use Rattle.pyver_findings.specs.MarkedConflicts.{conflicting_sets, search_branches}
 use Rattle.pyver_findings.specs.Views.{branch_of, demand_of, demands_of_sets}
 use Rattle.pyver_findings.proofs.marker_sets.find_conflicting_sets.Given as goal
 

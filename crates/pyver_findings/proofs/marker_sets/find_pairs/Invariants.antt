@@ -1,6 +1,6 @@
 use Rattle.std.proofs.Common.{◌≡◌, ◌≤◌, ◌++◌, drop, length, map}
 use Rattle.std.specs.List.{flat_map}
-use Rattle.pyver_findings.specs.MarkerPairs.{conflicting_pair, conflicting_pairs}
+use Rattle.pyver_findings.specs.MarkedConflicts.{conflicting_pair, conflicting_pairs}
 use Rattle.pyver_findings.specs.Views.{demand_of, demands_of_sets}
 use Rattle.pyver_findings.proofs.marker_sets.find_pairs.Given as goal
 

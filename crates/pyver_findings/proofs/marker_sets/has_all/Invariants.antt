@@ -1,5 +1,5 @@
 use Rattle.std.proofs.Common.{◌≡◌, length, map}
-use Rattle.pyver_findings.specs.MarkerPairs.{has_all}
+use Rattle.pyver_findings.specs.MarkedConflicts.{has_all}
 use Rattle.pyver_findings.specs.Views.{demand_of}
 use Rattle.pyver_findings.proofs.marker_sets.has_all.Given as goal
 

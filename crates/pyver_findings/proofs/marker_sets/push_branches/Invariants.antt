@@ -1,5 +1,5 @@
 use Rattle.std.proofs.Common.{◌≡◌, ◌++◌, drop, map}
-use Rattle.pyver_findings.specs.MarkerPairs.{branches}
+use Rattle.pyver_findings.specs.MarkedConflicts.{branches}
 use Rattle.pyver_findings.specs.Views.{branch_of, demand_of}
 use Rattle.pyver_findings.proofs.marker_sets.push_branches.Given as goal
 

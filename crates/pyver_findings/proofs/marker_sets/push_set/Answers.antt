@@ -7,7 +7,7 @@ use Rattle.pyver_findings.proofs.SetsFound.{not_some, set_more, sound_under_any}
 use Rattle.pyver_findings.proofs.SmallestLists.{nothing_after}
 use Rattle.pyver_findings.specs.Conflicts.{has_same_marker, have_none, smallest}
 use Rattle.pyver_findings.specs.Demands.{Demand, IsSound}
-use Rattle.pyver_findings.specs.MarkerPairs.{set_among, under_any}
+use Rattle.pyver_findings.specs.MarkedConflicts.{set_among, under_any}
 use Rattle.pyver_findings.specs.Views.{demand_of}
 use Rattle.pyver_findings.specs.declared.demand.Demand.{Demand as DemandValue}
 use Rattle.pyver_findings.proofs.marker_sets.push_set.Goals as goal

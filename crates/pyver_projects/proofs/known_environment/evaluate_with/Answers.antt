@@ -1,4 +1,4 @@
-use Rattle.std.proofs.Common.{[], ◌∙◌, ◌∷◌, ap}
+use Rattle.std.proofs.Common.{[], ◌∙◌, ◌∷◌, ap, map}
 use Rattle.pyver_markers.specs.Environments.{Text}
 use Rattle.pyver_projects.proofs.LockedPackages.{evaluated_so}
 use Rattle.pyver_projects.specs.KnownEnvironments.{cpython_variables}
@@ -11,7 +11,7 @@ returns c = λ m is.
     let system = c.assign-8.ensures.setting ∙ ap Text (c.as_bytes-3.ensures.value ∙ c.platform_system.ensures) in
     let machine = c.assign-9.ensures.setting ∙ ap Text (c.as_bytes-4.ensures.value ∙ c.platform_machine.ensures) in
     let variables = c.assign.result ∷ (c.assign-2.result ∷ (c.assign-3.result ∷ (c.assign-4.result ∷ (c.assign-5.result ∷ (c.assign-6.result ∷ (c.assign-7.result ∷ (c.assign-8.result ∷ (c.assign-9.result ∷ [])))))))) in
-    evaluated_so c.evaluate.result m variables (cpython_variables c.args.system c.args.short.now c.args.full.now) (c.evaluate.ensures m is) (
+    evaluated_so (map (λ n. n.now) c.args.extras.now) (map (λ n. n.now) c.args.groups.now) c.assign_names.result c.assign_names-2.result (c.assign_names.ensures.name, c.assign_names.ensures.setting) (c.assign_names-2.ensures.name, c.assign_names-2.ensures.setting) c.evaluate.result m variables (cpython_variables c.args.system c.args.short.now c.args.full.now) (c.evaluate.ensures m is) (
       (c.assign.ensures.name, c.assign.ensures.setting),
       (
         (c.assign-2.ensures.name, c.assign-2.ensures.setting),

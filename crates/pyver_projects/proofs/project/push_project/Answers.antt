@@ -3,7 +3,7 @@ use Rattle.std.proofs.lemmas.List.{append_assoc}
 use Rattle.std.proofs.lemmas.Result.{IfOk-weaker}
 use Rattle.toml.specs.Data.{Data}
 use Rattle.pyver_projects.specs.Documents.{array_sources, optional_sources, text_sources}
-use Rattle.pyver_projects.specs.ProjectStrings.{Dependencies, Python, Version, inside}
+use Rattle.pyver_projects.specs.ProjectStrings.{Dependencies, Python, Version}
 use Rattle.pyver_projects.specs.ProjectViews.{project_string_of}
 use Rattle.pyver_projects.proofs.project.push_project.Goals as goal
 

@@ -1,11 +1,12 @@
-use Rattle.std.proofs.Common.{◌≡◌, ◌++◌, drop, map}
-use Rattle.std.specs.List.{flat_map}
-use Rattle.pyver_findings.specs.Views.{finding_of}
+use Rattle.std.proofs.Common.{[], drop, map}
+use Rattle.pyver_findings.proofs.MarkedConflicts.{Continues}
+use Rattle.pyver_findings.specs.MarkedConflicts.{FindsOfEach}
+use Rattle.pyver_findings.specs.Views.{AddsFound}
 use Rattle.pyver_projects.specs.ProjectViews.{section_of, string_reading_of}
-use Rattle.pyver_projects.specs.Together.{part_conflicts}
+use Rattle.pyver_projects.specs.Together.{FindsOfPart}
 use Rattle.pyver_projects.proofs.together.conflicts_of_parts.Given as goal
 
 abbrev pub invariant-loop-part : goal.invariant-loop-part
 invariant-loop-part l =
-    map finding_of l.findings.items ++ flat_map (part_conflicts l.together (map string_reading_of l.strings)) (map section_of (drop l.part-index l.parts))
-    ≡ flat_map (part_conflicts l.together (map string_reading_of l.strings)) (map section_of l.parts)
+    let found = FindsOfEach (FindsOfPart l.together (map string_reading_of l.strings)) in
+    AddsFound (Continues (found (map section_of (drop l.part-index l.parts))) (found (map section_of l.parts))) [] l.findings.items l.initial.left_out.items l.left_out.items

@@ -1,14 +1,20 @@
-use Rattle.std.proofs.Common.{◌≡◌, ◌==◌, ◌∙◌, [], ap, map, sym}
-use Rattle.pyver_findings.proofs.SmallestLists.{is_nil}
-use Rattle.pyver_findings.specs.Views.{finding_of}
-use Rattle.pyver_projects.proofs.Agreeing.{none_in_parts, sound_all}
-use Rattle.pyver_projects.specs.ProjectViews.{string_reading_of}
+use Rattle.std.proofs.Common.{◌∙◌, [], ap, map, refl, subst}
+use Rattle.pyver_findings.proofs.MarkedConflicts.{nothing_found}
+use Rattle.pyver_findings.specs.MarkedConflicts.{FindsOfEach}
+use Rattle.pyver_findings.specs.Views.{AddsFound}
+use Rattle.pyver_projects.proofs.Agreeing.{parts_found}
+use Rattle.pyver_projects.specs.ProjectViews.{section_of, string_reading_of}
+use Rattle.pyver_projects.specs.Together.{FindsOfPart, FindsOfParts}
 use Rattle.pyver_projects.proofs.together.project_conflicts.Goals as goal
 
-pub returns-then-is_empty : goal.returns-then-is_empty
-returns-then-is_empty c =
-    let all = c.in_ok-all.all in
+pub returns-then-branch : goal.returns-then-branch
+returns-then-branch c =
     let xs = map string_reading_of c.args.strings.now in
-    let nil : all.items ≡ [] = is_nil all.items (ap (λ n. n == 0) (sym all.ok.0) ∙ sym c.is_empty.ensures ∙ c.if-is_empty.true) in
-    let none = ap (map finding_of) nil in
-    none ∙ sym (none_in_parts c.args.together xs (sound_all xs c.requires) (sym c.in_ok-all.ensures ∙ none))
+    nothing_found (FindsOfParts c.args.together xs) [] _ _ _ (c.in_ok-are_satisfiable.ensures c.if-branch.true c.args.together) c.new.ensures.items refl
+
+pub returns : goal.returns
+returns c =
+    let xs = map string_reading_of c.args.strings.now in
+    parts_found c.args.together xs c.in_ok-found.found.items c.in_ok-once.once.items c.args.left_out.now.items c.conflicts_of_parts.new.left_out.items c.in_ok-once.ensures
+    (subst (λ l. AddsFound (FindsOfEach (FindsOfPart c.args.together xs) l) [] c.in_ok-found.found.items c.args.left_out.now.items c.conflicts_of_parts.new.left_out.items)
+    (ap (map section_of) c.as_slice.ensures.value ∙ c.in_ok-parts.ensures) c.in_ok-found.ensures)

@@ -1,10 +1,11 @@
-use Rattle.std.proofs.Common.{◌∙◌, ◌++◌, ap, map, subst, sym}
+use Rattle.std.proofs.Common.{◌∙◌, ap, map, subst, sym}
 use Rattle.std.specs.List.{All}
-use Rattle.pyver_findings.specs.Conflicts.{conflicts}
 use Rattle.pyver_findings.specs.Demands.{IsSound}
-use Rattle.pyver_findings.specs.Views.{demand_of, finding_of}
+use Rattle.pyver_findings.specs.MarkedConflicts.{FindsOfNames}
+use Rattle.pyver_findings.specs.Views.{AddsFound, demand_of}
+use Rattle.pyver_markers.specs.Conditions.{Domain}
 use Rattle.pyver_projects.specs.ProjectViews.{inclusions_of, section_of, string_reading_of}
-use Rattle.pyver_projects.specs.Together.{part_demands}
+use Rattle.pyver_projects.specs.Together.{part_demands, project_domain}
 use Rattle.pyver_projects.proofs.Holding.{sound_part}
 use Rattle.pyver_projects.proofs.together.push_part_conflicts.Goals as goal
 
@@ -16,6 +17,7 @@ push_conflicts-requires c =
 pub returns : goal.returns
 returns c =
     let xs = map string_reading_of c.args.project.now.strings.now in
-    c.in_ok-push_conflicts.ensures
-    ∙ ap (λ l. map finding_of c.args.findings.now.items ++ conflicts l)
+    subst (λ l. AddsFound (FindsOfNames (project_domain xs) l) c.args.findings.now.items c.push_conflicts.new.findings.items c.args.left_out.now.items c.push_conflicts.new.left_out.items)
     (ap (map demand_of) c.as_slice.ensures.value ∙ c.in_ok-demands.ensures ∙ ap (λ is. part_demands c.args.project.now.together is (section_of c.args.part.now) xs) c.requires.known)
+    (subst (λ (d : Domain). AddsFound (FindsOfNames d (map demand_of c.as_slice.result.now)) c.args.findings.now.items c.push_conflicts.new.findings.items c.args.left_out.now.items c.push_conflicts.new.left_out.items)
+    c.project_domain-domain.ensures c.in_ok-push_conflicts.ensures)

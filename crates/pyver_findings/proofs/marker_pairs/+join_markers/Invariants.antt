@@ -1,5 +1,0 @@
-use Rattle.std.proofs.Common.{length}
-use Rattle.pyver_findings.proofs.marker_pairs.+join_markers.Given as goal
-
-abbrev pub decreases-join_markers : goal.decreases-join_markers
-decreases-join_markers l = length l.set.now
