@@ -1,7 +1,6 @@
 //! How often sort keys, and matching without `===`, allocate: both tests of a pair make the same number of allocations (`scripts/sweep`).
 use pep440_keys::sort_key;
 use pep440_rs::{Operator, Version, VersionSpecifiers};
-use pep440_version::Version;
 use std::test::Fail;
 
 // Matches the list, and each member but those with `===`, so many times; whether the list never contains the version. It
