@@ -476,6 +476,10 @@ uint8_t pep440_sort(const pep440_string *strings, size_t count, size_t *indices,
 uint8_t pep440_sort_keys(const pep440_string *strings, size_t count, uint8_t *out, size_t size,
                          size_t *ends, size_t ends_size, size_t *written, size_t *index);
 
+/* Writes the compiled forms of the strings, as pep440_sort_keys does their sort keys. */
+uint8_t pep440_compile_all(const pep440_string *strings, size_t count, uint8_t *out, size_t size,
+                           size_t *ends, size_t ends_size, size_t *written, size_t *index);
+
 /* ---- strings with a zero at their end
 
    The calls that programs make most, over `const char *`. A compiled form has zero bytes, so they

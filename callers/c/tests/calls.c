@@ -413,12 +413,16 @@ static void many_at_once(void)
     hold(pep440_newest(LIST(">=1;"), texts, COUNT, &index) == PEP440_INVALID_LIST && index == 77, "newest, no list");
     hold(pep440_sort(texts, COUNT, indices, COUNT, &index) == PEP440_INVALID_VERSION && index == 2, "the first that is no version");
     hold(pep440_sort_keys(texts, COUNT, out, sizeof out, indices, COUNT, &written, &index) == PEP440_INVALID_VERSION && index == 2, "no keys");
+    hold(pep440_compile_all(texts, COUNT, out, sizeof out, indices, COUNT, &written, &index) == PEP440_INVALID_VERSION && index == 2, "no forms");
     texts[2] = texts[4];
     hold(pep440_sort(texts, COUNT, indices, COUNT, &index) == PEP440_OK, "sort");
     hold(indices[0] == 1 && indices[1] == 3 && indices[2] == 0 && indices[3] == 2 && indices[4] == 4, "indices");
     hold(pep440_sort_keys(texts, COUNT, out, sizeof out, indices, COUNT, &written, &index) == PEP440_OK && indices[4] == written, "sort_keys");
     hold(pep440_sort_key(TEXT("1.9"), key, sizeof key, &length) == PEP440_OK && as_bytes(out + indices[0], indices[1] - indices[0], key, length) == 0,
          "the second key is that of 1.9");
+    hold(pep440_compile_all(texts, COUNT, out, sizeof out, indices, COUNT, &written, &index) == PEP440_OK && indices[4] == written, "compile_all");
+    hold(pep440_compile(TEXT("1.9"), key, sizeof key, &length) == PEP440_OK && as_bytes(out + indices[0], indices[1] - indices[0], key, length) == 0,
+         "the second form is that of 1.9");
 }
 
 /* What the header has for strings with a zero at their end. */

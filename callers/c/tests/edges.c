@@ -81,6 +81,7 @@ static uint8_t filter(void) { return pep440_filter(IN, strings, many, out, size)
 static uint8_t newest(void) { return pep440_newest(IN, strings, many, count); }
 static uint8_t sort(void) { return pep440_sort(strings, many, ends, ends_size, count); }
 static uint8_t sort_keys(void) { return pep440_sort_keys(strings, many, out, size, ends, ends_size, written, count); }
+static uint8_t compile_all(void) { return pep440_compile_all(strings, many, out, size, ends, ends_size, written, count); }
 
 #define LONG "1!1.2.300a2.post3.dev4+ubuntu.1"
 #define LIST ">=1.16, !=1.5.*, ===1.17+a, <2.0"
@@ -119,7 +120,8 @@ static const struct {
     {"allows, with its set", allows, "lv", WITH_SET, "1.18", PEP440_OK}, {"allows, early", allows, "lv", WITH_SET, "1.18rc1", PEP440_OK},
     {"allows, all", allows_all, "lv", WITH_SET, "1.18rc1", PEP440_OK}, {"filter", filter, "lv", LIST, "b", PEP440_OK}, {"newest", newest, "lv", ">=0", "b", PEP440_OK},
     {"newest, none", newest, "lv", ">99", "b", PEP440_NONE_FOUND}, {"sort", sort, "sv", "", "c", PEP440_OK},
-    {"sort, invalid", sort, "sv", "", "b", PEP440_INVALID_VERSION}, {"sort_keys", sort_keys, "sv", "", "c", PEP440_OK}};
+    {"sort, invalid", sort, "sv", "", "b", PEP440_INVALID_VERSION}, {"sort_keys", sort_keys, "sv", "", "c", PEP440_OK},
+    {"compile_all", compile_all, "sv", "", "c", PEP440_OK}};
 
 static int wrong;
 static size_t calls;

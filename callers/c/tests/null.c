@@ -112,6 +112,8 @@ static void batches(void)
     hold(pep440_filter(EMPTY, one, 1, marks, 1) == PEP440_OK && marks[0] == PEP440_NOT_A_VERSION, "filter of null");
     hold(pep440_sort(one, 1, indices, 1, &index) == PEP440_INVALID_VERSION && index == 0, "sort of null");
     hold(pep440_sort_keys(one, 1, out, 8, ends, 1, &written, &index) == PEP440_INVALID_VERSION && index == 0, "sort_keys of null");
+    hold(pep440_compile_all(NONE, NONE, NONE, &written, &index) == PEP440_OK && written == 0, "compile_all of none");
+    hold(pep440_compile_all(one, 1, out, 8, ends, 1, &written, &index) == PEP440_INVALID_VERSION && index == 0, "compile_all of null");
 }
 
 int main(void)

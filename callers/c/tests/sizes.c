@@ -174,6 +174,7 @@ static void of_batches(const char *text, const char *part, size_t size)
         CHECK(pep440_filter(PARSED(compiled), batches[number], size, marks, GREATEST));
         CHECK(pep440_sort(batches[number], size, ends, GREATEST, &at));
         CHECK(pep440_sort_keys(batches[number], size, out, sizeof out, ends, GREATEST, &written, &at));
+        CHECK(pep440_compile_all(batches[number], size, out, sizeof out, ends, GREATEST, &written, &at));
     }
     drop(list), drop(compiled);
 }

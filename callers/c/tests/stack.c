@@ -93,6 +93,12 @@ static void *sort_keys(void *unused)
     return unused;
 }
 
+static void *compile_all(void *unused)
+{
+    pep440_compile_all(batch, MANY, out, (size_t)LONG * 64, ends, MANY, &written, &at);
+    return unused;
+}
+
 static const struct {
     const char *name;
     void *(*call)(void *);
@@ -130,7 +136,8 @@ static const struct {
              {"filter", filter},
              {"newest", newest},
              {"sort", sort},
-             {"sort_keys", sort_keys}};
+             {"sort_keys", sort_keys},
+             {"compile_all", compile_all}};
 
 static uint8_t *stack;
 static void *(*call)(void *);

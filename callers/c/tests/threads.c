@@ -107,6 +107,7 @@ static void *call_all(void *memory)
         fold(m, pep440_sort(some, 3, m->ends, 16, &m->count));
         fold(m, pep440_sort(some, VERSIONS, m->ends, 16, &m->count));
         fold(m, pep440_sort_keys(some, 3, KEYS));
+        fold(m, pep440_compile_all(some, 3, KEYS));
         fold(m, (uint8_t)pep440_version_of_library());
     }
     return NULL;

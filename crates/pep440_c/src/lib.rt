@@ -12,18 +12,18 @@
 
 ghost use Rattle.std.specs.Prelude.{map, not, ◌==◌, ◌≡◌, ◌≢◌};
 ghost use Rattle.pep440_rs.specs.Bounds.{range_of, release_range_of};
-ghost use Rattle.pep440_calls.specs.Batches.{FilterMarks, KeysResult, NewestResult, SortResult};
+ghost use Rattle.pep440_calls.specs.Batches.{FilterMarks, FormsResult, KeysResult, NewestResult, SortResult};
 ghost use Rattle.pep440_calls.specs.CallResults.{AllowsResult, AsksInPlace, ContainsResult, IsCompiled, IsCompiledList, IsCompiledSpecifier, IsComplement, IsEditError, IsIntersection, IsKey, IsNormal, IsNormalList, IsRangeLines, IsShortNormalForm, IsSpecifier, IsUnion, IsVersionIn, JoinsBoundaries, JoinsMembers, JoinsRangeBounds, LacksRange, MatchesInPlace, NamesPrerelease, NeedsNoMemory, OrderResult, PartsResult, PatternResult, RejectsOperand, RejectsOperator, RejectsSpecifierBytes, SetFault, SubsetResult, TwoSetFaults, WordResult, WritesEdited};
 ghost use Rattle.pep440_calls.specs.Explanations.{ErrorResult, IsBuildError, IsNoOperator, RejectsNumbered};
 ghost use Rattle.pep440_calls.specs.Statuses.{IsFlagOf, WritesBytes, WritesBytesOr, WritesJoinedOr, WritesOr};
 ghost use Rattle.pep440_calls.specs.CallerBytes.{ListFaults, RejectsBytes};
 
 use pep440_calls::{
-    Parts, write_allow_flag, write_boundaries, write_build_error, write_compiled,
-    write_compiled_list, write_compiled_specifier, write_complement, write_edit_error,
-    write_edited, write_error, write_intersection, write_marks, write_match, write_members,
-    write_newest, write_normal_form, write_normal_list, write_order, write_parts, write_pattern,
-    write_positions, write_prerelease_flag, write_range, write_range_bounds,
+    Parts, write_forms, write_allow_flag, write_boundaries, write_build_error,
+    write_compiled, write_compiled_list, write_compiled_specifier, write_complement,
+    write_edit_error, write_edited, write_error, write_intersection, write_marks, write_match,
+    write_members, write_newest, write_normal_form, write_normal_list, write_order, write_parts,
+    write_pattern, write_positions, write_prerelease_flag, write_range, write_range_bounds,
     write_release_range_bounds, write_sort_key, write_sort_keys, write_specifier, write_subset,
     write_union, write_version_in, write_word,
 };
@@ -461,4 +461,19 @@ pub extern "C" fn pep440_sort_keys(
     ensures { KeysResult (map (λ t. t.now) texts.now) out.old out.new ends.old ends.new written.old written.new at.old at.new result }
 {
     write_sort_keys(alloc, texts, out, ends, written, at)
+}
+
+/// Writes the compiled forms of the strings, one after the other, and the end of each.
+#[unsafe(no_mangle)]
+pub extern "C" fn pep440_compile_all(
+    alloc: Global,
+    texts: &[&[u8]],
+    out: &mut [u8],
+    ends: &mut [usize],
+    written: &mut usize,
+    at: &mut usize,
+) -> u8
+    ensures { FormsResult (map (λ t. t.now) texts.now) out.old out.new ends.old ends.new written.old written.new at.old at.new result }
+{
+    write_forms(alloc, texts, out, ends, written, at)
 }

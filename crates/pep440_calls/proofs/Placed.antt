@@ -12,7 +12,7 @@ use Rattle.pep440_keys.specs.SortKeys.{key_bytes}
 use Rattle.pep440_version.specs.Key.{record_cmp}
 use Rattle.pep440_version.specs.Record.{Record, from_parts}
 use Rattle.pep440_version.specs.RoundTrip.{IsParsed}
-use Rattle.pep440_calls.specs.Batches.{ArrangesPositions, BatchFaults, IsContainedString, JoinsKeys, batch_error_at}
+use Rattle.pep440_calls.specs.Batches.{ArrangesPositions, BatchFaults, IsContainedString, JoinsEncodings, batch_error_at}
 use Rattle.pep440_calls.specs.Statuses.{Faults, Joins, ends_from, HoldsOrFaults}
 use Rattle.pep440_calls.specs.declared.fault.Fault.{Fault}
 use Rattle.pep440_calls.specs.declared.fault.Fault.TheVariants.{InvalidVersion, InvalidList, InvalidRight, NoList, NoSet, NumberAtMax, OutOfMemory}
@@ -103,16 +103,27 @@ pub marked_more : (Marks : List ℕ → ℕ → Type 0) (texts : List (Bor (List
 marked_more Marks texts i x marks new m inside is more all =
     each_more Marks texts i (get_or texts i x) marks new m inside (get_or_default texts i x (get_or texts i x) inside) is more all
 
--- ---- sort keys
+-- ---- versions as they are written
 
--- one more key
-pub keys_more : (texts : List (Bor (List ℕ))) (i : ℕ) (x : Bor (List ℕ)) (bytes new ends new_ends key : List ℕ) (v : Record) → i < length texts → BytesDenote (get_or texts i x).now v → key ≡ key_bytes v
-    → ((l : List (List ℕ)) → Joins l bytes ends → Joins (l ++ key ∷ []) new new_ends) → JoinsKeys (map (λ t. t.now) (take i texts)) bytes ends → JoinsKeys (map (λ t. t.now) (take (i + 1) texts)) new new_ends
-keys_more texts i x bytes new ends new_ends key v inside means is more (versions, all, joins) = (
+-- one more version
+pub encodings_more : (encode : Record → List ℕ) (texts : List (Bor (List ℕ))) (i : ℕ) (x : Bor (List ℕ)) (bytes new ends new_ends : List ℕ) (v : Record) → i < length texts → BytesDenote (get_or texts i x).now v
+    → ((l : List (List ℕ)) → Joins l bytes ends → Joins (l ++ encode v ∷ []) new new_ends) → JoinsEncodings encode (map (λ t. t.now) (take i texts)) bytes ends
+    → JoinsEncodings encode (map (λ t. t.now) (take (i + 1) texts)) new new_ends
+encodings_more encode texts i x bytes new ends new_ends v inside means more (versions, all, joins) = (
   versions ++ v ∷ [],
   each_more BytesDenote texts i (get_or texts i x) versions (versions ++ v ∷ []) v inside (get_or_default texts i x (get_or texts i x) inside) means refl all,
-  subst (λ (l : List (List ℕ)). Joins l new new_ends) (ap (λ (k : List ℕ). map key_bytes versions ++ k ∷ []) is ∙ sym (map-append key_bytes versions (v ∷ []))) (more (map key_bytes versions) joins),
+  subst (λ (l : List (List ℕ)). Joins l new new_ends) (sym (map-append encode versions (v ∷ []))) (more (map encode versions) joins),
 )
+
+-- the version, of what is written of it
+pub encoding_of_pushed : {X : Type 0} (encode : Record → List ℕ) (Is : List ℕ → List ℕ → Type 0) (text old new old_ends new_ends : List ℕ) (result : Result X Fault)
+    → ((form : List ℕ) → Is text form → (r : Record) × BytesDenote text r × (form ≡ encode r))
+    → HoldsOrFaults (RejectsBytes text) ⊥ ⊥ (λ _. (form : List ℕ) × Is text form × (new ≡ old ++ form) × (new_ends ≡ old_ends ++ length new ∷ [])) result
+    → HoldsOrFaults (RejectsBytes text) ⊥ ⊥ (λ _. (r : Record) × BytesDenote text r × (new ≡ old ++ encode r) × (new_ends ≡ old_ends ++ length new ∷ [])) result
+encoding_of_pushed encode Is text old new old_ends new_ends (Ok x) of (form, is, more, ended) = let found = of form is in (found.0, found.1, more ∙ ap (λ f. old ++ f) found.2, ended)
+encoding_of_pushed encode Is text old new old_ends new_ends (Err f) of why = why
+
+-- ---- sort keys
 
 -- one more key, as it lies in a text
 pub views_more : (texts : List (Bor (List ℕ))) (i : ℕ) (x : Bor (List ℕ)) (keys new : List (Bor (List ℕ))) (key : Bor (List ℕ)) (v : Record) → i < length texts → BytesDenote (get_or texts i x).now v → key.now ≡ key_bytes v

@@ -5,6 +5,7 @@ use Rattle.std.specs.Ordering.{nat_cmp, on, ordering_then}
 use Rattle.std.specs.Prelude.{◌≡◌, ◌⊎◌, ◌<◌, ◌+◌, ℕ, zero, suc, List, [], ◌∷◌, drop, get_or, length, map, if◌then◌else◌, Result, Ok, Err, IsSomeAnd, slice_get, take, IsTrue, Option, Some, None}
 use Rattle.std.specs.Slice.Scan.{big_endian}
 use Rattle.std.specs.declared.cmp.Ordering.{Ordering}
+use Rattle.pep440_compiled.specs.Version.{compiled_bytes}
 use Rattle.pep440_keys.specs.SortKeys.{key_bytes}
 use Rattle.pep440_rs.specs.Arrangement.{ArrangesBy}
 use Rattle.pep440_rs.specs.LiteralMatching.{list_matches_literally}
@@ -15,6 +16,8 @@ use Rattle.pep440_version.specs.Record.{Record}
 use Rattle.pep440_calls.specs.Statuses.{FailsBy, Joins, WritesAtStart, WritesBoth}
 use Rattle.pep440_calls.specs.CallerBytes.{BytesDenote, BytesDenoteList, ListFaults, RejectsBytes}
 use Rattle.pep440_calls.specs.declared.batch.BatchError.{BatchError}
+use Rattle.pep440_calls.specs.declared.batch.Encoding.{Encoding}
+use Rattle.pep440_calls.specs.declared.batch.Encoding.TheVariants.{Compiled, SortKey}
 use Rattle.pep440_calls.specs.declared.batch.Entry.{Entry}
 use Rattle.pep440_calls.specs.declared.fault.Fault.{Fault}
 use Rattle.std.specs.Option.{option_map}
@@ -66,16 +69,28 @@ SortResult texts old places old_at at status =
     ((found : List ℕ) × Sorts texts found × WritesAtStart found old places status × (at ≡ old_at))
     ⊎ ((places ≡ old) × WritesInvalidPosition texts old_at at status)
 
--- each string denotes a version; these are their sort keys, joined, and where each key ends
-abbrev pub JoinsKeys : List (List ℕ) → List ℕ → List ℕ → Type 0
-JoinsKeys texts bytes ends = (versions : List Record) × AllZip BytesDenote texts versions × Joins (map key_bytes versions) bytes ends
+-- what a version is written as: its sort key, or its compiled form
+abbrev pub encoding_bytes : Encoding → Record → List ℕ
+encoding_bytes SortKey = key_bytes
+encoding_bytes Compiled = compiled_bytes
 
--- keys and ends are written at the start of the caller's buffers, or one is too small; how many bytes are needed is written.
+-- each string denotes a version; these are the versions as they are written, joined, and where each ends
+abbrev pub JoinsEncodings : (Record → List ℕ) → List (List ℕ) → List ℕ → List ℕ → Type 0
+JoinsEncodings encode texts bytes ends = (versions : List Record) × AllZip BytesDenote texts versions × Joins (map encode versions) bytes ends
+
+-- what is joined and the ends are written at the start of the caller's buffers, or one is too small; how many bytes are needed is written.
 -- Otherwise only the index of an invalid string is written
-abbrev pub KeysResult : List (List ℕ) → List ℕ → List ℕ → List ℕ → List ℕ → ℕ → ℕ → ℕ → ℕ → ℕ → Type 0
-KeysResult texts old bytes old_ends ends old_written written old_at at status =
-    ((found : List ℕ) × (places : List ℕ) × JoinsKeys texts found places × (written ≡ length found) × WritesBoth found places old bytes old_ends ends status × (at ≡ old_at))
+abbrev pub EncodingsResult : (Record → List ℕ) → List (List ℕ) → List ℕ → List ℕ → List ℕ → List ℕ → ℕ → ℕ → ℕ → ℕ → ℕ → Type 0
+EncodingsResult encode texts old bytes old_ends ends old_written written old_at at status =
+    ((found : List ℕ) × (places : List ℕ) × JoinsEncodings encode texts found places × (written ≡ length found) × WritesBoth found places old bytes old_ends ends status × (at ≡ old_at))
     ⊎ ((bytes ≡ old) × (ends ≡ old_ends) × (written ≡ old_written) × WritesInvalidPosition texts old_at at status)
+
+-- of sort keys, and of compiled forms
+abbrev pub KeysResult : List (List ℕ) → List ℕ → List ℕ → List ℕ → List ℕ → ℕ → ℕ → ℕ → ℕ → ℕ → Type 0
+KeysResult = EncodingsResult key_bytes
+
+abbrev pub FormsResult : List (List ℕ) → List ℕ → List ℕ → List ℕ → List ℕ → ℕ → ℕ → ℕ → ℕ → ℕ → Type 0
+FormsResult = EncodingsResult compiled_bytes
 
 -- why nothing is given, where memory didn't run out
 abbrev pub BatchFaults : List (List ℕ) → BatchError → Type 0

@@ -10,8 +10,8 @@ ghost use Rattle.pep440_rs.specs.Specifiers.{Spec};
 ghost use Rattle.pep440_keys.specs.SortKeys.{key_bytes};
 ghost use Rattle.pep440_version.specs.Record.{Record};
 ghost use Rattle.pep440_version.specs.RoundTrip.{IsParsed};
-ghost use Rattle.pep440_calls.specs.Batches.{ArrangesPositions, HasEntries, IsEntryOf, entry_cmp, key_at, padded, position_cmp, FilterMarks, HoldsOrBatchFaults, IsMark, KeysResult, Marks, JoinsKeys, SortResult, Sorts, ReportsBatchError, batch_error_at};
-ghost use Rattle.pep440_calls.specs.CallResults.{IsKey};
+ghost use Rattle.pep440_calls.specs.Batches.{ArrangesPositions, HasEntries, IsEntryOf, entry_cmp, key_at, padded, position_cmp, FilterMarks, HoldsOrBatchFaults, IsMark, EncodingsResult, FormsResult, JoinsEncodings, KeysResult, Marks, encoding_bytes, SortResult, Sorts, ReportsBatchError, batch_error_at};
+ghost use Rattle.pep440_calls.specs.CallResults.{IsCompiled, IsKey};
 ghost use Rattle.pep440_calls.specs.CallerBytes.{BytesDenote, BytesDenoteList, ListFaults, RejectsBytes};
 ghost use Rattle.pep440_calls.specs.Statuses.{HoldsOr, HoldsOrFaults};
 ghost use Rattle.pep440_calls.specs.declared.batch.BatchError.TheVariants.{OutOfMemory};
@@ -19,7 +19,7 @@ ghost use Rattle.pep440_calls.specs.declared.batch.BatchError.TheVariants.{OutOf
 use crate::buffer::{put, put_both};
 use crate::fault::Fault;
 use crate::joined_strings::JoinedStrings;
-use crate::one_version::{find_key, find_release_key, find_string_key};
+use crate::one_version::{compile_other, find_key, find_release_key, find_string_key};
 use crate::read::{read, to_list};
 use arrayvec::ArrayVec;
 use pep440_compiled::{
@@ -424,9 +424,16 @@ fn sort(alloc: Global, texts: &[&[u8]]) -> Result<Vec<usize>, BatchError>
     if let Some(keys) = view_keys(alloc, texts)? {
         return Ok(sort_positions(alloc, keys.as_slice())?);
     }
-    let joined = sort_keys(alloc, texts)?;
+    let joined = encode_all(alloc, texts, Encoding::SortKey)?;
     let strings = joined.split(alloc)?;
     Ok(sort_positions(alloc, strings.as_slice())?)
+}
+
+// What a version is written as.
+#[derive(Clone, Copy)]
+enum Encoding {
+    SortKey,
+    Compiled,
 }
 
 /// Writes the sort keys of the strings, one after the other, and the end of each. `at` as above.
@@ -440,7 +447,36 @@ pub fn write_sort_keys(
 ) -> u8
     ensures { KeysResult (map (λ t. t.now) texts.now) out.old out.new ends.old ends.new written.old written.new at.old at.new result }
 {
-    match sort_keys(alloc, texts) {
+    write_encodings(alloc, texts, Encoding::SortKey, out, ends, written, at)
+}
+
+/// Writes the compiled forms of the strings, one after the other, and the end of each. `at` as above.
+pub fn write_forms(
+    alloc: Global,
+    texts: &[&[u8]],
+    out: &mut [u8],
+    ends: &mut [usize],
+    written: &mut usize,
+    at: &mut usize,
+) -> u8
+    ensures { FormsResult (map (λ t. t.now) texts.now) out.old out.new ends.old ends.new written.old written.new at.old at.new result }
+{
+    write_encodings(alloc, texts, Encoding::Compiled, out, ends, written, at)
+}
+
+// Writes the versions of the strings, one after the other, and the end of each.
+fn write_encodings(
+    alloc: Global,
+    texts: &[&[u8]],
+    encoding: Encoding,
+    out: &mut [u8],
+    ends: &mut [usize],
+    written: &mut usize,
+    at: &mut usize,
+) -> u8
+    ensures { EncodingsResult (encoding_bytes encoding) (map (λ t. t.now) texts.now) out.old out.new ends.old ends.new written.old written.new at.old at.new result }
+{
+    match encode_all(alloc, texts, encoding) {
         Ok(found) => {
             *written = found.bytes.len();
             put_both(found.bytes.as_slice(), found.ends.as_slice(), out, ends)
@@ -492,19 +528,70 @@ fn push_key(alloc: Global, keys: &mut JoinedStrings, bytes: &[u8]) -> Result<(),
     push_string_key(alloc, keys, bytes)
 }
 
-// The sort keys of the strings.
-fn sort_keys(alloc: Global, texts: &[&[u8]]) -> Result<JoinedStrings, BatchError>
-    ensures { HoldsOrBatchFaults (map (λ t. t.now) texts.now)
-        (λ keys. JoinsKeys (map (λ t. t.now) texts.now) keys.bytes.items keys.ends.items) result }
+// One more compiled form: that of the version which the bytes denote.
+#[inline(always)]
+fn push_form(alloc: Global, forms: &mut JoinedStrings, bytes: &[u8]) -> Result<(), Fault>
+    ensures { HoldsOrFaults (RejectsBytes bytes.now) ⊥ ⊥ (λ _. (form : List ℕ) × IsCompiled bytes.now form
+        × (forms.new.bytes.items ≡ forms.old.bytes.items ++ form)
+        × (forms.new.ends.items ≡ forms.old.ends.items ++ length forms.new.bytes.items ∷ [])) result }
 {
-    let mut keys = JoinedStrings::with_capacity(alloc, texts.len())?;
+    let mut form = ArrayVec::new();
+    if compile_normal(&mut form, bytes) {
+        return Ok(forms.push(form.as_slice())?);
+    }
+    push_other_form(alloc, forms, bytes)
+}
+
+// As `push_form`, of a string that is in no normal spelling or has more numbers, or of a compiled version. A call of its own, since few are.
+#[inline(never)]
+fn push_other_form(alloc: Global, forms: &mut JoinedStrings, bytes: &[u8]) -> Result<(), Fault>
+    ensures { HoldsOrFaults (RejectsBytes bytes.now) ⊥ ⊥ (λ _. (form : List ℕ) × IsCompiled bytes.now form
+        × (forms.new.bytes.items ≡ forms.old.bytes.items ++ form)
+        × (forms.new.ends.items ≡ forms.old.ends.items ++ length forms.new.bytes.items ∷ [])) result }
+{
+    let mut form = ArrayVec::new();
+    if compile_release(&mut form, bytes) {
+        return Ok(forms.push(form.as_slice())?);
+    }
+    let compiled = compile_other(alloc, bytes)?;
+    Ok(forms.push(compiled.as_slice())?)
+}
+
+// One more version, as it is written.
+#[inline(always)]
+fn push_encoding(
+    alloc: Global,
+    joined: &mut JoinedStrings,
+    encoding: Encoding,
+    bytes: &[u8],
+) -> Result<(), Fault>
+    ensures { HoldsOrFaults (RejectsBytes bytes.now) ⊥ ⊥ (λ _. (r : Record) × BytesDenote bytes.now r
+        × (joined.new.bytes.items ≡ joined.old.bytes.items ++ encoding_bytes encoding r)
+        × (joined.new.ends.items ≡ joined.old.ends.items ++ length joined.new.bytes.items ∷ [])) result }
+{
+    match encoding {
+        Encoding::SortKey => push_key(alloc, joined, bytes),
+        Encoding::Compiled => push_form(alloc, joined, bytes),
+    }
+}
+
+// The versions of the strings, as they are written.
+fn encode_all(
+    alloc: Global,
+    texts: &[&[u8]],
+    encoding: Encoding,
+) -> Result<JoinedStrings, BatchError>
+    ensures { HoldsOrBatchFaults (map (λ t. t.now) texts.now)
+        (λ joined. JoinsEncodings (encoding_bytes encoding) (map (λ t. t.now) texts.now) joined.bytes.items joined.ends.items) result }
+{
+    let mut joined = JoinedStrings::with_capacity(alloc, texts.len())?;
     for (position, text) in texts.iter().enumerate() {
-        match push_key(alloc, &mut keys, text) {
+        match push_encoding(alloc, &mut joined, encoding, text) {
             Ok(()) => {}
             Err(fault) => return Err(BatchError::from_fault(position, fault)),
         }
     }
-    Ok(keys)
+    Ok(joined)
 }
 
 // Reports the position of the invalid string, and returns the status.

@@ -38,7 +38,7 @@ mod read;
 mod set_calls;
 mod two_versions;
 
-pub use batch::{write_marks, write_positions, write_sort_keys};
+pub use batch::{write_forms, write_marks, write_positions, write_sort_keys};
 pub use edits::{write_edit_error, write_edited};
 pub use list_ranges::{write_range, write_range_bounds, write_release_range_bounds};
 pub use membership::{write_allow_flag, write_match};

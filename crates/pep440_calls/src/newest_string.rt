@@ -46,7 +46,7 @@ fn find(alloc: Global, list: &[u8], texts: &[&[u8]]) -> Result<Option<usize>, Fa
 }
 
 // The version that the bytes denote, if the list matches it.
-fn parse_matched(
+fn read_match(
     alloc: Global,
     list: &VersionSpecifiers,
     bytes: &[u8],
@@ -123,7 +123,7 @@ fn find_newest(
         if is_passed(takes, &newest, best, text) {
             continue;
         }
-        let Some(version) = parse_matched(alloc, list, text)? else {
+        let Some(version) = read_match(alloc, list, text)? else {
             continue;
         };
         if is_above(takes, &newest, &version) {

@@ -106,7 +106,7 @@ pub(crate) fn compile(alloc: Global, text: &[u8]) -> Result<Vec<u8>, Fault>
 }
 
 // As `compile`, of a string that is parsed first.
-fn compile_other(alloc: Global, text: &[u8]) -> Result<Vec<u8>, Fault>
+pub(crate) fn compile_other(alloc: Global, text: &[u8]) -> Result<Vec<u8>, Fault>
     ensures { HoldsOrFaults (RejectsBytes text.now) ⊥ ⊥ (λ compiled. IsCompiled text.now compiled.items) result }
 {
     if has_version_format(text) {

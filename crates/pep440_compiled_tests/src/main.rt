@@ -88,7 +88,8 @@ fn of_library(alloc: Global, call: &str, arguments: &[String]) -> Result<String,
         | "write_boundaries"
         | "write_range_bounds"
         | "write_release_range_bounds"
-        | "write_sort_keys" => print_joined(alloc, call, given),
+        | "write_sort_keys"
+        | "write_forms" => print_joined(alloc, call, given),
         "write_order"
         | "write_match"
         | "write_allow_flag"

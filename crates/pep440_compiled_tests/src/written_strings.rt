@@ -1,8 +1,8 @@
 //! The calls that write strings one after the other, and the end of each.
 use crate::given::{print_failure, push_given};
 use pep440_calls::{
-    write_boundaries, write_members, write_range_bounds, write_release_range_bounds,
-    write_sort_keys,
+    write_forms, write_boundaries, write_members, write_range_bounds,
+    write_release_range_bounds, write_sort_keys,
 };
 use std::alloc::Global;
 use testing::CaseError;
@@ -26,6 +26,14 @@ const UNCHANGED: Buffers = Buffers {
     count: 97,
     at: 96,
 };
+
+// A call that is given as many strings as it writes does not count them.
+fn count_if_written(status: u8, texts: &[&[u8]], count: &mut usize) -> u8 {
+    if status == 0 || status == 4 {
+        *count = texts.len();
+    }
+    status
+}
 
 // The status of a call, with room for so many bytes and strings.
 fn write(
@@ -53,10 +61,11 @@ fn write(
         }
         ("write_sort_keys", texts) => {
             let status = write_sort_keys(alloc, texts, out, ends, written, &mut buffers.at);
-            if status == 0 || status == 4 {
-                *count = texts.len();
-            }
-            status
+            count_if_written(status, texts, count)
+        }
+        ("write_forms", texts) => {
+            let status = write_forms(alloc, texts, out, ends, written, &mut buffers.at);
+            count_if_written(status, texts, count)
         }
         _ => return Err(CaseError::Unreadable),
     })
@@ -119,7 +128,7 @@ fn print_strings(alloc: Global, bytes: &[u8], ends: &[usize]) -> Result<String, 
 pub fn print_joined(alloc: Global, call: &str, given: &[&[u8]]) -> Result<String, CaseError> {
     let mut buffers = UNCHANGED;
     let status = write(alloc, call, given, (ROOM, ROOM), &mut buffers)?;
-    if status == 1 && call == "write_sort_keys" {
+    if status == 1 && (call == "write_sort_keys" || call == "write_forms") {
         return Ok(format!(in alloc; "status 1 at {}", buffers.at)?);
     }
     if status != 0 {

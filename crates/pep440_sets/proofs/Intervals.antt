@@ -1,5 +1,5 @@
 -- What intervals between versions hold.
-use Rattle.std.proofs.Common.{◌≡◌, ◌++◌, ℕ, Bool, true, false, cond, not, ◌&&◌, List, [], ◌∷◌, Option, Some, None, refl, sym, ap, ◌∙◌, arith}
+use Rattle.std.proofs.Common.{◌≡◌, ◌==◌, ◌++◌, ℕ, Bool, true, false, cond, not, ◌&&◌, List, [], ◌∷◌, Option, Some, None, refl, sym, ap, ◌∙◌, arith}
 use mathlib.Core.Bool.{true≢false}
 use Rattle.std.proofs.lemmas.Bool.Decides.{nat_tests}
 use Rattle.std.proofs.lemmas.Cmp.{tied_itself}
@@ -62,6 +62,22 @@ not_below_least v =
   where
     zero : (e : ℕ) → is_lt (nat_cmp e 0) ≡ false
     zero e = grind (arith, nat_tests)
+
+-- a version whose release begins with a number above 0 is not the least
+pub above_least : (v : Record) (n : ℕ) (rest : List ℕ) → v.release ≡ n ∷ rest → (n == 0) ≡ false → is_eq (record_cmp v least) ≡ false
+above_least v n rest e h =
+    ap is_eq (by_parts v least)
+    ∙ ap (λ r. is_eq (ordering_then (ordering_then (nat_cmp v.epoch 0) (release_cmp r (0 ∷ []))) (ordering_then (suffix_cmp v least) (local_cmp v.local [])))) e
+    ∙ ap (λ o. is_eq (ordering_then (ordering_then (nat_cmp v.epoch 0) (ordering_then o (release_cmp rest []))) (ordering_then (suffix_cmp v least) (local_cmp v.local [])))) (above_zero n h)
+    ∙ above (nat_cmp v.epoch 0) (ordering_then (suffix_cmp v least) (local_cmp v.local []))
+  where
+    above_zero : (n : ℕ) → (n == 0) ≡ false → nat_cmp n 0 ≡ ord.Greater
+    above_zero n h = grind (arith, nat_tests, h)
+
+    above : (E S : Ordering) → is_eq (ordering_then (ordering_then E ord.Greater) S) ≡ false
+    above ord.Less S = refl
+    above ord.Equal S = refl
+    above ord.Greater S = refl
 
 -- ---- intervals
 

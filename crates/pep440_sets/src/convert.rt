@@ -17,10 +17,24 @@ use pep440_version::Version;
 use std::alloc::{AllocError, Global};
 use std::ops::Bound;
 
+// Whether the release begins with a number above 0, as no version does that is the least of all.
+#[tactic(auto, using(crate::proofs::Intervals::above_least))]
+fn begins_above_zero(version: &Version) -> bool
+    ensures { result ≡ true → is_eq (record_cmp version.now least) ≡ false }
+{
+    match version.release().first() {
+        Some(number) => *number != 0,
+        None => false,
+    }
+}
+
 // Whether it is the least of all versions.
 fn is_least(alloc: Global, version: &Version) -> Result<bool, AllocError>
     ensures { IfOk result (λ b. b ≡ is_eq (record_cmp version.now least)) }
 {
+    if begins_above_zero(version) {
+        return Ok(false);
+    }
     let least = least_version(alloc)?;
     Ok(version.cmp(&least).is_eq())
 }

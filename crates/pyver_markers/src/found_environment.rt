@@ -457,7 +457,7 @@ fn is_short_version(short: &Version, version: &Version) -> bool
 
 #[tactic(auto, using(crate::proofs::FoundEnvironments::linked))]
 // Whether one variable is the first two numbers of the other.
-fn are_linked(
+fn have_link(
     alloc: Global,
     found: &[FoundVariable<'_>],
     short: &[u8],
@@ -486,7 +486,7 @@ fn has_python(alloc: Global, found: &[FoundVariable<'_>]) -> Result<bool, AllocE
     if !has_version(alloc, found, full)? {
         return Ok(false);
     }
-    let last = are_linked(alloc, found, short, full)?;
+    let last = have_link(alloc, found, short, full)?;
     Ok(last)
 }
 

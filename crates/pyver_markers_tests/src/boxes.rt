@@ -68,7 +68,7 @@ pub fn print_steps(alloc: Global, marker: &str) -> Result<String, CaseError> {
     Ok(text)
 }
 
-fn parse_wanted(word: &str) -> Result<bool, CaseError> {
+fn parse_answer(word: &str) -> Result<bool, CaseError> {
     match word {
         "true" => Ok(true),
         "false" => Ok(false),
@@ -96,7 +96,7 @@ fn print_box(alloc: Global, environments: &EnvironmentBox<'_>) -> Result<String,
 /// The boxes in which the marker has the wanted value, with ` | ` between them.
 pub fn print_boxes(alloc: Global, wanted: &str, marker: &str) -> Result<String, CaseError> {
     let marker = parse_marker(alloc, marker)?;
-    let Some(boxes) = marker.to_boxes(alloc, parse_wanted(wanted)?)? else {
+    let Some(boxes) = marker.to_boxes(alloc, parse_answer(wanted)?)? else {
         return Ok(String::from_str(alloc, "undecided")?);
     };
     let mut text = String::new(alloc);
@@ -112,7 +112,7 @@ pub fn print_boxes(alloc: Global, wanted: &str, marker: &str) -> Result<String, 
 /// Whether it is known that the marker never has the wanted value.
 pub fn print_never(alloc: Global, wanted: &str, marker: &str) -> Result<String, CaseError> {
     let marker = parse_marker(alloc, marker)?;
-    let never = marker.is_never(alloc, parse_wanted(wanted)?, ANYWHERE)?;
+    let never = marker.is_never(alloc, parse_answer(wanted)?, ANYWHERE)?;
     Ok(String::from_str(alloc, if never { "never" } else { "unknown" })?)
 }
 

@@ -124,11 +124,6 @@ pub or_none : (b : Bool) → b ≡ (b || false)
 or_none true = refl
 or_none false = refl
 
--- some element of a list that was made of another
-pub any_of : {X Y : Type 0} (p : Y → Bool) (f : X → Y) (xs : List X) → list_any p (map f xs) ≡ list_any (λ x. p (f x)) xs
-any_of p f [] = refl
-any_of p f (x ∷ xs) = ap (λ b. p (f x) || b) (any_of p f xs)
-
 -- what holds of each element holds of those beside them
 pub zip_each : {X Y : Type 0} (R : X → Y → Type 0) (K : X → Type 0) (Q : Y → Type 0) → ((x : X) (y : Y) → K x → R x y → Q y) → (xs : List X) (ys : List Y) → All K xs → AllZip R xs ys → All Q ys
 zip_each R K Q f [] [] known h = All-nil Q

@@ -113,7 +113,7 @@ fn has_nearer(documents: &[Document], project: &Document, lock: &Document) -> bo
 }
 
 // The lock counts for the project, of these documents.
-#[tactic(auto, using(crate::proofs::Walks::any_of))]
+#[tactic(auto, using(pyver_findings::proofs::Steps::any_viewed))]
 pub(crate) fn is_beside(documents: &[Document], project: &Document, lock: &Document) -> bool
     ensures { result ≡ is_beside (map document_of documents.now) (document_of project.now) (document_of lock.now) }
 {

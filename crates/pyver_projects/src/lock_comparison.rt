@@ -119,7 +119,7 @@ fn names_groups(kind: LockKind, parts: &[Vec<u8>]) -> bool
 }
 
 // A lock with these groups has what this part of the project needs.
-#[tactic(auto, using(crate::proofs::Walks::any_of))]
+#[tactic(auto, using(pyver_findings::proofs::Steps::any_viewed))]
 fn is_needed(kind: LockKind, parts: &[Vec<u8>], section: &Section) -> bool
     ensures { result ≡ is_needed kind (map (λ n. n.items) parts.now) (section_of section.now) }
 {
@@ -521,7 +521,7 @@ impl KnownProjects {
     }
 
     // No lock is to have a package of this name.
-    #[tactic(auto, using(crate::proofs::Walks::any_of))]
+    #[tactic(auto, using(pyver_findings::proofs::Steps::any_viewed))]
     fn excuses(&self, name: &[u8]) -> bool
         ensures { result ≡ excuses self.now name.now }
     {

@@ -201,7 +201,7 @@ pub(crate) fn is_listed_part(parts: &[Vec<u8>], name: &[u8]) -> bool
 }
 
 // It is none of these, nor PDM's name for the dependencies.
-#[tactic(auto, using(crate::proofs::Walks::any_of))]
+#[tactic(auto, using(pyver_findings::proofs::Steps::any_viewed))]
 fn is_new_group(named: &[Vec<u8>], name: &[u8]) -> bool
     ensures { result ≡ is_new_group (map (λ n. n.items) named.now) name.now }
 {
@@ -216,7 +216,7 @@ fn has_new_group(named: &[Vec<u8>], names: &[Vec<u8>]) -> bool
         .any(|name| is_new_group(named, name.as_slice()))
 }
 
-#[tactic(auto, using(crate::proofs::Walks::any_of))]
+#[tactic(auto, using(pyver_findings::proofs::Steps::any_viewed))]
 fn has_new_name(named: &[Vec<u8>], names: &[Vec<u8>]) -> bool
     ensures { result ≡ list_any (is_new_group (map (λ n. n.items) named.now)) (map (λ n. n.items) names.now) }
 {

@@ -179,7 +179,7 @@ fn push_array(
 }
 
 // Adds the name for this reason, if another one of these is the same.
-fn push_repeated(
+fn push_duplicate(
     alloc: Global,
     sources: &mut Vec<ProjectString>,
     table: &'static str,
@@ -215,7 +215,7 @@ fn push_name_faults(
         name,
         "not a valid name",
     )?;
-    push_repeated(alloc, sources, table, names, name, reason)
+    push_duplicate(alloc, sources, table, names, name, reason)
 }
 
 // Adds the strings of the extra with this name.

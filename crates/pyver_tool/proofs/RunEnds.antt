@@ -369,11 +369,6 @@ items_from f xs i x inside is = ap (map f) (drop_more xs i x inside) ∙ ap (λ 
 pub no_items : {X Y : Type 0} (f : X → Y) (xs : List X) (i : ℕ) → length xs ≤ i → [] ≡ map f (drop i xs)
 no_items f xs i end = sym (ap (map f) (drop_all i xs end))
 
--- some element of a list that was made of another
-pub any_of : {X Y : Type 0} (p : Y → Bool) (f : X → Y) (xs : List X) → list_any p (map f xs) ≡ list_any (λ x. p (f x)) xs
-any_of p f [] = refl
-any_of p f (x ∷ xs) = ap (λ b. p (f x) || b) (any_of p f xs)
-
 -- none of the documents is a lock, and these are the searches of all
 pub searches_all : (documents : List Document) (found : List (List (List ℕ))) → list_any is_lock documents ≡ false → found ≡ flat_map searches_for documents → found ≡ lock_searches documents
 searches_all documents found none is = subst (λ b. found ≡ (if b then [] else flat_map searches_for documents)) (sym none) is

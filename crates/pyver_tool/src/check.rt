@@ -111,7 +111,7 @@ fn are_several(words: &[String]) -> bool
 }
 
 // That files are taken together, if that matters.
-#[tactic(auto, using(crate::proofs::RunEnds::any_of))]
+#[tactic(auto, using(pyver_findings::proofs::Steps::any_viewed))]
 fn together_note(options: CheckOptions, words: &[String], findings: &[Finding]) -> &'static str
     ensures { result.now ≡ together_note options (map string_bytes words.now) (map finding_of findings.now) }
 {

@@ -103,7 +103,7 @@ fn has_lock(documents: &[Document]) -> bool
 }
 
 // The searches for the locks of these documents; none if one of them is a lock.
-#[tactic(auto, using(crate::proofs::RunEnds::any_of))]
+#[tactic(auto, using(pyver_findings::proofs::Steps::any_viewed))]
 pub(crate) fn list_searches(
     alloc: Global,
     documents: &[Document],

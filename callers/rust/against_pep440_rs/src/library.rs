@@ -68,6 +68,16 @@ unsafe extern "C" {
         written: *mut usize,
         index: *mut usize,
     ) -> u8;
+    fn pep440_compile_all(
+        strings: *const Borrowed,
+        count: usize,
+        out: *mut u8,
+        size: usize,
+        ends: *mut usize,
+        ends_size: usize,
+        written: *mut usize,
+        index: *mut usize,
+    ) -> u8;
 }
 
 const OK: u8 = 0;
@@ -171,13 +181,23 @@ pub fn sort(versions: &[String]) -> Vec<usize> {
     indices
 }
 
+/// What a call writes of each of many strings.
+type WriteEach = unsafe extern "C" fn(*const Borrowed, usize, *mut u8, usize, *mut usize, usize, *mut usize, *mut usize) -> u8;
+
 pub fn sort_keys(versions: &[String]) -> Vec<Vec<u8>> {
+    written_of_each(pep440_sort_keys, versions)
+}
+
+pub fn compile_all(versions: &[String]) -> Vec<Vec<u8>> {
+    written_of_each(pep440_compile_all, versions)
+}
+
+fn written_of_each(call: WriteEach, versions: &[String]) -> Vec<Vec<u8>> {
     let (strings, count) = (borrow_all(versions), versions.len());
     let (mut out, mut ends, mut length, mut index) = (vec![0; 1024 * count], vec![0; count], 0, 0);
-    let (keys, size) = (out.as_mut_ptr(), out.len());
+    let (start, size) = (out.as_mut_ptr(), out.len());
     // SAFETY: as in `edit`.
-    let status =
-        unsafe { pep440_sort_keys(strings.as_ptr(), count, keys, size, ends.as_mut_ptr(), count, &mut length, &mut index) };
+    let status = unsafe { call(strings.as_ptr(), count, start, size, ends.as_mut_ptr(), count, &mut length, &mut index) };
     assert_eq!((status, ends.last()), (OK, Some(&length)), "{versions:?}");
     let starts = std::iter::once(&0).chain(&ends);
     starts.zip(&ends).map(|(start, end)| out[*start..*end].to_vec()).collect()

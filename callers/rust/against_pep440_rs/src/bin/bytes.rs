@@ -5,7 +5,7 @@
 //! Usage: bytes [COUNT [SEED]]    (1,000,000 of each, of lists twice as many, seed 440)
 use against_pep440_rs::chance::Chance;
 use against_pep440_rs::departures::{self, is_misordered};
-use against_pep440_rs::library::{compare, compile, compile_list, contains, edit, normalize, sort, sort_keys, INVALID_VERSION};
+use against_pep440_rs::library::{compare, compile, compile_all, compile_list, contains, edit, normalize, sort, sort_keys, INVALID_VERSION};
 use against_pep440_rs::views::{ours, theirs};
 use std::cmp::Ordering;
 
@@ -52,11 +52,12 @@ fn compare_pairs(chance: &mut Chance, count: u64) -> (u64, u64) {
     (equal, misordered)
 }
 
-/// A batch of as many versions: the sort key of each is in its compiled bytes, and they are sorted by these keys.
+/// A batch of as many versions: each is compiled as alone, its sort key is in its compiled bytes, and they are sorted by these keys.
 fn sort_batch(chance: &mut Chance, count: usize) {
     let (texts, compiled): (Vec<String>, Vec<Vec<u8>>) = (0..count).map(|_| some_version(chance)).map(|it| (it.0, it.1)).unzip();
     let wanted: Vec<&[u8]> = compiled.iter().map(|bytes| key(bytes)).collect();
     assert_eq!(sort_keys(&texts), wanted, "{texts:?}");
+    assert_eq!(compile_all(&texts), compiled, "{texts:?}");
     let mut by_key: Vec<usize> = (0..count).collect();
     by_key.sort_by_key(|index| wanted[*index]);
     assert_eq!(sort(&texts), by_key, "{texts:?}");

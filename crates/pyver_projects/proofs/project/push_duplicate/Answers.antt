@@ -2,7 +2,7 @@ use Rattle.std.proofs.Common.{◌≡◌, ◌++◌, ◌∙◌, IfOk, ap, not, sub
 use Rattle.std.specs.Prelude.{bytes_eq, count_by, map, nat_lt}
 use Rattle.pyver_projects.specs.Documents.{unless}
 use Rattle.pyver_projects.specs.ProjectViews.{indexed_names, project_string_of}
-use Rattle.pyver_projects.proofs.project.push_repeated.Goals as goal
+use Rattle.pyver_projects.proofs.project.push_duplicate.Goals as goal
 
 pub returns : goal.returns
 returns c =
