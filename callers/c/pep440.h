@@ -476,7 +476,7 @@ uint8_t pep440_sort(const pep440_string *strings, size_t count, size_t *indices,
 uint8_t pep440_sort_keys(const pep440_string *strings, size_t count, uint8_t *out, size_t size,
                          size_t *ends, size_t ends_size, size_t *written, size_t *index);
 
-/* Writes the compiled forms of the strings, as pep440_sort_keys does their sort keys. */
+/* As pep440_sort_keys, of compiled forms. */
 uint8_t pep440_compile_all(const pep440_string *strings, size_t count, uint8_t *out, size_t size,
                            size_t *ends, size_t ends_size, size_t *written, size_t *index);
 

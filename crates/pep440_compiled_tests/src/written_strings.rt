@@ -1,8 +1,8 @@
 //! The calls that write strings one after the other, and the end of each.
 use crate::given::{print_failure, push_given};
 use pep440_calls::{
-    write_forms, write_boundaries, write_members, write_range_bounds,
-    write_release_range_bounds, write_sort_keys,
+    write_boundaries, write_forms, write_members, write_range_bounds, write_release_range_bounds,
+    write_sort_keys,
 };
 use std::alloc::Global;
 use testing::CaseError;
