@@ -529,6 +529,7 @@ fn push_key(alloc: Global, keys: &mut JoinedStrings, bytes: &[u8]) -> Result<(),
 }
 
 // One more compiled form: that of the version which the bytes denote.
+#[tactic(auto, using(crate::proofs::Forms::string_compiled))]
 #[inline(always)]
 fn push_form(alloc: Global, forms: &mut JoinedStrings, bytes: &[u8]) -> Result<(), Fault>
     ensures { HoldsOrFaults (RejectsBytes bytes.now) ⊥ ⊥ (λ _. (form : List ℕ) × IsCompiled bytes.now form
@@ -543,6 +544,7 @@ fn push_form(alloc: Global, forms: &mut JoinedStrings, bytes: &[u8]) -> Result<(
 }
 
 // As `push_form`, of a string that is in no normal spelling or has more numbers, or of a compiled version. A call of its own, since few are.
+#[tactic(auto, using(crate::proofs::Forms::string_compiled))]
 #[inline(never)]
 fn push_other_form(alloc: Global, forms: &mut JoinedStrings, bytes: &[u8]) -> Result<(), Fault>
     ensures { HoldsOrFaults (RejectsBytes bytes.now) ⊥ ⊥ (λ _. (form : List ℕ) × IsCompiled bytes.now form
