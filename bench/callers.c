@@ -138,6 +138,8 @@ static uint8_t newest(void) { return pep440_newest(LEFT, batch, count, &at); }
 static uint8_t sort(void) { return pep440_sort(batch, count, places, count, &at); }
 static uint8_t sort_keys(void) { return pep440_sort_keys(batch, count, room, count * EACH, text_ends, count, &written, &at); }
 
+static uint8_t compile_all(void) { return pep440_compile_all(batch, count, room, count * EACH, text_ends, count, &written, &at); }
+
 static uint8_t sort_bytes(void)
 {
     qsort(batch, count, sizeof *batch, compare_forms);
@@ -146,7 +148,7 @@ static uint8_t sort_bytes(void)
 
 static uint8_t compile_and_sort(void) { return compile_batch() || sort_bytes(); }
 
-static const Call BATCHES[] = {{"filter", filter}, {"newest", newest}, {"sort", sort}, {"sort_keys", sort_keys}, {"sort_bytes", sort_bytes}, {"compile_and_sort", compile_and_sort}};
+static const Call BATCHES[] = {{"filter", filter}, {"newest", newest}, {"sort", sort}, {"sort_keys", sort_keys}, {"compile_all", compile_all}, {"sort_bytes", sort_bytes}, {"compile_and_sort", compile_and_sort}};
 
 static uint8_t (*find(const Call *calls, size_t how_many, const char *name))(void)
 {

@@ -176,7 +176,7 @@ static uint8_t sort_keys(Answer *answer)
 {
     return pep440_sort_keys(batch, 5, answer->out, sizeof answer->out, answer->ends, 8, &answer->written, &at);
 }
-static uint8_t compile_all(Answer *answer)
+static uint8_t compile_batch(Answer *answer)
 {
     return pep440_compile_all(batch, 5, answer->out, sizeof answer->out, answer->ends, 8, &answer->written, &at);
 }
@@ -272,7 +272,7 @@ static const Call CALLS[] = {
     CALL(sort, PEP440_OK, 2),
     CALL(sort_invalid, PEP440_INVALID_VERSION, 2),
     CALL(sort_keys, PEP440_OK, 2),
-    CALL(compile_all, PEP440_OK, 2),
+    CALL(compile_batch, PEP440_OK, 2),
     CALL(sort_keys_invalid, PEP440_INVALID_VERSION, 2)};
 
 /* Calls that guess how much they need, and ask for less where that is refused. */
