@@ -19,7 +19,7 @@ ghost use Rattle.pep440_calls.specs.declared.batch.BatchError.TheVariants.{OutOf
 use crate::buffer::{put, put_both};
 use crate::fault::Fault;
 use crate::joined_strings::JoinedStrings;
-use crate::one_version::{compile_other, find_key, find_release_key, find_string_key};
+use crate::one_version::{compile_other, find_key, find_release_key, find_string_key, is_compiled};
 use crate::read::{read, to_list};
 use arrayvec::ArrayVec;
 use pep440_compiled::{
@@ -528,10 +528,37 @@ fn push_key(alloc: Global, keys: &mut JoinedStrings, bytes: &[u8]) -> Result<(),
     push_string_key(alloc, keys, bytes)
 }
 
-// One more compiled form: that of the version which the bytes denote.
-#[tactic(auto, using(crate::proofs::Forms::string_compiled))]
+// One more compiled form: that of the version which the bytes denote, of a compiled one these bytes.
 #[inline(always)]
 fn push_form(alloc: Global, forms: &mut JoinedStrings, bytes: &[u8]) -> Result<(), Fault>
+    ensures { HoldsOrFaults (RejectsBytes bytes.now) ⊥ ⊥ (λ _. (form : List ℕ) × IsCompiled bytes.now form
+        × (forms.new.bytes.items ≡ forms.old.bytes.items ++ form)
+        × (forms.new.ends.items ≡ forms.old.ends.items ++ length forms.new.bytes.items ∷ [])) result }
+{
+    if has_version_format(bytes) {
+        return push_given_form(forms, bytes);
+    }
+    push_string_form(alloc, forms, bytes)
+}
+
+// One more compiled form, which is given, if it is one.
+#[tactic(auto, using(crate::proofs::Forms::copied, crate::proofs::Forms::no_compiled))]
+fn push_given_form(forms: &mut JoinedStrings, form: &[u8]) -> Result<(), Fault>
+    requires { HasVersionFormat form.now }
+    ensures { HoldsOrFaults (RejectsBytes form.now) ⊥ ⊥ (λ _. (compiled : List ℕ) × IsCompiled form.now compiled
+        × (forms.new.bytes.items ≡ forms.old.bytes.items ++ compiled)
+        × (forms.new.ends.items ≡ forms.old.ends.items ++ length forms.new.bytes.items ∷ [])) result }
+{
+    if !is_compiled(form) {
+        return Err(Fault::InvalidVersion);
+    }
+    Ok(forms.push(form)?)
+}
+
+// One more compiled form: that of a string's version.
+#[tactic(auto, using(crate::proofs::Forms::string_compiled))]
+#[inline(always)]
+fn push_string_form(alloc: Global, forms: &mut JoinedStrings, bytes: &[u8]) -> Result<(), Fault>
     ensures { HoldsOrFaults (RejectsBytes bytes.now) ⊥ ⊥ (λ _. (form : List ℕ) × IsCompiled bytes.now form
         × (forms.new.bytes.items ≡ forms.old.bytes.items ++ form)
         × (forms.new.ends.items ≡ forms.old.ends.items ++ length forms.new.bytes.items ∷ [])) result }
@@ -543,7 +570,7 @@ fn push_form(alloc: Global, forms: &mut JoinedStrings, bytes: &[u8]) -> Result<(
     push_other_form(alloc, forms, bytes)
 }
 
-// As `push_form`, of a string that is in no normal spelling or has more numbers, or of a compiled version. A call of its own, since few are.
+// As `push_string_form`, of a string that is in no normal spelling or has more numbers. A call of its own, since few are.
 #[tactic(auto, using(crate::proofs::Forms::string_compiled))]
 #[inline(never)]
 fn push_other_form(alloc: Global, forms: &mut JoinedStrings, bytes: &[u8]) -> Result<(), Fault>
