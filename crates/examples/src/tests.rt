@@ -5,4 +5,3 @@ mod generic;
 mod packed;
 mod ranges;
 mod requests;
-mod specifiers;

@@ -6,8 +6,7 @@ mod compiled_lists;
 mod compiled_sets;
 mod compiled_versions;
 mod given;
-mod kinds;
-mod numbers;
+mod ranges;
 mod sort_keys;
 mod written_bytes;
 mod written_numbers;
@@ -21,8 +20,10 @@ use compiled_sets::{
 };
 use compiled_versions::{compile, compile_local, compile_numbers, compile_text, denotes};
 use given::given_arguments;
-use kinds::{between_versions, of_version, without};
-use numbers::{between, complement, contains, intersection, of_number, segments};
+use ranges::{
+    between, between_versions, complement, contains, intersection, of_number, of_version, segments,
+    without,
+};
 use sort_keys::{are_rising, is_outside, key, range_intervals, segment_interval};
 use std::alloc::Global;
 use std::io;

@@ -1,6 +1,6 @@
 //! Sort keys, ranges as intervals of these, and compiled versions in their order.
 use crate::given::print_bytes;
-use crate::kinds::of_kind;
+use crate::ranges::of_kind;
 use pep440_compiled::{compare, push_compiled_form};
 use pep440_keys::{KeyInterval, push_sort_key, range_keys, segment_keys, sort_key};
 use pep440_ranges::Ranges;

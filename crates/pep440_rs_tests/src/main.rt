@@ -4,7 +4,6 @@
 
 mod bounds;
 mod errors;
-mod json;
 mod matching;
 mod operators;
 mod order;

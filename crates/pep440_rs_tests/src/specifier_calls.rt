@@ -1,15 +1,15 @@
 //! Calls of specifiers, lists, ranges, sets, bounds and JSON strings, of the version that a list contains, of requirements and of the newest
 //! candidate.
 use crate::bounds::{lower_bound, pairs, upper_bound};
-use crate::json::{
-    json_list, json_specifier, json_version, list_of_json, specifier_of_json, version_of_json,
-};
 use crate::matching::{
     allows, build, compare, compare_releases, compare_without_local, contains, contains_unchecked,
     print_unchecked,
 };
 use crate::operators::{operator, operator_number, operator_of_number};
 use crate::parsers::{list, list_of, members, specifier};
+use crate::printing::{
+    json_list, json_specifier, json_version, list_of_json, specifier_of_json, version_of_json,
+};
 use crate::ranges::{beside, intersection, range, release_range, unchecked_range};
 use crate::requirements::{
     allowed_range, is_name, newest_candidate, requirement, requirement_position, same_names,

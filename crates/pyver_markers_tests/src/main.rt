@@ -2,13 +2,12 @@
 //! `src/` has them.
 #![tactic(auto)]
 
-mod boxes;
-mod environments;
+mod markers;
 
-use boxes::{
+use markers::{
     print_boxes, print_environment, print_extent, print_extent_for, print_never, print_steps,
+    print_value,
 };
-use environments::print_value;
 use std::alloc::Global;
 use std::io;
 use testing::{Calls, CaseError, run_cases};

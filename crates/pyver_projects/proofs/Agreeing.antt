@@ -24,10 +24,10 @@ use Rattle.std.proofs.lemmas.Grind.{flat_map-append}
 use Rattle.std.proofs.lemmas.List.Folds.{list_any-append, list_any_at}
 use Rattle.std.proofs.lemmas.List.Elements.{All-contains_itself, All-head, All-tail, All-cons, All-contains, All-filter, All-nil, All-weaker}
 use Rattle.pep440_pick.specs.Names.{normal}
-use Rattle.pyver_projects.specs.Comparing.{FindsOfReading, absent, beside_all, compared, compared_demand, documents_report, excluded, excluded_in, found_beside, found_in_pair, invalid_package, is_beside, is_excused, is_installer, is_locked, is_project_reading, lacking, leaves_out, missing, names_read, own_report, partly_locked, taken_packages, unlocked, unmet, with_found, with_own_reports}
-use Rattle.pyver_projects.specs.Documents.{has_group_tool, project_names, sources}
+use Rattle.pyver_projects.specs.Comparing.{FindsOfReading, absent, beside_all, compared, compared_demand, documents_report, excluded, excluded_in, found_beside, found_in_pair, invalid_package, is_beside, is_excused, is_installer, is_locked, is_project_reading, lacking, leaves_out, missing, names_read, overrides_read, own_report, partly_locked, taken_packages, unlocked, unmet, unmet_demand, with_found, with_own_reports}
+use Rattle.pyver_projects.specs.Documents.{has_group_tool, overridden_names, project_names, sources}
 use Rattle.pyver_projects.specs.Groups.{groups, Inclusion, inclusions}
-use Rattle.pyver_projects.specs.Meanings.{Document, DocumentReading, IsDocumentReading, IsFileReading, IsLockReading, IsProject, IsRequirementReading, IsStringReading, LockedReading, StringReading, fault_meaning, file_meaning, is_of_version, reference_marker, requirement_line, string_line, IsSoundString}
+use Rattle.pyver_projects.specs.Meanings.{Document, DocumentReading, IsDocumentReading, IsFileReading, IsBroken, IsLock, IsLockReading, IsProject, IsRequirementReading, IsStringReading, LockedReading, StringReading, fault_meaning, file_meaning, is_of_version, reference_marker, requirement_line, string_line, IsSoundString}
 use Rattle.pyver_projects.specs.ProjectLaws.{AllAlone, AllContained, AllMet, AllOfVersion, AllPresent, HasContents, HasProject, HasTable, IsPart, NoFindingImpliesContained, NoFindingImpliesSatisfiable}
 use Rattle.pyver_projects.specs.ProjectStrings.{LockContents, LockFault, LockParts, LockedFile, LockedRequirement, Section, Build, Dependencies, Extra, Group}
 use Rattle.pyver_projects.specs.declared.document_kind.DocumentKind.{DocumentKind}
@@ -51,13 +51,13 @@ use Rattle.pyver_findings.proofs.Grouping.{under_unmarked}
 use Rattle.pyver_findings.specs.declared.cause.Cause.TheVariants as cause
 
 -- a project with this table was read
-pub project_read : (file : File) (t : Members) (x : DocumentReading) → HasTable file t → IsDocumentReading (record { kind = Project; file = file }) x → (xs : List StringReading) × AllZip (IsStringReading (groups t) file) (sources t) xs × (x ≡ IsProject (has_group_tool t) (project_names t) xs)
+pub project_read : (file : File) (t : Members) (x : DocumentReading) → HasTable file t → IsDocumentReading (record { kind = Project; file = file }) x → (xs : List StringReading) × AllZip (IsStringReading (groups t) file) (sources t) xs × (x ≡ IsProject (has_group_tool t) (project_names t) (overridden_names t) xs)
 project_read file t x (text, e) (inl (none, (position, told))) = absurd (none text)
 project_read file t x (text, e) (inr (again, inr (none, broken))) = let same : Some t ≡ None = sym e ∙ none in cc same
 project_read file t x (text, e) (inr (again, inl (u, f, (xs, h, is)))) =
     let same : Some u ≡ Some t = sym f ∙ e in
     let table : u ≡ t = cc same in
-    (xs, subst (λ (m : Members). AllZip (IsStringReading (groups m) file) (sources m) xs) table h, is ∙ ap (λ (m : Members). IsProject (has_group_tool m) (project_names m) xs) table)
+    (xs, subst (λ (m : Members). AllZip (IsStringReading (groups m) file) (sources m) xs) table h, is ∙ ap (λ (m : Members). IsProject (has_group_tool m) (project_names m) (overridden_names m) xs) table)
 
 -- a lock with this was read
 lock_read : (file : File) (kind : LockKind) (l : LockContents) (x : DocumentReading) → HasContents kind file l → IsDocumentReading (record { kind = Lock kind; file = file }) x → IsLockReading file.name l x
@@ -69,12 +69,12 @@ lock_read file kind l x (text, e) (inr (again, inl (m, f, is))) =
     subst (λ (c : LockContents). IsLockReading file.name c x) equal is
 
 -- nothing is found of a string, which always asks for this
-not_compared : (kind : LockKind) (parts : LockParts) (names : List (List ℕ)) (ys : List LockedReading) (a : Demand) (section : Section) (x : StringReading) → x.section ≡ section → x.meaning ≡ Asks a → is_locked section ≡ true → compared kind parts names ys x ≡ [] → compared_demand kind parts names ys section a ≡ []
-not_compared kind parts names ys a section x same is counts e =
-    let here : (if is_locked section then flat_map (compared_demand kind parts names ys section) (demands_in (Asks a)) else []) ≡ [] =
-    (λ j. if is_locked (sym same j) then flat_map (compared_demand kind parts names ys (sym same j)) (demands_in (sym is j)) else []) ∙ e in
-    let counted : flat_map (compared_demand kind parts names ys section) (demands_in (Asks a)) ≡ [] = ap (λ (b : Bool). if b then flat_map (compared_demand kind parts names ys section) (demands_in (Asks a)) else []) (sym counts) ∙ here in
-    left_nil (compared_demand kind parts names ys section a) [] counted
+not_compared : (kind : LockKind) (parts : LockParts) (names overridden : List (List ℕ)) (ys : List LockedReading) (a : Demand) (section : Section) (x : StringReading) → x.section ≡ section → x.meaning ≡ Asks a → is_locked section ≡ true → compared kind parts names overridden ys x ≡ [] → compared_demand kind parts names overridden ys section a ≡ []
+not_compared kind parts names overridden ys a section x same is counts e =
+    let here : (if is_locked section then flat_map (compared_demand kind parts names overridden ys section) (demands_in (Asks a)) else []) ≡ [] =
+    (λ j. if is_locked (sym same j) then flat_map (compared_demand kind parts names overridden ys (sym same j)) (demands_in (sym is j)) else []) ∙ e in
+    let counted : flat_map (compared_demand kind parts names overridden ys section) (demands_in (Asks a)) ≡ [] = ap (λ (b : Bool). if b then flat_map (compared_demand kind parts names overridden ys section) (demands_in (Asks a)) else []) (sym counts) ∙ here in
+    left_nil (compared_demand kind parts names overridden ys section a) [] counted
 
 counted : (b : Bool) (found : List Finding) → b ≡ true → (if b then found else []) ≡ [] → found ≡ []
 counted true found is none = none
@@ -85,7 +85,7 @@ not_lacking true fs unlike e = absurd (true≢false unlike)
 not_lacking false fs unlike e = e
 
 all_contained : (documents : List Document) (zs : List DocumentReading) → AllZip IsDocumentReading documents zs → flat_map (beside_all documents (zip documents zs)) (zip documents zs) ≡ [] → AllContained documents
-all_contained documents zs h found file lock kind l s p n v (t, ((k, inside, at), table), (i, within, here)) ((m, below, there), other) (j, under, this) beside counts has_it asks locks =
+all_contained documents zs h found file lock kind l s p n v (t, ((k, inside, at), table), (i, within, here)) ((m, below, there), other) (j, under, this) beside counts has_it asks kept locks =
     let project : Document = record { kind = Project; file = file } in
     let locked : Document = record { kind = Lock kind; file = lock } in
     let pairs = zip documents zs in
@@ -96,11 +96,13 @@ all_contained documents zs h found file lock kind l s p n v (t, ((k, inside, at)
     let nothing : found_beside (Lock kind) x y ≡ [] =
     counted (is_beside documents project locked) (found_beside (Lock kind) x y) beside
     (nil_at (found_in_pair documents (project, x)) pairs (locked, y) b in_y is_y (nil_at (beside_all documents pairs) pairs (project, x) a in_x is_x found)) in
-    let compares : flat_map (compared kind l.parts (project_names t) ys) xs ≡ [] = (λ e. found_beside (Lock kind) (sym is_project e) (sym is_lock e)) ∙ nothing in
+    let compares : flat_map (compared kind l.parts (project_names t) (overridden_names t) ys) xs ≡ [] = (λ e. found_beside (Lock kind) (sym is_project e) (sym is_lock e)) ∙ nothing in
     let (z, (c, in_z, is_z), rz) = beside_it (IsStringReading (groups t) file) (sources t) xs s i within here g in
     let meaning = asks_always (string_line file s) n asks.0 asks.1 asks.2 asks.3 (groups t) s.text s.section z.meaning counts rz.1 in
     let asked = line_demand (string_line file s) None n in
-    let both : missing kind l.parts (project_names t) ys s.section asked ++ excluded_in kind l.parts (project_names t) ys s.section asked ≡ [] = not_compared kind l.parts (project_names t) ys asked s.section z rz.0 meaning counts (nil_at (compared kind l.parts (project_names t) ys) xs z c in_z is_z compares) in
+    let both : missing kind l.parts (project_names t) ys s.section asked ++ excluded_in kind l.parts (project_names t) ys s.section asked ≡ [] =
+    not_lacking (list_any (bytes_eq asked.name) (overridden_names t)) (missing kind l.parts (project_names t) ys s.section asked ++ excluded_in kind l.parts (project_names t) ys s.section asked) (kept t ((k, inside, at), table))
+    (not_compared kind l.parts (project_names t) (overridden_names t) ys asked s.section z rz.0 meaning counts (nil_at (compared kind l.parts (project_names t) (overridden_names t) ys) xs z c in_z is_z compares)) in
     not_excluded lock.name l.packages (string_line file s) n ys q p j under this v locks
     (not_lacking (leaves_out kind l.parts.names s.section) (excluded asked ys) has_it (right_nil (missing kind l.parts (project_names t) ys s.section asked) (excluded_in kind l.parts (project_names t) ys s.section asked) both))
 
@@ -110,8 +112,51 @@ asks_for file q list m d (inl (other, e, is)) =
     is ∙ ap (λ (l : List Spec). Asks (line_demand (requirement_line file q) (reference_marker q.is_reference) (record { name = q.name; extras = []; specifiers = l }))) (one_list q.list other list e d)
 asks_for file q list m d (inr (f, r, is)) = absurd (not_both_list q.list list f d r)
 
+-- none of the documents that were read names this
+module _ (documents : List Document) (name : List ℕ) (named : DocumentReading → List (List ℕ)) (of_lock : (parts : LockParts) (ys : List LockedReading) (ms fs : List LineMeaning) → named (IsLock parts ys ms fs) ≡ []) (of_broken : (f : Finding) → named (IsBroken f) ≡ [])
+    (others : (other : File) (u : Members) (xs : List StringReading) → HasProject documents other u → list_any (bytes_eq name) (named (IsProject (has_group_tool u) (project_names u) (overridden_names u) xs)) ≡ false) where
+  abbrev OtherNames : DocumentReading → Type 0
+  OtherNames x = list_any (bytes_eq name) (named x) ≡ false
+
+  told_so : (x y : DocumentReading) → x ≡ y → OtherNames y → OtherNames x
+  told_so x y is h = ap (λ (z : DocumentReading). list_any (bytes_eq name) (named z)) is ∙ h
+
+  broken_so : (f : Finding) → OtherNames (IsBroken f)
+  broken_so f = ap (list_any (bytes_eq name)) (of_broken f)
+
+  not_named : (kind : DocumentKind) (file : File) (x : DocumentReading) → Contains documents (record { kind = kind; file = file }) → IsDocumentReading (record { kind = kind; file = file }) x → OtherNames x
+  not_named kind file x known (inl (none, (position, is))) = told_so x _ is (broken_so _)
+  not_named Project file x known (inr (text, inl (t, e, (xs, h, is)))) = told_so x _ is (others file t xs (known, (text, e)))
+  not_named Project file x known (inr (text, inr (none, (position, reason, is)))) = told_so x _ is (broken_so _)
+  not_named (Lock kind) file x known (inr (text, inl (l, e, (ys, ms, fs, g, h, k, is)))) = told_so x _ is (ap (list_any (bytes_eq name)) (of_lock l.parts ys ms _))
+  not_named (Lock kind) file x known (inr (text, inr (none, (position, reason, is)))) = told_so x _ is (broken_so _)
+
+  none_named_so : (zs : List DocumentReading) → All OtherNames zs → list_any (bytes_eq name) (flat_map named zs) ≡ false
+  none_named_so [] k = refl
+  none_named_so (z ∷ zs) k =
+      list_any-append (bytes_eq name) (named z) (flat_map named zs)
+      ∙ (λ j. All-head OtherNames z zs k j || none_named_so zs (All-tail OtherNames z zs k) j)
+
+  nowhere_named : (zs : List DocumentReading) → AllZip IsDocumentReading documents zs → list_any (bytes_eq name) (flat_map named zs) ≡ false
+  nowhere_named zs h = none_named_so zs (zip_each IsDocumentReading (Contains documents) OtherNames (λ d y known s. not_named d.kind d.file y known s) documents zs (All-contains_itself documents) h)
+
+-- no project overrides this name
+not_overridden : (documents : List Document) (name : List ℕ) (zs : List DocumentReading) → AllZip IsDocumentReading documents zs
+    → ((other : File) (u : Members) → HasProject documents other u → list_any (bytes_eq name) (overridden_names u) ≡ false) → (is_excused zs name).overrides ≡ false
+not_overridden documents name zs h others = nowhere_named documents name overrides_read (λ parts ys ms fs. refl) (λ f. refl) (λ other u xs known. others other u known) zs h
+
+-- there is a project, and none of this name, which is no installer
+not_excused : (documents : List Document) (name : List ℕ) (zs : List DocumentReading) → AllZip IsDocumentReading documents zs
+    → ((other : File) (u : Members) → HasProject documents other u → list_any (bytes_eq name) (project_names u) ≡ false) → (file : File) (t : Members) → HasProject documents file t → is_installer name ≡ false → (is_excused zs name).lacks ≡ false
+not_excused documents name zs h others file t ((k, inside, at), table) unlike =
+    let (x, (j, in_x, is_x), r) = beside_it IsDocumentReading documents zs (record { kind = Project; file = file }) k inside at h in
+    let (xs, g, is) = project_read file t x table r in
+    let there : list_any is_project_reading zs ≡ true = list_any_at is_project_reading zs j x in_x (ap is_project_reading (is_x ∙ is)) in
+    let named : list_any (bytes_eq name) (flat_map names_read zs) ≡ false = nowhere_named documents name names_read (λ parts ys ms fs. refl) (λ f. refl) (λ other u xs known. others other u known) zs h in
+    λ i. unlike i || (not (there i) || named i)
+
 all_met : (documents : List Document) (zs : List DocumentReading) → AllZip IsDocumentReading documents zs → flat_map (λ x. (own_report (is_excused zs) x).findings) zs ≡ [] → AllMet documents
-all_met documents zs h own lock kind l q p list v ((m, below, there), other) (i, within, here) (j, under, this) d locks =
+all_met documents zs h own lock kind l q p list v ((m, below, there), other) (i, within, here) (j, under, this) d kept locks =
     let (y, (b, in_y, is_y), ry) = beside_it IsDocumentReading documents zs (record { kind = Lock kind; file = lock }) m below there h in
     let (ys, ms, fs, packages, requirements, files, is_lock) = lock_read lock kind l y other ry in
     let faults = fs ++ map (fault_meaning lock.name) l.faults in
@@ -121,34 +166,9 @@ all_met documents zs h own lock kind l q p list v ((m, below, there), other) (i,
     let asked = line_demand (requirement_line lock.name q) (reference_marker q.is_reference) n in
     let met : unmet (is_excused zs) l.parts ys (Asks asked) ≡ [] =
     ap (unmet (is_excused zs) l.parts ys) (sym (asks_for lock.name q list z d rz)) ∙ nil_at (unmet (is_excused zs) l.parts ys) ms z c in_z is_z (right_nil (flat_map invalid_in faults) (flat_map (unmet (is_excused zs) l.parts ys) ms) (right_nil (flat_map invalid_package ys) (flat_map invalid_in faults ++ flat_map (unmet (is_excused zs) l.parts ys) ms) nothing)) in
-    not_excluded lock.name l.packages (requirement_line lock.name q) n ys packages p j under this v locks (right_nil (lacking (is_excused zs) l.parts ys asked) (excluded asked ys) (left_nil (lacking (is_excused zs) l.parts ys asked ++ excluded asked ys) [] met))
-
--- none of the documents that were read is a project of this name
-module _ (documents : List Document) (name : List ℕ) (others : (other : File) (u : Members) → HasProject documents other u → list_any (bytes_eq name) (project_names u) ≡ false) where
-  abbrev OtherNames : DocumentReading → Type 0
-  OtherNames x = list_any (bytes_eq name) (names_read x) ≡ false
-
-  not_named : (kind : DocumentKind) (file : File) (x : DocumentReading) → Contains documents (record { kind = kind; file = file }) → IsDocumentReading (record { kind = kind; file = file }) x → OtherNames x
-  not_named kind file x known (inl (none, (position, is))) = ap (λ (y : DocumentReading). list_any (bytes_eq name) (names_read y)) is
-  not_named Project file x known (inr (text, inl (t, e, (xs, h, is)))) = ap (λ (y : DocumentReading). list_any (bytes_eq name) (names_read y)) is ∙ others file t (known, (text, e))
-  not_named Project file x known (inr (text, inr (none, (position, reason, is)))) = ap (λ (y : DocumentReading). list_any (bytes_eq name) (names_read y)) is
-  not_named (Lock kind) file x known (inr (text, inl (l, e, (ys, ms, fs, g, h, k, is)))) = ap (λ (y : DocumentReading). list_any (bytes_eq name) (names_read y)) is
-  not_named (Lock kind) file x known (inr (text, inr (none, (position, reason, is)))) = ap (λ (y : DocumentReading). list_any (bytes_eq name) (names_read y)) is
-
-  none_named_so : (zs : List DocumentReading) → All OtherNames zs → list_any (bytes_eq name) (flat_map names_read zs) ≡ false
-  none_named_so [] k = refl
-  none_named_so (z ∷ zs) k =
-      list_any-append (bytes_eq name) (names_read z) (flat_map names_read zs)
-      ∙ (λ j. All-head OtherNames z zs k j || none_named_so zs (All-tail OtherNames z zs k) j)
-
-  not_excused : (zs : List DocumentReading) → AllZip IsDocumentReading documents zs → (file : File) (t : Members) → HasProject documents file t → is_installer name ≡ false → is_excused zs name ≡ false
-  not_excused zs h file t ((k, inside, at), table) unlike =
-      let (x, (j, in_x, is_x), r) = beside_it IsDocumentReading documents zs (record { kind = Project; file = file }) k inside at h in
-      let (xs, g, is) = project_read file t x table r in
-      let there : list_any is_project_reading zs ≡ true = list_any_at is_project_reading zs j x in_x (ap is_project_reading (is_x ∙ is)) in
-      let named : list_any (bytes_eq name) (flat_map names_read zs) ≡ false =
-      none_named_so zs (zip_each IsDocumentReading (Contains documents) OtherNames (λ d y known s. not_named d.kind d.file y known s) documents zs (All-contains_itself documents) h) in
-      λ i. unlike i || (not (there i) || named i)
+    let both : lacking (is_excused zs) l.parts ys asked ++ excluded asked ys ≡ [] =
+    not_lacking (is_excused zs asked.name).overrides (lacking (is_excused zs) l.parts ys asked ++ excluded asked ys) (not_overridden documents (normal q.name) zs h kept) (left_nil (unmet_demand (is_excused zs) l.parts ys asked) [] met) in
+    not_excluded lock.name l.packages (requirement_line lock.name q) n ys packages p j under this v locks (right_nil (lacking (is_excused zs) l.parts ys asked) (excluded asked ys) both)
 
 all_present : (documents : List Document) (zs : List DocumentReading) → AllZip IsDocumentReading documents zs → flat_map (λ x. (own_report (is_excused zs) x).findings) zs ≡ [] → AllPresent documents
 all_present documents zs h own lock file kind l t q list ((m, below, there), other) (i, within, here) d project others unlike =
@@ -161,8 +181,9 @@ all_present documents zs h own lock file kind l t q list ((m, below, there), oth
     let asked = line_demand (requirement_line lock.name q) (reference_marker q.is_reference) n in
     let met : unmet (is_excused zs) l.parts ys (Asks asked) ≡ [] =
     ap (unmet (is_excused zs) l.parts ys) (sym (asks_for lock.name q list z d rz)) ∙ nil_at (unmet (is_excused zs) l.parts ys) ms z c in_z is_z (right_nil (flat_map invalid_in faults) (flat_map (unmet (is_excused zs) l.parts ys) ms) (right_nil (flat_map invalid_package ys) (flat_map invalid_in faults ++ flat_map (unmet (is_excused zs) l.parts ys) ms) nothing)) in
-    let unmet_first : lacking (is_excused zs) l.parts ys asked ++ excluded asked ys ≡ [] = left_nil (lacking (is_excused zs) l.parts ys asked ++ excluded asked ys) [] met in
-    let has_all : unlocked l.parts ys asked ≡ [] = not_lacking (is_excused zs asked.name) (unlocked l.parts ys asked) (not_excused documents (normal q.name) others zs h file t project unlike) (left_nil (lacking (is_excused zs) l.parts ys asked) (excluded asked ys) unmet_first) in
+    let unmet_first : lacking (is_excused zs) l.parts ys asked ++ excluded asked ys ≡ [] =
+    not_lacking (is_excused zs asked.name).overrides (lacking (is_excused zs) l.parts ys asked ++ excluded asked ys) (not_overridden documents (normal q.name) zs h (λ other u known. (others other u known).1)) (left_nil (unmet_demand (is_excused zs) l.parts ys asked) [] met) in
+    let has_all : unlocked l.parts ys asked ≡ [] = not_lacking (is_excused zs asked.name).lacks (unlocked l.parts ys asked) (not_excused documents (normal q.name) zs h (λ other u known. (others other u known).0) file t project unlike) (left_nil (lacking (is_excused zs) l.parts ys asked) (excluded asked ys) unmet_first) in
     let none : excluded asked ys ≡ [] = right_nil (lacking (is_excused zs) l.parts ys asked) (excluded asked ys) unmet_first in
     let always : q.is_reference ≡ false → unlocked l.parts ys (line_demand (requirement_line lock.name q) None n) ≡ [] =
     λ is. ap (λ b. unlocked l.parts ys (line_demand (requirement_line lock.name q) (reference_marker b) n)) (sym is) ∙ has_all in (

@@ -20,8 +20,8 @@ use Rattle.toml.specs.Data.{Members}
 use Rattle.toml.specs.Parse.{parse_document}
 use Rattle.pyver_projects.specs.Together.{FindsOfPart, FindsOfParts, demand_in_part, has_group, holds_in, part_demands, parts, project_domain, same_finding, sections, with_new}
 use Rattle.pyver_projects.proofs.Walks.{all_flat, pairs_each, zip_each}
-use Rattle.pyver_projects.specs.Comparing.{FindsOfReading, absent, beside_all, compared, compared_demand, documents_report, excluded, excluded_in, found_beside, found_in_pair, has_name, invalid_package, invalid_string, is_beside, is_excused, is_installer, is_locked, is_needed, lacking, leaves_out, own_report, partly_locked, taken_packages, unlocked, unmet, with_own_reports}
-use Rattle.pyver_projects.specs.Documents.{has_group_tool, locked, project_names, sources}
+use Rattle.pyver_projects.specs.Comparing.{Excuse, FindsOfReading, absent, beside_all, compared, compared_demand, documents_report, excluded, excluded_in, found_beside, found_in_pair, has_name, invalid_package, invalid_string, is_beside, is_excused, is_installer, is_locked, is_needed, lacking, leaves_out, own_report, partly_locked, taken_packages, unlocked, unmet, unmet_demand, with_own_reports}
+use Rattle.pyver_projects.specs.Documents.{has_group_tool, locked, overridden_names, project_names, sources}
 use Rattle.pyver_projects.specs.Groups.{Groups, Inclusion, groups, inclusions, no_group}
 use Rattle.pyver_projects.proofs.LockedPackages.{IsLackHere, IsOutsideHere, excluded_right, none_named, partly_right}
 use Rattle.pyver_projects.specs.Meanings.{Document, DocumentReading, IsBroken, IsBrokenReading, IsDocumentReading, IsFileReading, IsLock, IsLockedReading, IsProject, IsRequirementReading, IsSectionMeaning, IsSoundDocument, IsSoundString, IsStringReading, IsVersionReading, LockedReading, StringReading, fault_meaning, file_meaning, is_of_version, package_line, reference_marker, requirement_line, string_line, position_line}
@@ -237,7 +237,7 @@ module _ (documents : List Document) where
 
   -- ---- documents by themselves
 
-  unread : (excused : List ℕ → Bool) (d : Document) (x : DocumentReading) → Contains documents d → (IsReadable d → ⊥) → IsBrokenReading d.file x → All Right (own_report excused x).findings
+  unread : (excused : List ℕ → Excuse) (d : Document) (x : DocumentReading) → Contains documents d → (IsReadable d → ⊥) → IsBrokenReading d.file x → All Right (own_report excused x).findings
   unread excused d x known none (position, reason, is) =
       let line = position_line d.file position in
       let column = last_bytes (take position d.file.text) in
@@ -332,21 +332,22 @@ module _ (documents : List Document) where
 
   -- a requirement of a package
   of_requirement : (lock : File) (kind : LockKind) (l : LockContents) → HasLock documents kind lock l → (q : LockedRequirement) → Contains l.requirements q → (ys : List LockedReading) → AllZip (IsLockedReading lock.name) l.packages ys
-      → (excused : List ℕ → Bool) (m : LineMeaning) → IsRequirementReading lock.name q m → All Right (unmet excused l.parts ys m)
+      → (excused : List ℕ → Excuse) (m : LineMeaning) → IsRequirementReading lock.name q m → All Right (unmet excused l.parts ys m)
   of_requirement lock kind l known q at ys h excused m (inr (f, r, is)) = subst (λ (x : LineMeaning). All Right (unmet excused l.parts ys x)) (sym is) (All-nil Right)
   of_requirement lock kind l known q at ys h excused m (inl (list, read, is)) =
       let n : Needed = record { name = q.name; extras = []; specifiers = list } in
       let line = requirement_line lock.name q in
       let asked = line_demand line (reference_marker q.is_reference) n in
       subst (λ (x : LineMeaning). All Right (unmet excused l.parts ys x)) (sym is)
-      (All-append Right (lacking excused l.parts ys asked ++ excluded asked ys) []
+      (All-append Right (unmet_demand excused l.parts ys asked) []
+      (unless_right (excused asked.name).overrides (lacking excused l.parts ys asked ++ excluded asked ys)
       (All-append Right (lacking excused l.parts ys asked) (excluded asked ys)
-      (unless_right (excused asked.name) (unlocked l.parts ys asked)
+      (unless_right (excused asked.name).lacks (unlocked l.parts ys asked)
       (All-append Right (absent ys asked) (if is_none asked.marker then partly_locked l.parts line (taken_packages ys asked) else [])
       (absent_right lock kind l known q at ys h n (list_any (has_name asked) ys) refl refl) (lack_right lock kind l known q at ys h list read q.is_reference refl)))
       (All-weaker (IsOutsideHere lock.name l.packages line n) Right
       (λ f out. inr (inr (inr (inr (inr (inr (inl (record { lock = lock; kind = kind; contents = l; requirement = q; list = list; known = known; within = at; read = read; outside = out })))))))) (excluded asked ys)
-      (excluded_right lock.name l.packages line n ys h))) (All-nil Right))
+      (excluded_right lock.name l.packages line n ys h)))) (All-nil Right))
 
   no_utf8 : (kind : DocumentKind) (file : File) → (IsUtf8 file.text → ⊥) → IsReadableAs kind file → ⊥
   no_utf8 Project file none (t, (text, e)) = none text
@@ -358,7 +359,7 @@ module _ (documents : List Document) where
   no_contents : (kind : LockKind) (file : File) → locked kind file.text ≡ None → IsReadableAs (Lock kind) file → ⊥
   no_contents kind file none (l, (text, e)) = let same : None ≡ Some l = sym none ∙ e in cc same
 
-  of_document : (excused : List ℕ → Bool) (kind : DocumentKind) (file : File) (x : DocumentReading) → Contains documents (record { kind = kind; file = file }) → IsDocumentReading (record { kind = kind; file = file }) x
+  of_document : (excused : List ℕ → Excuse) (kind : DocumentKind) (file : File) (x : DocumentReading) → Contains documents (record { kind = kind; file = file }) → IsDocumentReading (record { kind = kind; file = file }) x
       → All Right (own_report excused x).findings
   of_document excused kind file x known (inl (none, (position, told))) = unread excused (record { kind = kind; file = file }) x known (no_utf8 kind file none) (position, _, told)
   of_document excused Project file x known (inr (text, inr (none, broken))) = unread excused (record { kind = Project; file = file }) x known (no_toml file none) broken
@@ -446,36 +447,37 @@ module _ (documents : List Document) where
           unless true fs right = All-nil Right
           unless false fs right = right
 
-          always_right : All Right (compared_demand kind u.parts (project_names t) ys s.section asked)
+          always_right : All Right (compared_demand kind u.parts (project_names t) (overridden_names t) ys s.section asked)
           always_right =
-              All-append Right _ (excluded_in kind u.parts (project_names t) ys s.section asked) (unless (is_installer asked.name) _ (unless (list_any (bytes_eq asked.name) (project_names t)) _ (missing_right (is_needed kind u.parts.names s.section) refl)))
-              (excluded_here (leaves_out kind u.parts.names s.section) refl)
+              unless (list_any (bytes_eq asked.name) (overridden_names t)) _
+              (All-append Right _ (excluded_in kind u.parts (project_names t) ys s.section asked) (unless (is_installer asked.name) _ (unless (list_any (bytes_eq asked.name) (project_names t)) _ (missing_right (is_needed kind u.parts.names s.section) refl)))
+              (excluded_here (leaves_out kind u.parts.names s.section) refl))
 
       module _ (ys : List LockedReading) (h : AllZip (IsLockedReading lock.name) u.packages ys) where
-        by_marker : (a : Demand) (k : AsksFor (string_line file s) (line_parts s.text) a) (marker : Option (List ℕ)) → (marker ≡ None → (line_parts s.text).marker ≡ None) → All Right (compared_demand kind u.parts (project_names t) ys s.section (line_demand (string_line file s) marker k.needed))
+        by_marker : (a : Demand) (k : AsksFor (string_line file s) (line_parts s.text) a) (marker : Option (List ℕ)) → (marker ≡ None → (line_parts s.text).marker ≡ None) → All Right (compared_demand kind u.parts (project_names t) (overridden_names t) ys s.section (line_demand (string_line file s) marker k.needed))
         by_marker a k None unmarked = always_right k.needed (k.text, k.derives, unmarked refl, k.url) ys h
         by_marker a k (Some m) unmarked = All-nil Right
 
-        of_asked : (a : Demand) → AsksFor (string_line file s) (line_parts s.text) a → All Right (compared_demand kind u.parts (project_names t) ys s.section a)
-        of_asked a k = subst (λ (b : Demand). All Right (compared_demand kind u.parts (project_names t) ys s.section b)) (sym k.is) (by_marker a k k.marker k.always)
+        of_asked : (a : Demand) → AsksFor (string_line file s) (line_parts s.text) a → All Right (compared_demand kind u.parts (project_names t) (overridden_names t) ys s.section a)
+        of_asked a k = subst (λ (b : Demand). All Right (compared_demand kind u.parts (project_names t) (overridden_names t) ys s.section b)) (sym k.is) (by_marker a k k.marker k.always)
 
-        of_meaning : (m : LineMeaning) → IsSectionMeaning (groups t) s.section (string_line file s) s.text m → All Right (flat_map (compared_demand kind u.parts (project_names t) ys s.section) (demands_in m))
-        of_meaning (Asks a) is = All-append Right (compared_demand kind u.parts (project_names t) ys s.section a) [] (of_asked a (of_section (groups t) (string_line file s) s.text a s.section is)) (All-nil Right)
+        of_meaning : (m : LineMeaning) → IsSectionMeaning (groups t) s.section (string_line file s) s.text m → All Right (flat_map (compared_demand kind u.parts (project_names t) (overridden_names t) ys s.section) (demands_in m))
+        of_meaning (Asks a) is = All-append Right (compared_demand kind u.parts (project_names t) (overridden_names t) ys s.section a) [] (of_asked a (of_section (groups t) (string_line file s) s.text a s.section is)) (All-nil Right)
         of_meaning (IsNone f) is = All-nil Right
         of_meaning (LeftOut c) is = All-nil Right
         of_meaning AsksNothing is = All-nil Right
 
-        by_section : (b : Bool) (m : LineMeaning) → IsSectionMeaning (groups t) s.section (string_line file s) s.text m → All Right (if b then flat_map (compared_demand kind u.parts (project_names t) ys s.section) (demands_in m) else [])
+        by_section : (b : Bool) (m : LineMeaning) → IsSectionMeaning (groups t) s.section (string_line file s) s.text m → All Right (if b then flat_map (compared_demand kind u.parts (project_names t) (overridden_names t) ys s.section) (demands_in m) else [])
         by_section true m is = of_meaning m is
         by_section false m is = All-nil Right
 
-        compared_right : (x : StringReading) → IsStringReading (groups t) file s x → All Right (compared kind u.parts (project_names t) ys x)
+        compared_right : (x : StringReading) → IsStringReading (groups t) file s x → All Right (compared kind u.parts (project_names t) (overridden_names t) ys x)
         compared_right x (same, is, python) =
-            subst (λ section. All Right (if is_locked section then flat_map (compared_demand kind u.parts (project_names t) ys section) (demands_in x.meaning) else [])) (sym same) (by_section (is_locked s.section) x.meaning is)
+            subst (λ section. All Right (if is_locked section then flat_map (compared_demand kind u.parts (project_names t) (overridden_names t) ys section) (demands_in x.meaning) else [])) (sym same) (by_section (is_locked s.section) x.meaning is)
 
-    pub pair_right : (xs : List StringReading) (ys : List LockedReading) → AllZip (IsStringReading (groups t) file) (sources t) xs → AllZip (IsLockedReading lock.name) u.packages ys → All Right (flat_map (compared kind u.parts (project_names t) ys) xs)
+    pub pair_right : (xs : List StringReading) (ys : List LockedReading) → AllZip (IsStringReading (groups t) file) (sources t) xs → AllZip (IsLockedReading lock.name) u.packages ys → All Right (flat_map (compared kind u.parts (project_names t) (overridden_names t) ys) xs)
     pair_right xs ys g h =
-        all_flat Right (compared kind u.parts (project_names t) ys) xs (zip_each (IsStringReading (groups t) file) (Contains (sources t)) (λ x. All Right (compared kind u.parts (project_names t) ys x)) (λ s x at r. compared_right s at ys h x r) (sources t) xs (All-contains_itself (sources t)) g)
+        all_flat Right (compared kind u.parts (project_names t) (overridden_names t) ys) xs (zip_each (IsStringReading (groups t) file) (Contains (sources t)) (λ x. All Right (compared kind u.parts (project_names t) (overridden_names t) ys x)) (λ s x at r. compared_right s at ys h x r) (sources t) xs (All-contains_itself (sources t)) g)
 
   -- ---- a document beside another
 
@@ -483,9 +485,9 @@ module _ (documents : List Document) where
   nothing_broken Project f y = All-nil Right
   nothing_broken (Lock kind) f y = All-nil Right
 
-  nothing_beside : (kind : DocumentKind) (together : Bool) (names : List (List ℕ)) (xs : List StringReading) (f : Finding) → All Right (found_beside kind (IsProject together names xs) (IsBroken f))
-  nothing_beside Project together names xs f = All-nil Right
-  nothing_beside (Lock kind) together names xs f = All-nil Right
+  nothing_beside : (kind : DocumentKind) (together : Bool) (names overridden : List (List ℕ)) (xs : List StringReading) (f : Finding) → All Right (found_beside kind (IsProject together names overridden xs) (IsBroken f))
+  nothing_beside Project together names overridden xs f = All-nil Right
+  nothing_beside (Lock kind) together names overridden xs f = All-nil Right
 
   nothing_of_lock : (kind : DocumentKind) (parts : LockParts) (ys : List LockedReading) (ms fs : List LineMeaning) (y : DocumentReading) → All Right (found_beside kind (IsLock parts ys ms fs) y)
   nothing_of_lock Project parts ys ms fs y = All-nil Right
@@ -495,18 +497,18 @@ module _ (documents : List Document) where
   broken_right kind file x y (position, reason, is) = subst (λ (z : DocumentReading). All Right (found_beside kind z y)) (sym is) (nothing_broken kind (NoRequirement (position_line file position) reason (last_bytes (take position file.text))) y)
 
   module _ (file : File) (t : Members) (known : HasProject documents file t) (xs : List StringReading) (g : AllZip (IsStringReading (groups t) file) (sources t) xs) where
-    beside_broken : (kind : DocumentKind) (other : File) (y : DocumentReading) → IsBrokenReading other y → All Right (found_beside kind (IsProject (has_group_tool t) (project_names t) xs) y)
+    beside_broken : (kind : DocumentKind) (other : File) (y : DocumentReading) → IsBrokenReading other y → All Right (found_beside kind (IsProject (has_group_tool t) (project_names t) (overridden_names t) xs) y)
     beside_broken kind other y (position, reason, is) =
-        subst (λ (z : DocumentReading). All Right (found_beside kind (IsProject (has_group_tool t) (project_names t) xs) z)) (sym is) (nothing_beside kind (has_group_tool t) (project_names t) xs (NoRequirement (position_line other position) reason (last_bytes (take position other.text))))
+        subst (λ (z : DocumentReading). All Right (found_beside kind (IsProject (has_group_tool t) (project_names t) (overridden_names t) xs) z)) (sym is) (nothing_beside kind (has_group_tool t) (project_names t) (overridden_names t) xs (NoRequirement (position_line other position) reason (last_bytes (take position other.text))))
 
     beside_project : (kind : DocumentKind) (other : File) (y : DocumentReading) → Contains documents (record { kind = kind; file = other }) → IsDocumentReading (record { kind = kind; file = other }) y
-        → All Right (found_beside kind (IsProject (has_group_tool t) (project_names t) xs) y)
+        → All Right (found_beside kind (IsProject (has_group_tool t) (project_names t) (overridden_names t) xs) y)
     beside_project kind other y at (inl (none, (position, told))) = beside_broken kind other y (position, _, told)
     beside_project Project other y at (inr (text, inr (none, broken))) = beside_broken Project other y broken
     beside_project (Lock kind) other y at (inr (text, inr (none, broken))) = beside_broken (Lock kind) other y broken
-    beside_project Project other y at (inr (text, inl (u, e, (zs, h, is)))) = subst (λ (z : DocumentReading). All Right (found_beside Project (IsProject (has_group_tool t) (project_names t) xs) z)) (sym is) (All-nil Right)
+    beside_project Project other y at (inr (text, inl (u, e, (zs, h, is)))) = subst (λ (z : DocumentReading). All Right (found_beside Project (IsProject (has_group_tool t) (project_names t) (overridden_names t) xs) z)) (sym is) (All-nil Right)
     beside_project (Lock kind) other y at (inr (text, inl (u, e, (ys, ms, fs, h, required, files, is)))) =
-        subst (λ (z : DocumentReading). All Right (found_beside (Lock kind) (IsProject (has_group_tool t) (project_names t) xs) z)) (sym is) (pair_right file other kind t u known (at, (text, e)) xs ys g h)
+        subst (λ (z : DocumentReading). All Right (found_beside (Lock kind) (IsProject (has_group_tool t) (project_names t) (overridden_names t) xs) z)) (sym is) (pair_right file other kind t u known (at, (text, e)) xs ys g h)
 
   beside_right : (kind : DocumentKind) (file : File) (other : Document) (x y : DocumentReading) → Contains documents (record { kind = kind; file = file }) → Contains documents other → IsDocumentReading (record { kind = kind; file = file }) x
       → IsDocumentReading other y → All Right (found_beside other.kind x y)
@@ -519,7 +521,7 @@ module _ (documents : List Document) where
 
   -- ---- all documents
 
-  pub findings_of : (excused : List ℕ → Bool) (a : Report) (xs : List DocumentReading) → (with_own_reports excused a xs).findings ≡ a.findings ++ flat_map (λ x. (own_report excused x).findings) xs
+  pub findings_of : (excused : List ℕ → Excuse) (a : Report) (xs : List DocumentReading) → (with_own_reports excused a xs).findings ≡ a.findings ++ flat_map (λ x. (own_report excused x).findings) xs
   findings_of excused a [] = sym (append-nil a.findings)
   findings_of excused a (x ∷ xs) =
       findings_of excused (joined_report a (own_report excused x)) xs ∙ append_assoc a.findings (own_report excused x).findings (flat_map (λ y. (own_report excused y).findings) xs)

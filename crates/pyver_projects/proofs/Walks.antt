@@ -634,3 +634,7 @@ not_included place is right group name known before =
     let ordered : list_all (stands_before place) is ≡ true = sym known ∙ (and_parts right (nat_lt (place name) (place group)) before).0 in
     let apart : place name < place group = below (place name) (place group) ((and_parts right (nat_lt (place name) (place group)) before).1) in
     false_from_ne_true (includes is group name) (λ e. let after : place group ≤ place name = stands_after place is ordered group (length is) name e in absurd (omega (arith, apart, after)))
+
+-- what is seen of two lists that were joined
+pub joined_views : {X Y : Type 0} (view : X → Y) (old more new : List X) → new ≡ old ++ more → map view new ≡ map view old ++ map view more
+joined_views view old more new is = ap (map view) is ∙ map-append view old more

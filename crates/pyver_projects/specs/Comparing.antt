@@ -111,33 +111,51 @@ abbrev pub is_installer : List ℕ → Bool
 is_installer name = bytes_eq name (codes "setuptools") || (bytes_eq name (codes "distribute") || (bytes_eq name (codes "pip") || bytes_eq name (codes "wheel")))
 
 abbrev pub is_project_reading : DocumentReading → Bool
-is_project_reading (IsProject together names xs) = true
+is_project_reading (IsProject together names overridden xs) = true
 is_project_reading (IsLock parts ys ms fs) = false
 is_project_reading (IsBroken f) = false
 
 -- the names of a project
 abbrev pub names_read : DocumentReading → List (List ℕ)
-names_read (IsProject together names xs) = names
+names_read (IsProject together names overridden xs) = names
 names_read (IsLock parts ys ms fs) = []
 names_read (IsBroken f) = []
 
--- no lock is to have a package of this name, though a package requires it: an installer, one of the projects, which neither Poetry nor PDM
--- locks, and any where no project is known
-abbrev pub is_excused : List DocumentReading → List ℕ → Bool
-is_excused xs name = is_installer name || (not (list_any is_project_reading xs) || list_any (bytes_eq name) (flat_map names_read xs))
+-- the names that a project overrides
+abbrev pub overrides_read : DocumentReading → List (List ℕ)
+overrides_read (IsProject together names overridden xs) = overridden
+overrides_read (IsLock parts ys ms fs) = []
+overrides_read (IsBroken f) = []
 
-module _ (excused : List ℕ → Bool) where
+-- what is not asked of a lock though a package requires it: that it has a package of the name; or anything
+pub record Excuse : Type 0 where
+  pub lacks : Bool
+  pub overrides : Bool
+
+-- no lock is to have a package of this name: an installer, one of the projects, which neither Poetry nor PDM locks, and any where no project is
+-- known; and nothing is asked of one that a project overrides
+abbrev pub is_excused : List DocumentReading → List ℕ → Excuse
+is_excused xs name = record {
+  lacks = is_installer name || (not (list_any is_project_reading xs) || list_any (bytes_eq name) (flat_map names_read xs));
+  overrides = list_any (bytes_eq name) (flat_map overrides_read xs);
+}
+
+module _ (excused : List ℕ → Excuse) where
   -- the lock lacks what a package requires
   abbrev pub lacking : LockParts → List LockedReading → Demand → List Finding
-  lacking parts ys a = if excused a.name then [] else unlocked parts ys a
+  lacking parts ys a = if (excused a.name).lacks then [] else unlocked parts ys a
 
-  -- what the requirement of a package lacks and excludes in its own lock
+  -- what a requirement lacks and excludes in the lock of the package that has it
+  abbrev pub unmet_demand : LockParts → List LockedReading → Demand → List Finding
+  unmet_demand parts ys a = if (excused a.name).overrides then [] else lacking parts ys a ++ excluded a ys
+
+  -- the same of a line that may be none
   abbrev pub unmet : LockParts → List LockedReading → LineMeaning → List Finding
-  unmet parts ys m = flat_map (λ a. lacking parts ys a ++ excluded a ys) (demands_in m)
+  unmet parts ys m = flat_map (unmet_demand parts ys) (demands_in m)
 
   -- the report of a document by itself: the strings or the packages count as lines
   abbrev pub own_report : DocumentReading → Report
-  own_report (IsProject together names xs) = record { findings = flat_map invalid_string xs; ignored = []; lines = length xs; files = 1; left_out = flat_map left_out_string xs }
+  own_report (IsProject together names overridden xs) = record { findings = flat_map invalid_string xs; ignored = []; lines = length xs; files = 1; left_out = flat_map left_out_string xs }
   own_report (IsLock parts ys ms fs) = record { findings = flat_map invalid_package ys ++ (flat_map invalid_in fs ++ flat_map (unmet parts ys) ms); ignored = []; lines = length ys; files = 1; left_out = flat_map left_out_in ms }
   own_report (IsBroken f) = record { findings = f ∷ []; ignored = []; lines = 0; files = 1; left_out = [] }
 
@@ -192,17 +210,19 @@ module _ (kind : LockKind) (parts : LockParts) (names : List (List ℕ)) where
   abbrev pub excluded_in : List LockedReading → Section → Demand → List Finding
   excluded_in ys section a = if leaves_out kind parts.names section then [] else excluded a ys
 
-  -- a requirement beside the lock, which counts if it has no marker
-  abbrev pub compared_demand : List LockedReading → Section → Demand → List Finding
-  compared_demand ys section a = if is_none a.marker then missing ys section a ++ excluded_in ys section a else []
+  module _ (overridden : List (List ℕ)) where
+    -- a requirement beside the lock, which counts if it has no marker and the project does not override it
+    abbrev pub compared_demand : List LockedReading → Section → Demand → List Finding
+    compared_demand ys section a =
+        if is_none a.marker then (if list_any (bytes_eq a.name) overridden then [] else missing ys section a ++ excluded_in ys section a) else []
 
-  -- a string beside the lock
-  abbrev pub compared : List LockedReading → StringReading → List Finding
-  compared ys x = if is_locked x.section then flat_map (compared_demand ys x.section) (demands_in x.meaning) else []
+    -- a string beside the lock
+    abbrev pub compared : List LockedReading → StringReading → List Finding
+    compared ys x = if is_locked x.section then flat_map (compared_demand ys x.section) (demands_in x.meaning) else []
 
 -- the first document beside the second, of this kind, if that is a project and this a lock
 abbrev pub found_beside : DocumentKind → DocumentReading → DocumentReading → List Finding
-found_beside (Lock kind) (IsProject together names xs) (IsLock parts ys ms fs) = flat_map (compared kind parts names ys) xs
+found_beside (Lock kind) (IsProject together names overridden xs) (IsLock parts ys ms fs) = flat_map (compared kind parts names overridden ys) xs
 found_beside kind x y = []
 
 -- ---- which lock is compared with which project
@@ -260,7 +280,7 @@ documents_report documents xs = with_findings (with_own_reports (is_excused xs) 
 
 -- of a project the requirements that hold together and have no version in common
 abbrev pub FindsOfReading : DocumentReading → List Finding → List Cause → Type 0
-FindsOfReading (IsProject together names xs) fs cs = FindsOfParts together xs fs cs
+FindsOfReading (IsProject together names overridden xs) fs cs = FindsOfParts together xs fs cs
 FindsOfReading (IsLock parts ys ms files) fs cs = FindsNothing fs cs
 FindsOfReading (IsBroken f) fs cs = FindsNothing fs cs
 

@@ -2,7 +2,8 @@
 use Rattle.std.specs.Prelude.{Bool, List, None, Option, Some, [], bytes_eq, codes, count_by, get_or, if◌then◌else◌, is_none, is_some, length, map, nat_eq, nat_lt, not, option_map, option_to_list, ℕ, ◌&&◌, ◌++◌, ◌+◌, ◌==◌, ◌||◌, ◌∷◌}
 use Rattle.std.specs.List.{ends_with, flat_map, list_any, starts_with}
 use Rattle.std.specs.Option.{option_or}
-use Rattle.pep440_pick.specs.Names.{is_name, normal}
+use Rattle.pep440_pick.specs.Names.{is_name, is_name_byte, normal}
+use Rattle.pep440_version.specs.Reading.{lead}
 use Rattle.toml.specs.Data.{Data, Members, as_str, get, get_member}
 use Rattle.pyver_projects.specs.LockedFiles.{array_faults, files_from, last_section, counted_names, has_markers, locked_python, package_condition, package_faults, package_name_in}
 use Rattle.pyver_projects.specs.PackageRequirements.{requirements_from}
@@ -150,6 +151,18 @@ written_name document = option_or (text_in (inside (codes "name") (get_member (c
 -- its normal form, if it has a name
 abbrev pub project_names : Members → List (List ℕ)
 project_names document = option_to_list (option_map normal (written_name document))
+
+-- the name that a requirement begins with (PEP 508, "Grammar"), in its normal form
+abbrev pub leading_name : Option (List ℕ) → List (List ℕ)
+leading_name None = []
+leading_name (Some text) = normal (lead is_name_byte text) ∷ []
+
+-- the names whose versions the project sets itself, whatever others require: of uv's overrides, which are requirements, and of PDM's table of them
+abbrev pub overridden_names : Members → List (List ℕ)
+overridden_names document =
+    let tool : Option Data = get_member (codes "tool") document in
+    flat_map (λ (d : Data). leading_name (as_str d)) (listed (inside (codes "override-dependencies") (inside (codes "uv") tool)))
+    ++ entry_names (entries (inside (codes "overrides") (inside (codes "resolution") (inside (codes "pdm") tool))))
 
 -- the document has this table of a tool
 abbrev pub has_tool : List ℕ → Members → Bool

@@ -27,7 +27,7 @@ use Rattle.pyver_requirements.specs.MarkerGrammar.{DenotesMarker, Marker}
 use Rattle.toml.specs.Data.{Members}
 use Rattle.toml.specs.Parse.{parse_document}
 use Rattle.pyver_projects.specs.Comparing.{IsDocumentsReport, is_beside, is_installer, is_locked, is_needed, lack_in, leaves_out}
-use Rattle.pyver_projects.specs.Documents.{has_group_tool, locked, project_names, sources}
+use Rattle.pyver_projects.specs.Documents.{has_group_tool, locked, overridden_names, project_names, sources}
 use Rattle.pyver_projects.specs.Groups.{groups}
 use Rattle.pyver_projects.specs.KnownEnvironments.{is_for, known_environment, known_environments, python_record}
 use Rattle.pyver_projects.specs.Meanings.{Document, IsSectionMeaning, IsStringReading, StringReading, fault_meaning, file_meaning, is_of_version, package_line, requirement_line, string_line}
@@ -293,26 +293,33 @@ DocumentFindingsHold = (documents : List Document) (r : Report) → IsDocumentsR
 
 -- ---- no finding
 
--- each requirement of each project contains a version of its name in each lock that counts for it, does not leave its part out, and has one
+-- the project sets the versions of this name itself
+abbrev pub overrides : List ℕ → Members → Bool
+overrides name t = list_any (bytes_eq (normal name)) (overridden_names t)
+
+-- each requirement of each project that it does not override contains a version of its name in each lock that counts for it, does not leave its part out, and
+-- has one
 abbrev pub AllContained : List Document → Type 0
 AllContained documents = (file lock : File) (kind : LockKind) (l : LockContents) (s : ProjectString) (p : LockedPackage) (n : Needed) (v : Record)
     → HasString documents file s → HasLock documents kind lock l → Contains l.packages p → IsTrue (is_beside documents (record { kind = Project; file = file }) (record { kind = Lock kind; file = lock }))
-    → IsTrue (is_locked s.section) → leaves_out kind l.parts.names s.section ≡ false → AlwaysAsks s n → LocksVersion n.name p v → SomeContained l.packages n.name n.specifiers
+    → IsTrue (is_locked s.section) → leaves_out kind l.parts.names s.section ≡ false → AlwaysAsks s n → ((t : Members) → HasProject documents file t → overrides n.name t ≡ false)
+    → LocksVersion n.name p v → SomeContained l.packages n.name n.specifiers
 
--- each requirement of a package whose list is one contains a version of its name in the same lock, if that has one
+-- each requirement of a package whose list is one contains a version of its name in the same lock, if that has one and no project overrides it
 abbrev pub AllMet : List Document → Type 0
 AllMet documents = (lock : File) (kind : LockKind) (l : LockContents) (q : LockedRequirement) (p : LockedPackage) (list : List Spec) (v : Record) → HasLock documents kind lock l
-    → Contains l.requirements q → Contains l.packages p → DerivesList q.list list → LocksVersion q.name p v → SomeContained l.packages q.name list
+    → Contains l.requirements q → Contains l.packages p → DerivesList q.list list → ((file : File) (t : Members) → HasProject documents file t → overrides q.name t ≡ false)
+    → LocksVersion q.name p v → SomeContained l.packages q.name list
 
 -- a project that is no project of this name
 abbrev pub IsOtherProject : List ℕ → Members → Type 0
 IsOtherProject name t = list_any (bytes_eq (normal name)) (project_names t) ≡ false
 
--- some package has the name that another one requires, where there is a project and none of that name, but for installers; in each environment, if
+-- some package has the name that another one requires, where there is a project and none of that name or that overrides it, but for installers; in each environment, if
 -- it does not only refer to one, some package meets the requirement
 abbrev pub AllPresent : List Document → Type 0
 AllPresent documents = (lock file : File) (kind : LockKind) (l : LockContents) (t : Members) (q : LockedRequirement) (list : List Spec) → HasLock documents kind lock l → Contains l.requirements q → DerivesList q.list list
-    → HasProject documents file t → ((other : File) (u : Members) → HasProject documents other u → IsOtherProject q.name u) → is_installer (normal q.name) ≡ false
+    → HasProject documents file t → ((other : File) (u : Members) → HasProject documents other u → IsOtherProject q.name u × (overrides q.name u ≡ false)) → is_installer (normal q.name) ≡ false
     → ((p : LockedPackage) × Contains l.packages p × IsTrue (same_name q.name p.name))
     × ((k : KnownEnvironment) → q.is_reference ≡ false → Contains known_environments k → (p : LockedPackage) × Contains l.packages p × MeetsIn l.parts q.name list k p)
 

@@ -33,8 +33,8 @@ use Rattle.pyver_projects.specs.declared.groups.GroupOrder.{GroupOrder}
 use Rattle.pyver_projects.specs.declared.groups.Groups.{Groups as GroupsValue}
 use Rattle.pyver_projects.specs.declared.groups.InclusionIndex.{InclusionIndex}
 use Rattle.pyver_projects.specs.declared.groups.NameIndex.{NameIndex}
-use Rattle.pyver_projects.specs.Comparing.{is_installer}
-use Rattle.pyver_projects.specs.declared.lock_comparison.KnownProjects.{KnownProjects}
+use Rattle.pyver_projects.specs.Comparing.{Excuse, is_installer}
+use Rattle.pyver_projects.specs.declared.known_projects.KnownProjects.{KnownProjects}
 use Rattle.pyver_projects.specs.declared.lock_comparison.PackageIndex.{PackageIndex}
 
 abbrev pub section_of : SectionValue → Section
@@ -90,7 +90,7 @@ abbrev pub document_of : DocumentValue → Document
 document_of d = record { kind = d.kind; file = file_of d.file }
 
 abbrev pub document_reading_of : DocumentReadingValue → DocumentReading
-document_reading_of (reading.Project p) = IsProject p.together (option_to_list (option_map (λ n. n.items) p.name)) (map string_reading_of p.strings.items)
+document_reading_of (reading.Project p) = IsProject p.together (option_to_list (option_map (λ n. n.items) p.name)) (map (λ n. n.items) p.overridden.items) (map string_reading_of p.strings.items)
 document_reading_of (reading.Lock l) = IsLock (parts_of l.parts) (map locked_reading_of l.packages.items) (map line_meaning_of l.requirements.items) (map line_meaning_of l.faults.items)
 document_reading_of (reading.Broken f) = IsBroken (finding_of f)
 
@@ -180,6 +180,9 @@ IsIndex index = (q : List ℕ) → under_name index q ≡ filter (λ y. bytes_eq
 
 -- ---- projects
 
--- no lock is to have a package of this name, by these projects
-abbrev pub excuses : KnownProjects → List ℕ → Bool
-excuses projects name = is_installer name || (not projects.is_some || list_any (bytes_eq name) (map (λ n. n.items) projects.names.items))
+-- what is not asked of a lock for this name, by these projects
+abbrev pub excuses : KnownProjects → List ℕ → Excuse
+excuses projects name = record {
+  lacks = is_installer name || (not projects.is_some || list_any (bytes_eq name) (map (λ n. n.items) projects.names.items));
+  overrides = list_any (bytes_eq name) (map (λ n. n.items) projects.overridden.items);
+}

@@ -29,7 +29,7 @@ use crate::place::{
     Places, document_keys, position_of, read_places, read_quoted_lines, reject_document,
     string_line,
 };
-use crate::project::{ProjectString, Section, project_strings};
+use crate::project::{ProjectString, Section, overridden_names, project_strings};
 use crate::toml_lock::toml_contents;
 use pep440_rs::{ErrorKind, Version, VersionParseError, VersionSpecifiers};
 use pep440_sets::{SetError, VersionSet};
@@ -45,6 +45,8 @@ pub(crate) struct ProjectReading {
     pub(crate) together: bool,
     // In its normal form.
     pub(crate) name: Option<Vec<u8>>,
+    // The names whose versions it sets itself, in their normal form.
+    pub(crate) overridden: Vec<Vec<u8>>,
     pub(crate) strings: Vec<StringReading>,
 }
 
@@ -92,9 +94,11 @@ fn read_project(
     let strings = read_strings(alloc, &groups, name, &places, strings.as_slice())?;
     let together = has_group_tool(table);
     let name = project_name(alloc, table)?;
+    let overridden = overridden_names(alloc, table)?;
     Ok(DocumentReading::Project(ProjectReading {
         together,
         name,
+        overridden,
         strings,
     }))
 }

@@ -13,7 +13,8 @@ use crate::document_kind::Document;
 use crate::document_reading::{
     DocumentReading, LockReading, ProjectReading, ReadDocument, StringReading, read_document,
 };
-use crate::lock_comparison::{KnownProjects, push_beside_all, push_unmet_requirements};
+use crate::known_projects::KnownProjects;
+use crate::lock_comparison::{push_beside_all, push_unmet_requirements};
 use crate::locked_reading::LockedReading;
 use crate::together::project_conflicts;
 use pyver_findings::{Cause, Finding, LineMeaning, Report};
@@ -45,7 +46,7 @@ fn report_strings(
     together: bool,
     strings: Vec<StringReading>,
 ) -> Result<Report, AllocError>
-    ensures { IfOk result (λ r. report_of r ≡ own_report (is_excused []) (IsProject together [] (map string_reading_of strings.items))) }
+    ensures { IfOk result (λ r. report_of r ≡ own_report (is_excused []) (IsProject together [] [] (map string_reading_of strings.items))) }
 {
     let mut report = Report::empty(alloc);
     report.lines = strings.len();
@@ -171,6 +172,7 @@ fn report_document(
             let ProjectReading {
                 together,
                 name: _name,
+                overridden: _overridden,
                 strings,
             } = project;
             report_strings(alloc, together, strings)
@@ -301,7 +303,8 @@ fn read_documents<'a>(
 /// their names. A string has the number of the first line on which it stands in quotes, a package of `Pipfile.lock` the number of the first line with its name in quotes, another
 /// package, with what it requires, the number of its header. Either has 1 without one. Each string and each package counts as a line.
 ///
-/// A requirement with a marker or a URL, of a package with markers that may not hold, of the build, or that is optional, is not compared. Each lock is to
+/// A requirement with a marker or a URL, of a package with markers that may not hold, of the build, or that is optional, is not compared, nor one of a name
+/// that a project overrides: with which a string of its `tool.uv.override-dependencies` begins, or that is a key of `tool.pdm.resolution.overrides`. Each lock is to
 /// have packages for `project.dependencies`, `poetry.lock` and `uv.lock` for extras, `uv.lock` for groups, too; `poetry.lock` for the groups
 /// that its packages name, and `pdm.lock` and `pylock.toml` (PEP 751, `dependency-groups`, `extras`) for those that they name: `default` are the
 /// dependencies, and extras are groups; with what they then do not have nothing is compared. `pylock.toml` has the dependencies, unless its

@@ -12,8 +12,8 @@ pub fn findings_hold()
 {}
 
 /// Where nothing is reported, each requirement of a project without a marker and a URL, but of its build, contains a version of its
-/// name in each lock that counts for it, does not leave its part out, and has one. Each requirement of a locked package that is read and is in PEP 440's syntax contains a
-/// version of its name in the same lock, if there is one; and in each environment that is known some package meets it that the lock does not
+/// name in each lock that counts for it, does not leave its part out, and has one, unless the project overrides the name. Each requirement of a locked package that is read
+/// and is in PEP 440's syntax contains a version of its name in the same lock, if there is one and no project overrides it; and in each environment that is known some package meets it that the lock does not
 /// leave out, if there is a project, none has this name, and it is none of setuptools, distribute, pip and wheel.
 /// Each file of a locked package from an index, in whose name a version is read, has one that `==` with the package's version matches.
 /// No package has the name and the marker of another, if the format has one, and no dependency of `uv.lock` is on two.

@@ -8,6 +8,7 @@ mod document_reading;
 mod document_report;
 mod groups;
 mod known_environment;
+mod known_projects;
 pub mod laws;
 mod lock_comparison;
 mod lock_faults;

@@ -3,15 +3,16 @@ ghost use Rattle.std.specs.Prelude.{◌≡◌, ◌++◌, [], IfOk, if◌then◌e
 ghost use Rattle.std.specs.List.{flat_map, find, list_any, filter};
 ghost use Rattle.pyver_findings.specs.Reports.{demands_in};
 ghost use Rattle.pyver_findings.specs.Views.{demand_of, file_line_of, finding_of, line_meaning_of};
-ghost use Rattle.pyver_projects.specs.Comparing.{absent, found_beside, found_in_pair, beside_all, compared, compared_demand, accepts_version, excluded, excluded_in, leaves_out, names_groups, locks_extras, locks_groups, has_name, is_excused, is_installer, is_project_reading, is_locked, is_needed, lack_finding, lack_in, lacking, leaves_out_all, locked_line, may_take, missing, names_read, outside, partly_locked, taken_packages, unlocked, unmet};
+ghost use Rattle.pyver_projects.specs.Comparing.{unmet_demand, absent, found_beside, found_in_pair, beside_all, compared, compared_demand, accepts_version, excluded, excluded_in, leaves_out, names_groups, locks_extras, locks_groups, has_name, is_installer, is_locked, is_needed, lack_finding, lack_in, lacking, leaves_out_all, locked_line, may_take, missing, outside, partly_locked, taken_packages, unlocked, unmet};
 ghost use Rattle.pyver_projects.specs.KnownEnvironments.{known_environments};
-ghost use Rattle.pyver_projects.specs.ProjectViews.{IsIndex, excuses, index_parts, packages_of, parts_of, document_of, document_reading_of, locked_reading_of, read_pair, reading_in, section_of, string_reading_of};
+ghost use Rattle.pyver_projects.specs.ProjectViews.{IsIndex, excuses, index_parts, packages_of, parts_of, document_of, document_reading_of, locked_reading_of, read_pair, section_of, string_reading_of};
 ghost use Rattle.std.specs.HashMap.{get_by};
 ghost use Rattle.std.specs.Option.{option_map_or};
 
 use crate::document_kind::{Document, DocumentKind, LockKind, is_beside};
 use crate::document_reading::{DocumentReading, ReadDocument, StringReading};
 use crate::known_environment::{KnownEnvironment, known_environments};
+use crate::known_projects::{KnownProjects, has_name, is_installer};
 use crate::lock_faults::is_listed_part;
 use crate::locked_package::LockParts;
 use crate::locked_reading::LockedReading;
@@ -93,7 +94,19 @@ struct IndexedLock<'a> {
     kind: LockKind,
     // The name of the project beside it, in its normal form.
     project: &'a Option<Vec<u8>>,
+    // The names that the project overrides.
+    overridden: &'a [Vec<u8>],
     packages: PackageIndex<'a>,
+}
+
+impl<'a> IndexedLock<'a> {
+    // The project beside it overrides the name.
+    #[tactic(auto, using(pyver_findings::proofs::Steps::any_viewed))]
+    fn is_overridden(&self, name: &[u8]) -> bool
+        ensures { result ≡ list_any (bytes_eq name.now) (map (λ n. n.items) self.now.overridden.now) }
+    {
+        has_name(self.overridden, name)
+    }
 }
 
 fn locks_groups(kind: LockKind) -> bool
@@ -441,103 +454,6 @@ fn push_absence_or_lack(
     Ok(())
 }
 
-// The projects that are checked: whether there are some, and their names.
-#[derive(Drop)]
-pub(crate) struct KnownProjects {
-    is_some: bool,
-    // In their normal form.
-    names: Vec<Vec<u8>>,
-}
-
-fn is_project_reading(reading: &DocumentReading) -> bool
-    ensures { result ≡ is_project_reading (document_reading_of reading.now) }
-{
-    matches!(reading, DocumentReading::Project(_))
-}
-
-fn has_project_reading(read: &[ReadDocument<'_>]) -> bool
-    ensures { result ≡ list_any (λ document. is_project_reading (reading_in document)) read.now }
-{
-    read.iter()
-        .any(|document| is_project_reading(&document.reading))
-}
-
-// Adds the name, if there is one.
-fn push_name(
-    alloc: Global,
-    names: &mut Vec<Vec<u8>>,
-    name: &Option<Vec<u8>>,
-) -> Result<(), AllocError>
-    ensures { IfOk result (λ _. map (λ n. n.items) names.new.items ≡ map (λ n. n.items) names.old.items ++ option_to_list (option_map (λ n. n.items) name.now)) }
-{
-    if let Some(name) = name {
-        names.push(Vec::from_slice(alloc, name.as_slice())?)?;
-    }
-    Ok(())
-}
-
-// Adds the name of the project, if it is one and has a name.
-fn push_project_name(
-    alloc: Global,
-    names: &mut Vec<Vec<u8>>,
-    reading: &DocumentReading,
-) -> Result<(), AllocError>
-    ensures { IfOk result (λ _. map (λ n. n.items) names.new.items ≡ map (λ n. n.items) names.old.items ++ names_read (document_reading_of reading.now)) }
-{
-    match reading {
-        DocumentReading::Project(project) => push_name(alloc, names, &project.name),
-        DocumentReading::Lock(_) | DocumentReading::Broken(_) => Ok(()),
-    }
-}
-
-// The names of the projects.
-fn collect_project_names(
-    alloc: Global,
-    read: &[ReadDocument<'_>],
-) -> Result<Vec<Vec<u8>>, AllocError>
-    ensures { IfOk result (λ names. map (λ n. n.items) names.items ≡ flat_map names_read (map reading_in read.now)) }
-{
-    let mut names = Vec::new(alloc);
-    for document in read {
-        push_project_name(alloc, &mut names, &document.reading)?;
-    }
-    Ok(names)
-}
-
-impl KnownProjects {
-    pub(crate) fn new(alloc: Global, read: &[ReadDocument<'_>]) -> Result<KnownProjects, AllocError>
-        ensures { IfOk result (λ projects. excuses projects ≡ is_excused (map reading_in read.now)) }
-    {
-        Ok(KnownProjects {
-            is_some: has_project_reading(read),
-            names: collect_project_names(alloc, read)?,
-        })
-    }
-
-    fn has_name(&self, name: &[u8]) -> bool
-        ensures { result ≡ list_any (λ known. bytes_eq name.now known.items) self.now.names.items }
-    {
-        self.names.iter().any(|known| name == known.as_slice())
-    }
-
-    // No lock is to have a package of this name.
-    #[tactic(auto, using(pyver_findings::proofs::Steps::any_viewed))]
-    fn excuses(&self, name: &[u8]) -> bool
-        ensures { result ≡ excuses self.now name.now }
-    {
-        is_installer(name) || !self.is_some || self.has_name(name)
-    }
-}
-
-fn is_installer(name: &[u8]) -> bool
-    ensures { result ≡ is_installer name.now }
-{
-    name == b"setuptools".as_slice()
-        || name == b"distribute".as_slice()
-        || name == b"pip".as_slice()
-        || name == b"wheel".as_slice()
-}
-
 // Adds that no package has the name of the requirement of a package, if the lock lacks it.
 fn push_lacking(
     alloc: Global,
@@ -555,6 +471,24 @@ fn push_lacking(
     push_absence_or_lack(alloc, findings, packages, demand)
 }
 
+// Adds what it lacks and excludes, unless a project overrides it.
+fn push_unmet_demand(
+    alloc: Global,
+    findings: &mut Vec<Finding>,
+    projects: &KnownProjects,
+    packages: &PackageIndex<'_>,
+    demand: &Demand,
+) -> Result<(), AllocError>
+    requires { IsIndex packages.now }
+    ensures { IfOk result (λ _. map finding_of findings.new.items ≡ map finding_of findings.old.items ++ unmet_demand (excuses projects.now) (index_parts packages.now) (packages_of packages.now) (demand_of demand.now)) }
+{
+    if projects.overrides(demand.name.as_slice()) {
+        return Ok(());
+    }
+    push_lacking(alloc, findings, projects, packages, demand)?;
+    push_all_excluded(alloc, findings, demand, packages)
+}
+
 // Adds what a requirement of a package lacks and excludes in its own lock.
 fn push_unmet(
     alloc: Global,
@@ -568,8 +502,7 @@ fn push_unmet(
 {
     match requirement {
         LineMeaning::Asks(demand) => {
-            push_lacking(alloc, findings, projects, packages, demand)?;
-            push_all_excluded(alloc, findings, demand, packages)
+            push_unmet_demand(alloc, findings, projects, packages, demand)
         }
         LineMeaning::IsNone(_) | LineMeaning::LeftOut(_) | LineMeaning::AsksNothing => Ok(()),
     }
@@ -664,9 +597,12 @@ fn push_compared_demand(
     demand: &Demand,
 ) -> Result<(), AllocError>
     requires { IsIndex lock.now.packages }
-    ensures { IfOk result (λ _. map finding_of findings.new.items ≡ map finding_of findings.old.items ++ compared_demand lock.now.kind (index_parts lock.now.packages) (option_to_list (option_map (λ n. n.items) lock.now.project.now)) (packages_of lock.now.packages) (section_of section.now) (demand_of demand.now)) }
+    ensures { IfOk result (λ _. map finding_of findings.new.items ≡ map finding_of findings.old.items ++ compared_demand lock.now.kind (index_parts lock.now.packages) (option_to_list (option_map (λ n. n.items) lock.now.project.now)) (map (λ n. n.items) lock.now.overridden.now) (packages_of lock.now.packages) (section_of section.now) (demand_of demand.now)) }
 {
     if demand.marker.is_some() {
+        return Ok(());
+    }
+    if lock.is_overridden(demand.name.as_slice()) {
         return Ok(());
     }
     push_missing(alloc, findings, lock, section, demand)?;
@@ -681,7 +617,7 @@ fn push_compared_meaning(
     meaning: &LineMeaning,
 ) -> Result<(), AllocError>
     requires { IsIndex lock.now.packages }
-    ensures { IfOk result (λ _. map finding_of findings.new.items ≡ map finding_of findings.old.items ++ flat_map (compared_demand lock.now.kind (index_parts lock.now.packages) (option_to_list (option_map (λ n. n.items) lock.now.project.now)) (packages_of lock.now.packages) (section_of section.now)) (demands_in (line_meaning_of meaning.now))) }
+    ensures { IfOk result (λ _. map finding_of findings.new.items ≡ map finding_of findings.old.items ++ flat_map (compared_demand lock.now.kind (index_parts lock.now.packages) (option_to_list (option_map (λ n. n.items) lock.now.project.now)) (map (λ n. n.items) lock.now.overridden.now) (packages_of lock.now.packages) (section_of section.now)) (demands_in (line_meaning_of meaning.now))) }
 {
     match meaning {
         LineMeaning::Asks(demand) => {
@@ -698,7 +634,7 @@ fn push_compared(
     string: &StringReading,
 ) -> Result<(), AllocError>
     requires { IsIndex lock.now.packages }
-    ensures { IfOk result (λ _. map finding_of findings.new.items ≡ map finding_of findings.old.items ++ compared lock.now.kind (index_parts lock.now.packages) (option_to_list (option_map (λ n. n.items) lock.now.project.now)) (packages_of lock.now.packages) (string_reading_of string.now)) }
+    ensures { IfOk result (λ _. map finding_of findings.new.items ≡ map finding_of findings.old.items ++ compared lock.now.kind (index_parts lock.now.packages) (option_to_list (option_map (λ n. n.items) lock.now.project.now)) (map (λ n. n.items) lock.now.overridden.now) (packages_of lock.now.packages) (string_reading_of string.now)) }
 {
     if !is_locked(&string.section) {
         return Ok(());
@@ -713,7 +649,7 @@ fn push_all_compared(
     strings: &[StringReading],
 ) -> Result<(), AllocError>
     requires { IsIndex lock.now.packages }
-    ensures { IfOk result (λ _. map finding_of findings.new.items ≡ map finding_of findings.old.items ++ flat_map (compared lock.now.kind (index_parts lock.now.packages) (option_to_list (option_map (λ n. n.items) lock.now.project.now)) (packages_of lock.now.packages)) (map string_reading_of strings.now)) }
+    ensures { IfOk result (λ _. map finding_of findings.new.items ≡ map finding_of findings.old.items ++ flat_map (compared lock.now.kind (index_parts lock.now.packages) (option_to_list (option_map (λ n. n.items) lock.now.project.now)) (map (λ n. n.items) lock.now.overridden.now) (packages_of lock.now.packages)) (map string_reading_of strings.now)) }
 {
     for string in strings {
         push_compared(alloc, findings, lock, string)?;
@@ -744,6 +680,7 @@ fn push_beside<'a>(
     let lock = IndexedLock {
         kind,
         project: &project.name,
+        overridden: project.overridden.as_slice(),
         packages,
     };
     push_all_compared(alloc, findings, &lock, project.strings.as_slice())

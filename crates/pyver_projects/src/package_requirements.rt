@@ -107,7 +107,7 @@ fn is_name_byte(byte: u8) -> bool
 }
 
 // The longest run of bytes of names at the start, and what follows it.
-fn split_name(text: &str) -> (&str, &str)
+pub(crate) fn split_name(text: &str) -> (&str, &str)
     ensures name { result.0.now ≡ lead is_name_byte text.now }
     ensures rest { result.1.now ≡ past is_name_byte text.now }
 {

@@ -2,13 +2,14 @@
 ghost use Rattle.std.specs.Prelude.{◌≡◌, ◌∷◌, ◌++◌, [], IfOk, codes, Some, length, map, nat_eq, option_map, string_bytes};
 ghost use Rattle.std.specs.List.{flat_map};
 ghost use Rattle.pep440_pick.specs.Names.{normal};
-ghost use Rattle.pyver_projects.specs.Documents.{array_sources, build_sources, dynamic_source, dynamic_sources, entry_names, extra_sources, group_items, group_names, group_sources, groups_table, included_name, item_source, item_sources, name_faults, optional_sources, repeated_name, source_from, sources, string_or, table_fault, table_faults, table_sources, text_sources, unless};
+ghost use Rattle.pyver_projects.specs.Documents.{array_sources, build_sources, dynamic_source, dynamic_sources, entry_names, extra_sources, group_items, group_names, group_sources, groups_table, included_name, item_source, leading_name, overridden_names, item_sources, name_faults, optional_sources, repeated_name, source_from, sources, string_or, table_fault, table_faults, table_sources, text_sources, unless};
 ghost use Rattle.pyver_projects.specs.ProjectViews.{IsNameIndex, indexed_names, section_of, project_string_of};
 ghost use Rattle.pyver_projects.specs.ProjectStrings.{Extra, Group, Include, entries, members_list};
 ghost use Rattle.toml.specs.Data.{Data, as_str};
 ghost use Rattle.toml.specs.View.{table_view, view};
 
 use crate::groups::{NameIndex, group_names, table_names};
+use crate::package_requirements::split_name;
 use crate::table::{inside, is_array_or_none, is_table_or_none, items, table, text, top};
 use pep440_pick::is_name;
 use pyver_findings::normalize_name;
@@ -574,6 +575,59 @@ fn push_dynamic(
         "not an array of strings",
     )?;
     push_dynamic_items(alloc, sources, project, items(dynamic))
+}
+
+// Adds the normal form of the name that the requirement begins with, if it is a string.
+fn push_leading_name(
+    alloc: Global,
+    names: &mut Vec<Vec<u8>>,
+    text: Option<&str>,
+) -> Result<(), AllocError>
+    ensures { IfOk result (λ _. map (λ n. n.items) names.new.items ≡ map (λ n. n.items) names.old.items ++ leading_name (option_map (λ t. t.now) text.entry)) }
+{
+    if let Some(text) = text {
+        let (name, _) = split_name(text);
+        names.push(normalize_name(alloc, name)?)?;
+    }
+    Ok(())
+}
+
+fn push_leading_names(
+    alloc: Global,
+    names: &mut Vec<Vec<u8>>,
+    found: &[Value],
+) -> Result<(), AllocError>
+    ensures { IfOk result (λ _. map (λ n. n.items) names.new.items ≡ map (λ n. n.items) names.old.items ++ flat_map (λ (d : Data). leading_name (as_str d)) (map view found.now)) }
+{
+    for item in found {
+        push_leading_name(alloc, names, item.as_str())?;
+    }
+    Ok(())
+}
+
+// The normal forms of the names in the table, if it is one.
+fn names_in(alloc: Global, value: Option<&Value>) -> Result<Vec<Vec<u8>>, AllocError>
+    ensures { IfOk result (λ names. map (λ n. n.items) names.items ≡ entry_names (entries (option_map (λ v. view v.now) value.entry))) }
+{
+    match table(value) {
+        Some(table) => table_names(alloc, table),
+        None => Ok(Vec::new(alloc)),
+    }
+}
+
+// The names whose versions the project sets itself, for uv or for PDM.
+#[tactic(auto, using(crate::proofs::Walks::joined_views))]
+pub(crate) fn overridden_names(alloc: Global, document: &Table) -> Result<Vec<Vec<u8>>, AllocError>
+    ensures { IfOk result (λ names. map (λ n. n.items) names.items ≡ overridden_names (table_view document.now)) }
+{
+    let tool = top(document, "tool");
+    let of_uv = inside(inside(tool, "uv"), "override-dependencies");
+    let of_pdm = inside(inside(inside(tool, "pdm"), "resolution"), "overrides");
+    let mut names = Vec::new(alloc);
+    push_leading_names(alloc, &mut names, items(of_uv))?;
+    let mut more = names_in(alloc, of_pdm)?;
+    names.append(&mut more)?;
+    Ok(names)
 }
 
 // Adds the names of tables that are none.

@@ -2,7 +2,7 @@ use Rattle.std.proofs.Common.{◌≡◌, ◌++◌, drop, map}
 use Rattle.std.specs.List.{flat_map}
 use Rattle.pyver_projects.specs.Comparing.{names_read}
 use Rattle.pyver_projects.specs.ProjectViews.{reading_in}
-use Rattle.pyver_projects.proofs.lock_comparison.collect_project_names.Given as goal
+use Rattle.pyver_projects.proofs.known_projects.collect_project_names.Given as goal
 
 abbrev pub invariant-loop-document : goal.invariant-loop-document
 invariant-loop-document l =

@@ -3,10 +3,13 @@ use Rattle.std.specs.List.{list_any}
 use Rattle.pyver_findings.proofs.Steps.{any_viewed}
 use Rattle.pyver_projects.specs.Comparing.{is_installer, is_project_reading}
 use Rattle.pyver_projects.specs.ProjectViews.{reading_in}
-use Rattle.pyver_projects.proofs.lock_comparison.KnownProjects.new.Goals as goal
+use Rattle.pyver_projects.proofs.known_projects.KnownProjects.new.Goals as goal
 
 pub returns : goal.returns
 returns c =
     let read = c.args.read.now in
     let any = c.has_project_reading.ensures ∙ sym (any_viewed is_project_reading reading_in read) in
-    λ i name. is_installer name || (not (any i) || list_any (bytes_eq name) (c.in_ok-collect_project_names.ensures i))
+    λ i name. record {
+      lacks = is_installer name || (not (any i) || list_any (bytes_eq name) (c.in_ok-collect_project_names.ensures i));
+      overrides = list_any (bytes_eq name) (c.in_ok-collect_overridden_names.ensures i);
+    }
