@@ -1,5 +1,5 @@
 -- What a list allows, and what a set by itself does, of bytes that were read and of compiled bytes as they lie.
-use Rattle.std.proofs.Common.{◌≡◌, ◌∙◌, ◌&&◌, ◌||◌, ℕ, Bool, true, false, not, List, refl, sym, ap, inl, inr, subst, ◌≤◌, zero, suc, [], true≢false, arith}
+use Rattle.std.proofs.Common.{◌≡◌, ◌∙◌, ◌&&◌, ◌||◌, ℕ, Bool, true, false, not, List, refl, sym, ap, inl, inr, subst, ◌≤◌, zero, suc, true≢false, arith}
 use Rattle.std.specs.Prelude.{slice_get, ◌==◌, Err, Ok, Result, if◌then◌else◌, not}
 use Rattle.pep440_compiled.proofs.SetMerging.{valid_set}
 use Rattle.pep440_compiled.specs.Lists.{HasSetFormat, IsFormBy, has_set, DenotesList}

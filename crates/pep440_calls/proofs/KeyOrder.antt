@@ -8,7 +8,7 @@ use Rattle.std.proofs.lemmas.Cmp.{nat_cmp_total, then_total}
 use Rattle.std.specs.Cmp.{IsTotalOrder, on_total}
 use Rattle.std.specs.Cmp.Lexicographic.{nat_list_cmp_total, slice_cmp}
 use Rattle.std.specs.List.{All, AllByRecursion, enumerate_from, filter, flat_map}
-use Rattle.std.specs.List.Sorted.{IsPermutation, IsSorted, IsStable, IsSortedBy, IsStableBy, ties}
+use Rattle.std.specs.List.Sorted.{IsPermutation, IsStable, IsSortedBy, IsStableBy, ties}
 use Rattle.std.specs.Ordering.{is_lt, nat_cmp, on, ordering_reverse, ordering_then}
 use Rattle.std.specs.Prelude.{IfOk, Result, Ok, Err}
 use Rattle.std.specs.Slice.Scan.{big_endian}
@@ -23,7 +23,7 @@ use Rattle.pep440_version.specs.Key.{record_cmp}
 use Rattle.pep440_version.specs.Key.KeyLaws.{record_total}
 use Rattle.pep440_version.specs.Record.{Record, from_parts}
 use Rattle.pep440_version.specs.RoundTrip.{IsParsed}
-use Rattle.pep440_calls.specs.Batches.{ArrangesPositions, HasEntries, IsEntryOf, entry_cmp, key_at, padded, position_cmp}
+use Rattle.pep440_calls.specs.Batches.{ArrangesPositions, HasEntries, IsEntryOf, entry_cmp, key_at, padded}
 use Rattle.pep440_calls.specs.Statuses.{Joins, ends_from}
 use Rattle.pep440_calls.specs.declared.batch.Entry.{Entry}
 

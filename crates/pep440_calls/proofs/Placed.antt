@@ -1,18 +1,17 @@
 -- Many texts, read one after another: versions with their places, marks, sort keys.
-use Rattle.std.proofs.Common.{Bor, ◌≡◌, ◌<◌, ◌+◌, ◌∙◌, ℕ, zero, suc, Some, List, [], ◌∷◌, ◌++◌, length, get_or, take, map, refl, sym, ap, subst, arith, ◌⊎◌, ◌||◌, Bool, true, false, Option, inl, inr, not, append-nil, append_assoc, ◌&&◌, ◌≤◌, None, cond, drop, String, Global, Ok, Err, Result, string_bytes}
-use Rattle.std.proofs.lemmas.List.{get_or_default, length-map, length-take-le, map-append, take_more, length-append, get_or-map}
-use Rattle.std.proofs.lemmas.List.Elements.{All-push, All-from_recursion, recursion_from_All}
+use Rattle.std.proofs.Common.{Bor, ◌≡◌, ◌<◌, ◌+◌, ◌∙◌, ℕ, zero, suc, Some, List, [], ◌∷◌, ◌++◌, length, get_or, take, map, refl, sym, ap, subst, arith, ◌⊎◌, ◌||◌, Bool, true, false, Option, inl, inr, not, append-nil, append_assoc, String, Global, Ok, Err, Result, string_bytes}
+use Rattle.std.proofs.lemmas.List.{get_or_default, length-map, length-take-le, map-append, take_more, length-append}
+use Rattle.std.proofs.lemmas.List.Elements.{All-from_recursion}
 use Rattle.std.proofs.lemmas.Slice.Zip.{all_zipped_more}
-use Rattle.std.specs.List.{All, AllZip, enumerate_from, flat_map, AllByRecursion, filter}
-use Rattle.std.specs.List.Sorted.{IsPermutation, IsSorted, IsStable, IsSortedBy, IsStableBy, ties}
-use Rattle.std.specs.Ordering.{on, bool_cmp, is_ge, is_lt, ordering_then, nat_cmp, ordering_reverse}
-use Rattle.std.specs.Prelude.{IfOk, IsSomeAnd, slice_get}
+use Rattle.std.specs.List.{All, AllZip, flat_map, AllByRecursion}
+use Rattle.std.specs.Ordering.{bool_cmp, is_ge, is_lt, ordering_then}
+use Rattle.std.specs.Prelude.{IsSomeAnd, slice_get}
 use Rattle.std.specs.declared.cmp.Ordering.{Ordering}
 use Rattle.pep440_keys.specs.SortKeys.{key_bytes}
 use Rattle.pep440_version.specs.Key.{record_cmp}
-use Rattle.pep440_version.specs.Record.{Record, from_parts}
+use Rattle.pep440_version.specs.Record.{Record}
 use Rattle.pep440_version.specs.RoundTrip.{IsParsed}
-use Rattle.pep440_calls.specs.Batches.{ArrangesPositions, BatchFaults, IsContainedString, JoinsEncodings, batch_error_at}
+use Rattle.pep440_calls.specs.Batches.{BatchFaults, IsContainedString, JoinsEncodings, batch_error_at}
 use Rattle.pep440_calls.specs.Statuses.{Faults, Joins, ends_from, HoldsOrFaults}
 use Rattle.pep440_calls.specs.declared.fault.Fault.{Fault}
 use Rattle.pep440_calls.specs.declared.fault.Fault.TheVariants.{InvalidVersion, InvalidList, InvalidRight, NoList, NoSet, NumberAtMax, OutOfMemory}
@@ -32,12 +31,6 @@ use Rattle.std.proofs.lemmas.List.Concat.{flat_map-append}
 use Rattle.std.specs.declared.ops.Bound.{Bound}
 use Rattle.pep440_rs.specs.Bounds.{Segments}
 use Rattle.pep440_calls.specs.CallResults.{JoinsBounds, bound_bytes, segment_bounds, ChangesTo, IsEditError, BytesDenoteChange, RejectsChangeWord, RejectsChangeWordAt, EditFaults}
-use Rattle.std.proofs.lemmas.List.Sorted.{All-permutation, IsPermutation-map}
-use Rattle.std.specs.Cmp.{IsTotalOrder, on_total}
-use Rattle.std.specs.Cmp.Lexicographic.{slice_cmp}
-use Rattle.pep440_compiled.proofs.Fronts.{keyed}
-use Rattle.pep440_keys.proofs.Order.{keys_in_order}
-use Rattle.pep440_version.specs.Key.KeyLaws.{record_total}
 use Rattle.pep440_version.specs.Changes.ChangeWords.{not_a_change_text}
 use Rattle.pep440_version.specs.Sentinels.{print_with_sentinels}
 use Rattle.pep440_version.specs.Changes.{edit}
