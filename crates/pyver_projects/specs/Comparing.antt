@@ -149,7 +149,7 @@ module _ (excused : List ℕ → Excuse) where
   abbrev pub unmet_demand : LockParts → List LockedReading → Demand → List Finding
   unmet_demand parts ys a = if (excused a.name).overrides then [] else lacking parts ys a ++ excluded a ys
 
-  -- the same of a line that may be none
+  -- what a line lacks and excludes there, if it is a requirement
   abbrev pub unmet : LockParts → List LockedReading → LineMeaning → List Finding
   unmet parts ys m = flat_map (unmet_demand parts ys) (demands_in m)
 

@@ -7,7 +7,7 @@ ghost use Rattle.pyver_projects.specs.ProjectViews.{document_reading_of, excuses
 use crate::document_reading::{DocumentReading, ReadDocument};
 use std::alloc::{AllocError, Global};
 
-// The projects that are checked: whether there are some, and their names.
+// The projects that are checked: whether there are some, and the names that they have and override.
 #[derive(Drop)]
 pub(crate) struct KnownProjects {
     is_some: bool,
@@ -72,6 +72,7 @@ fn collect_project_names(
     Ok(names)
 }
 
+// Adds a copy of the name.
 fn push_copy(alloc: Global, names: &mut Vec<Vec<u8>>, name: &Vec<u8>) -> Result<(), AllocError>
     ensures { IfOk result (λ _. map (λ n. n.items) names.new.items ≡ map (λ n. n.items) names.old.items ++ name.now.items ∷ []) }
 {
@@ -126,7 +127,7 @@ fn collect_overridden_names(
 }
 
 // The name is one of these.
-pub(crate) fn has_name(names: &[Vec<u8>], name: &[u8]) -> bool
+pub(crate) fn contains_name(names: &[Vec<u8>], name: &[u8]) -> bool
     ensures { result ≡ list_any (λ known. bytes_eq name.now known.items) names.now }
 {
     names.iter().any(|known| name == known.as_slice())
@@ -148,7 +149,7 @@ impl KnownProjects {
     pub(crate) fn excuses(&self, name: &[u8]) -> bool
         ensures { result ≡ (excuses self.now name.now).lacks }
     {
-        is_installer(name) || !self.is_some || has_name(self.names.as_slice(), name)
+        is_installer(name) || !self.is_some || contains_name(self.names.as_slice(), name)
     }
 
     // Nothing is asked of a package of this name.
@@ -156,7 +157,7 @@ impl KnownProjects {
     pub(crate) fn overrides(&self, name: &[u8]) -> bool
         ensures { result ≡ (excuses self.now name.now).overrides }
     {
-        has_name(self.overridden.as_slice(), name)
+        contains_name(self.overridden.as_slice(), name)
     }
 }
 

@@ -12,7 +12,7 @@ ghost use Rattle.std.specs.Option.{option_map_or};
 use crate::document_kind::{Document, DocumentKind, LockKind, is_beside};
 use crate::document_reading::{DocumentReading, ReadDocument, StringReading};
 use crate::known_environment::{KnownEnvironment, known_environments};
-use crate::known_projects::{KnownProjects, has_name, is_installer};
+use crate::known_projects::{KnownProjects, contains_name, is_installer};
 use crate::lock_faults::is_listed_part;
 use crate::locked_package::LockParts;
 use crate::locked_reading::LockedReading;
@@ -105,7 +105,7 @@ impl<'a> IndexedLock<'a> {
     fn is_overridden(&self, name: &[u8]) -> bool
         ensures { result ≡ list_any (bytes_eq name.now) (map (λ n. n.items) self.now.overridden.now) }
     {
-        has_name(self.overridden, name)
+        contains_name(self.overridden, name)
     }
 }
 
