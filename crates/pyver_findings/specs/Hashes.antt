@@ -86,7 +86,7 @@ lacking_of_line l pinned hashed =
 abbrev pub lacking_by : (List ℕ → Bool) → (List ℕ → Bool) → (List ℕ → Bool) → Demand → List Finding
 lacking_by is_file is_pinned is_hashed a = if is_file a.line.file then lacking_of_line a.line (is_pinned a.name) (is_hashed a.name) else []
 
--- the same by the lines
+-- what the line lacks, by which names these lines pin and hash
 abbrev pub lacking_in : (List ℕ → Bool) → List Demand → Demand → List Finding
 lacking_in is_file lines a = lacking_by is_file (has_pin lines) (may_be_hashed lines) a
 

@@ -30,6 +30,14 @@ fn has_project_reading(read: &[ReadDocument<'_>]) -> bool
         .any(|document| is_project_reading(&document.reading))
 }
 
+// Adds a copy of the name.
+fn push_copy(alloc: Global, names: &mut Vec<Vec<u8>>, name: &Vec<u8>) -> Result<(), AllocError>
+    ensures { IfOk result (λ _. map (λ n. n.items) names.new.items ≡ map (λ n. n.items) names.old.items ++ name.now.items ∷ []) }
+{
+    names.push(Vec::from_slice(alloc, name.as_slice())?)?;
+    Ok(())
+}
+
 // Adds the name, if there is one.
 fn push_name(
     alloc: Global,
@@ -38,10 +46,10 @@ fn push_name(
 ) -> Result<(), AllocError>
     ensures { IfOk result (λ _. map (λ n. n.items) names.new.items ≡ map (λ n. n.items) names.old.items ++ option_to_list (option_map (λ n. n.items) name.now)) }
 {
-    if let Some(name) = name {
-        names.push(Vec::from_slice(alloc, name.as_slice())?)?;
+    match name {
+        Some(name) => push_copy(alloc, names, name),
+        None => Ok(()),
     }
-    Ok(())
 }
 
 // Adds the name of the project, if it is one and has a name.
@@ -70,14 +78,6 @@ fn collect_project_names(
         push_project_name(alloc, &mut names, &document.reading)?;
     }
     Ok(names)
-}
-
-// Adds a copy of the name.
-fn push_copy(alloc: Global, names: &mut Vec<Vec<u8>>, name: &Vec<u8>) -> Result<(), AllocError>
-    ensures { IfOk result (λ _. map (λ n. n.items) names.new.items ≡ map (λ n. n.items) names.old.items ++ name.now.items ∷ []) }
-{
-    names.push(Vec::from_slice(alloc, name.as_slice())?)?;
-    Ok(())
 }
 
 // Adds copies of these.

@@ -310,7 +310,7 @@ fn push_group_names(
     Ok(())
 }
 
-// The same, if the lock is Poetry's.
+// Adds the groups that the packages of Poetry's lock name, and nothing of another.
 fn push_package_parts(
     alloc: Global,
     names: &mut Vec<Vec<u8>>,
