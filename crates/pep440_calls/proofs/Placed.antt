@@ -128,16 +128,30 @@ views_more texts i x keys new key v inside means is more (versions, all, same) =
   ap (map now) more ∙ map-append now keys (key ∷ []) ∙ (λ j. same j ++ is j ∷ []) ∙ sym (map-append key_bytes versions (v ∷ [])),
 )
 
-by_order : (a b : Bool) (o : Ordering) → a ≡ true → is_ge o ≡ true → is_lt (ordering_then (bool_cmp a b) o) ≡ false
-by_order false b o taken ge = cc taken
+by_order : (a b : Bool) (o : Ordering) → a || not b ≡ true → is_ge o ≡ true → is_lt (ordering_then (bool_cmp a b) o) ≡ false
+by_order false true o taken ge = cc taken
+by_order false false Less taken ge = cc ge
+by_order false false Equal taken ge = refl
+by_order false false Greater taken ge = refl
 by_order true false o taken ge = refl
 by_order true true Less taken ge = cc ge
 by_order true true Equal taken ge = refl
 by_order true true Greater taken ge = refl
 
+-- nothing is preferred less than a pre-release
+least_taken : (takes p r : Bool) → r ≡ true → (takes || not p) || not (takes || not r) ≡ true
+least_taken true p r h = refl
+least_taken false false r h = refl
+least_taken false true true h = refl
+least_taken false true false h = cc h
+
 -- a version that is not above one which is taken is not preferred to it
-pub not_preferred : (takes : Bool) (p r : Record) (o : Ordering) → takes || not (any_prerelease p) ≡ true → o ≡ record_cmp p r → is_ge o ≡ true → is_lt (preference takes p r) ≡ false
-not_preferred takes p r o taken is ge = by_order (takes || not (any_prerelease p)) (takes || not (any_prerelease r)) (record_cmp p r) taken (ap is_ge (sym is) ∙ ge)
+pub not_preferred : (takes : Bool) (p r : Record) → is_ge (record_cmp p r) ≡ true → takes || not (any_prerelease p) ≡ true → is_lt (preference takes p r) ≡ false
+not_preferred takes p r ge taken = by_order (takes || not (any_prerelease p)) (takes || not (any_prerelease r)) (record_cmp p r) (ap (λ b. b || not (takes || not (any_prerelease r))) taken) ge
+
+-- nor is a pre-release that is not above another version
+pub not_preferred_prerelease : (takes : Bool) (p r : Record) → is_ge (record_cmp p r) ≡ true → any_prerelease r ≡ true → is_lt (preference takes p r) ≡ false
+not_preferred_prerelease takes p r ge pre = by_order (takes || not (any_prerelease p)) (takes || not (any_prerelease r)) (record_cmp p r) (least_taken takes (any_prerelease p) (any_prerelease r) pre) ge
 
 module _ (takes : Bool) (list : List Spec) where
   only : (t : List ℕ) (r q : Record) → IsContainedString list t r → IsContainedString list t q → r ≡ q

@@ -1,10 +1,11 @@
 //! The newest version of a batch that a list matches.
 ghost use Rattle.std.specs.Prelude.{IfOk, IfSome, MatchOption, false, map, not, true, ◌||◌, ◌≡◌, ◌⊎◌};
-ghost use Rattle.std.specs.Ordering.{is_lt};
+ghost use Rattle.std.specs.Ordering.{is_ge, is_lt};
 ghost use Rattle.pep440_pick.specs.Greatest.{Greatest, is_above};
 ghost use Rattle.pep440_pick.specs.Newest.{preference};
 ghost use Rattle.pep440_rs.specs.LiteralMatching.{list_matches_literally};
 ghost use Rattle.pep440_rs.specs.Matching.{any_prerelease};
+ghost use Rattle.pep440_version.specs.Key.{record_cmp};
 ghost use Rattle.pep440_version.specs.Record.{Record};
 ghost use Rattle.pep440_calls.specs.CallerBytes.{BytesDenote, ListFaults, RejectsBytes};
 ghost use Rattle.pep440_calls.specs.Batches.{FindsNewestString, IsContainedString, NewestResult};
@@ -83,18 +84,34 @@ fn is_taken(takes: bool, version: &Version) -> bool
     takes || !version.any_prerelease()
 }
 
+// Whether the bytes are those of a compiled pre-release or developmental release.
+fn is_prerelease(bytes: &[u8]) -> bool
+    ensures { result ≡ true → (r : Record) → BytesDenote bytes.now r → any_prerelease r ≡ true }
+{
+    match pep440_compiled::any_prerelease(bytes) {
+        Ok(found) => found,
+        Err(_) => false,
+    }
+}
+
+// Whether the bytes, as they lie, are those of a compiled version that is not above the newest one, which the best denote.
+fn is_at_most(newest: &Version, best: &[u8], bytes: &[u8]) -> bool
+    requires { BytesDenote best.now newest.now }
+    ensures { result ≡ true → (r : Record) → BytesDenote bytes.now r → is_ge (record_cmp newest.now r) ≡ true }
+{
+    let _newest = newest;
+    match pep440_compiled::compare(best, bytes) {
+        Ok(order) => order.is_ge(),
+        Err(_) => false,
+    }
+}
+
 // Whether the bytes, as they lie, are those of a compiled version that is not preferred to the newest one, which the best denote.
 fn is_below(takes: bool, newest: &Version, best: &[u8], bytes: &[u8]) -> bool
     requires { BytesDenote best.now newest.now }
     ensures { result ≡ true → (r : Record) → BytesDenote bytes.now r → is_lt (preference takes newest.now r) ≡ false }
 {
-    if !is_taken(takes, newest) {
-        return false;
-    }
-    match pep440_compiled::compare(best, bytes) {
-        Ok(order) => order.is_ge(),
-        Err(_) => false,
-    }
+    is_at_most(newest, best, bytes) && (is_taken(takes, newest) || is_prerelease(bytes))
 }
 
 // Whether the bytes need no other look, as those of most compiled versions of a batch.

@@ -83,6 +83,7 @@ same_cause cause.Variable cause.Variable = true
 same_cause cause.Location cause.Location = true
 same_cause cause.Url cause.Url = true
 same_cause cause.OtherSyntax cause.OtherSyntax = true
+same_cause cause.OtherTable cause.OtherTable = true
 same_cause cause.Undecided cause.Undecided = true
 same_cause _ _ = false
 
@@ -92,7 +93,8 @@ cause_text cause.PipOption = codes "pyver: options of pip left out: "
 cause_text cause.Variable = codes "pyver: lines with a variable left out: "
 cause_text cause.Location = codes "pyver: paths, archives and URLs left out: "
 cause_text cause.Url = codes "pyver: requirements and files by URL left out: "
-cause_text cause.OtherSyntax = codes "pyver: requirements of packages in another syntax left out: "
+cause_text cause.OtherSyntax = codes "pyver: requirements in another syntax left out: "
+cause_text cause.OtherTable = codes "pyver: tables of requirements left out: "
 cause_text cause.Undecided = codes "pyver: sets of markers not decided: "
 
 -- a line with a number
@@ -108,9 +110,13 @@ abbrev pub left_out_lines : List Cause → List ℕ
 left_out_lines causes = left_out_text causes cause.Editable ++ (left_out_text causes cause.PipOption ++ (left_out_text causes cause.Variable
     ++ (left_out_text causes cause.Location ++ (left_out_text causes cause.Url ++ left_out_text causes cause.OtherSyntax))))
 
--- and how many sets of markers
+-- how many tables and sets of markers
+abbrev pub left_out_others : List Cause → List ℕ
+left_out_others causes = left_out_text causes cause.OtherTable ++ left_out_text causes cause.Undecided
+
+-- both
 abbrev pub left_out_texts : List Cause → List ℕ
-left_out_texts causes = left_out_lines causes ++ left_out_text causes cause.Undecided
+left_out_texts causes = left_out_lines causes ++ left_out_others causes
 
 -- so many of this noun
 abbrev pub counted : ℕ → List ℕ → List ℕ

@@ -13,8 +13,10 @@ pub enum Cause {
     Location,
     /// A name with a URL, or a URL of another file.
     Url,
-    /// A requirement of a locked package whose list of versions is not one of PEP 440, as Poetry's `^1.0`.
+    /// A requirement whose list of versions is not one of PEP 440, as `^1.0 || ^2.0` of Poetry.
     OtherSyntax,
+    /// A table of a project that is known to hold requirements and is not read.
+    OtherTable,
     /// Of some markers of one name it is not known whether they hold in one environment, or the name has more than 32, or too many sets.
     Undecided,
 }

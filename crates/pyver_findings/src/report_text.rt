@@ -2,7 +2,7 @@
 ghost use Rattle.std.specs.Prelude.{◌≡◌, ◌+◌, ◌++◌, IfOk, count_by, map, option_map, take};
 ghost use Rattle.std.specs.Fmt.{decimal};
 ghost use Rattle.std.specs.List.{flat_map};
-ghost use Rattle.pyver_findings.specs.ReportTexts.{caret_text, cause_text, column_position_text, conflict_text, count_text, counted, environment_line, finding_caret, finding_message, finding_position, finding_text, first_position_text, ignored_text, left_out_lines, left_out_text, left_out_texts, more_text, line_position_text, problems_text, quoted_line, quoted_lines, report_text, same_cause, summary_text};
+ghost use Rattle.pyver_findings.specs.ReportTexts.{caret_text, cause_text, column_position_text, conflict_text, count_text, counted, environment_line, finding_caret, finding_message, finding_position, finding_text, first_position_text, ignored_text, left_out_lines, left_out_others, left_out_text, left_out_texts, more_text, line_position_text, problems_text, quoted_line, quoted_lines, report_text, same_cause, summary_text};
 ghost use Rattle.pyver_findings.specs.Views.{file_line_of, finding_of, report_of};
 
 use crate::cause::Cause;
@@ -275,6 +275,7 @@ fn same_cause(one: Cause, other: Cause) -> bool
             | (Cause::Location, Cause::Location)
             | (Cause::Url, Cause::Url)
             | (Cause::OtherSyntax, Cause::OtherSyntax)
+            | (Cause::OtherTable, Cause::OtherTable)
             | (Cause::Undecided, Cause::Undecided)
     )
 }
@@ -288,7 +289,8 @@ fn cause_text(cause: Cause) -> &'static str
         Cause::Variable => "pyver: lines with a variable left out: ",
         Cause::Location => "pyver: paths, archives and URLs left out: ",
         Cause::Url => "pyver: requirements and files by URL left out: ",
-        Cause::OtherSyntax => "pyver: requirements of packages in another syntax left out: ",
+        Cause::OtherSyntax => "pyver: requirements in another syntax left out: ",
+        Cause::OtherTable => "pyver: tables of requirements left out: ",
         Cause::Undecided => "pyver: sets of markers not decided: ",
     }
 }
@@ -345,11 +347,23 @@ fn push_lines_left_out(
     push_left_out(alloc, bytes, causes, Cause::OtherSyntax)
 }
 
+// How many tables and sets of markers were left out.
+fn push_others_left_out(
+    alloc: Global,
+    bytes: &mut Vec<u8>,
+    causes: &[Cause],
+) -> Result<(), AllocError>
+    ensures { IfOk result (λ _. bytes.new.items ≡ bytes.old.items ++ left_out_others causes.now) }
+{
+    push_left_out(alloc, bytes, causes, Cause::OtherTable)?;
+    push_left_out(alloc, bytes, causes, Cause::Undecided)
+}
+
 fn push_all_left_out(alloc: Global, bytes: &mut Vec<u8>, causes: &[Cause]) -> Result<(), AllocError>
     ensures { IfOk result (λ _. bytes.new.items ≡ bytes.old.items ++ left_out_texts causes.now) }
 {
     push_lines_left_out(alloc, bytes, causes)?;
-    push_left_out(alloc, bytes, causes, Cause::Undecided)
+    push_others_left_out(alloc, bytes, causes)
 }
 
 // How many findings comments ignore, if any.

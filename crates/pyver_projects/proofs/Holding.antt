@@ -24,9 +24,9 @@ use Rattle.pyver_projects.specs.Comparing.{Excuse, FindsOfReading, absent, besid
 use Rattle.pyver_projects.specs.Documents.{has_group_tool, locked, overridden_names, project_names, sources}
 use Rattle.pyver_projects.specs.Groups.{Groups, Inclusion, groups, inclusions, no_group}
 use Rattle.pyver_projects.proofs.LockedPackages.{IsLackHere, IsOutsideHere, excluded_right, none_named, partly_right}
-use Rattle.pyver_projects.specs.Meanings.{Document, DocumentReading, IsBroken, IsBrokenReading, IsDocumentReading, IsFileReading, IsLock, IsLockedReading, IsProject, IsRequirementReading, IsSectionMeaning, IsSoundDocument, IsSoundString, IsStringReading, IsVersionReading, LockedReading, StringReading, fault_meaning, file_meaning, is_of_version, package_line, reference_marker, requirement_line, string_line, position_line}
+use Rattle.pyver_projects.specs.Meanings.{Document, DocumentReading, IsBroken, IsBrokenReading, IsDocumentReading, IsFileReading, IsLock, IsLockedReading, IsProject, IsRequirementReading, IsSectionMeaning, IsSoundDocument, IsSoundString, IsStringReading, IsVersionReading, LockedReading, StringReading, fault_meaning, file_meaning, is_of_version, left_out_if_none, package_line, reference_marker, requirement_line, string_line, position_line}
 use Rattle.pyver_projects.specs.ProjectLaws.{AlwaysAsks, DocumentFindingsHold, HasLock, HasPackage, HasProject, IsDocumentFinding, IsReadable, IsReadableAs, IsRightPart, line_in_part, part_lines}
-use Rattle.pyver_projects.specs.ProjectStrings.{Build, Dependencies, Extra, Group, Include, Invalid, LockContents, LockFault, LockParts, LockedFile, LockedPackage, LockedRequirement, ProjectString, Python, Section, Version, last_bytes}
+use Rattle.pyver_projects.specs.ProjectStrings.{Build, Dependencies, Entry, Extra, Group, Include, Invalid, LockContents, LockFault, LockParts, LockedFile, LockedPackage, LockedRequirement, ProjectString, Python, Section, Unread, Version, last_bytes}
 use Rattle.pyver_projects.specs.declared.document_kind.DocumentKind.{DocumentKind}
 use Rattle.pyver_projects.specs.declared.document_kind.DocumentKind.TheVariants.{Lock, Project}
 use Rattle.pyver_projects.specs.declared.document_kind.LockKind.{LockKind}
@@ -85,6 +85,13 @@ never_asks : (a : Demand) (line : FileLine) (b : Bool) (reason : List ℕ) → A
 never_asks a line true reason e = cc e
 never_asks a line false reason e = cc e
 
+-- what is left out if it is none asks for what it asked
+of_entry : (line : FileLine) (a : Demand) (m : LineMeaning) → IsPartsMeaning line (line_parts line.text) m → Asks a ≡ left_out_if_none m → AsksFor line (line_parts line.text) a
+of_entry line a (Asks b) is e = of_parts line (line_parts line.text) a (subst (λ (c : LineMeaning). IsPartsMeaning line (line_parts line.text) c) (sym e) is)
+of_entry line a (IsNone f) is e = cc e
+of_entry line a (LeftOut c) is e = cc e
+of_entry line a AsksNothing is e = cc e
+
 -- what a string asks for
 pub of_section : (all : Groups) (line : FileLine) (text : List ℕ) (a : Demand) (section : Section) → IsSectionMeaning all section line text (Asks a) → AsksFor line (line_parts line.text) a
 of_section all line text a Python (inl (list, d, e)) = absurd (never_asks a line _ _ e)
@@ -96,6 +103,8 @@ of_section all line text a (Extra name) is = of_parts line (line_parts line.text
 of_section all line text a (Group name) is = of_parts line (line_parts line.text) a is
 of_section all line text a (Include group included) is = absurd (no_include a line _ _ _ _ is)
 of_section all line text a (Invalid table reason) is = cc is
+of_section all line text a (Entry table name) (m, is, e) = of_entry line a m is e
+of_section all line text a (Unread c) is = cc is
 of_section all line text a Build is = of_parts line (line_parts line.text) a is
 
 module _ (line : FileLine) (n : Needed) (plain : IsPlain (line_parts line.text).requirement) (d : DerivesRequirement (line_parts line.text).requirement n) (marker : (line_parts line.text).marker ≡ None) (url : (line_parts line.text).url ≡ None) where
@@ -115,6 +124,8 @@ module _ (line : FileLine) (n : Needed) (plain : IsPlain (line_parts line.text).
   asks_always all text (Group name) x counts is = of_its_requirement x is
   asks_always all text (Include group included) x counts is = cc counts
   asks_always all text (Invalid table reason) x counts is = cc counts
+  asks_always all text (Entry table name) x counts (m, is, e) = e ∙ ap left_out_if_none (of_its_requirement m is)
+  asks_always all text (Unread c) x counts is = cc counts
   asks_always all text Build x counts is = cc counts
   asks_always all text Python x counts is = cc counts
   asks_always all text Version x counts is = cc counts

@@ -27,9 +27,9 @@ use Rattle.pyver_projects.specs.Comparing.{FindsOfReading, documents_report, wit
 use Rattle.pyver_projects.specs.Documents.{has_group_tool, overridden_names, project_names, sources}
 use Rattle.pyver_projects.specs.Groups.{Groups, groups, inclusions}
 use Rattle.pyver_projects.specs.KnownEnvironments.{ReadCondition}
-use Rattle.pyver_projects.specs.Meanings.{ArePythons, DocumentReading, IsBroken, IsConditionReading, IsDocumentReading, IsFileReading, IsLock, IsLockReading, IsLockedReading, IsProject, IsProjectReading, IsRequirementReading, reference_marker, IsSectionMeaning, IsStringReading, IsVersionReading, LockedReading, StringReading, fault_meaning, file_meaning, is_of_version, package_line, requirement_line, string_line, list_versions}
+use Rattle.pyver_projects.specs.Meanings.{ArePythons, left_out_if_none, DocumentReading, IsBroken, IsConditionReading, IsDocumentReading, IsFileReading, IsLock, IsLockReading, IsLockedReading, IsProject, IsProjectReading, IsRequirementReading, reference_marker, IsSectionMeaning, IsStringReading, IsVersionReading, LockedReading, StringReading, fault_meaning, file_meaning, is_of_version, package_line, requirement_line, string_line, list_versions}
 use Rattle.pyver_projects.specs.ProjectLaws.{DocumentReportsOnce, IsReadable, IsReadableAs}
-use Rattle.pyver_projects.specs.ProjectStrings.{Build, Dependencies, Extra, Group, Include, Invalid, LockContents, LockedFile, LockedPackage, LockedRequirement, PackageCondition, Section, Python, ProjectString, Version}
+use Rattle.pyver_projects.specs.ProjectStrings.{Build, Dependencies, Entry, Extra, Group, Include, Invalid, LockContents, LockedFile, LockedPackage, LockedRequirement, PackageCondition, Section, Python, ProjectString, Unread, Version}
 use Rattle.pyver_projects.specs.declared.document_kind.DocumentKind.{DocumentKind}
 use Rattle.pyver_projects.specs.declared.document_kind.DocumentKind.TheVariants.{Lock, Project}
 use Rattle.pyver_findings.proofs.MarkedConflicts.{IsOnce, IsTold, each_once, each_told, names_once, names_tell, no_causes}
@@ -46,6 +46,8 @@ one_meaning all line text (Extra name) x y a b = one_parts line (line_parts line
 one_meaning all line text (Group name) x y a b = one_parts line (line_parts line.text) x y a b
 one_meaning all line text (Include group included) x y a b = a ∙ sym b
 one_meaning all line text (Invalid table reason) x y a b = a ∙ sym b
+one_meaning all line text (Entry table name) x y (m, a, v) (n, b, w) = v ∙ ap left_out_if_none (one_parts line (line_parts line.text) m n a b) ∙ sym w
+one_meaning all line text (Unread c) x y a b = a ∙ sym b
 one_meaning all line text Build x y a b = one_parts line (line_parts line.text) x y a b
 one_meaning all line text Python x y (inl (l, d, a)) (inl (m, e, b)) = a ∙ ap (list_meaning line) (one_list text l m d e) ∙ sym b
 one_meaning all line text Python x y (inl (l, d, a)) (inr (f, r, b)) = absurd (not_both_list text l f d r)
@@ -67,6 +69,8 @@ one_python (Extra name) text p q a b = a ∙ sym b
 one_python (Group name) text p q a b = a ∙ sym b
 one_python (Include group included) text p q a b = a ∙ sym b
 one_python (Invalid table reason) text p q a b = a ∙ sym b
+one_python (Entry table name) text p q a b = a ∙ sym b
+one_python (Unread c) text p q a b = a ∙ sym b
 one_python Build text p q a b = a ∙ sym b
 
 pub one_string : (all : Groups) (file : File) (s : ProjectString) (x y : StringReading) → IsStringReading all file s x → IsStringReading all file s y → x ≡ y

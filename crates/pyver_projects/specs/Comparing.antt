@@ -13,7 +13,7 @@ use Rattle.pyver_findings.specs.declared.cause.Cause.{Cause}
 use Rattle.pyver_findings.specs.declared.finding.Conflict.TheVariants.{PinOutside}
 use Rattle.pyver_projects.specs.KnownEnvironments.{environment_name, is_left_out_in, known_environments}
 use Rattle.pyver_projects.specs.Meanings.{Document, DocumentReading, IsBroken, IsDocumentReading, IsLock, IsProject, LockedReading, StringReading}
-use Rattle.pyver_projects.specs.ProjectStrings.{Dependencies, Extra, Group, LockParts, Section}
+use Rattle.pyver_projects.specs.ProjectStrings.{Dependencies, Entry, Extra, Group, LockParts, Section}
 use Rattle.pyver_projects.specs.Together.{FindsOfParts}
 use Rattle.pyver_findings.specs.NamedFiles.{folder}
 use Rattle.pyver_projects.specs.Documents.{is_listed_part, lies_above}
@@ -182,22 +182,34 @@ names_groups Pdm parts = nat_lt 0 (length parts)
 names_groups Pylock parts = nat_lt 0 (length parts)
 names_groups _ parts = false
 
+-- the lock has what all tables of Poetry ask for
+abbrev pub is_of_poetry : LockKind → Bool
+is_of_poetry Poetry = true
+is_of_poetry _ = false
+
 -- a lock with these groups has what this part of the project needs
 abbrev pub is_needed : LockKind → List (List ℕ) → Section → Bool
 is_needed kind parts Dependencies = not (names_groups kind parts) || is_listed_part parts (codes "default")
 is_needed kind parts (Extra name) = locks_extras kind || is_listed_part parts name
 is_needed kind parts (Group name) = locks_groups kind || is_listed_part parts name
+is_needed kind parts (Entry table name) = is_of_poetry kind
 is_needed kind parts _ = false
+
+-- another tool than Poetry does not read its tables
+abbrev pub is_entry : Section → Bool
+is_entry (Entry table name) = true
+is_entry _ = false
 
 -- the lock is for other parts of the project: it says which groups it has, and this is none of them
 abbrev pub leaves_out : LockKind → List (List ℕ) → Section → Bool
-leaves_out kind parts section = names_groups kind parts && not (is_needed kind parts section)
+leaves_out kind parts section = (is_entry section || names_groups kind parts) && not (is_needed kind parts section)
 
 -- a lock may have what the part needs, but not what builds the project
 abbrev pub is_locked : Section → Bool
 is_locked Dependencies = true
 is_locked (Extra name) = true
 is_locked (Group name) = true
+is_locked (Entry table name) = true
 is_locked _ = false
 
 module _ (kind : LockKind) (parts : LockParts) (names : List (List ℕ)) where

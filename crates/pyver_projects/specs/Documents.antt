@@ -1,15 +1,18 @@
 -- The kinds of documents, by their paths and by words, and what a parsed one has to check: the strings of `pyproject.toml`, and the versions of a lock.
-use Rattle.std.specs.Prelude.{Bool, List, None, Option, Some, [], bytes_eq, codes, count_by, get_or, if◌then◌else◌, is_none, is_some, length, map, nat_eq, nat_lt, not, option_map, option_to_list, ℕ, ◌&&◌, ◌++◌, ◌+◌, ◌==◌, ◌||◌, ◌∷◌}
+use Rattle.std.specs.Prelude.{Bool, List, None, Option, Some, [], bytes_eq, codes, count_by, get_or, if◌then◌else◌, is_none, is_some, length, map, nat_eq, nat_lt, not, option_and_then, option_map, option_to_list, ℕ, ◌&&◌, ◌++◌, ◌+◌, ◌==◌, ◌||◌, ◌∷◌}
 use Rattle.std.specs.List.{ends_with, flat_map, list_any, starts_with}
-use Rattle.std.specs.Option.{option_or}
+use Rattle.std.specs.Option.{option_map_or, option_or}
 use Rattle.pep440_pick.specs.Names.{is_name, is_name_byte, normal}
+use Rattle.pep440_rs.specs.Blanks.{opens}
 use Rattle.pep440_version.specs.Reading.{lead}
-use Rattle.toml.specs.Data.{Data, Members, as_str, get, get_member}
+use Rattle.toml.specs.Data.{Data, Members, as_str, as_table, get, get_member}
 use Rattle.pyver_projects.specs.LockedFiles.{array_faults, files_from, last_section, counted_names, has_markers, locked_python, package_condition, package_faults, package_name_in}
-use Rattle.pyver_projects.specs.PackageRequirements.{requirements_from}
-use Rattle.pyver_projects.specs.ProjectStrings.{Build, Dependencies, Extra, Group, Include, Invalid, LockContents, LockFault, LockParts, LockedPackage, PackageCondition, ProjectString, Python, Section, Version, header_lines, entries, inside, is_array_or_none, is_table_or_none, listed, text_in}
+use Rattle.pyver_projects.specs.PackageRequirements.{poetry_list, requirement_text, requirements_from}
+use Rattle.pyver_projects.specs.ProjectStrings.{Build, Dependencies, Entry, Extra, Group, Include, Invalid, LockContents, LockFault, LockParts, LockedPackage, PackageCondition, ProjectString, Python, Section, Unread, Version, header_lines, entries, inside, is_array_or_none, is_table_or_none, key_path, listed, text_in}
 use Rattle.pyver_projects.specs.PipfileLocks.{document_faults, member_packages}
 use Rattle.pyver_findings.specs.NamedFiles.{folder}
+use Rattle.pyver_findings.specs.declared.cause.Cause.{Cause}
+use Rattle.pyver_findings.specs.declared.cause.Cause.TheVariants as cause
 use Rattle.pyver_projects.specs.declared.document_kind.DocumentKind.{DocumentKind}
 use Rattle.pyver_projects.specs.declared.document_kind.DocumentKind.TheVariants.{Lock, Project}
 use Rattle.pyver_projects.specs.declared.document_kind.LockKind.TheVariants.{Pdm, Pipfile, Poetry, Pylock, Unknown, Uv}
@@ -119,12 +122,16 @@ table_fault table name value = unless (is_table_or_none value) table name (codes
 abbrev pub optional_sources : Option Data → List ProjectString
 optional_sources extras = table_fault (codes "project.") (codes "optional-dependencies") extras ++ flat_map (extra_sources (entry_names (entries extras))) (entries extras)
 
+-- the two fields of the table `project` that are strings
+abbrev pub field_sources : Option Data → List ProjectString
+field_sources project = text_sources (codes "project.") (codes "requires-python") Python (inside (codes "requires-python") project)
+    ++ text_sources (codes "project.") (codes "version") Version (inside (codes "version") project)
+
 -- the strings in the table `project`
 abbrev pub table_sources : Option Data → List ProjectString
 table_sources project = array_sources (codes "project.") (codes "dependencies") Dependencies (inside (codes "dependencies") project)
     ++ (optional_sources (inside (codes "optional-dependencies") project)
-    ++ (text_sources (codes "project.") (codes "requires-python") Python (inside (codes "requires-python") project)
-    ++ text_sources (codes "project.") (codes "version") Version (inside (codes "version") project)))
+    ++ field_sources project)
 
 -- the names of tables that are none
 abbrev pub table_faults : Members → List ProjectString
@@ -136,13 +143,99 @@ table_faults document = table_fault [] (codes "project") (get_member (codes "pro
 abbrev pub build_sources : Members → List ProjectString
 build_sources document = array_sources (codes "build-system.") (codes "requires") Build (inside (codes "requires") (get_member (codes "build-system") document))
 
+-- ---- tables of tools
+
+-- what the entry of Poetry asks only under a condition
+abbrev pub is_conditional : Data → Bool
+is_conditional d = is_some (get (codes "markers") d) || (is_some (get (codes "python") d) || is_some (get (codes "platform") d))
+
+-- the list of a table, or `*`
+abbrev pub table_list : Data → Option (List ℕ)
+table_list d = if is_conditional d then None else Some (option_map_or (λ list. list) (text_in (get (codes "version") d)) (codes "*"))
+
+-- the list of an entry: a string, or a table that has no condition
+abbrev pub entry_list : Data → Option (List ℕ)
+entry_list d = option_or (as_str d) (option_and_then (λ (members : Members). table_list d) (as_table d))
+
+-- the name and the list are those of a package
+abbrev pub is_package_name : List ℕ → Bool
+is_package_name name = is_name name && not (bytes_eq name (codes "python"))
+
+-- that it is not read, for this cause
+abbrev pub unread : Cause → List ProjectString
+unread c = record { section = Unread c; text = [] } ∷ []
+
+-- the entry of this name with this list, as a requirement of PEP 508
+abbrev pub entry_source : List ℕ → List ℕ → Option (List ℕ) → List ProjectString
+entry_source table name None = unread cause.OtherSyntax
+entry_source table name (Some list) = record { section = Entry table name; text = requirement_text name (poetry_list list) } ∷ []
+
+-- what an entry of Poetry's table with this path asks for, if it does always
+abbrev pub entry_sources : List ℕ → List ℕ × Data → List ProjectString
+entry_sources table e = if is_package_name e.0 then entry_source table e.0 (entry_list e.1) else []
+
+-- the entries of the table
+abbrev pub poetry_table : List ℕ → Option Data → List ProjectString
+poetry_table table value = flat_map (entry_sources table) (entries value)
+
+-- those of a group of Poetry
+abbrev pub poetry_group : List ℕ × Data → List ProjectString
+poetry_group e = poetry_table (key_path (key_path (codes "tool.poetry.group.") e.0) (codes "dependencies")) (get (codes "dependencies") e.1)
+
+-- what Poetry's tables ask for ("Dependencies and dev-dependencies", "Dependency groups" of Poetry)
+abbrev pub poetry_sources : Option Data → List ProjectString
+poetry_sources poetry = poetry_table (codes "tool.poetry.dependencies.") (inside (codes "dependencies") poetry)
+    ++ (poetry_table (codes "tool.poetry.dev-dependencies.") (inside (codes "dev-dependencies") poetry)
+    ++ flat_map poetry_group (entries (inside (codes "group") poetry)))
+
+-- what uv or Rye, whose table has this path, adds to the group `dev`
+abbrev pub dev_sources : List ℕ → Option Data → List ProjectString
+dev_sources table tool = array_sources table (codes "dev-dependencies") (Group (codes "dev")) (inside (codes "dev-dependencies") tool)
+
+-- a requirement of a group of PDM, which may have editables beside
+abbrev pub pdm_source : List ℕ → Option (List ℕ) → List ProjectString
+pdm_source name None = []
+pdm_source name (Some text) = if opens 45 text then [] else record { section = Group (normal name); text = text } ∷ []
+
+-- what PDM adds to a group
+abbrev pub pdm_group : List ℕ × Data → List ProjectString
+pdm_group e = flat_map (λ (d : Data). pdm_source e.0 (as_str d)) (listed (Some e.1))
+
+-- the table is not read, if there is one
+abbrev pub unread_table : Option Data → List ProjectString
+unread_table value = if is_some value then unread cause.OtherTable else []
+
+-- the tables of Pixi and Hatch, and the constraints of uv
+abbrev pub unread_tables : Option Data → List ProjectString
+unread_tables tool = unread_table (inside (codes "dependencies") (inside (codes "pixi") tool))
+    ++ (unread_table (inside (codes "pypi-dependencies") (inside (codes "pixi") tool))
+    ++ (unread_table (inside (codes "envs") (inside (codes "hatch") tool))
+    ++ unread_table (inside (codes "constraint-dependencies") (inside (codes "uv") tool))))
+
+-- those of Setuptools and Flit
+abbrev pub unread_fields : Option Data → List ProjectString
+unread_fields tool = unread_table (inside (codes "dependencies") (inside (codes "dynamic") (inside (codes "setuptools") tool)))
+    ++ (unread_table (inside (codes "optional-dependencies") (inside (codes "dynamic") (inside (codes "setuptools") tool)))
+    ++ (unread_table (inside (codes "requires") (inside (codes "metadata") (inside (codes "flit") tool)))
+    ++ unread_table (inside (codes "requires-extra") (inside (codes "metadata") (inside (codes "flit") tool)))))
+
+-- what tables of tools ask for
+abbrev pub tool_sources : Option Data → List ProjectString
+tool_sources tool = poetry_sources (inside (codes "poetry") tool)
+    ++ (dev_sources (codes "tool.uv.") (inside (codes "uv") tool)
+    ++ (dev_sources (codes "tool.rye.") (inside (codes "rye") tool)
+    ++ (flat_map pdm_group (entries (inside (codes "dev-dependencies") (inside (codes "pdm") tool)))
+    ++ (unread_tables tool
+    ++ unread_fields tool))))
+
 -- the strings of `pyproject.toml`. Those of an included group stand in that group alone
 abbrev pub sources : Members → List ProjectString
 sources document = table_faults document
     ++ (table_sources (get_member (codes "project") document)
     ++ (dynamic_sources (get_member (codes "project") document)
     ++ (flat_map (group_sources (group_names document)) (groups_table document)
-    ++ build_sources document)))
+    ++ (tool_sources (get_member (codes "tool") document)
+    ++ build_sources document))))
 
 -- the name of the project as it is written, by PEP 621 or as Poetry has it
 abbrev pub written_name : Members → Option (List ℕ)

@@ -5,7 +5,7 @@ use Rattle.toml.specs.Data.{Members}
 use Rattle.pyver_findings.specs.FileLines.{FileLine, NoRequirement}
 use Rattle.pyver_findings.specs.LineMeanings.{AsksNothing, IsNone, LineMeaning}
 use Rattle.pyver_projects.specs.Documents.{group_names, sources}
-use Rattle.pyver_projects.specs.ProjectStrings.{Build, Dependencies, Extra, Group, Include, Invalid, ProjectString, Python, Section, Version}
+use Rattle.pyver_projects.specs.ProjectStrings.{Build, Dependencies, Entry, Extra, Group, Include, Invalid, ProjectString, Python, Section, Unread, Version}
 
 -- one group includes another: both names in their normal form
 pub record Inclusion : Type 0 where
@@ -19,6 +19,8 @@ inclusion Dependencies = []
 inclusion (Extra name) = []
 inclusion (Group name) = []
 inclusion (Invalid table reason) = []
+inclusion (Entry table name) = []
+inclusion (Unread c) = []
 inclusion Build = []
 inclusion Python = []
 inclusion Version = []

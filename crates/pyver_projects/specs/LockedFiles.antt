@@ -6,9 +6,8 @@ use Rattle.std.specs.List.{ends_with, list_any, flat_map}
 use Rattle.std.specs.Option.{option_map_or, option_or}
 use Rattle.pep440_pick.specs.Names.{same_name, normal}
 use Rattle.pep440_pick.specs.RequirementReading.{split_at_byte}
-use Rattle.pep440_version.specs.Changes.ChangeWords.{after}
 use Rattle.toml.specs.Data.{Data, get, Members, get_member}
-use Rattle.pyver_projects.specs.PackageRequirements.{lacks, package_text, plain_list}
+use Rattle.pyver_projects.specs.PackageRequirements.{lacks, package_text, poetry_list}
 use Rattle.pyver_projects.specs.ProjectStrings.{LockedFile, LockFault, PackageCondition, header_lines, is_array_or_none, is_table_or_none, is_text_or_none, listed, text_in, inside}
 use Rattle.pyver_projects.specs.declared.document_kind.LockKind.{LockKind}
 use Rattle.pyver_projects.specs.declared.document_kind.LockKind.TheVariants.{Pdm, Pipfile, Poetry, Pylock, Unknown, Uv}
@@ -186,10 +185,6 @@ has_markers Uv document = false
 has_markers Pipfile document = false
 has_markers Unknown document = false
 
--- Poetry's list, whose `*` excludes no version; `^3.` is `>=3.` for the versions of Python 3
-abbrev pub poetry_python : List ℕ → List ℕ
-poetry_python list = option_map_or (λ rest. codes ">=3." ++ rest) (after (codes "^3.") list) (plain_list list)
-
 -- that of the one target
 abbrev pub target_python : List Data → Option (List ℕ)
 target_python (target ∷ []) = text_in (get (codes "requires_python") target)
@@ -197,7 +192,7 @@ target_python _ = None
 
 -- the Pythons that a lock of this kind is for, where its packages have markers that say where they are needed
 abbrev pub locked_python : LockKind → Members → Option (List ℕ)
-locked_python Poetry document = if has_markers Poetry document then option_map poetry_python (text_in (inside (codes "python-versions") (get_member (codes "metadata") document))) else None
+locked_python Poetry document = if has_markers Poetry document then option_map poetry_list (text_in (inside (codes "python-versions") (get_member (codes "metadata") document))) else None
 locked_python Pdm document = target_python (listed (inside (codes "targets") (get_member (codes "metadata") document)))
 locked_python Pylock document = text_in (get_member (codes "requires-python") document)
 locked_python kind document = None

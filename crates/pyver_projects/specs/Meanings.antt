@@ -24,7 +24,7 @@ use Rattle.pyver_projects.specs.Documents.{has_group_tool, locked, overridden_na
 use Rattle.pyver_projects.specs.Groups.{Groups, groups, include_meaning, no_group}
 use Rattle.pyver_projects.specs.KnownEnvironments.{ReadCondition}
 use Rattle.pyver_projects.specs.PackageRequirements.{package_text, requirement_text}
-use Rattle.pyver_projects.specs.ProjectStrings.{Build, Dependencies, Extra, Group, Include, Invalid, LockContents, LockFault, LockParts, LockedFile, LockedPackage, LockedRequirement, PackageCondition, ProjectString, Python, Section, Version, string_number, last_bytes, line_after, line_at}
+use Rattle.pyver_projects.specs.ProjectStrings.{Build, Dependencies, Entry, Extra, Group, Include, Invalid, LockContents, LockFault, LockParts, LockedFile, LockedPackage, LockedRequirement, PackageCondition, ProjectString, Python, Section, Unread, Version, string_number, last_bytes, line_after, line_at}
 use Rattle.pyver_projects.specs.declared.document_kind.DocumentKind.{DocumentKind}
 use Rattle.pyver_projects.specs.declared.document_kind.DocumentKind.TheVariants.{Lock, Project}
 use Rattle.pyver_findings.specs.Reports.{demands_in}
@@ -39,6 +39,17 @@ string_line file s = record { file = file.name; number = string_number file.text
 abbrev pub IsVersionMeaning : FileLine → List ℕ → LineMeaning → Type 0
 IsVersionMeaning line text x = ((r : Record) × Derives text r × (x ≡ AsksNothing)) ⊎ ((f : Rejection) × Rejects text f × (x ≡ IsNone (NoRequirement line (rejection_text f) 0)))
 
+-- left out, if it is none
+abbrev pub left_out_if_none : LineMeaning → LineMeaning
+left_out_if_none (IsNone f) = LeftOut cause.OtherSyntax
+left_out_if_none (Asks a) = Asks a
+left_out_if_none (LeftOut c) = LeftOut c
+left_out_if_none AsksNothing = AsksNothing
+
+-- what a line is that stands for an entry of Poetry, whose list PEP 440 may not have
+abbrev pub IsEntryMeaning : FileLine → LineMeaning → Type 0
+IsEntryMeaning line x = (m : LineMeaning) × IsPartsMeaning line (line_parts line.text) m × (x ≡ left_out_if_none m)
+
 -- what the string of this line, which is this text, is in this section of a project with these groups
 abbrev pub IsSectionMeaning : Groups → Section → FileLine → List ℕ → LineMeaning → Type 0
 IsSectionMeaning all Python line text x = IsListMeaning line text x
@@ -48,6 +59,8 @@ IsSectionMeaning all (Extra name) line text x = IsPartsMeaning line (line_parts 
 IsSectionMeaning all (Group name) line text x = IsPartsMeaning line (line_parts line.text) x
 IsSectionMeaning all (Include group included) line text x = x ≡ include_meaning all line group included
 IsSectionMeaning all (Invalid table reason) line text x = x ≡ no_group line reason
+IsSectionMeaning all (Entry table name) line text x = IsEntryMeaning line x
+IsSectionMeaning all (Unread c) line text x = x ≡ LeftOut c
 IsSectionMeaning all Build line text x = IsPartsMeaning line (line_parts line.text) x
 
 -- the versions that a list of specifiers contains, as a set, which one with `===` does not have
@@ -67,6 +80,8 @@ ArePythons (Extra name) text p = p ≡ None
 ArePythons (Group name) text p = p ≡ None
 ArePythons (Include group included) text p = p ≡ None
 ArePythons (Invalid table reason) text p = p ≡ None
+ArePythons (Entry table name) text p = p ≡ None
+ArePythons (Unread c) text p = p ≡ None
 ArePythons Build text p = p ≡ None
 
 -- a string that was read: its section, what it is, and which versions of Python there are by it, if it bounds them

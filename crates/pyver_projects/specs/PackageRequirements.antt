@@ -1,6 +1,6 @@
 -- What locked packages require of one another.
-use Rattle.std.specs.Prelude.{ℕ, ◌&&◌, List, [], ◌∷◌, ◌++◌, Bool, false, true, Option, Some, None, bytes_eq, codes, if◌then◌else◌, is_none, not, option_map}
-use Rattle.std.specs.List.{flat_map}
+use Rattle.std.specs.Prelude.{ℕ, zero, suc, ◌&&◌, ◌==◌, List, [], ◌∷◌, ◌++◌, Bool, false, true, Option, Some, None, bytes_eq, codes, if◌then◌else◌, is_none, is_some, nat_lt, not, option_map}
+use Rattle.std.specs.List.{flat_map, list_any}
 use Rattle.std.specs.Option.{option_map_or, unwrap_or}
 use Rattle.pep440_pick.specs.Names.{is_name, is_name_byte}
 use Rattle.pep440_pick.specs.RequirementGrammar.{has_byte}
@@ -22,9 +22,50 @@ package_text name (Some version) = name ++ (codes " " ++ version)
 abbrev pub lacks : List ℕ → Data → Bool
 lacks key d = is_none (get key d)
 
--- the list, where Poetry's `*` excludes no version
+-- ---- Poetry's lists of specifiers
+
+-- the list, where `*` excludes no version
 abbrev pub plain_list : List ℕ → List ℕ
 plain_list list = if bytes_eq list (codes "*") then [] else list
+
+-- the number has no digit but 0
+abbrev pub is_zero : List ℕ → Bool
+is_zero number = not (list_any (λ b. nat_lt 48 b && nat_lt b 58) number)
+
+-- the text up to the first such byte, and what follows this
+abbrev pub cut_at : ℕ → List ℕ → List ℕ × List ℕ
+cut_at b text = unwrap_or (split_at_byte b text) (text, [])
+
+-- the numbers that a caret keeps of a version: up to the first that is not 0, and at most this one and so many more
+abbrev pub caret_numbers : ℕ → List ℕ → List ℕ
+caret_numbers zero version = (cut_at 46 version).0
+caret_numbers (suc n) version = if is_some (split_at_byte 46 version) && is_zero (cut_at 46 version).0
+    then (cut_at 46 version).0 ++ (codes "." ++ caret_numbers n (cut_at 46 version).1)
+    else (cut_at 46 version).0
+
+-- the numbers that a tilde keeps: the first two
+abbrev pub tilde_numbers : List ℕ → List ℕ
+tilde_numbers version = if is_some (split_at_byte 46 version) then (cut_at 46 version).0 ++ (codes "." ++ (cut_at 46 (cut_at 46 version).1).0) else version
+
+-- the versions from this one on that begin with these numbers, and what else the list asks
+abbrev pub kept_list : List ℕ → List ℕ → List ℕ → List ℕ
+kept_list version numbers others = codes ">=" ++ (version ++ (codes ",==" ++ (numbers ++ (codes ".*" ++ others))))
+
+-- the list from the first comma on
+abbrev pub from_comma : List ℕ → List ℕ
+from_comma list = option_map_or (λ p. codes "," ++ p.1) (split_at_byte 44 list) []
+
+-- the list of PEP 440 that a list of Poetry stands for: `^1.2` and `~1.2` are versions from that one on that begin with some of its numbers, and
+-- a version by itself is this one ("Dependency specification" of Poetry). What has no such list stays, and is none
+abbrev pub poetry_list : List ℕ → List ℕ
+poetry_list [] = []
+poetry_list (b ∷ rest) =
+    if b == 94 then kept_list (cut_at 44 rest).0 (caret_numbers 2 (cut_at 44 rest).0) (from_comma rest)
+    else if b == 126 && not (opens 61 rest) then kept_list (cut_at 44 rest).0 (tilde_numbers (cut_at 44 rest).0) (from_comma rest)
+    else if nat_lt 47 b && nat_lt b 58 then codes "==" ++ (b ∷ rest)
+    else plain_list (b ∷ rest)
+
+-- ----
 
 -- a name, and a list if that is not empty
 abbrev pub requirement_text : List ℕ → List ℕ → List ℕ
@@ -47,7 +88,7 @@ module _ (line : ℕ) (requirer : List ℕ) where
   -- a requirement of this name, if it has a list
   abbrev pub requirement_in : List ℕ → Option (List ℕ) → List LockedRequirement
   requirement_in name None = []
-  requirement_in name (Some list) = requirement name (plain_list list) ∷ []
+  requirement_in name (Some list) = requirement name (poetry_list list) ∷ []
 
   -- a requirement with this list, if it has a name
   abbrev pub named_requirement : Option (List ℕ) → List ℕ → List LockedRequirement

@@ -6,6 +6,7 @@ use Rattle.std.specs.Option.{option_or}
 use Rattle.std.specs.BTreeMap.{get_by}
 use Rattle.std.specs.Cmp.Lexicographic.{slice_cmp}
 use Rattle.std.specs.Ordering.{nat_cmp}
+use Rattle.pyver_findings.specs.declared.cause.Cause.{Cause}
 use Rattle.pyver_projects.specs.declared.place.Places.{Places}
 use Rattle.pyver_projects.specs.declared.place.QuotedLines.{QuotedLines}
 use Rattle.toml.specs.Data.{Data, Items, Members, as_array, as_str, as_table, get, item, member, no_items, no_members}
@@ -59,13 +60,16 @@ abbrev pub is_text_or_none : Option Data → Bool
 is_text_or_none value = is_some_or as_str value
 
 -- where a string stands in `pyproject.toml`: extras and groups by the normal forms of their names, and for the name of a group that another
--- includes both; or, for a key or a name that is invalid, the path of what it stands in, and why it is
+-- includes both; or, for a key or a name that is invalid, the path of what it stands in, and why it is; or, for what a key of a table of Poetry
+-- asks for, the path of the table and the key; or why what stands there is not read
 pub data Section : Type 0 where
   Dependencies : Section
   Extra : List ℕ → Section
   Group : List ℕ → Section
   Include : (group included : List ℕ) → Section
   Invalid : (table reason : List ℕ) → Section
+  Entry : (table name : List ℕ) → Section
+  Unread : Cause → Section
   Build : Section
   Python : Section
   Version : Section
@@ -221,36 +225,26 @@ unless_open key = if count_by is_string_quote key % 2 == 0 then Some key else No
 abbrev pub line_key : List ℕ → Option (List ℕ)
 line_key line = option_and_then unless_open (before_next 61 line)
 
--- the path of a table whose keys are read
-abbrev pub read_table : List ℕ → Option (List ℕ)
-read_table path =
-    if bytes_eq path (codes "project.") then Some (codes "project.")
-    else if bytes_eq path (codes "project.optional-dependencies.") then Some (codes "project.optional-dependencies.")
-    else if bytes_eq path (codes "dependency-groups.") then Some (codes "dependency-groups.")
-    else if bytes_eq path (codes "build-system.") then Some (codes "build-system.")
-    else None
-
--- the table that the lines after one with this header stand in, if it is read
-abbrev pub table_after : Option (List ℕ) → Option (List ℕ) → Option (List ℕ)
+-- the table that the lines after one with this header stand in
+abbrev pub table_after : List ℕ → Option (List ℕ) → List ℕ
 table_after table None = table
-table_after table (Some name) = read_table (key_path [] name)
+table_after table (Some name) = key_path [] name
 
 pub record KeyLine : Type 0 where
   pub path : List ℕ
   pub line : ℕ
 
-abbrev pub key_on : ℕ → Option (List ℕ) → Option (List ℕ) → List KeyLine
-key_on number None key = []
-key_on number (Some table) None = []
-key_on number (Some table) (Some key) = record { path = key_path table key; line = number } ∷ []
+abbrev pub key_on : ℕ → List ℕ → Option (List ℕ) → List KeyLine
+key_on number table None = []
+key_on number table (Some key) = record { path = key_path table key; line = number } ∷ []
 
 -- the key that the line with this number has, or the table of which it is the header
-abbrev pub line_keys : ℕ → Option (List ℕ) → List ℕ → Option (List ℕ) → List KeyLine
+abbrev pub line_keys : ℕ → List ℕ → List ℕ → Option (List ℕ) → List KeyLine
 line_keys number table line None = key_on number table (line_key line)
-line_keys number table line (Some name) = key_on number (Some []) (Some name)
+line_keys number table line (Some name) = key_on number [] (Some name)
 
 -- the keys of lines: of these bytes, the first of which is on the line with this number, at its start or not, in this table
-abbrev pub keys_from : Option (List ℕ) → Bool → ℕ → List ℕ → List KeyLine
+abbrev pub keys_from : List ℕ → Bool → ℕ → List ℕ → List KeyLine
 keys_from table starts number [] = []
 keys_from table starts number (b ∷ rest) =
     (if starts then line_keys number table (line_at (b ∷ rest)) (header_name (line_at (b ∷ rest))) else [])
@@ -258,7 +252,7 @@ keys_from table starts number (b ∷ rest) =
 
 -- the keys of the lines of a document
 abbrev pub document_keys : List ℕ → List KeyLine
-document_keys text = keys_from (Some []) true 1 text
+document_keys text = keys_from [] true 1 text
 
 abbrev pub first_key : List ℕ → List KeyLine → Option ℕ
 first_key path [] = None
@@ -275,13 +269,16 @@ section_path (Extra name) = codes "project.optional-dependencies."
 section_path (Group name) = codes "dependency-groups."
 section_path (Include group included) = codes "dependency-groups."
 section_path (Invalid table reason) = table
+section_path (Entry table name) = table
+section_path (Unread c) = []
 section_path Build = codes "build-system.requires."
 section_path Python = codes "project.requires-python."
 section_path Version = codes "project.version."
 
--- the number of the line of a key that is invalid
+-- the number of the line of a key that is invalid, or that asks for a package
 abbrev pub own_line : List ℕ → Section → List ℕ → Option ℕ
 own_line text (Invalid table reason) name = key_line text (key_path table name)
+own_line text (Entry table name) string = key_line text (key_path table name)
 own_line text section name = None
 
 -- the number of the line of a string: a key has its own, another string the first on which it opens, or that of what it stands in; or 1

@@ -5,7 +5,7 @@ use Rattle.pyver_findings.specs.Views.{file_line_of, file_of, finding_of, line_m
 use Rattle.pyver_projects.specs.Groups.{Inclusion, Groups}
 use Rattle.pyver_projects.specs.KnownEnvironments.{ReadCondition}
 use Rattle.pyver_projects.specs.Meanings.{Document, DocumentReading, IsBroken, IsLock, IsProject, LockedReading, StringReading}
-use Rattle.pyver_projects.specs.ProjectStrings.{Build, Dependencies, Extra, Group, Include, Invalid, KeyLine, LockContents, LockFault, LockParts, LockedFile, LockedPackage, LockedRequirement, PackageCondition, Section, Python, ProjectString, Version}
+use Rattle.pyver_projects.specs.ProjectStrings.{Build, Dependencies, Entry, Extra, Group, Include, Invalid, KeyLine, LockContents, LockFault, LockParts, LockedFile, LockedPackage, LockedRequirement, PackageCondition, Section, Python, ProjectString, Unread, Version}
 use Rattle.pyver_projects.specs.declared.document_kind.Document.{Document as DocumentValue}
 use Rattle.pyver_projects.specs.declared.document_reading.DocumentReading.{DocumentReading as DocumentReadingValue}
 use Rattle.pyver_projects.specs.declared.document_reading.ReadDocument.{ReadDocument as ReadDocumentValue}
@@ -43,6 +43,8 @@ section_of (section.Extra name) = Extra name.items
 section_of (section.Group name) = Group name.items
 section_of (section.Include group included) = Include group.items included.items
 section_of (section.Invalid table reason) = Invalid table.now reason.now
+section_of (section.Entry table name) = Entry table.items name.items
+section_of (section.Unread c) = Unread c
 section_of section.Build = Build
 section_of section.Python = Python
 section_of section.Version = Version

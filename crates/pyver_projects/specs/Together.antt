@@ -12,17 +12,20 @@ use Rattle.pyver_findings.specs.declared.cause.Cause.{Cause}
 use Rattle.pyver_markers.specs.Conditions.{Domain}
 use Rattle.pyver_projects.specs.Groups.{Inclusion, includes, inclusions}
 use Rattle.pyver_projects.specs.Meanings.{StringReading}
-use Rattle.pyver_projects.specs.ProjectStrings.{Build, Dependencies, Extra, Group, Include, Invalid, Python, Section, Version}
+use Rattle.pyver_projects.specs.ProjectStrings.{Build, Dependencies, Entry, Extra, Group, Include, Invalid, Python, Section, Unread, Version}
 
 -- ---- parts of a project
 
--- the part to which a string of the section belongs: the name of an included group belongs to the group that includes it
+-- the part to which a string of the section belongs: the name of an included group belongs to the group that includes it, and what Poetry's tables
+-- ask for to the dependencies, since it looks for versions for all its groups at once
 abbrev pub section_part : Section → Section
 section_part (Include group included) = Group group
 section_part Dependencies = Dependencies
 section_part (Extra name) = Extra name
 section_part (Group name) = Group name
 section_part (Invalid table reason) = Invalid table reason
+section_part (Entry table name) = Dependencies
+section_part (Unread c) = Unread c
 section_part Build = Build
 section_part Python = Python
 section_part Version = Version
@@ -54,6 +57,8 @@ has_group is Dependencies name = false
 has_group is (Extra other) name = false
 has_group is (Include group included) name = false
 has_group is (Invalid table reason) name = false
+has_group is (Entry table key) name = false
+has_group is (Unread c) name = false
 has_group is Build name = false
 has_group is Python name = false
 has_group is Version name = false
@@ -70,6 +75,8 @@ holds_in together has part (Group name) = has name
 holds_in together has part Build = is_build part
 holds_in together has part (Include group included) = false
 holds_in together has part (Invalid table reason) = false
+holds_in together has part (Entry table name) = has_dependencies together part
+holds_in together has part (Unread c) = false
 holds_in together has part Python = false
 holds_in together has part Version = false
 

@@ -1,7 +1,7 @@
 //! What strings of a project and documents are to the check.
 ghost use Rattle.std.specs.Prelude.{◌≡◌, IfOk, IfSome, Some, map, string_bytes, is_none, false};
 ghost use Rattle.pyver_projects.specs.Documents.{locked, toml_contents};
-ghost use Rattle.pyver_projects.specs.Meanings.{ArePythons, AreVersions, IsBrokenReading, IsContentsReading, IsDocumentReading, IsLockReading, IsProjectReading, IsTextReading, IsSectionMeaning, IsStringReading, IsVersionMeaning, list_versions};
+ghost use Rattle.pyver_projects.specs.Meanings.{ArePythons, AreVersions, IsBrokenReading, IsContentsReading, IsDocumentReading, IsEntryMeaning, IsLockReading, IsProjectReading, IsTextReading, IsSectionMeaning, IsStringReading, IsVersionMeaning, list_versions};
 ghost use Rattle.pyver_projects.specs.ProjectViews.{contents_of, document_of, document_reading_of, HasGroups, groups_of, project_string_of, section_of, string_reading_of};
 ghost use Rattle.pyver_projects.specs.declared.document_kind.DocumentKind.TheVariants as of_kind;
 ghost use Rattle.pyver_projects.specs.declared.document_kind.LockKind.TheVariants as lock_kind;
@@ -29,11 +29,12 @@ use crate::place::{
     Places, document_keys, position_of, read_places, read_quoted_lines, reject_document,
     string_line,
 };
-use crate::project::{ProjectString, Section, overridden_names, project_strings};
+use crate::project::{ProjectString, Section, project_strings};
 use crate::toml_lock::toml_contents;
+use crate::tool_tables::overridden_names;
 use pep440_rs::{ErrorKind, Version, VersionParseError, VersionSpecifiers};
 use pep440_sets::{SetError, VersionSet};
-use pyver_findings::{FileLine, Finding, LineMeaning, parse_requirement, parse_specifiers};
+use pyver_findings::{Cause, FileLine, Finding, LineMeaning, parse_requirement, parse_specifiers};
 use serde_json::Value;
 use std::alloc::{AllocError, Global};
 use toml::Table;
@@ -304,7 +305,8 @@ fn parse_python(
         Section::Python => parse_versions(alloc, text),
         Section::Version | Section::Dependencies | Section::Build => Ok(None),
         Section::Extra(_) | Section::Group(_) => Ok(None),
-        Section::Include(_, _) | Section::Invalid(_, _) => Ok(None),
+        Section::Include(_, _) | Section::Invalid(_, _) | Section::Entry(_, _) => Ok(None),
+        Section::Unread(_) => Ok(None),
     }
 }
 
@@ -363,6 +365,16 @@ fn include_meaning(
     Ok(LineMeaning::AsksNothing)
 }
 
+// What a line is that stands for an entry of Poetry.
+fn parse_entry(alloc: Global, line: &FileLine) -> Result<LineMeaning, AllocError>
+    ensures { IfOk result (λ x. IsEntryMeaning (file_line_of line.now) (line_meaning_of x)) }
+{
+    match parse_requirement(alloc, line)? {
+        LineMeaning::IsNone(_) => Ok(LineMeaning::LeftOut(Cause::OtherSyntax)),
+        meaning => Ok(meaning),
+    }
+}
+
 // What the string of this line, which is this text, is in this section of a project with these groups.
 fn parse_string(
     alloc: Global,
@@ -382,6 +394,8 @@ fn parse_string(
         Section::Group(_) => parse_requirement(alloc, line),
         Section::Build => parse_requirement(alloc, line),
         Section::Invalid(_, reason) => no_group(alloc, line, reason),
+        Section::Entry(_, _) => parse_entry(alloc, line),
+        Section::Unread(cause) => Ok(LineMeaning::LeftOut(*cause)),
         Section::Include(group, included) => {
             include_meaning(alloc, groups, line, group.as_slice(), included.as_slice())
         }

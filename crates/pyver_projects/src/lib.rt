@@ -21,6 +21,7 @@ mod project;
 mod table;
 mod together;
 mod toml_lock;
+mod tool_tables;
 
 pub use document_kind::{
     Document, DocumentKind, LockKind, is_document_path, kind_of_path, kind_of_word,

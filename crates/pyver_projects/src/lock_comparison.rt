@@ -3,7 +3,7 @@ ghost use Rattle.std.specs.Prelude.{◌≡◌, ◌++◌, [], IfOk, if◌then◌e
 ghost use Rattle.std.specs.List.{flat_map, find, list_any, filter};
 ghost use Rattle.pyver_findings.specs.Reports.{demands_in};
 ghost use Rattle.pyver_findings.specs.Views.{demand_of, file_line_of, finding_of, line_meaning_of};
-ghost use Rattle.pyver_projects.specs.Comparing.{unmet_demand, absent, found_beside, found_in_pair, beside_all, compared, compared_demand, accepts_version, excluded, excluded_in, leaves_out, names_groups, locks_extras, locks_groups, has_name, is_installer, is_locked, is_needed, lack_finding, lack_in, lacking, leaves_out_all, locked_line, may_take, missing, outside, partly_locked, taken_packages, unlocked, unmet};
+ghost use Rattle.pyver_projects.specs.Comparing.{unmet_demand, absent, found_beside, found_in_pair, beside_all, compared, compared_demand, accepts_version, excluded, excluded_in, leaves_out, names_groups, locks_extras, locks_groups, has_name, is_entry, is_installer, is_of_poetry, is_locked, is_needed, lack_finding, lack_in, lacking, leaves_out_all, locked_line, may_take, missing, outside, partly_locked, taken_packages, unlocked, unmet};
 ghost use Rattle.pyver_projects.specs.KnownEnvironments.{known_environments};
 ghost use Rattle.pyver_projects.specs.ProjectViews.{IsIndex, excuses, index_parts, packages_of, parts_of, document_of, document_reading_of, locked_reading_of, read_pair, section_of, string_reading_of};
 ghost use Rattle.std.specs.HashMap.{get_by};
@@ -131,6 +131,18 @@ fn names_groups(kind: LockKind, parts: &[Vec<u8>]) -> bool
     }
 }
 
+fn is_of_poetry(kind: LockKind) -> bool
+    ensures { result ≡ is_of_poetry kind }
+{
+    matches!(kind, LockKind::Poetry)
+}
+
+fn is_entry(section: &Section) -> bool
+    ensures { result ≡ is_entry (section_of section.now) }
+{
+    matches!(section, Section::Entry(_, _))
+}
+
 // A lock with these groups has what this part of the project needs.
 #[tactic(auto, using(pyver_findings::proofs::Steps::any_viewed))]
 fn is_needed(kind: LockKind, parts: &[Vec<u8>], section: &Section) -> bool
@@ -140,6 +152,7 @@ fn is_needed(kind: LockKind, parts: &[Vec<u8>], section: &Section) -> bool
         Section::Dependencies => !names_groups(kind, parts) || is_listed_part(parts, b"default"),
         Section::Extra(name) => locks_extras(kind) || is_listed_part(parts, name.as_slice()),
         Section::Group(name) => locks_groups(kind) || is_listed_part(parts, name.as_slice()),
+        Section::Entry(_, _) => is_of_poetry(kind),
         _ => false,
     }
 }
@@ -148,7 +161,7 @@ fn is_needed(kind: LockKind, parts: &[Vec<u8>], section: &Section) -> bool
 fn leaves_out(kind: LockKind, parts: &[Vec<u8>], section: &Section) -> bool
     ensures { result ≡ leaves_out kind (map (λ n. n.items) parts.now) (section_of section.now) }
 {
-    names_groups(kind, parts) && !is_needed(kind, parts, section)
+    (is_entry(section) || names_groups(kind, parts)) && !is_needed(kind, parts, section)
 }
 
 fn is_locked(section: &Section) -> bool
@@ -156,7 +169,7 @@ fn is_locked(section: &Section) -> bool
 {
     matches!(
         section,
-        Section::Dependencies | Section::Extra(_) | Section::Group(_)
+        Section::Dependencies | Section::Extra(_) | Section::Group(_) | Section::Entry(_, _)
     )
 }
 

@@ -1,9 +1,9 @@
 //! The names of projects, the groups of locks, and what is wrong with locked packages of one name.
-ghost use Rattle.std.specs.Prelude.{◌≡◌, ◌++◌, IfOk, ◌∷◌, [], Some, bytes_eq, codes, map, option_copied, option_map, option_to_list, string_bytes};
-ghost use Rattle.pep440_version.specs.Changes.ChangeWords.{after};
+ghost use Rattle.std.specs.Prelude.{◌≡◌, ◌++◌, IfOk, ◌∷◌, [], Some, bytes_eq, codes, map, option_map, option_to_list, string_bytes};
+ghost use Rattle.pyver_projects.specs.PackageRequirements.{poetry_list};
 ghost use Rattle.std.specs.List.{flat_map, list_any};
 ghost use Rattle.pyver_projects.specs.Documents.{has_default, is_new_group, lock_parts, named_parts, names_listed, part_names, with_default, package_parts, project_names, written_name};
-ghost use Rattle.pyver_projects.specs.LockedFiles.{ambiguous, ambiguous_by, ambiguous_fault, ambiguous_item, ambiguous_name, fault_unless, faults_beside, text_faults, value_faults, counted_names, is_for_extras, has_markers, is_shared, is_uv, locked_python, package_condition, poetry_python, target_python, written_marker, marked_name, marked_names, marker_text, package_faults, package_name_in, twin_fault, twin_in, twins};
+ghost use Rattle.pyver_projects.specs.LockedFiles.{ambiguous, ambiguous_by, ambiguous_fault, ambiguous_item, ambiguous_name, fault_unless, faults_beside, text_faults, value_faults, counted_names, is_for_extras, has_markers, is_shared, is_uv, locked_python, package_condition, target_python, written_marker, marked_name, marked_names, marker_text, package_faults, package_name_in, twin_fault, twin_in, twins};
 ghost use Rattle.pyver_projects.specs.ProjectViews.{IsNameIndex, condition_of_package, indexed_names, fault_of, parts_of};
 ghost use Rattle.pyver_projects.specs.declared.document_kind.LockKind.TheVariants as lock_kind;
 ghost use Rattle.toml.specs.Data.{as_str};
@@ -14,7 +14,7 @@ use crate::groups::NameIndex;
 use crate::locked_package::{
     LockFault, LockParts, PackageCondition, copy_text, first_of, package_text,
 };
-use crate::package_requirements::{lacks, plain_list};
+use crate::package_requirements::{lacks, poetry_list};
 use crate::table::{inside, is_table_or_none, is_text_or_none, items, text, top};
 use pyver_findings::normalize_name;
 use std::alloc::{AllocError, Global};
@@ -36,32 +36,12 @@ pub(crate) fn has_markers(kind: LockKind, document: &Table) -> bool
     }
 }
 
-// What follows `^3.`, if the list begins with it.
-fn strip_caret(list: &str) -> Option<&str>
-    ensures { option_copied result ≡ after (codes "^3.") list.now }
-{
-    list.strip_prefix("^3.")
-}
-
-// Poetry's list as one of PEP 440.
-fn poetry_python(alloc: Global, list: &str) -> Result<String, AllocError>
-    ensures { IfOk result (λ text. string_bytes text ≡ poetry_python list.now) }
-{
-    match strip_caret(list) {
-        Some(rest) => {
-            let mut text = String::from_str(alloc, ">=3.")?;
-            text.push_str(rest)?;
-            Ok(text)
-        }
-        None => String::from_str(alloc, plain_list(list)),
-    }
-}
-
-fn poetry_python_or_none(alloc: Global, list: Option<&str>) -> Result<Option<String>, AllocError>
-    ensures { IfOk result (λ text. option_map string_bytes text ≡ option_map poetry_python (option_map (λ t. t.now) list.entry)) }
+// Poetry's list as one of PEP 440, if there is one.
+fn poetry_list_or_none(alloc: Global, list: Option<&str>) -> Result<Option<String>, AllocError>
+    ensures { IfOk result (λ text. option_map string_bytes text ≡ option_map poetry_list (option_map (λ t. t.now) list.entry)) }
 {
     match list {
-        Some(list) => Ok(Some(poetry_python(alloc, list)?)),
+        Some(list) => Ok(Some(poetry_list(alloc, list)?)),
         None => Ok(None),
     }
 }
@@ -87,7 +67,7 @@ pub(crate) fn locked_python(
     let metadata = top(document, "metadata");
     match kind {
         LockKind::Poetry if has_markers(kind, document) => {
-            poetry_python_or_none(alloc, text(inside(metadata, "python-versions")))
+            poetry_list_or_none(alloc, text(inside(metadata, "python-versions")))
         }
         LockKind::Pdm => copy_text(alloc, target_python(items(inside(metadata, "targets")))),
         LockKind::Pylock => copy_text(alloc, text(top(document, "requires-python"))),

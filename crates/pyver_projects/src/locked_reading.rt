@@ -21,6 +21,7 @@ use crate::known_environment::ReadCondition;
 use crate::locked_package::{
     LockFault, LockedFile, LockedPackage, LockedRequirement, PackageCondition, package_text,
 };
+use crate::package_requirements::requirement_text;
 use pep440_pick::Requirement;
 use pep440_rs::{Version, VersionParseError, VersionSpecifier, VersionSpecifiers};
 use pyver_findings::{Cause, Demand, FileLine, Finding, LineMeaning, normalize_name};
@@ -303,20 +304,6 @@ pub(crate) fn push_faults(
     Ok(())
 }
 
-// Adds the name, and the list if it is not empty.
-fn push_requirement_text(text: &mut Vec<u8>, name: &str, list: &str) -> Result<(), AllocError>
-    ensures { IfOk result (λ _. text.new.items ≡ text.old.items ++ requirement_text name.now list.now) }
-{
-    text.extend_from_slice(name.as_bytes())?;
-    match list.as_bytes() {
-        [] => Ok(()),
-        [_, ..] => {
-            text.push(b' ')?;
-            text.extend_from_slice(list.as_bytes())
-        }
-    }
-}
-
 // The requirement as a line of the file with this name.
 fn requirement_line(
     alloc: Global,
@@ -327,11 +314,8 @@ fn requirement_line(
 {
     let mut text = Vec::from_slice(alloc, requirement.requirer.as_slice())?;
     text.extend_from_slice(b" requires ")?;
-    push_requirement_text(
-        &mut text,
-        requirement.name.as_str(),
-        requirement.list.as_str(),
-    )?;
+    let required = requirement_text(alloc, requirement.name.as_str(), requirement.list.as_str())?;
+    text.extend_from_slice(required.as_bytes())?;
     Ok(FileLine {
         file: Vec::from_slice(alloc, file)?,
         number: requirement.line,

@@ -1,11 +1,11 @@
 //! What locked packages require of one another, as it is written.
-ghost use Rattle.std.specs.Prelude.{◌≡◌, ◌∷◌, ◌++◌, ◌≤◌, [], IfOk, length, map, option_map, string_bytes};
+ghost use Rattle.std.specs.Prelude.{◌≡◌, ◌∷◌, ◌++◌, ◌≤◌, [], IfOk, length, map, option_map, string_bytes, ◌<◌, if◌then◌else◌};
 ghost use Rattle.std.specs.List.{flat_map, prefix_len};
 ghost use Rattle.std.specs.Option.{unwrap_or};
 ghost use Rattle.pep440_pick.specs.Names.{is_name_byte};
 ghost use Rattle.pep440_rs.specs.Blanks.{opens};
 ghost use Rattle.pep440_version.specs.Reading.{lead, past};
-ghost use Rattle.pyver_projects.specs.PackageRequirements.{pylock_requirements, reference, is_everywhere, tool_requirements, is_unconditional, item_requirements, lacks, member_requirements, plain_list, requirement, requirement_in, is_plain_string, named_requirement, past_extras, requirement_of_text, requirements_by, string_requirement, requirements_from, table_requirements, version_requirements};
+ghost use Rattle.pyver_projects.specs.PackageRequirements.{pylock_requirements, reference, is_everywhere, tool_requirements, is_unconditional, item_requirements, lacks, member_requirements, caret_numbers, cut_at, from_comma, is_zero, kept_list, plain_list, poetry_list, requirement_text, tilde_numbers, requirement, requirement_in, is_plain_string, named_requirement, past_extras, requirement_of_text, requirements_by, string_requirement, requirements_from, table_requirements, version_requirements};
 ghost use Rattle.pyver_projects.specs.ProjectViews.{parts_of, requirement_of};
 ghost use Rattle.pyver_projects.specs.ProjectStrings.{entries, listed, members_list};
 ghost use Rattle.toml.specs.View.{table_view, view};
@@ -44,12 +44,129 @@ fn push_requirement(
     Ok(())
 }
 
-// The list, where Poetry's `*` excludes no version.
-pub(crate) fn plain_list(list: &str) -> &str
+// ---- Poetry's lists of specifiers
+
+// The list, where `*` excludes no version.
+fn plain_list(list: &str) -> &str
     ensures { result.now ≡ plain_list list.now }
 {
     if list == "*" { "" } else { list }
 }
+
+// The number has no digit but 0.
+fn is_zero(number: &str) -> bool
+    ensures { result ≡ is_zero number.now }
+{
+    !number
+        .as_bytes()
+        .iter()
+        .any(|byte| b'0' < *byte && *byte < b':')
+}
+
+// The text up to the first such character, and what follows this.
+fn cut_at(text: &str, character: char) -> (&str, &str)
+    requires { character < 128 }
+    ensures { (result.0.now, result.1.now) ≡ cut_at character text.now }
+{
+    match split_at_byte(text, character) {
+        Some(parts) => parts,
+        None => (text, ""),
+    }
+}
+
+// Adds the numbers that a caret keeps of a version: up to the first that is not 0, and at most this one and so many more.
+fn push_caret_numbers(kept: &mut String, version: &str, more: usize) -> Result<(), AllocError>
+    ensures { IfOk result (λ _. string_bytes kept.new ≡ string_bytes kept.old ++ caret_numbers more version.now) }
+{
+    match split_at_byte(version, '.') {
+        Some((number, rest)) if more > 0 && is_zero(number) => {
+            kept.push_str(number)?;
+            kept.push_str(".")?;
+            push_caret_numbers(kept, rest, more - 1)
+        }
+        Some((number, _)) => kept.push_str(number),
+        None => kept.push_str(version),
+    }
+}
+
+// Adds those that a tilde keeps: the first two.
+fn push_tilde_numbers(kept: &mut String, version: &str) -> Result<(), AllocError>
+    ensures { IfOk result (λ _. string_bytes kept.new ≡ string_bytes kept.old ++ tilde_numbers version.now) }
+{
+    match split_at_byte(version, '.') {
+        Some((number, rest)) => {
+            kept.push_str(number)?;
+            kept.push_str(".")?;
+            let (number, _) = cut_at(rest, '.');
+            kept.push_str(number)
+        }
+        None => kept.push_str(version),
+    }
+}
+
+// Adds the list from the first comma on.
+fn push_from_comma(text: &mut String, list: &str) -> Result<(), AllocError>
+    ensures { IfOk result (λ _. string_bytes text.new ≡ string_bytes text.old ++ from_comma list.now) }
+{
+    match split_at_byte(list, ',') {
+        Some((_, others)) => {
+            text.push_str(",")?;
+            text.push_str(others)
+        }
+        None => Ok(()),
+    }
+}
+
+// The versions from this one on that begin with some of its numbers, and what else the list asks, which begins with it.
+fn kept_list(alloc: Global, list: &str, is_caret: bool) -> Result<String, AllocError>
+    ensures { IfOk result (λ text. string_bytes text ≡ (if is_caret
+        then kept_list (cut_at 44 list.now).0 (caret_numbers 2 (cut_at 44 list.now).0) (from_comma list.now)
+        else kept_list (cut_at 44 list.now).0 (tilde_numbers (cut_at 44 list.now).0) (from_comma list.now))) }
+{
+    let (version, _) = cut_at(list, ',');
+    let mut text = String::from_str(alloc, ">=")?;
+    text.push_str(version)?;
+    text.push_str(",==")?;
+    if is_caret {
+        push_caret_numbers(&mut text, version, 2)?;
+    } else {
+        push_tilde_numbers(&mut text, version)?;
+    }
+    text.push_str(".*")?;
+    push_from_comma(&mut text, list)?;
+    Ok(text)
+}
+
+// The list of PEP 440 that a list of Poetry stands for.
+pub(crate) fn poetry_list(alloc: Global, list: &str) -> Result<String, AllocError>
+    ensures { IfOk result (λ text. string_bytes text ≡ poetry_list list.now) }
+{
+    match list.as_bytes() {
+        [b'^', ..] => kept_list(alloc, &list[1..], true),
+        [b'~', b'=', ..] => String::from_str(alloc, list),
+        [b'~', ..] => kept_list(alloc, &list[1..], false),
+        [b'0'..=b'9', ..] => {
+            let mut text = String::from_str(alloc, "==")?;
+            text.push_str(list)?;
+            Ok(text)
+        }
+        _ => String::from_str(alloc, plain_list(list)),
+    }
+}
+
+// A name, and a list if that is not empty.
+pub(crate) fn requirement_text(alloc: Global, name: &str, list: &str) -> Result<String, AllocError>
+    ensures { IfOk result (λ text. string_bytes text ≡ requirement_text name.now list.now) }
+{
+    let mut text = String::from_str(alloc, name)?;
+    if !list.is_empty() {
+        text.push_str(" ")?;
+        text.push_str(list)?;
+    }
+    Ok(text)
+}
+
+// ---- requirements of packages
 
 // Adds the requirement of this name, if there is a list.
 fn push_list(
@@ -63,7 +180,10 @@ fn push_list(
     ensures { IfOk result (λ _. map requirement_of found.new.items ≡ map requirement_of found.old.items ++ requirement_in line requirer.now name.now (option_map (λ t. t.now) list.entry)) }
 {
     match list {
-        Some(list) => push_requirement(alloc, found, line, requirer, name, plain_list(list)),
+        Some(list) => {
+            let list = poetry_list(alloc, list)?;
+            push_requirement(alloc, found, line, requirer, name, list.as_str())
+        }
         None => Ok(()),
     }
 }

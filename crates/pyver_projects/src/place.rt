@@ -2,7 +2,7 @@
 ghost use Rattle.std.specs.Prelude.{◌≡◌, ◌++◌, IfOk, ◌≤◌, ◌==◌, ◌||◌, ◌%◌, List, count_by, length, map, not, option_map, take, ℕ};
 ghost use Rattle.pyver_findings.specs.Views.{file_line_of};
 ghost use Rattle.pyver_projects.specs.Meanings.{IsBrokenReading, broken_at, string_line};
-ghost use Rattle.pyver_projects.specs.ProjectStrings.{HasPlaces, HasQuotedLines, after_blanks, before_next, document_keys, first_key, first_line, header_lines, header_name, is_key_byte, is_string_quote, key_line, key_on, key_path, known_line, last_bytes, line_after, line_at, line_key, line_keys, number_or, number_or_one, opened_string, others, own_line, read_table, section_path, string_number, table_after};
+ghost use Rattle.pyver_projects.specs.ProjectStrings.{HasPlaces, HasQuotedLines, after_blanks, before_next, document_keys, first_key, first_line, header_lines, header_name, is_key_byte, is_string_quote, key_line, key_on, key_path, known_line, last_bytes, line_after, line_at, line_key, line_keys, number_or, number_or_one, opened_string, others, own_line, section_path, string_number, table_after};
 ghost use Rattle.pyver_projects.specs.ProjectViews.{document_reading_of, key_line_of, project_string_of, section_of};
 ghost use Rattle.std.specs.BTreeMap.{get_by};
 ghost use Rattle.std.specs.List.{filter, prefix_len};
@@ -138,10 +138,10 @@ fn key_bytes(alloc: Global, key: &[u8]) -> Result<Vec<u8>, AllocError>
 }
 
 // The path of a key in the table, or of the name of a table in another.
-fn key_path(alloc: Global, table: &str, key: &[u8]) -> Result<Vec<u8>, AllocError>
+pub(crate) fn key_path(alloc: Global, table: &[u8], key: &[u8]) -> Result<Vec<u8>, AllocError>
     ensures { IfOk result (λ path. path.items ≡ key_path table.now key.now) }
 {
-    let mut path = Vec::from_slice(alloc, table.as_bytes())?;
+    let mut path = Vec::from_slice(alloc, table)?;
     path.append(&mut key_bytes(alloc, key)?)?;
     path.push(b'.')?;
     Ok(path)
@@ -196,33 +196,12 @@ fn line_key(line: &[u8]) -> Option<&[u8]>
     }
 }
 
-// The path of a table whose keys are read.
-fn read_table(path: &[u8]) -> Option<&'static str>
-    ensures { option_map (λ t. t.now) result ≡ read_table path.now }
-{
-    if path == b"project.".as_slice() {
-        Some("project.")
-    } else if path == b"project.optional-dependencies.".as_slice() {
-        Some("project.optional-dependencies.")
-    } else if path == b"dependency-groups.".as_slice() {
-        Some("dependency-groups.")
-    } else if path == b"build-system.".as_slice() {
-        Some("build-system.")
-    } else {
-        None
-    }
-}
-
-// The table that the lines after one with this header stand in, if it is read.
-fn table_after(
-    alloc: Global,
-    table: Option<&'static str>,
-    name: Option<&[u8]>,
-) -> Result<Option<&'static str>, AllocError>
-    ensures { IfOk result (λ after. option_map (λ t. t.now) after ≡ table_after (option_map (λ t. t.now) table.entry) (option_map (λ n. n.now) name.entry)) }
+// The table that the lines after one with this header stand in.
+fn table_after(alloc: Global, table: Vec<u8>, name: Option<&[u8]>) -> Result<Vec<u8>, AllocError>
+    ensures { IfOk result (λ after. after.items ≡ table_after table.items (option_map (λ n. n.now) name.entry)) }
 {
     match name {
-        Some(name) => Ok(read_table(key_path(alloc, "", name)?.as_slice())),
+        Some(name) => key_path(alloc, b"", name),
         None => Ok(table),
     }
 }
@@ -231,19 +210,16 @@ fn push_key(
     alloc: Global,
     keys: &mut Vec<KeyLine>,
     number: usize,
-    table: Option<&str>,
+    table: &[u8],
     key: Option<&[u8]>,
 ) -> Result<(), AllocError>
-    ensures { IfOk result (λ _. map key_line_of keys.new.items ≡ map key_line_of keys.old.items ++ key_on number (option_map (λ t. t.now) table.entry) (option_map (λ k. k.now) key.entry)) }
+    ensures { IfOk result (λ _. map key_line_of keys.new.items ≡ map key_line_of keys.old.items ++ key_on number table.now (option_map (λ k. k.now) key.entry)) }
 {
-    match (table, key) {
-        (Some(table), Some(key)) => {
-            let path = key_path(alloc, table, key)?;
-            keys.push(KeyLine { path, number })?;
-            Ok(())
-        }
-        _ => Ok(()),
+    if let Some(key) = key {
+        let path = key_path(alloc, table, key)?;
+        keys.push(KeyLine { path, number })?;
     }
+    Ok(())
 }
 
 // Adds the key that the line has, or the table of which it is the header.
@@ -251,14 +227,14 @@ fn push_line_keys(
     alloc: Global,
     keys: &mut Vec<KeyLine>,
     number: usize,
-    table: Option<&str>,
+    table: &[u8],
     line: &[u8],
     name: Option<&[u8]>,
 ) -> Result<(), AllocError>
-    ensures { IfOk result (λ _. map key_line_of keys.new.items ≡ map key_line_of keys.old.items ++ line_keys number (option_map (λ t. t.now) table.entry) line.now (option_map (λ n. n.now) name.entry)) }
+    ensures { IfOk result (λ _. map key_line_of keys.new.items ≡ map key_line_of keys.old.items ++ line_keys number table.now line.now (option_map (λ n. n.now) name.entry)) }
 {
     match name {
-        Some(name) => push_key(alloc, keys, number, Some(""), Some(name)),
+        Some(name) => push_key(alloc, keys, number, b"", Some(name)),
         None => push_key(alloc, keys, number, table, line_key(line)),
     }
 }
@@ -268,14 +244,14 @@ fn read_line(
     alloc: Global,
     keys: &mut Vec<KeyLine>,
     number: usize,
-    table: Option<&'static str>,
+    table: Vec<u8>,
     line: &[u8],
-) -> Result<Option<&'static str>, AllocError>
-    ensures keys { IfOk result (λ _. map key_line_of keys.new.items ≡ map key_line_of keys.old.items ++ line_keys number (option_map (λ t. t.now) table.entry) line.now (header_name line.now)) }
-    ensures table { IfOk result (λ after. option_map (λ t. t.now) after ≡ table_after (option_map (λ t. t.now) table.entry) (header_name line.now)) }
+) -> Result<Vec<u8>, AllocError>
+    ensures keys { IfOk result (λ _. map key_line_of keys.new.items ≡ map key_line_of keys.old.items ++ line_keys number table.items line.now (header_name line.now)) }
+    ensures table { IfOk result (λ after. after.items ≡ table_after table.items (header_name line.now)) }
 {
     let name = header_name(line);
-    push_line_keys(alloc, keys, number, table, line, name)?;
+    push_line_keys(alloc, keys, number, table.as_slice(), line, name)?;
     table_after(alloc, table, name)
 }
 
@@ -284,7 +260,7 @@ pub(crate) fn document_keys(alloc: Global, text: &[u8]) -> Result<Vec<KeyLine>, 
     ensures { IfOk result (λ keys. map key_line_of keys.items ≡ document_keys text.now) }
 {
     let mut keys = Vec::new(alloc);
-    let mut table = Some("");
+    let mut table = Vec::new(alloc);
     let mut starts = true;
     let mut number: usize = 1;
     for (at, byte) in text.iter().enumerate() {
@@ -337,19 +313,23 @@ fn key_line(places: &Places, path: &[u8]) -> Option<usize>
     places.keys.get(path).copied()
 }
 
-// The number of the line of a key that is invalid.
+// The number of the line of a key that is invalid, or that asks for a package.
 fn own_line(
     alloc: Global,
     places: &Places,
     section: &Section,
-    name: &[u8],
+    string: &[u8],
 ) -> Result<Option<usize>, AllocError>
     requires { HasPlaces places.now }
-    ensures { IfOk result (λ number. number ≡ own_line places.now.quoted.text.now (section_of section.now) name.now) }
+    ensures { IfOk result (λ number. number ≡ own_line places.now.quoted.text.now (section_of section.now) string.now) }
 {
     match section {
         Section::Invalid(table, _) => {
-            let path = key_path(alloc, table, name)?;
+            let path = key_path(alloc, table.as_bytes(), string)?;
+            Ok(key_line(places, path.as_slice()))
+        }
+        Section::Entry(table, name) => {
+            let path = key_path(alloc, table.as_slice(), name.as_slice())?;
             Ok(key_line(places, path.as_slice()))
         }
         _ => Ok(None),
@@ -357,18 +337,20 @@ fn own_line(
 }
 
 // The path of what the strings of a section stand in.
-fn section_path(section: &Section) -> &'static str
+fn section_path(section: &Section) -> &[u8]
     ensures { result.now ≡ section_path (section_of section.now) }
 {
     match section {
-        Section::Dependencies => "project.dependencies.",
-        Section::Extra(_) => "project.optional-dependencies.",
-        Section::Group(_) => "dependency-groups.",
-        Section::Include(_, _) => "dependency-groups.",
-        Section::Invalid(table, _) => table,
-        Section::Build => "build-system.requires.",
-        Section::Python => "project.requires-python.",
-        Section::Version => "project.version.",
+        Section::Dependencies => b"project.dependencies.",
+        Section::Extra(_) => b"project.optional-dependencies.",
+        Section::Group(_) => b"dependency-groups.",
+        Section::Include(_, _) => b"dependency-groups.",
+        Section::Invalid(table, _) => table.as_bytes(),
+        Section::Entry(table, _) => table.as_slice(),
+        Section::Unread(_) => b"",
+        Section::Build => b"build-system.requires.",
+        Section::Python => b"project.requires-python.",
+        Section::Version => b"project.version.",
     }
 }
 
@@ -392,7 +374,7 @@ fn string_number(
     let own = own_line(alloc, places, section, string)?;
     let found = own
         .or(quoted_line(places, string))
-        .or(key_line(places, section_path(section).as_bytes()));
+        .or(key_line(places, section_path(section)));
     match found {
         Some(number) => Ok(number as u64),
         None => Ok(1),

@@ -2,17 +2,17 @@
 ghost use Rattle.std.specs.Prelude.{◌≡◌, ◌∷◌, ◌++◌, [], IfOk, codes, Some, length, map, nat_eq, option_map, string_bytes};
 ghost use Rattle.std.specs.List.{flat_map};
 ghost use Rattle.pep440_pick.specs.Names.{normal};
-ghost use Rattle.pyver_projects.specs.Documents.{array_sources, build_sources, dynamic_source, dynamic_sources, entry_names, extra_sources, group_items, group_names, group_sources, groups_table, included_name, item_source, leading_name, overridden_names, item_sources, name_faults, optional_sources, repeated_name, source_from, sources, string_or, table_fault, table_faults, table_sources, text_sources, unless};
+ghost use Rattle.pyver_projects.specs.Documents.{array_sources, build_sources, dynamic_source, dynamic_sources, entry_names, extra_sources, field_sources, group_items, group_names, group_sources, groups_table, included_name, item_source, item_sources, name_faults, optional_sources, repeated_name, source_from, sources, string_or, table_fault, table_faults, table_sources, text_sources, unless};
 ghost use Rattle.pyver_projects.specs.ProjectViews.{IsNameIndex, indexed_names, section_of, project_string_of};
 ghost use Rattle.pyver_projects.specs.ProjectStrings.{Extra, Group, Include, entries, members_list};
 ghost use Rattle.toml.specs.Data.{Data, as_str};
 ghost use Rattle.toml.specs.View.{table_view, view};
 
 use crate::groups::{NameIndex, group_names, table_names};
-use crate::package_requirements::split_name;
 use crate::table::{inside, is_array_or_none, is_table_or_none, items, table, text, top};
+use crate::tool_tables::push_tools;
 use pep440_pick::is_name;
-use pyver_findings::normalize_name;
+use pyver_findings::{Cause, normalize_name};
 use std::alloc::{AllocError, Global};
 use toml::{Table, Value};
 
@@ -29,6 +29,10 @@ pub(crate) enum Section {
     Include(Vec<u8>, Vec<u8>),
     // As the name of a value in the table with this path that is invalid for this reason.
     Invalid(&'static str, &'static str),
+    // As what this key of the table of Poetry with this path asks for.
+    Entry(Vec<u8>, Vec<u8>),
+    // As what is not read for this cause.
+    Unread(Cause),
     // In `build-system.requires`.
     Build,
     // `project.requires-python`.
@@ -56,6 +60,8 @@ impl Clone for Section {
                 Ok(Section::Include(group.clone()?, included.clone()?))
             }
             Section::Invalid(table, reason) => Ok(Section::Invalid(*table, *reason)),
+            Section::Entry(table, name) => Ok(Section::Entry(table.clone()?, name.clone()?)),
+            Section::Unread(cause) => Ok(Section::Unread(*cause)),
             Section::Build => Ok(Section::Build),
             Section::Python => Ok(Section::Python),
             Section::Version => Ok(Section::Version),
@@ -63,7 +69,7 @@ impl Clone for Section {
     }
 }
 
-fn push_string(
+pub(crate) fn push_string(
     alloc: Global,
     sources: &mut Vec<ProjectString>,
     section: Section,
@@ -157,7 +163,7 @@ fn push_strings(
 }
 
 // Adds the strings of the array at this name, if there is a value.
-fn push_array(
+pub(crate) fn push_array(
     alloc: Global,
     sources: &mut Vec<ProjectString>,
     table: &'static str,
@@ -473,24 +479,14 @@ fn push_optional(
     push_all_extras(alloc, sources, extras)
 }
 
-// Adds the strings of the table `project`.
-fn push_project(
+// Adds the two fields of the table `project` that are strings.
+fn push_fields(
     alloc: Global,
     sources: &mut Vec<ProjectString>,
     project: Option<&Value>,
 ) -> Result<(), AllocError>
-    ensures { IfOk result (λ _. map project_string_of sources.new.items ≡ map project_string_of sources.old.items ++ table_sources (option_map (λ v. view v.now) project.entry)) }
+    ensures { IfOk result (λ _. map project_string_of sources.new.items ≡ map project_string_of sources.old.items ++ field_sources (option_map (λ v. view v.now) project.entry)) }
 {
-    let name = "dependencies";
-    push_array(
-        alloc,
-        sources,
-        "project.",
-        name,
-        &Section::Dependencies,
-        inside(project, name),
-    )?;
-    push_optional(alloc, sources, inside(project, "optional-dependencies"))?;
     let python = inside(project, "requires-python");
     push_text(
         alloc,
@@ -509,6 +505,27 @@ fn push_project(
         &Section::Version,
         version,
     )
+}
+
+// Adds the strings of the table `project`.
+fn push_project(
+    alloc: Global,
+    sources: &mut Vec<ProjectString>,
+    project: Option<&Value>,
+) -> Result<(), AllocError>
+    ensures { IfOk result (λ _. map project_string_of sources.new.items ≡ map project_string_of sources.old.items ++ table_sources (option_map (λ v. view v.now) project.entry)) }
+{
+    let name = "dependencies";
+    push_array(
+        alloc,
+        sources,
+        "project.",
+        name,
+        &Section::Dependencies,
+        inside(project, name),
+    )?;
+    push_optional(alloc, sources, inside(project, "optional-dependencies"))?;
+    push_fields(alloc, sources, project)
 }
 
 // Adds an item of `dynamic`, if it is no string, or names a field that the table has.
@@ -577,59 +594,6 @@ fn push_dynamic(
     push_dynamic_items(alloc, sources, project, items(dynamic))
 }
 
-// Adds the normal form of the name that the requirement begins with, if it is a string.
-fn push_leading_name(
-    alloc: Global,
-    names: &mut Vec<Vec<u8>>,
-    text: Option<&str>,
-) -> Result<(), AllocError>
-    ensures { IfOk result (λ _. map (λ n. n.items) names.new.items ≡ map (λ n. n.items) names.old.items ++ leading_name (option_map (λ t. t.now) text.entry)) }
-{
-    if let Some(text) = text {
-        let (name, _) = split_name(text);
-        names.push(normalize_name(alloc, name)?)?;
-    }
-    Ok(())
-}
-
-fn push_leading_names(
-    alloc: Global,
-    names: &mut Vec<Vec<u8>>,
-    found: &[Value],
-) -> Result<(), AllocError>
-    ensures { IfOk result (λ _. map (λ n. n.items) names.new.items ≡ map (λ n. n.items) names.old.items ++ flat_map (λ (d : Data). leading_name (as_str d)) (map view found.now)) }
-{
-    for item in found {
-        push_leading_name(alloc, names, item.as_str())?;
-    }
-    Ok(())
-}
-
-// The normal forms of the names in the table, if it is one.
-fn names_in(alloc: Global, value: Option<&Value>) -> Result<Vec<Vec<u8>>, AllocError>
-    ensures { IfOk result (λ names. map (λ n. n.items) names.items ≡ entry_names (entries (option_map (λ v. view v.now) value.entry))) }
-{
-    match table(value) {
-        Some(table) => table_names(alloc, table),
-        None => Ok(Vec::new(alloc)),
-    }
-}
-
-// The names whose versions the project sets itself, for uv or for PDM.
-#[tactic(auto, using(crate::proofs::Walks::joined_views))]
-pub(crate) fn overridden_names(alloc: Global, document: &Table) -> Result<Vec<Vec<u8>>, AllocError>
-    ensures { IfOk result (λ names. map (λ n. n.items) names.items ≡ overridden_names (table_view document.now)) }
-{
-    let tool = top(document, "tool");
-    let of_uv = inside(inside(tool, "uv"), "override-dependencies");
-    let of_pdm = inside(inside(inside(tool, "pdm"), "resolution"), "overrides");
-    let mut names = Vec::new(alloc);
-    push_leading_names(alloc, &mut names, items(of_uv))?;
-    let mut more = names_in(alloc, of_pdm)?;
-    names.append(&mut more)?;
-    Ok(names)
-}
-
 // Adds the names of tables that are none.
 fn push_table_faults(
     alloc: Global,
@@ -676,6 +640,7 @@ pub(crate) fn project_strings(
     push_project(alloc, &mut found, top(document, "project"))?;
     push_dynamic(alloc, &mut found, top(document, "project"))?;
     push_all_groups(alloc, &mut found, document)?;
+    push_tools(alloc, &mut found, top(document, "tool"))?;
     push_build(alloc, &mut found, document)?;
     Ok(found)
 }

@@ -34,6 +34,7 @@ fn section_part(section: &Section) -> Result<Section, AllocError>
 {
     match section {
         Section::Include(group, _) => Ok(Section::Group(group.clone()?)),
+        Section::Entry(_, _) => Ok(Section::Dependencies),
         other => other.clone(),
     }
 }
@@ -120,11 +121,12 @@ fn holds_in(together: bool, groups: &HashMap<&[u8], ()>, part: &Section, section
     ensures { result ≡ holds_in together (has_key groups.now) (section_of part.now) (section_of section.now) }
 {
     match section {
-        Section::Dependencies => has_dependencies(together, part),
+        Section::Dependencies | Section::Entry(_, _) => has_dependencies(together, part),
         Section::Extra(name) => is_extra(name.as_slice(), part),
         Section::Group(name) => groups.contains_key(name.as_slice()),
         Section::Build => is_build(part),
-        Section::Include(_, _) | Section::Invalid(..) | Section::Python | Section::Version => false,
+        Section::Include(_, _) | Section::Invalid(..) | Section::Unread(_) => false,
+        Section::Python | Section::Version => false,
     }
 }
 

@@ -1,12 +1,11 @@
 use Rattle.std.proofs.Common.{◌≡◌, ◌∙◌, sym}
-use Rattle.pep440_calls.proofs.Placed.{not_preferred}
-use Rattle.pep440_calls.proofs.Forms.{as_compiled}
+use Rattle.pep440_calls.proofs.Placed.{not_preferred, not_preferred_prerelease}
 use Rattle.pep440_calls.proofs.newest_string.is_below.Goals as goal
-use Rattle.pep440_version.specs.Key.{record_cmp}
 
-pub returns-in-Ok : goal.returns-in-Ok
-returns-in-Ok c ge r means =
-    let formats = c.in-Ok.ensures.format in
-    let whole = c.compare.ensures.found c.args.newest.now r (as_compiled c.args.best.now c.args.newest.now formats.0 c.requires) (as_compiled c.args.bytes.now r formats.1 means) in
-    let order : c.in-Ok.order ≡ record_cmp c.args.newest.now r = cc (c.in-Ok.is, whole) in
-    not_preferred c.args.takes c.args.newest.now r c.in-Ok.order (sym c.is_taken.ensures ∙ c.if-not-is_taken.false) order (sym c.is_ge.ensures ∙ ge)
+pub returns-then-is_taken : goal.returns-then-is_taken
+returns-then-is_taken c whole r means =
+    not_preferred c.args.takes c.args.newest.now r (c.is_at_most.ensures c.if-is_at_most.true r means) (sym c.is_taken.ensures ∙ c.if-is_taken.true)
+
+pub returns-else-is_taken : goal.returns-else-is_taken
+returns-else-is_taken c whole r means =
+    not_preferred_prerelease c.args.takes c.args.newest.now r (c.is_at_most.ensures c.if-is_at_most.true r means) (c.is_prerelease.ensures whole r means)

@@ -1,0 +1,12 @@
+use Rattle.std.proofs.Common.{◌≡◌, ◌++◌, drop, map}
+use Rattle.std.specs.List.{flat_map}
+use Rattle.toml.specs.Data.{Data, as_str}
+use Rattle.toml.specs.View.{view}
+use Rattle.pyver_projects.specs.Documents.{pdm_source}
+use Rattle.pyver_projects.specs.ProjectViews.{project_string_of}
+use Rattle.pyver_projects.proofs.tool_tables.push_pdm_items.Given as goal
+
+abbrev pub invariant-loop-item : goal.invariant-loop-item
+invariant-loop-item l =
+    let source = λ (d : Data). pdm_source l.name (as_str d) in
+    map project_string_of l.sources.items ++ flat_map source (map view (drop l.item-index l.found)) ≡ map project_string_of l.initial.sources.items ++ flat_map source (map view l.found)

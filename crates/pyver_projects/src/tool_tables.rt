@@ -1,0 +1,395 @@
+//! What tables of tools in `pyproject.toml` ask for, and what they override.
+ghost use Rattle.std.specs.Prelude.{◌≡◌, ◌++◌, ◌∷◌, [], IfOk, Some, codes, map, option_map, string_bytes};
+ghost use Rattle.std.specs.List.{flat_map};
+ghost use Rattle.pep440_pick.specs.Names.{normal};
+ghost use Rattle.pyver_projects.specs.Documents.{entry_list, entry_names, entry_source, entry_sources, is_conditional, is_package_name, leading_name, overridden_names, pdm_group, pdm_source, poetry_group, poetry_sources, poetry_table, table_list, tool_sources, unread, unread_fields, unread_table, unread_tables, dev_sources};
+ghost use Rattle.pyver_projects.specs.PackageRequirements.{poetry_list, requirement_text};
+ghost use Rattle.pyver_projects.specs.ProjectStrings.{Entry, Group, entries, members_list};
+ghost use Rattle.pyver_projects.specs.ProjectViews.{project_string_of, section_of};
+ghost use Rattle.toml.specs.Data.{Data, as_str};
+ghost use Rattle.toml.specs.View.{table_view, view};
+
+use crate::groups::table_names;
+use crate::package_requirements::{poetry_list, requirement_text, split_name};
+use crate::place::key_path;
+use crate::project::{ProjectString, Section, push_array, push_string};
+use crate::table::{inside, items, table, text, top};
+use pep440_pick::is_name;
+use pyver_findings::{Cause, normalize_name};
+use std::alloc::{AllocError, Global};
+use toml::{Table, Value};
+
+// ---- Poetry
+
+// The entry asks only under a condition.
+fn is_conditional(entry: &Value) -> bool
+    ensures { result ≡ is_conditional (view entry.now) }
+{
+    entry.get("markers").is_some()
+        || entry.get("python").is_some()
+        || entry.get("platform").is_some()
+}
+
+// The list of a table, or `*`, unless it has a condition.
+fn table_list(entry: &Value) -> Option<&str>
+    ensures { option_map (λ t. t.now) result ≡ table_list (view entry.now) }
+{
+    if is_conditional(entry) {
+        return None;
+    }
+    match text(entry.get("version")) {
+        Some(list) => Some(list),
+        None => Some("*"),
+    }
+}
+
+// The list of an entry: a string, or a table that has no condition.
+fn entry_list(entry: &Value) -> Option<&str>
+    ensures { option_map (λ t. t.now) result ≡ entry_list (view entry.now) }
+{
+    if let Some(list) = entry.as_str() {
+        return Some(list);
+    }
+    match entry.as_table() {
+        Some(_) => table_list(entry),
+        None => None,
+    }
+}
+
+fn is_package_name(name: &str) -> bool
+    ensures { result ≡ is_package_name name.now }
+{
+    is_name(name) && name != "python"
+}
+
+fn entry_section(alloc: Global, table: &[u8], name: &str) -> Result<Section, AllocError>
+    ensures { IfOk result (λ section. section_of section ≡ Entry table.now name.now) }
+{
+    let table = Vec::from_slice(alloc, table)?;
+    Ok(Section::Entry(table, Vec::from_slice(alloc, name.as_bytes())?))
+}
+
+// Adds that it is not read for this cause.
+fn push_unread(
+    alloc: Global,
+    sources: &mut Vec<ProjectString>,
+    cause: Cause,
+) -> Result<(), AllocError>
+    ensures { IfOk result (λ _. map project_string_of sources.new.items ≡ map project_string_of sources.old.items ++ unread cause) }
+{
+    push_string(alloc, sources, Section::Unread(cause), "")
+}
+
+// Adds the entry of this name with this list, or that it is not read.
+fn push_entry_list(
+    alloc: Global,
+    sources: &mut Vec<ProjectString>,
+    table: &[u8],
+    name: &str,
+    list: Option<&str>,
+) -> Result<(), AllocError>
+    ensures { IfOk result (λ _. map project_string_of sources.new.items ≡ map project_string_of sources.old.items ++ entry_source table.now name.now (option_map (λ t. t.now) list.entry)) }
+{
+    let Some(list) = list else {
+        return push_unread(alloc, sources, Cause::OtherSyntax);
+    };
+    let list = poetry_list(alloc, list)?;
+    let text = requirement_text(alloc, name, list.as_str())?;
+    let section = entry_section(alloc, table, name)?;
+    push_string(alloc, sources, section, text.as_str())
+}
+
+// Adds what the entry asks for, if it does always.
+fn push_entry(
+    alloc: Global,
+    sources: &mut Vec<ProjectString>,
+    table: &[u8],
+    name: &String,
+    entry: &Value,
+) -> Result<(), AllocError>
+    ensures { IfOk result (λ _. map project_string_of sources.new.items ≡ map project_string_of sources.old.items ++ entry_sources table.now (string_bytes name.now, view entry.now)) }
+{
+    if !is_package_name(name.as_str()) {
+        return Ok(());
+    }
+    push_entry_list(alloc, sources, table, name.as_str(), entry_list(entry))
+}
+
+fn push_entries(
+    alloc: Global,
+    sources: &mut Vec<ProjectString>,
+    path: &[u8],
+    found: &Table,
+) -> Result<(), AllocError>
+    ensures { IfOk result (λ _. map project_string_of sources.new.items ≡ map project_string_of sources.old.items ++ flat_map (entry_sources path.now) (members_list (table_view found.now))) }
+{
+    for (name, entry) in found.iter() {
+        push_entry(alloc, sources, path, name, entry)?;
+    }
+    Ok(())
+}
+
+// Adds the entries of the table with this path.
+fn push_poetry_table(
+    alloc: Global,
+    sources: &mut Vec<ProjectString>,
+    path: &[u8],
+    value: Option<&Value>,
+) -> Result<(), AllocError>
+    ensures { IfOk result (λ _. map project_string_of sources.new.items ≡ map project_string_of sources.old.items ++ poetry_table path.now (option_map (λ v. view v.now) value.entry)) }
+{
+    match table(value) {
+        Some(found) => push_entries(alloc, sources, path, found),
+        None => Ok(()),
+    }
+}
+
+fn push_poetry_group(
+    alloc: Global,
+    sources: &mut Vec<ProjectString>,
+    name: &String,
+    group: &Value,
+) -> Result<(), AllocError>
+    ensures { IfOk result (λ _. map project_string_of sources.new.items ≡ map project_string_of sources.old.items ++ poetry_group (string_bytes name.now, view group.now)) }
+{
+    let path = key_path(alloc, b"tool.poetry.group.", name.as_bytes())?;
+    let path = key_path(alloc, path.as_slice(), b"dependencies")?;
+    push_poetry_table(alloc, sources, path.as_slice(), group.get("dependencies"))
+}
+
+fn push_poetry_groups(
+    alloc: Global,
+    sources: &mut Vec<ProjectString>,
+    groups: &Table,
+) -> Result<(), AllocError>
+    ensures { IfOk result (λ _. map project_string_of sources.new.items ≡ map project_string_of sources.old.items ++ flat_map poetry_group (members_list (table_view groups.now))) }
+{
+    for (name, group) in groups.iter() {
+        push_poetry_group(alloc, sources, name, group)?;
+    }
+    Ok(())
+}
+
+fn push_all_poetry_groups(
+    alloc: Global,
+    sources: &mut Vec<ProjectString>,
+    groups: Option<&Value>,
+) -> Result<(), AllocError>
+    ensures { IfOk result (λ _. map project_string_of sources.new.items ≡ map project_string_of sources.old.items ++ flat_map poetry_group (entries (option_map (λ v. view v.now) groups.entry))) }
+{
+    match table(groups) {
+        Some(groups) => push_poetry_groups(alloc, sources, groups),
+        None => Ok(()),
+    }
+}
+
+// Adds what Poetry's tables ask for.
+fn push_poetry(
+    alloc: Global,
+    sources: &mut Vec<ProjectString>,
+    poetry: Option<&Value>,
+) -> Result<(), AllocError>
+    ensures { IfOk result (λ _. map project_string_of sources.new.items ≡ map project_string_of sources.old.items ++ poetry_sources (option_map (λ v. view v.now) poetry.entry)) }
+{
+    let path = b"tool.poetry.dependencies.";
+    push_poetry_table(alloc, sources, path, inside(poetry, "dependencies"))?;
+    let path = b"tool.poetry.dev-dependencies.";
+    push_poetry_table(alloc, sources, path, inside(poetry, "dev-dependencies"))?;
+    push_all_poetry_groups(alloc, sources, inside(poetry, "group"))
+}
+
+// ---- uv, Rye and PDM
+
+// Adds what the tool, whose table has this path, adds to the group `dev`.
+fn push_dev(
+    alloc: Global,
+    sources: &mut Vec<ProjectString>,
+    table: &'static str,
+    tool: Option<&Value>,
+) -> Result<(), AllocError>
+    ensures { IfOk result (λ _. map project_string_of sources.new.items ≡ map project_string_of sources.old.items ++ dev_sources table.now (option_map (λ v. view v.now) tool.entry)) }
+{
+    let name = "dev-dependencies";
+    let section = Section::Group(Vec::from_slice(alloc, b"dev")?);
+    push_array(alloc, sources, table, name, &section, inside(tool, name))
+}
+
+// Adds a requirement of the group of this name, unless it is an editable.
+fn push_pdm_string(
+    alloc: Global,
+    sources: &mut Vec<ProjectString>,
+    name: &str,
+    text: Option<&str>,
+) -> Result<(), AllocError>
+    ensures { IfOk result (λ _. map project_string_of sources.new.items ≡ map project_string_of sources.old.items ++ pdm_source name.now (option_map (λ t. t.now) text.entry)) }
+{
+    match text {
+        Some(text) if !text.as_bytes().starts_with(b"-") => {
+            let section = Section::Group(normalize_name(alloc, name)?);
+            push_string(alloc, sources, section, text)
+        }
+        _ => Ok(()),
+    }
+}
+
+fn push_pdm_items(
+    alloc: Global,
+    sources: &mut Vec<ProjectString>,
+    name: &str,
+    found: &[Value],
+) -> Result<(), AllocError>
+    ensures { IfOk result (λ _. map project_string_of sources.new.items ≡ map project_string_of sources.old.items ++ flat_map (λ (d : Data). pdm_source name.now (as_str d)) (map view found.now)) }
+{
+    for item in found {
+        push_pdm_string(alloc, sources, name, item.as_str())?;
+    }
+    Ok(())
+}
+
+fn push_pdm_groups(
+    alloc: Global,
+    sources: &mut Vec<ProjectString>,
+    groups: &Table,
+) -> Result<(), AllocError>
+    ensures { IfOk result (λ _. map project_string_of sources.new.items ≡ map project_string_of sources.old.items ++ flat_map pdm_group (members_list (table_view groups.now))) }
+{
+    for (name, group) in groups.iter() {
+        push_pdm_items(alloc, sources, name.as_str(), items(Some(group)))?;
+    }
+    Ok(())
+}
+
+// Adds what PDM adds to groups.
+fn push_pdm(
+    alloc: Global,
+    sources: &mut Vec<ProjectString>,
+    groups: Option<&Value>,
+) -> Result<(), AllocError>
+    ensures { IfOk result (λ _. map project_string_of sources.new.items ≡ map project_string_of sources.old.items ++ flat_map pdm_group (entries (option_map (λ v. view v.now) groups.entry))) }
+{
+    match table(groups) {
+        Some(groups) => push_pdm_groups(alloc, sources, groups),
+        None => Ok(()),
+    }
+}
+
+// ---- tables that are not read
+
+fn push_unread_table(
+    alloc: Global,
+    sources: &mut Vec<ProjectString>,
+    value: Option<&Value>,
+) -> Result<(), AllocError>
+    ensures { IfOk result (λ _. map project_string_of sources.new.items ≡ map project_string_of sources.old.items ++ unread_table (option_map (λ v. view v.now) value.entry)) }
+{
+    match value {
+        Some(_) => push_unread(alloc, sources, Cause::OtherTable),
+        None => Ok(()),
+    }
+}
+
+// Adds the tables of Pixi and Hatch, and the constraints of uv.
+fn push_unread_tables(
+    alloc: Global,
+    sources: &mut Vec<ProjectString>,
+    tool: Option<&Value>,
+) -> Result<(), AllocError>
+    ensures { IfOk result (λ _. map project_string_of sources.new.items ≡ map project_string_of sources.old.items ++ unread_tables (option_map (λ v. view v.now) tool.entry)) }
+{
+    let pixi = inside(tool, "pixi");
+    push_unread_table(alloc, sources, inside(pixi, "dependencies"))?;
+    push_unread_table(alloc, sources, inside(pixi, "pypi-dependencies"))?;
+    push_unread_table(alloc, sources, inside(inside(tool, "hatch"), "envs"))?;
+    let uv = inside(tool, "uv");
+    push_unread_table(alloc, sources, inside(uv, "constraint-dependencies"))
+}
+
+// Adds those of Setuptools and Flit.
+fn push_unread_fields(
+    alloc: Global,
+    sources: &mut Vec<ProjectString>,
+    tool: Option<&Value>,
+) -> Result<(), AllocError>
+    ensures { IfOk result (λ _. map project_string_of sources.new.items ≡ map project_string_of sources.old.items ++ unread_fields (option_map (λ v. view v.now) tool.entry)) }
+{
+    let setuptools = inside(inside(tool, "setuptools"), "dynamic");
+    push_unread_table(alloc, sources, inside(setuptools, "dependencies"))?;
+    push_unread_table(alloc, sources, inside(setuptools, "optional-dependencies"))?;
+    let flit = inside(inside(tool, "flit"), "metadata");
+    push_unread_table(alloc, sources, inside(flit, "requires"))?;
+    push_unread_table(alloc, sources, inside(flit, "requires-extra"))
+}
+
+// ---- all tables
+
+// Adds what tables of tools ask for.
+pub(crate) fn push_tools(
+    alloc: Global,
+    sources: &mut Vec<ProjectString>,
+    tool: Option<&Value>,
+) -> Result<(), AllocError>
+    ensures { IfOk result (λ _. map project_string_of sources.new.items ≡ map project_string_of sources.old.items ++ tool_sources (option_map (λ v. view v.now) tool.entry)) }
+{
+    push_poetry(alloc, sources, inside(tool, "poetry"))?;
+    push_dev(alloc, sources, "tool.uv.", inside(tool, "uv"))?;
+    push_dev(alloc, sources, "tool.rye.", inside(tool, "rye"))?;
+    let pdm = inside(tool, "pdm");
+    push_pdm(alloc, sources, inside(pdm, "dev-dependencies"))?;
+    push_unread_tables(alloc, sources, tool)?;
+    push_unread_fields(alloc, sources, tool)
+}
+
+// ---- overrides
+
+// Adds the normal form of the name that the requirement begins with, if it is a string.
+fn push_leading_name(
+    alloc: Global,
+    names: &mut Vec<Vec<u8>>,
+    text: Option<&str>,
+) -> Result<(), AllocError>
+    ensures { IfOk result (λ _. map (λ n. n.items) names.new.items ≡ map (λ n. n.items) names.old.items ++ leading_name (option_map (λ t. t.now) text.entry)) }
+{
+    if let Some(text) = text {
+        let (name, _) = split_name(text);
+        names.push(normalize_name(alloc, name)?)?;
+    }
+    Ok(())
+}
+
+fn push_leading_names(
+    alloc: Global,
+    names: &mut Vec<Vec<u8>>,
+    found: &[Value],
+) -> Result<(), AllocError>
+    ensures { IfOk result (λ _. map (λ n. n.items) names.new.items ≡ map (λ n. n.items) names.old.items ++ flat_map (λ (d : Data). leading_name (as_str d)) (map view found.now)) }
+{
+    for item in found {
+        push_leading_name(alloc, names, item.as_str())?;
+    }
+    Ok(())
+}
+
+// The normal forms of the names in the table, if it is one.
+fn names_in(alloc: Global, value: Option<&Value>) -> Result<Vec<Vec<u8>>, AllocError>
+    ensures { IfOk result (λ names. map (λ n. n.items) names.items ≡ entry_names (entries (option_map (λ v. view v.now) value.entry))) }
+{
+    match table(value) {
+        Some(table) => table_names(alloc, table),
+        None => Ok(Vec::new(alloc)),
+    }
+}
+
+// The names whose versions the project sets itself, for uv or for PDM.
+#[tactic(auto, using(crate::proofs::Walks::joined_views))]
+pub(crate) fn overridden_names(alloc: Global, document: &Table) -> Result<Vec<Vec<u8>>, AllocError>
+    ensures { IfOk result (λ names. map (λ n. n.items) names.items ≡ overridden_names (table_view document.now)) }
+{
+    let tool = top(document, "tool");
+    let of_uv = inside(inside(tool, "uv"), "override-dependencies");
+    let of_pdm = inside(inside(inside(tool, "pdm"), "resolution"), "overrides");
+    let mut names = Vec::new(alloc);
+    push_leading_names(alloc, &mut names, items(of_uv))?;
+    let mut more = names_in(alloc, of_pdm)?;
+    names.append(&mut more)?;
+    Ok(names)
+}
