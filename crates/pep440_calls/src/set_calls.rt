@@ -95,6 +95,7 @@ impl SetForm<'_> {
 }
 
 // The compiled form of a list with its set.
+#[tactic(auto, using(crate::proofs::Allowed::with_set))]
 fn compile_set(alloc: Global, list: &[u8]) -> Result<Vec<u8>, Fault>
     requires { ¬ HasLoneSetFormat list.now }
     ensures { HoldsOr (SetFaults (RejectsListBytes list.now) ⊥ (LacksListSet list.now))

@@ -1,5 +1,5 @@
 -- The kinds of documents, by their paths and by words, and what a parsed one has to check: the strings of `pyproject.toml`, and the versions of a lock.
-use Rattle.std.specs.Prelude.{Bool, List, None, Option, Some, [], bytes_eq, codes, count_by, get_or, if◌then◌else◌, is_none, is_some, length, map, nat_eq, nat_lt, not, option_and_then, option_map, option_to_list, ℕ, ◌&&◌, ◌++◌, ◌+◌, ◌==◌, ◌||◌, ◌∷◌}
+use Rattle.std.specs.Prelude.{Bool, false, List, None, Option, Some, [], bytes_eq, codes, count_by, get_or, if◌then◌else◌, is_none, is_some, length, map, nat_eq, nat_lt, not, option_and_then, option_map, option_to_list, ℕ, ◌&&◌, ◌++◌, ◌+◌, ◌==◌, ◌||◌, ◌∷◌}
 use Rattle.std.specs.List.{ends_with, flat_map, list_any, starts_with}
 use Rattle.std.specs.Option.{option_map_or, option_or}
 use Rattle.pep440_pick.specs.Names.{is_name, is_name_byte, normal}
@@ -16,6 +16,8 @@ use Rattle.pyver_findings.specs.declared.cause.Cause.TheVariants as cause
 use Rattle.pyver_projects.specs.declared.document_kind.DocumentKind.{DocumentKind}
 use Rattle.pyver_projects.specs.declared.document_kind.DocumentKind.TheVariants.{Lock, Project}
 use Rattle.pyver_projects.specs.declared.document_kind.LockKind.TheVariants.{Pdm, Pipfile, Poetry, Pylock, Unknown, Uv}
+use Rattle.pyver_projects.specs.declared.tool_tables.GroupTool.{GroupTool}
+use Rattle.pyver_projects.specs.declared.tool_tables.GroupTool.TheVariants as of_tool
 use Rattle.serde_json.specs.Data.{Data as JsonData}
 use Rattle.serde_json.specs.Read.{read}
 use Rattle.toml.specs.Parse.{parse_document}
@@ -178,28 +180,29 @@ entry_sources table e = if is_package_name e.0 then entry_source table e.0 (entr
 abbrev pub poetry_table : List ℕ → Option Data → List ProjectString
 poetry_table table value = flat_map (entry_sources table) (entries value)
 
--- those of a group of Poetry
-abbrev pub poetry_group : List ℕ × Data → List ProjectString
-poetry_group e = poetry_table (key_path (key_path (codes "tool.poetry.group.") e.0) (codes "dependencies")) (get (codes "dependencies") e.1)
+-- what uv or Rye, whose table has this path, adds to the group `dev`
+abbrev pub dev_sources : List ℕ → Option Data → List ProjectString
+dev_sources table tool = array_sources table (codes "dev-dependencies") (Group (codes "dev")) (inside (codes "dev-dependencies") tool)
+
+-- the item is an editable of PDM
+abbrev pub is_editable : Data → Bool
+is_editable d = option_map_or (opens 45) (as_str d) false
+
+-- what an entry of a table of groups asks for: of Poetry, whose groups are tables with one for what they ask for; or of PDM, whose groups are arrays of
+-- requirements, unless one is an editable
+abbrev pub tool_group : GroupTool → List ℕ × Data → List ProjectString
+tool_group of_tool.Poetry e = poetry_table (key_path (key_path (codes "tool.poetry.group.") e.0) (codes "dependencies")) (get (codes "dependencies") e.1)
+tool_group of_tool.Pdm e = if list_any is_editable (listed (Some e.1)) then unread cause.Editable else array_sources (codes "tool.pdm.dev-dependencies.") e.0 (Group (normal e.0)) (Some e.1)
+
+-- the groups of such a table
+abbrev pub tool_groups : GroupTool → Option Data → List ProjectString
+tool_groups tool value = flat_map (tool_group tool) (entries value)
 
 -- what Poetry's tables ask for ("Dependencies and dev-dependencies", "Dependency groups" of Poetry)
 abbrev pub poetry_sources : Option Data → List ProjectString
 poetry_sources poetry = poetry_table (codes "tool.poetry.dependencies.") (inside (codes "dependencies") poetry)
     ++ (poetry_table (codes "tool.poetry.dev-dependencies.") (inside (codes "dev-dependencies") poetry)
-    ++ flat_map poetry_group (entries (inside (codes "group") poetry)))
-
--- what uv or Rye, whose table has this path, adds to the group `dev`
-abbrev pub dev_sources : List ℕ → Option Data → List ProjectString
-dev_sources table tool = array_sources table (codes "dev-dependencies") (Group (codes "dev")) (inside (codes "dev-dependencies") tool)
-
--- a requirement of a group of PDM, which may have editables beside
-abbrev pub pdm_source : List ℕ → Option (List ℕ) → List ProjectString
-pdm_source name None = []
-pdm_source name (Some text) = if opens 45 text then [] else record { section = Group (normal name); text = text } ∷ []
-
--- what PDM adds to a group
-abbrev pub pdm_group : List ℕ × Data → List ProjectString
-pdm_group e = flat_map (λ (d : Data). pdm_source e.0 (as_str d)) (listed (Some e.1))
+    ++ tool_groups of_tool.Poetry (inside (codes "group") poetry))
 
 -- the table is not read, if there is one
 abbrev pub unread_table : Option Data → List ProjectString
@@ -224,7 +227,7 @@ abbrev pub tool_sources : Option Data → List ProjectString
 tool_sources tool = poetry_sources (inside (codes "poetry") tool)
     ++ (dev_sources (codes "tool.uv.") (inside (codes "uv") tool)
     ++ (dev_sources (codes "tool.rye.") (inside (codes "rye") tool)
-    ++ (flat_map pdm_group (entries (inside (codes "dev-dependencies") (inside (codes "pdm") tool)))
+    ++ (tool_groups of_tool.Pdm (inside (codes "dev-dependencies") (inside (codes "pdm") tool))
     ++ (unread_tables tool
     ++ unread_fields tool))))
 

@@ -28,9 +28,13 @@ lacks key d = is_none (get key d)
 abbrev pub plain_list : List ℕ → List ℕ
 plain_list list = if bytes_eq list (codes "*") then [] else list
 
+-- a digit from 1 to 9
+abbrev pub is_counted : ℕ → Bool
+is_counted b = nat_lt 48 b && nat_lt b 58
+
 -- the number has no digit but 0
 abbrev pub is_zero : List ℕ → Bool
-is_zero number = not (list_any (λ b. nat_lt 48 b && nat_lt b 58) number)
+is_zero number = not (list_any is_counted number)
 
 -- the text up to the first such byte, and what follows this
 abbrev pub cut_at : ℕ → List ℕ → List ℕ × List ℕ

@@ -66,20 +66,6 @@ fn push_project_name(
     }
 }
 
-// The names of the projects.
-fn collect_project_names(
-    alloc: Global,
-    read: &[ReadDocument<'_>],
-) -> Result<Vec<Vec<u8>>, AllocError>
-    ensures { IfOk result (λ names. map (λ n. n.items) names.items ≡ flat_map names_read (map reading_in read.now)) }
-{
-    let mut names = Vec::new(alloc);
-    for document in read {
-        push_project_name(alloc, &mut names, &document.reading)?;
-    }
-    Ok(names)
-}
-
 // Adds copies of these.
 fn push_copies(
     alloc: Global,
@@ -112,18 +98,21 @@ fn push_overridden_names(
     }
 }
 
-// The names that projects override.
-fn collect_overridden_names(
+// The names of the projects, and those that they override.
+fn collect_names(
     alloc: Global,
     read: &[ReadDocument<'_>],
-) -> Result<Vec<Vec<u8>>, AllocError>
-    ensures { IfOk result (λ names. map (λ n. n.items) names.items ≡ flat_map overrides_read (map reading_in read.now)) }
+) -> Result<(Vec<Vec<u8>>, Vec<Vec<u8>>), AllocError>
+    ensures names { IfOk result (λ found. map (λ n. n.items) found.0.items ≡ flat_map names_read (map reading_in read.now)) }
+    ensures overridden { IfOk result (λ found. map (λ n. n.items) found.1.items ≡ flat_map overrides_read (map reading_in read.now)) }
 {
     let mut names = Vec::new(alloc);
+    let mut overridden = Vec::new(alloc);
     for document in read {
-        push_overridden_names(alloc, &mut names, &document.reading)?;
+        push_project_name(alloc, &mut names, &document.reading)?;
+        push_overridden_names(alloc, &mut overridden, &document.reading)?;
     }
-    Ok(names)
+    Ok((names, overridden))
 }
 
 // The name is one of these.
@@ -137,10 +126,11 @@ impl KnownProjects {
     pub(crate) fn new(alloc: Global, read: &[ReadDocument<'_>]) -> Result<KnownProjects, AllocError>
         ensures { IfOk result (λ projects. excuses projects ≡ is_excused (map reading_in read.now)) }
     {
+        let (names, overridden) = collect_names(alloc, read)?;
         Ok(KnownProjects {
             is_some: has_project_reading(read),
-            names: collect_project_names(alloc, read)?,
-            overridden: collect_overridden_names(alloc, read)?,
+            names,
+            overridden,
         })
     }
 

@@ -7,7 +7,6 @@ ghost use Rattle.pyver_projects.specs.ProjectLaws.{DocumentReportsOnce, Document
 /// environment no package meets that the lock does not leave out. Lines that are
 /// reported together belong to a requirement, of a project or of a package in the same lock, and to packages of its name, none of whose
 /// versions it contains, or to requirements of a project that hold together, have no version in common, and have one without any one of them.
-#[tactic(auto, using(crate::proofs::Holding::findings_hold))]
 pub fn findings_hold()
     ensures { DocumentFindingsHold }
 {}
@@ -18,21 +17,16 @@ pub fn findings_hold()
 /// leave out, if there is a project, none has this name, and it is none of setuptools, distribute, pip and wheel.
 /// Each file of a locked package from an index, in whose name a version is read, has one that `==` with the package's version matches.
 /// No package has the name and the marker of another, if the format has one, and no dependency of `uv.lock` is on two.
-#[tactic(auto, using(crate::proofs::Agreeing::no_finding_means_contained))]
-pub fn no_finding_means_contained()
-    ensures { NoFindingImpliesContained }
-{}
-
-/// Where nothing is reported, the requirements of a project that hold together, of one name and without a marker, have a version
-/// in common: its dependencies; these with an extra; a group with all that it includes, and with these if there is a table `tool.uv` or
+///
+/// The requirements of a project that hold together, of one name and without a marker, have a version
+/// in common: its dependencies, with what Poetry's tables ask for; these with an extra; a group with all that it includes, and with these if there is a table `tool.uv` or
 /// `tool.poetry`; and what its build requires. If nothing is undecided, those that ask in an environment for which the project is have one, too.
-#[tactic(auto, using(crate::proofs::Agreeing::no_finding_means_satisfiable))]
-pub fn no_finding_means_satisfiable()
-    ensures { NoFindingImpliesSatisfiable }
+pub fn no_finding_means_agreement()
+    ensures contained { NoFindingImpliesContained }
+    ensures satisfiable { NoFindingImpliesSatisfiable }
 {}
 
 /// Documents that are TOML, or JSON, in UTF-8 have at most one report in which nothing is undecided.
-#[tactic(auto, using(crate::proofs::Once::document_reports_once))]
 pub fn reports_once()
     ensures { DocumentReportsOnce }
 {}

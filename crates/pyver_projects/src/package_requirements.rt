@@ -1,11 +1,11 @@
 //! What locked packages require of one another, as it is written.
 ghost use Rattle.std.specs.Prelude.{◌≡◌, ◌∷◌, ◌++◌, ◌≤◌, [], IfOk, length, map, option_map, string_bytes, ◌<◌, if◌then◌else◌};
-ghost use Rattle.std.specs.List.{flat_map, prefix_len};
+ghost use Rattle.std.specs.List.{flat_map, list_any, prefix_len};
 ghost use Rattle.std.specs.Option.{unwrap_or};
 ghost use Rattle.pep440_pick.specs.Names.{is_name_byte};
 ghost use Rattle.pep440_rs.specs.Blanks.{opens};
 ghost use Rattle.pep440_version.specs.Reading.{lead, past};
-ghost use Rattle.pyver_projects.specs.PackageRequirements.{pylock_requirements, reference, is_everywhere, tool_requirements, is_unconditional, item_requirements, lacks, member_requirements, caret_numbers, cut_at, from_comma, is_zero, kept_list, plain_list, poetry_list, requirement_text, tilde_numbers, requirement, requirement_in, is_plain_string, named_requirement, past_extras, requirement_of_text, requirements_by, string_requirement, requirements_from, table_requirements, version_requirements};
+ghost use Rattle.pyver_projects.specs.PackageRequirements.{pylock_requirements, reference, is_everywhere, tool_requirements, is_unconditional, item_requirements, lacks, member_requirements, caret_numbers, cut_at, from_comma, is_counted, is_zero, kept_list, plain_list, poetry_list, requirement_text, tilde_numbers, requirement, requirement_in, is_plain_string, named_requirement, past_extras, requirement_of_text, requirements_by, string_requirement, requirements_from, table_requirements, version_requirements};
 ghost use Rattle.pyver_projects.specs.ProjectViews.{parts_of, requirement_of};
 ghost use Rattle.pyver_projects.specs.ProjectStrings.{entries, listed, members_list};
 ghost use Rattle.toml.specs.View.{table_view, view};
@@ -53,14 +53,24 @@ fn plain_list(list: &str) -> &str
     if list == "*" { "" } else { list }
 }
 
+// A digit from 1 to 9.
+fn is_counted(byte: u8) -> bool
+    ensures { result ≡ is_counted byte }
+{
+    b'0' < byte && byte < b':'
+}
+
+fn has_counted(number: &[u8]) -> bool
+    ensures { result ≡ list_any is_counted number.now }
+{
+    number.iter().any(|byte| is_counted(*byte))
+}
+
 // The number has no digit but 0.
 fn is_zero(number: &str) -> bool
     ensures { result ≡ is_zero number.now }
 {
-    !number
-        .as_bytes()
-        .iter()
-        .any(|byte| b'0' < *byte && *byte < b':')
+    !has_counted(number.as_bytes())
 }
 
 // The text up to the first such character, and what follows this.

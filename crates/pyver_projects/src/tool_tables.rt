@@ -1,11 +1,13 @@
 //! What tables of tools in `pyproject.toml` ask for, and what they override.
 ghost use Rattle.std.specs.Prelude.{◌≡◌, ◌++◌, ◌∷◌, [], IfOk, Some, codes, map, option_map, string_bytes};
-ghost use Rattle.std.specs.List.{flat_map};
+ghost use Rattle.std.specs.List.{flat_map, list_any};
+ghost use Rattle.pep440_rs.specs.Blanks.{opens};
 ghost use Rattle.pep440_pick.specs.Names.{normal};
-ghost use Rattle.pyver_projects.specs.Documents.{entry_list, entry_names, entry_source, entry_sources, is_conditional, is_package_name, leading_name, overridden_names, pdm_group, pdm_source, poetry_group, poetry_sources, poetry_table, table_list, tool_sources, unread, unread_fields, unread_table, unread_tables, dev_sources};
+ghost use Rattle.pyver_projects.specs.Documents.{entry_list, entry_names, entry_source, entry_sources, is_conditional, is_package_name, is_editable, leading_name, overridden_names, poetry_sources, poetry_table, table_list, tool_group, tool_groups, tool_sources, unread, unread_fields, unread_table, unread_tables, dev_sources};
 ghost use Rattle.pyver_projects.specs.PackageRequirements.{poetry_list, requirement_text};
 ghost use Rattle.pyver_projects.specs.ProjectStrings.{Entry, Group, entries, members_list};
 ghost use Rattle.pyver_projects.specs.ProjectViews.{project_string_of, section_of};
+ghost use Rattle.pyver_projects.specs.declared.tool_tables.GroupTool.TheVariants as of_tool;
 ghost use Rattle.toml.specs.Data.{Data, as_str};
 ghost use Rattle.toml.specs.View.{table_view, view};
 
@@ -144,44 +146,112 @@ fn push_poetry_table(
     }
 }
 
+// ---- groups
+
+// The tool that has a table of groups.
+#[derive(Clone, Copy)]
+pub(crate) enum GroupTool {
+    Poetry,
+    Pdm,
+}
+
+// An item is an editable of PDM.
+#[tactic(auto, using(pyver_findings::proofs::Steps::any_viewed))]
+fn has_editable(found: &[Value]) -> bool
+    ensures { result ≡ list_any is_editable (map view found.now) }
+{
+    found.iter().any(|item| is_editable(item))
+}
+
+fn is_editable(item: &Value) -> bool
+    ensures { result ≡ is_editable (view item.now) }
+{
+    match item.as_str() {
+        Some(text) => opens_option(text),
+        None => false,
+    }
+}
+
+fn opens_option(text: &str) -> bool
+    ensures { result ≡ opens 45 text.now }
+{
+    matches!(text.as_bytes(), [b'-', ..])
+}
+
 fn push_poetry_group(
     alloc: Global,
     sources: &mut Vec<ProjectString>,
-    name: &String,
+    name: &str,
     group: &Value,
 ) -> Result<(), AllocError>
-    ensures { IfOk result (λ _. map project_string_of sources.new.items ≡ map project_string_of sources.old.items ++ poetry_group (string_bytes name.now, view group.now)) }
+    ensures { IfOk result (λ _. map project_string_of sources.new.items ≡ map project_string_of sources.old.items ++ tool_group of_tool.Poetry (name.now, view group.now)) }
 {
     let path = key_path(alloc, b"tool.poetry.group.", name.as_bytes())?;
     let path = key_path(alloc, path.as_slice(), b"dependencies")?;
     push_poetry_table(alloc, sources, path.as_slice(), group.get("dependencies"))
 }
 
-fn push_poetry_groups(
+fn push_pdm_group(
     alloc: Global,
     sources: &mut Vec<ProjectString>,
+    name: &str,
+    group: &Value,
+) -> Result<(), AllocError>
+    ensures { IfOk result (λ _. map project_string_of sources.new.items ≡ map project_string_of sources.old.items ++ tool_group of_tool.Pdm (name.now, view group.now)) }
+{
+    if has_editable(items(Some(group))) {
+        return push_unread(alloc, sources, Cause::Editable);
+    }
+    let table = "tool.pdm.dev-dependencies.";
+    let section = Section::Group(normalize_name(alloc, name)?);
+    push_array(alloc, sources, table, name, &section, Some(group))
+}
+
+fn push_group(
+    alloc: Global,
+    sources: &mut Vec<ProjectString>,
+    tool: GroupTool,
+    name: &String,
+    group: &Value,
+) -> Result<(), AllocError>
+    ensures { IfOk result (λ _. map project_string_of sources.new.items ≡ map project_string_of sources.old.items ++ tool_group tool (string_bytes name.now, view group.now)) }
+{
+    match tool {
+        GroupTool::Poetry => push_poetry_group(alloc, sources, name.as_str(), group),
+        GroupTool::Pdm => push_pdm_group(alloc, sources, name.as_str(), group),
+    }
+}
+
+fn push_table_groups(
+    alloc: Global,
+    sources: &mut Vec<ProjectString>,
+    tool: GroupTool,
     groups: &Table,
 ) -> Result<(), AllocError>
-    ensures { IfOk result (λ _. map project_string_of sources.new.items ≡ map project_string_of sources.old.items ++ flat_map poetry_group (members_list (table_view groups.now))) }
+    ensures { IfOk result (λ _. map project_string_of sources.new.items ≡ map project_string_of sources.old.items ++ flat_map (tool_group tool) (members_list (table_view groups.now))) }
 {
     for (name, group) in groups.iter() {
-        push_poetry_group(alloc, sources, name, group)?;
+        push_group(alloc, sources, tool, name, group)?;
     }
     Ok(())
 }
 
-fn push_all_poetry_groups(
+// Adds what the groups in the table ask for.
+fn push_groups(
     alloc: Global,
     sources: &mut Vec<ProjectString>,
+    tool: GroupTool,
     groups: Option<&Value>,
 ) -> Result<(), AllocError>
-    ensures { IfOk result (λ _. map project_string_of sources.new.items ≡ map project_string_of sources.old.items ++ flat_map poetry_group (entries (option_map (λ v. view v.now) groups.entry))) }
+    ensures { IfOk result (λ _. map project_string_of sources.new.items ≡ map project_string_of sources.old.items ++ tool_groups tool (option_map (λ v. view v.now) groups.entry)) }
 {
     match table(groups) {
-        Some(groups) => push_poetry_groups(alloc, sources, groups),
+        Some(groups) => push_table_groups(alloc, sources, tool, groups),
         None => Ok(()),
     }
 }
+
+// ---- tools
 
 // Adds what Poetry's tables ask for.
 fn push_poetry(
@@ -195,10 +265,15 @@ fn push_poetry(
     push_poetry_table(alloc, sources, path, inside(poetry, "dependencies"))?;
     let path = b"tool.poetry.dev-dependencies.";
     push_poetry_table(alloc, sources, path, inside(poetry, "dev-dependencies"))?;
-    push_all_poetry_groups(alloc, sources, inside(poetry, "group"))
+    push_groups(alloc, sources, GroupTool::Poetry, inside(poetry, "group"))
 }
 
-// ---- uv, Rye and PDM
+// The name of the group to which uv and Rye add.
+fn dev_name(alloc: Global) -> Result<Vec<u8>, AllocError>
+    ensures { IfOk result (λ name. name.items ≡ codes "dev") }
+{
+    Vec::from_slice(alloc, b"dev")
+}
 
 // Adds what the tool, whose table has this path, adds to the group `dev`.
 fn push_dev(
@@ -210,67 +285,8 @@ fn push_dev(
     ensures { IfOk result (λ _. map project_string_of sources.new.items ≡ map project_string_of sources.old.items ++ dev_sources table.now (option_map (λ v. view v.now) tool.entry)) }
 {
     let name = "dev-dependencies";
-    let section = Section::Group(Vec::from_slice(alloc, b"dev")?);
+    let section = Section::Group(dev_name(alloc)?);
     push_array(alloc, sources, table, name, &section, inside(tool, name))
-}
-
-// Adds a requirement of the group of this name, unless it is an editable.
-fn push_pdm_string(
-    alloc: Global,
-    sources: &mut Vec<ProjectString>,
-    name: &str,
-    text: Option<&str>,
-) -> Result<(), AllocError>
-    ensures { IfOk result (λ _. map project_string_of sources.new.items ≡ map project_string_of sources.old.items ++ pdm_source name.now (option_map (λ t. t.now) text.entry)) }
-{
-    match text {
-        Some(text) if !text.as_bytes().starts_with(b"-") => {
-            let section = Section::Group(normalize_name(alloc, name)?);
-            push_string(alloc, sources, section, text)
-        }
-        _ => Ok(()),
-    }
-}
-
-fn push_pdm_items(
-    alloc: Global,
-    sources: &mut Vec<ProjectString>,
-    name: &str,
-    found: &[Value],
-) -> Result<(), AllocError>
-    ensures { IfOk result (λ _. map project_string_of sources.new.items ≡ map project_string_of sources.old.items ++ flat_map (λ (d : Data). pdm_source name.now (as_str d)) (map view found.now)) }
-{
-    for item in found {
-        push_pdm_string(alloc, sources, name, item.as_str())?;
-    }
-    Ok(())
-}
-
-fn push_pdm_groups(
-    alloc: Global,
-    sources: &mut Vec<ProjectString>,
-    groups: &Table,
-) -> Result<(), AllocError>
-    ensures { IfOk result (λ _. map project_string_of sources.new.items ≡ map project_string_of sources.old.items ++ flat_map pdm_group (members_list (table_view groups.now))) }
-{
-    for (name, group) in groups.iter() {
-        push_pdm_items(alloc, sources, name.as_str(), items(Some(group)))?;
-    }
-    Ok(())
-}
-
-// Adds what PDM adds to groups.
-fn push_pdm(
-    alloc: Global,
-    sources: &mut Vec<ProjectString>,
-    groups: Option<&Value>,
-) -> Result<(), AllocError>
-    ensures { IfOk result (λ _. map project_string_of sources.new.items ≡ map project_string_of sources.old.items ++ flat_map pdm_group (entries (option_map (λ v. view v.now) groups.entry))) }
-{
-    match table(groups) {
-        Some(groups) => push_pdm_groups(alloc, sources, groups),
-        None => Ok(()),
-    }
 }
 
 // ---- tables that are not read
@@ -333,8 +349,8 @@ pub(crate) fn push_tools(
     push_poetry(alloc, sources, inside(tool, "poetry"))?;
     push_dev(alloc, sources, "tool.uv.", inside(tool, "uv"))?;
     push_dev(alloc, sources, "tool.rye.", inside(tool, "rye"))?;
-    let pdm = inside(tool, "pdm");
-    push_pdm(alloc, sources, inside(pdm, "dev-dependencies"))?;
+    let pdm = inside(inside(tool, "pdm"), "dev-dependencies");
+    push_groups(alloc, sources, GroupTool::Pdm, pdm)?;
     push_unread_tables(alloc, sources, tool)?;
     push_unread_fields(alloc, sources, tool)
 }

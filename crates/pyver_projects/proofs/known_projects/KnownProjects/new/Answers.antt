@@ -10,6 +10,6 @@ returns c =
     let read = c.args.read.now in
     let any = c.has_project_reading.ensures ∙ sym (any_viewed is_project_reading reading_in read) in
     λ i name. record {
-      lacks = is_installer name || (not (any i) || list_any (bytes_eq name) (c.in_ok-collect_project_names.ensures i));
-      overrides = list_any (bytes_eq name) (c.in_ok-collect_overridden_names.ensures i);
+      lacks = is_installer name || (not (any i) || list_any (bytes_eq name) (c.in_ok-names.ensures.names i));
+      overrides = list_any (bytes_eq name) (c.in_ok-names.ensures.overridden i);
     }

@@ -1,9 +1,0 @@
-use Rattle.std.proofs.Common.{◌≡◌, ◌++◌, drop, map}
-use Rattle.std.specs.List.{flat_map}
-use Rattle.pyver_projects.specs.Comparing.{overrides_read}
-use Rattle.pyver_projects.specs.ProjectViews.{reading_in}
-use Rattle.pyver_projects.proofs.known_projects.collect_overridden_names.Given as goal
-
-abbrev pub invariant-loop-document : goal.invariant-loop-document
-invariant-loop-document l =
-    map (λ n. n.items) l.names.items ++ flat_map overrides_read (map reading_in (drop l.document-index l.read)) ≡ flat_map overrides_read (map reading_in l.read)

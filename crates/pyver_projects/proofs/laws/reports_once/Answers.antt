@@ -1,0 +1,5 @@
+use Rattle.pyver_projects.proofs.Once.{document_reports_once}
+use Rattle.pyver_projects.proofs.laws.reports_once.Goals as goal
+
+pub returns : goal.returns
+returns c = document_reports_once
