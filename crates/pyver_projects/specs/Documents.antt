@@ -191,7 +191,7 @@ is_editable d = option_map_or (opens 45) (as_str d) false
 -- what an entry of a table of groups asks for: of Poetry, whose groups are tables with one for what they ask for; or of PDM, whose groups are arrays of
 -- requirements, unless one is an editable
 abbrev pub tool_group : GroupTool → List ℕ × Data → List ProjectString
-tool_group of_tool.Poetry e = poetry_table (key_path (key_path (codes "tool.poetry.group.") e.0) (codes "dependencies")) (get (codes "dependencies") e.1)
+tool_group of_tool.Poetry e = poetry_table (key_path (codes "tool.poetry.group.") e.0 ++ codes "dependencies.") (get (codes "dependencies") e.1)
 tool_group of_tool.Pdm e = if list_any is_editable (listed (Some e.1)) then unread cause.Editable else array_sources (codes "tool.pdm.dev-dependencies.") e.0 (Group (normal e.0)) (Some e.1)
 
 -- the groups of such a table
@@ -222,14 +222,15 @@ unread_fields tool = unread_table (inside (codes "dependencies") (inside (codes 
     ++ (unread_table (inside (codes "requires") (inside (codes "metadata") (inside (codes "flit") tool)))
     ++ unread_table (inside (codes "requires-extra") (inside (codes "metadata") (inside (codes "flit") tool)))))
 
--- what tables of tools ask for
-abbrev pub tool_sources : Option Data → List ProjectString
-tool_sources tool = poetry_sources (inside (codes "poetry") tool)
-    ++ (dev_sources (codes "tool.uv.") (inside (codes "uv") tool)
+-- what uv, Rye and PDM add to groups
+abbrev pub added_sources : Option Data → List ProjectString
+added_sources tool = dev_sources (codes "tool.uv.") (inside (codes "uv") tool)
     ++ (dev_sources (codes "tool.rye.") (inside (codes "rye") tool)
-    ++ (tool_groups of_tool.Pdm (inside (codes "dev-dependencies") (inside (codes "pdm") tool))
-    ++ (unread_tables tool
-    ++ unread_fields tool))))
+    ++ tool_groups of_tool.Pdm (inside (codes "dev-dependencies") (inside (codes "pdm") tool)))
+
+-- what tables of tools ask for, and which are not read
+abbrev pub tool_sources : Option Data → List ProjectString
+tool_sources tool = poetry_sources (inside (codes "poetry") tool) ++ (added_sources tool ++ (unread_tables tool ++ unread_fields tool))
 
 -- the strings of `pyproject.toml`. Those of an included group stand in that group alone
 abbrev pub sources : Members → List ProjectString

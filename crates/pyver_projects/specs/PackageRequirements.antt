@@ -1,11 +1,13 @@
 -- What locked packages require of one another.
-use Rattle.std.specs.Prelude.{ℕ, zero, suc, ◌&&◌, ◌==◌, List, [], ◌∷◌, ◌++◌, Bool, false, true, Option, Some, None, bytes_eq, codes, if◌then◌else◌, is_none, is_some, nat_lt, not, option_map}
-use Rattle.std.specs.List.{flat_map, list_any}
+use Rattle.std.specs.Prelude.{ℕ, ◌&&◌, List, [], ◌∷◌, ◌++◌, Bool, false, true, Option, Some, None, bytes_eq, codes, if◌then◌else◌, is_none, nat_eq, nat_lt, not, option_map}
+use Rattle.std.specs.List.{flat_map, list_any, starts_with}
 use Rattle.std.specs.Option.{option_map_or, unwrap_or}
 use Rattle.pep440_pick.specs.Names.{is_name, is_name_byte}
 use Rattle.pep440_pick.specs.RequirementGrammar.{has_byte}
 use Rattle.pep440_pick.specs.RequirementReading.{split_at_byte}
 use Rattle.pep440_rs.specs.Blanks.{opens}
+use Rattle.pep440_version.specs.Changes.ChangeWords.{after}
+use Rattle.pep440_version.specs.Grammar.{starts}
 use Rattle.pep440_version.specs.Reading.{lead, past}
 use Rattle.toml.specs.Data.{Data, as_str, get}
 use Rattle.pyver_projects.specs.KnownEnvironments.{holds_everywhere}
@@ -40,16 +42,25 @@ is_zero number = not (list_any is_counted number)
 abbrev pub cut_at : ℕ → List ℕ → List ℕ × List ℕ
 cut_at b text = unwrap_or (split_at_byte b text) (text, [])
 
--- the numbers that a caret keeps of a version: up to the first that is not 0, and at most this one and so many more
-abbrev pub caret_numbers : ℕ → List ℕ → List ℕ
-caret_numbers zero version = (cut_at 46 version).0
-caret_numbers (suc n) version = if is_some (split_at_byte 46 version) && is_zero (cut_at 46 version).0
-    then (cut_at 46 version).0 ++ (codes "." ++ caret_numbers n (cut_at 46 version).1)
-    else (cut_at 46 version).0
+abbrev pub first_number : List ℕ → List ℕ
+first_number version = (cut_at 46 version).0
+
+-- the first number, and if it is 0 what is kept of those after it
+abbrev pub past_zero : (List ℕ → List ℕ) → Option (List ℕ × List ℕ) → List ℕ → List ℕ
+past_zero keep None version = version
+past_zero keep (Some p) version = if is_zero p.0 then p.0 ++ (codes "." ++ keep p.1) else p.0
+
+-- of these numbers up to the first that is not 0, at most two
+abbrev pub later_numbers : List ℕ → List ℕ
+later_numbers version = past_zero first_number (split_at_byte 46 version) version
+
+-- the numbers that a caret keeps of a version: up to the first that is not 0, at most three
+abbrev pub caret_numbers : List ℕ → List ℕ
+caret_numbers version = past_zero later_numbers (split_at_byte 46 version) version
 
 -- the numbers that a tilde keeps: the first two
 abbrev pub tilde_numbers : List ℕ → List ℕ
-tilde_numbers version = if is_some (split_at_byte 46 version) then (cut_at 46 version).0 ++ (codes "." ++ (cut_at 46 (cut_at 46 version).1).0) else version
+tilde_numbers version = option_map_or (λ p. p.0 ++ (codes "." ++ first_number p.1)) (split_at_byte 46 version) version
 
 -- the versions from this one on that begin with these numbers, and what else the list asks
 abbrev pub kept_list : List ℕ → List ℕ → List ℕ → List ℕ
@@ -59,15 +70,22 @@ kept_list version numbers others = codes ">=" ++ (version ++ (codes ",==" ++ (nu
 abbrev pub from_comma : List ℕ → List ℕ
 from_comma list = option_map_or (λ p. codes "," ++ p.1) (split_at_byte 44 list) []
 
--- the list of PEP 440 that a list of Poetry stands for: `^1.2` and `~1.2` are versions from that one on that begin with some of its numbers, and
--- a version by itself is this one ("Dependency specification" of Poetry). What has no such list stays, and is none
+-- what begins with a version stands for those from it on that begin with what is kept of it
+abbrev pub list_keeping : (List ℕ → List ℕ) → List ℕ → List ℕ
+list_keeping keep list = kept_list (cut_at 44 list).0 (keep (cut_at 44 list).0) (from_comma list)
+
+-- a version by itself is this one
+abbrev pub bare_list : List ℕ → List ℕ
+bare_list list = if starts (λ b. nat_lt 47 b && nat_lt b 58) list then codes "==" ++ list else plain_list list
+
+-- a list that does not begin with a caret
+abbrev pub tilde_list : List ℕ → List ℕ
+tilde_list list = if starts_with nat_eq list (codes "~=") then list else option_map_or (list_keeping tilde_numbers) (after (codes "~") list) (bare_list list)
+
+-- the list of PEP 440 that a list of Poetry stands for: `^1.2` and `~1.2` are versions from that one on that begin with some of its numbers
+-- ("Dependency specification" of Poetry). What has no such list stays, and is none
 abbrev pub poetry_list : List ℕ → List ℕ
-poetry_list [] = []
-poetry_list (b ∷ rest) =
-    if b == 94 then kept_list (cut_at 44 rest).0 (caret_numbers 2 (cut_at 44 rest).0) (from_comma rest)
-    else if b == 126 && not (opens 61 rest) then kept_list (cut_at 44 rest).0 (tilde_numbers (cut_at 44 rest).0) (from_comma rest)
-    else if nat_lt 47 b && nat_lt b 58 then codes "==" ++ (b ∷ rest)
-    else plain_list (b ∷ rest)
+poetry_list list = option_map_or (list_keeping caret_numbers) (after (codes "^") list) (tilde_list list)
 
 -- ----
 

@@ -1,11 +1,13 @@
 //! What locked packages require of one another, as it is written.
-ghost use Rattle.std.specs.Prelude.{◌≡◌, ◌∷◌, ◌++◌, ◌≤◌, [], IfOk, length, map, option_map, string_bytes, ◌<◌, if◌then◌else◌};
+ghost use Rattle.std.specs.Prelude.{◌≡◌, ◌∷◌, ◌++◌, ◌≤◌, [], IfOk, length, map, option_copied, option_map, string_bytes, ◌<◌, codes, nat_lt, ◌&&◌};
 ghost use Rattle.std.specs.List.{flat_map, list_any, prefix_len};
 ghost use Rattle.std.specs.Option.{unwrap_or};
 ghost use Rattle.pep440_pick.specs.Names.{is_name_byte};
 ghost use Rattle.pep440_rs.specs.Blanks.{opens};
+ghost use Rattle.pep440_version.specs.Changes.ChangeWords.{after};
+ghost use Rattle.pep440_version.specs.Grammar.{starts};
 ghost use Rattle.pep440_version.specs.Reading.{lead, past};
-ghost use Rattle.pyver_projects.specs.PackageRequirements.{pylock_requirements, reference, is_everywhere, tool_requirements, is_unconditional, item_requirements, lacks, member_requirements, caret_numbers, cut_at, from_comma, is_counted, is_zero, kept_list, plain_list, poetry_list, requirement_text, tilde_numbers, requirement, requirement_in, is_plain_string, named_requirement, past_extras, requirement_of_text, requirements_by, string_requirement, requirements_from, table_requirements, version_requirements};
+ghost use Rattle.pyver_projects.specs.PackageRequirements.{pylock_requirements, reference, is_everywhere, tool_requirements, is_unconditional, item_requirements, lacks, member_requirements, bare_list, caret_numbers, cut_at, first_number, from_comma, is_counted, is_zero, later_numbers, list_keeping, plain_list, tilde_list, poetry_list, requirement_text, tilde_numbers, requirement, requirement_in, is_plain_string, named_requirement, past_extras, requirement_of_text, requirements_by, string_requirement, requirements_from, table_requirements, version_requirements};
 ghost use Rattle.pyver_projects.specs.ProjectViews.{parts_of, requirement_of};
 ghost use Rattle.pyver_projects.specs.ProjectStrings.{entries, listed, members_list};
 ghost use Rattle.toml.specs.View.{table_view, view};
@@ -84,34 +86,53 @@ fn cut_at(text: &str, character: char) -> (&str, &str)
     }
 }
 
-// Adds the numbers that a caret keeps of a version: up to the first that is not 0, and at most this one and so many more.
-fn push_caret_numbers(kept: &mut String, version: &str, more: usize) -> Result<(), AllocError>
-    ensures { IfOk result (λ _. string_bytes kept.new ≡ string_bytes kept.old ++ caret_numbers more version.now) }
+fn push_first_number(kept: &mut String, version: &str) -> Result<(), AllocError>
+    ensures { IfOk result (λ _. string_bytes kept.new ≡ string_bytes kept.old ++ first_number version.now) }
 {
-    match split_at_byte(version, '.') {
-        Some((number, rest)) if more > 0 && is_zero(number) => {
-            kept.push_str(number)?;
-            kept.push_str(".")?;
-            push_caret_numbers(kept, rest, more - 1)
-        }
-        Some((number, _)) => kept.push_str(number),
-        None => kept.push_str(version),
+    let (number, _) = cut_at(version, '.');
+    kept.push_str(number)
+}
+
+// Adds of these numbers those up to the first that is not 0, at most two.
+fn push_later_numbers(kept: &mut String, version: &str) -> Result<(), AllocError>
+    ensures { IfOk result (λ _. string_bytes kept.new ≡ string_bytes kept.old ++ later_numbers version.now) }
+{
+    let Some((number, rest)) = split_at_byte(version, '.') else {
+        return kept.push_str(version);
+    };
+    kept.push_str(number)?;
+    if !is_zero(number) {
+        return Ok(());
     }
+    kept.push_str(".")?;
+    push_first_number(kept, rest)
+}
+
+// Adds the numbers that a caret keeps of a version: up to the first that is not 0, at most three.
+fn push_caret_numbers(kept: &mut String, version: &str) -> Result<(), AllocError>
+    ensures { IfOk result (λ _. string_bytes kept.new ≡ string_bytes kept.old ++ caret_numbers version.now) }
+{
+    let Some((number, rest)) = split_at_byte(version, '.') else {
+        return kept.push_str(version);
+    };
+    kept.push_str(number)?;
+    if !is_zero(number) {
+        return Ok(());
+    }
+    kept.push_str(".")?;
+    push_later_numbers(kept, rest)
 }
 
 // Adds those that a tilde keeps: the first two.
 fn push_tilde_numbers(kept: &mut String, version: &str) -> Result<(), AllocError>
     ensures { IfOk result (λ _. string_bytes kept.new ≡ string_bytes kept.old ++ tilde_numbers version.now) }
 {
-    match split_at_byte(version, '.') {
-        Some((number, rest)) => {
-            kept.push_str(number)?;
-            kept.push_str(".")?;
-            let (number, _) = cut_at(rest, '.');
-            kept.push_str(number)
-        }
-        None => kept.push_str(version),
-    }
+    let Some((number, rest)) = split_at_byte(version, '.') else {
+        return kept.push_str(version);
+    };
+    kept.push_str(number)?;
+    kept.push_str(".")?;
+    push_first_number(kept, rest)
 }
 
 // Adds the list from the first comma on.
@@ -127,40 +148,97 @@ fn push_from_comma(text: &mut String, list: &str) -> Result<(), AllocError>
     }
 }
 
-// The versions from this one on that begin with some of its numbers, and what else the list asks, which begins with it.
-fn kept_list(alloc: Global, list: &str, is_caret: bool) -> Result<String, AllocError>
-    ensures { IfOk result (λ text. string_bytes text ≡ (if is_caret
-        then kept_list (cut_at 44 list.now).0 (caret_numbers 2 (cut_at 44 list.now).0) (from_comma list.now)
-        else kept_list (cut_at 44 list.now).0 (tilde_numbers (cut_at 44 list.now).0) (from_comma list.now))) }
+// Adds the version that the list begins with, as the least one.
+fn push_least(text: &mut String, version: &str) -> Result<(), AllocError>
+    ensures { IfOk result (λ _. string_bytes text.new ≡ string_bytes text.old ++ (codes ">=" ++ (version.now ++ codes ",=="))) }
+{
+    text.push_str(">=")?;
+    text.push_str(version)?;
+    text.push_str(",==")
+}
+
+// Adds that what stands before is how versions begin, and what else the list asks.
+fn push_rest(text: &mut String, list: &str) -> Result<(), AllocError>
+    ensures { IfOk result (λ _. string_bytes text.new ≡ string_bytes text.old ++ (codes ".*" ++ from_comma list.now)) }
+{
+    text.push_str(".*")?;
+    push_from_comma(text, list)
+}
+
+fn strip_caret(list: &str) -> Option<&str>
+    ensures { option_copied result ≡ after (codes "^") list.now }
+{
+    list.strip_prefix("^")
+}
+
+fn strip_tilde(list: &str) -> Option<&str>
+    ensures { option_copied result ≡ after (codes "~") list.now }
+{
+    list.strip_prefix("~")
+}
+
+// What follows a caret stands for these versions.
+fn caret_list(alloc: Global, list: &str) -> Result<String, AllocError>
+    ensures { IfOk result (λ text. string_bytes text ≡ list_keeping caret_numbers list.now) }
 {
     let (version, _) = cut_at(list, ',');
-    let mut text = String::from_str(alloc, ">=")?;
-    text.push_str(version)?;
-    text.push_str(",==")?;
-    if is_caret {
-        push_caret_numbers(&mut text, version, 2)?;
-    } else {
-        push_tilde_numbers(&mut text, version)?;
-    }
-    text.push_str(".*")?;
-    push_from_comma(&mut text, list)?;
+    let mut text = String::new(alloc);
+    push_least(&mut text, version)?;
+    push_caret_numbers(&mut text, version)?;
+    push_rest(&mut text, list)?;
     Ok(text)
+}
+
+// What follows a tilde stands for these versions.
+fn kept_by_tilde(alloc: Global, list: &str) -> Result<String, AllocError>
+    ensures { IfOk result (λ text. string_bytes text ≡ list_keeping tilde_numbers list.now) }
+{
+    let (version, _) = cut_at(list, ',');
+    let mut text = String::new(alloc);
+    push_least(&mut text, version)?;
+    push_tilde_numbers(&mut text, version)?;
+    push_rest(&mut text, list)?;
+    Ok(text)
+}
+
+fn begins_with_digit(list: &str) -> bool
+    ensures { result ≡ starts (λ b. nat_lt 47 b && nat_lt b 58) list.now }
+{
+    matches!(list.as_bytes(), [b'0'..=b'9', ..])
+}
+
+// A version by itself is this one.
+fn bare_list(alloc: Global, list: &str) -> Result<String, AllocError>
+    ensures { IfOk result (λ text. string_bytes text ≡ bare_list list.now) }
+{
+    if !begins_with_digit(list) {
+        return String::from_str(alloc, plain_list(list));
+    }
+    let mut text = String::from_str(alloc, "==")?;
+    text.push_str(list)?;
+    Ok(text)
+}
+
+// A list that does not begin with a caret.
+fn tilde_list(alloc: Global, list: &str) -> Result<String, AllocError>
+    ensures { IfOk result (λ text. string_bytes text ≡ tilde_list list.now) }
+{
+    if list.starts_with("~=") {
+        return String::from_str(alloc, list);
+    }
+    match strip_tilde(list) {
+        Some(rest) => kept_by_tilde(alloc, rest),
+        None => bare_list(alloc, list),
+    }
 }
 
 // The list of PEP 440 that a list of Poetry stands for.
 pub(crate) fn poetry_list(alloc: Global, list: &str) -> Result<String, AllocError>
     ensures { IfOk result (λ text. string_bytes text ≡ poetry_list list.now) }
 {
-    match list.as_bytes() {
-        [b'^', ..] => kept_list(alloc, &list[1..], true),
-        [b'~', b'=', ..] => String::from_str(alloc, list),
-        [b'~', ..] => kept_list(alloc, &list[1..], false),
-        [b'0'..=b'9', ..] => {
-            let mut text = String::from_str(alloc, "==")?;
-            text.push_str(list)?;
-            Ok(text)
-        }
-        _ => String::from_str(alloc, plain_list(list)),
+    match strip_caret(list) {
+        Some(rest) => caret_list(alloc, rest),
+        None => tilde_list(alloc, list),
     }
 }
 

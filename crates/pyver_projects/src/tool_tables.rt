@@ -3,9 +3,9 @@ ghost use Rattle.std.specs.Prelude.{◌≡◌, ◌++◌, ◌∷◌, [], IfOk, So
 ghost use Rattle.std.specs.List.{flat_map, list_any};
 ghost use Rattle.pep440_rs.specs.Blanks.{opens};
 ghost use Rattle.pep440_pick.specs.Names.{normal};
-ghost use Rattle.pyver_projects.specs.Documents.{entry_list, entry_names, entry_source, entry_sources, is_conditional, is_package_name, is_editable, leading_name, overridden_names, poetry_sources, poetry_table, table_list, tool_group, tool_groups, tool_sources, unread, unread_fields, unread_table, unread_tables, dev_sources};
+ghost use Rattle.pyver_projects.specs.Documents.{added_sources, array_sources, entry_list, entry_names, entry_source, entry_sources, is_conditional, is_package_name, is_editable, leading_name, overridden_names, poetry_sources, poetry_table, table_list, tool_group, tool_groups, tool_sources, unread, unread_fields, unread_table, unread_tables, dev_sources};
 ghost use Rattle.pyver_projects.specs.PackageRequirements.{poetry_list, requirement_text};
-ghost use Rattle.pyver_projects.specs.ProjectStrings.{Entry, Group, entries, members_list};
+ghost use Rattle.pyver_projects.specs.ProjectStrings.{Entry, Group, entries, key_path, listed, members_list};
 ghost use Rattle.pyver_projects.specs.ProjectViews.{project_string_of, section_of};
 ghost use Rattle.pyver_projects.specs.declared.tool_tables.GroupTool.TheVariants as of_tool;
 ghost use Rattle.toml.specs.Data.{Data, as_str};
@@ -155,12 +155,18 @@ pub(crate) enum GroupTool {
     Pdm,
 }
 
-// An item is an editable of PDM.
-#[tactic(auto, using(pyver_findings::proofs::Steps::any_viewed))]
-fn has_editable(found: &[Value]) -> bool
-    ensures { result ≡ list_any is_editable (map view found.now) }
+fn any_editable(found: &[Value]) -> bool
+    ensures { result ≡ list_any (λ v. is_editable (view v)) found.now }
 {
     found.iter().any(|item| is_editable(item))
+}
+
+// An item is an editable of PDM.
+#[tactic(auto, using(pyver_findings::proofs::Steps::any_viewed))]
+fn has_editable(group: &Value) -> bool
+    ensures { result ≡ list_any is_editable (listed (Some (view group.now))) }
+{
+    any_editable(items(Some(group)))
 }
 
 fn is_editable(item: &Value) -> bool
@@ -178,6 +184,15 @@ fn opens_option(text: &str) -> bool
     matches!(text.as_bytes(), [b'-', ..])
 }
 
+// The path of a key in the table, and of what stands in its table.
+fn nested_path(alloc: Global, table: &[u8], key: &[u8], inner: &[u8]) -> Result<Vec<u8>, AllocError>
+    ensures { IfOk result (λ path. path.items ≡ key_path table.now key.now ++ inner.now) }
+{
+    let mut path = key_path(alloc, table, key)?;
+    path.extend_from_slice(inner)?;
+    Ok(path)
+}
+
 fn push_poetry_group(
     alloc: Global,
     sources: &mut Vec<ProjectString>,
@@ -186,9 +201,33 @@ fn push_poetry_group(
 ) -> Result<(), AllocError>
     ensures { IfOk result (λ _. map project_string_of sources.new.items ≡ map project_string_of sources.old.items ++ tool_group of_tool.Poetry (name.now, view group.now)) }
 {
-    let path = key_path(alloc, b"tool.poetry.group.", name.as_bytes())?;
-    let path = key_path(alloc, path.as_slice(), b"dependencies")?;
+    let path = nested_path(
+        alloc,
+        b"tool.poetry.group.",
+        name.as_bytes(),
+        b"dependencies.",
+    )?;
     push_poetry_table(alloc, sources, path.as_slice(), group.get("dependencies"))
+}
+
+// Adds the requirements of a group of PDM.
+fn push_pdm_array(
+    alloc: Global,
+    sources: &mut Vec<ProjectString>,
+    name: &str,
+    group: &Value,
+) -> Result<(), AllocError>
+    ensures { IfOk result (λ _. map project_string_of sources.new.items ≡ map project_string_of sources.old.items ++ array_sources (codes "tool.pdm.dev-dependencies.") name.now (Group (normal name.now)) (Some (view group.now))) }
+{
+    let section = Section::Group(normalize_name(alloc, name)?);
+    push_array(
+        alloc,
+        sources,
+        "tool.pdm.dev-dependencies.",
+        name,
+        &section,
+        Some(group),
+    )
 }
 
 fn push_pdm_group(
@@ -199,12 +238,10 @@ fn push_pdm_group(
 ) -> Result<(), AllocError>
     ensures { IfOk result (λ _. map project_string_of sources.new.items ≡ map project_string_of sources.old.items ++ tool_group of_tool.Pdm (name.now, view group.now)) }
 {
-    if has_editable(items(Some(group))) {
+    if has_editable(group) {
         return push_unread(alloc, sources, Cause::Editable);
     }
-    let table = "tool.pdm.dev-dependencies.";
-    let section = Section::Group(normalize_name(alloc, name)?);
-    push_array(alloc, sources, table, name, &section, Some(group))
+    push_pdm_array(alloc, sources, name, group)
 }
 
 fn push_group(
@@ -275,6 +312,19 @@ fn dev_name(alloc: Global) -> Result<Vec<u8>, AllocError>
     Vec::from_slice(alloc, b"dev")
 }
 
+// Adds the requirements of an array that is for the group `dev`.
+fn push_dev_array(
+    alloc: Global,
+    sources: &mut Vec<ProjectString>,
+    table: &'static str,
+    value: Option<&Value>,
+) -> Result<(), AllocError>
+    ensures { IfOk result (λ _. map project_string_of sources.new.items ≡ map project_string_of sources.old.items ++ array_sources table.now (codes "dev-dependencies") (Group (codes "dev")) (option_map (λ v. view v.now) value.entry)) }
+{
+    let section = Section::Group(dev_name(alloc)?);
+    push_array(alloc, sources, table, "dev-dependencies", &section, value)
+}
+
 // Adds what the tool, whose table has this path, adds to the group `dev`.
 fn push_dev(
     alloc: Global,
@@ -284,9 +334,7 @@ fn push_dev(
 ) -> Result<(), AllocError>
     ensures { IfOk result (λ _. map project_string_of sources.new.items ≡ map project_string_of sources.old.items ++ dev_sources table.now (option_map (λ v. view v.now) tool.entry)) }
 {
-    let name = "dev-dependencies";
-    let section = Section::Group(dev_name(alloc)?);
-    push_array(alloc, sources, table, name, &section, inside(tool, name))
+    push_dev_array(alloc, sources, table, inside(tool, "dev-dependencies"))
 }
 
 // ---- tables that are not read
@@ -338,7 +386,33 @@ fn push_unread_fields(
 
 // ---- all tables
 
-// Adds what tables of tools ask for.
+// Adds what uv, Rye and PDM add to groups.
+fn push_added(
+    alloc: Global,
+    sources: &mut Vec<ProjectString>,
+    tool: Option<&Value>,
+) -> Result<(), AllocError>
+    ensures { IfOk result (λ _. map project_string_of sources.new.items ≡ map project_string_of sources.old.items ++ added_sources (option_map (λ v. view v.now) tool.entry)) }
+{
+    push_dev(alloc, sources, "tool.uv.", inside(tool, "uv"))?;
+    push_dev(alloc, sources, "tool.rye.", inside(tool, "rye"))?;
+    let pdm = inside(inside(tool, "pdm"), "dev-dependencies");
+    push_groups(alloc, sources, GroupTool::Pdm, pdm)
+}
+
+// Adds which tables are not read.
+fn push_all_unread(
+    alloc: Global,
+    sources: &mut Vec<ProjectString>,
+    tool: Option<&Value>,
+) -> Result<(), AllocError>
+    ensures { IfOk result (λ _. map project_string_of sources.new.items ≡ map project_string_of sources.old.items ++ (unread_tables (option_map (λ v. view v.now) tool.entry) ++ unread_fields (option_map (λ v. view v.now) tool.entry))) }
+{
+    push_unread_tables(alloc, sources, tool)?;
+    push_unread_fields(alloc, sources, tool)
+}
+
+// Adds what tables of tools ask for, and which are not read.
 pub(crate) fn push_tools(
     alloc: Global,
     sources: &mut Vec<ProjectString>,
@@ -347,12 +421,8 @@ pub(crate) fn push_tools(
     ensures { IfOk result (λ _. map project_string_of sources.new.items ≡ map project_string_of sources.old.items ++ tool_sources (option_map (λ v. view v.now) tool.entry)) }
 {
     push_poetry(alloc, sources, inside(tool, "poetry"))?;
-    push_dev(alloc, sources, "tool.uv.", inside(tool, "uv"))?;
-    push_dev(alloc, sources, "tool.rye.", inside(tool, "rye"))?;
-    let pdm = inside(inside(tool, "pdm"), "dev-dependencies");
-    push_groups(alloc, sources, GroupTool::Pdm, pdm)?;
-    push_unread_tables(alloc, sources, tool)?;
-    push_unread_fields(alloc, sources, tool)
+    push_added(alloc, sources, tool)?;
+    push_all_unread(alloc, sources, tool)
 }
 
 // ---- overrides
