@@ -173,7 +173,7 @@ entry_source table name None = unread cause.OtherSyntax
 entry_source table name (Some list) = record { section = Entry table name; text = requirement_text name (poetry_list list) } ∷ []
 
 -- what an entry of Poetry's table with this path asks for, if it does always
-abbrev pub entry_sources : List ℕ → List ℕ × Data → List ProjectString
+unfoldable pub entry_sources : List ℕ → List ℕ × Data → List ProjectString
 entry_sources table e = if is_package_name e.0 then entry_source table e.0 (entry_list e.1) else []
 
 -- the entries of the table
@@ -188,10 +188,14 @@ dev_sources table tool = array_sources table (codes "dev-dependencies") (Group (
 abbrev pub is_editable : Data → Bool
 is_editable d = option_map_or (opens 45) (as_str d) false
 
+-- the path of the table of what a group of Poetry asks for
+abbrev pub group_path : List ℕ → List ℕ
+group_path name = key_path (codes "tool.poetry.group.") name ++ codes "dependencies."
+
 -- what an entry of a table of groups asks for: of Poetry, whose groups are tables with one for what they ask for; or of PDM, whose groups are arrays of
 -- requirements, unless one is an editable
 abbrev pub tool_group : GroupTool → List ℕ × Data → List ProjectString
-tool_group of_tool.Poetry e = poetry_table (key_path (codes "tool.poetry.group.") e.0 ++ codes "dependencies.") (get (codes "dependencies") e.1)
+tool_group of_tool.Poetry e = poetry_table (group_path e.0) (get (codes "dependencies") e.1)
 tool_group of_tool.Pdm e = if list_any is_editable (listed (Some e.1)) then unread cause.Editable else array_sources (codes "tool.pdm.dev-dependencies.") e.0 (Group (normal e.0)) (Some e.1)
 
 -- the groups of such a table

@@ -3,7 +3,7 @@ ghost use Rattle.std.specs.Prelude.{◌≡◌, ◌++◌, ◌∷◌, [], IfOk, So
 ghost use Rattle.std.specs.List.{flat_map, list_any};
 ghost use Rattle.pep440_rs.specs.Blanks.{opens};
 ghost use Rattle.pep440_pick.specs.Names.{normal};
-ghost use Rattle.pyver_projects.specs.Documents.{added_sources, array_sources, entry_list, entry_names, entry_source, entry_sources, is_conditional, is_package_name, is_editable, leading_name, overridden_names, poetry_sources, poetry_table, table_list, tool_group, tool_groups, tool_sources, unread, unread_fields, unread_table, unread_tables, dev_sources};
+ghost use Rattle.pyver_projects.specs.Documents.{added_sources, array_sources, entry_list, entry_names, entry_source, entry_sources, group_path, is_conditional, is_package_name, is_editable, leading_name, overridden_names, poetry_sources, poetry_table, table_list, tool_group, tool_groups, tool_sources, unread, unread_fields, unread_table, unread_tables, dev_sources};
 ghost use Rattle.pyver_projects.specs.PackageRequirements.{poetry_list, requirement_text};
 ghost use Rattle.pyver_projects.specs.ProjectStrings.{Entry, Group, entries, key_path, listed, members_list};
 ghost use Rattle.pyver_projects.specs.ProjectViews.{project_string_of, section_of};
@@ -102,6 +102,7 @@ fn push_entry_list(
 }
 
 // Adds what the entry asks for, if it does always.
+#[tactic(auto, unfolding(crate::specs::Documents::entry_sources))]
 fn push_entry(
     alloc: Global,
     sources: &mut Vec<ProjectString>,
@@ -193,6 +194,17 @@ fn nested_path(alloc: Global, table: &[u8], key: &[u8], inner: &[u8]) -> Result<
     Ok(path)
 }
 
+fn group_path(alloc: Global, name: &str) -> Result<Vec<u8>, AllocError>
+    ensures { IfOk result (λ path. path.items ≡ group_path name.now) }
+{
+    nested_path(
+        alloc,
+        b"tool.poetry.group.",
+        name.as_bytes(),
+        b"dependencies.",
+    )
+}
+
 fn push_poetry_group(
     alloc: Global,
     sources: &mut Vec<ProjectString>,
@@ -201,12 +213,7 @@ fn push_poetry_group(
 ) -> Result<(), AllocError>
     ensures { IfOk result (λ _. map project_string_of sources.new.items ≡ map project_string_of sources.old.items ++ tool_group of_tool.Poetry (name.now, view group.now)) }
 {
-    let path = nested_path(
-        alloc,
-        b"tool.poetry.group.",
-        name.as_bytes(),
-        b"dependencies.",
-    )?;
+    let path = group_path(alloc, name)?;
     push_poetry_table(alloc, sources, path.as_slice(), group.get("dependencies"))
 }
 
