@@ -94,12 +94,10 @@ fn is_prerelease(bytes: &[u8]) -> bool
     }
 }
 
-// Whether the bytes, as they lie, are those of a compiled version that is not above the newest one, which the best denote.
-fn is_at_most(newest: &Version, best: &[u8], bytes: &[u8]) -> bool
-    requires { BytesDenote best.now newest.now }
-    ensures { result ≡ true → (r : Record) → BytesDenote bytes.now r → is_ge (record_cmp newest.now r) ≡ true }
+// Whether the bytes, as they lie, are those of a compiled version that is not above the best one.
+fn is_at_most(best: &[u8], bytes: &[u8]) -> bool
+    ensures { result ≡ true → (p r : Record) → BytesDenote best.now p → BytesDenote bytes.now r → is_ge (record_cmp p r) ≡ true }
 {
-    let _newest = newest;
     match pep440_compiled::compare(best, bytes) {
         Ok(order) => order.is_ge(),
         Err(_) => false,
@@ -111,7 +109,7 @@ fn is_below(takes: bool, newest: &Version, best: &[u8], bytes: &[u8]) -> bool
     requires { BytesDenote best.now newest.now }
     ensures { result ≡ true → (r : Record) → BytesDenote bytes.now r → is_lt (preference takes newest.now r) ≡ false }
 {
-    is_at_most(newest, best, bytes) && (is_taken(takes, newest) || is_prerelease(bytes))
+    is_at_most(best, bytes) && (is_taken(takes, newest) || is_prerelease(bytes))
 }
 
 // Whether the bytes need no other look, as those of most compiled versions of a batch.

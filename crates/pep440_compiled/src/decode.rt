@@ -349,15 +349,50 @@ impl SuffixParts {
     {
         self.pre.is_some() || self.dev.is_some()
     }
+}
 
-    fn is_empty(self) -> bool
-        ensures { result ≡ true → (self.pre ≡ None) × (self.post ≡ None) × (self.dev ≡ None) }
-    {
-        self.pre.is_none() && self.post.is_none() && self.dev.is_none()
+// The version, which has no such part, with this pre-release, if it is one.
+fn add_pre(alloc: Global, version: Version, pre: Option<Prerelease>) -> Result<Version, AllocError>
+    requires { version.pre ≡ None }
+    ensures { IfOk result (λ v. v ≡ record version { pre = pre }) }
+{
+    match pre {
+        Some(_) => version.with_pre(alloc, pre),
+        None => Ok(version),
     }
 }
 
-// Most versions are only a release, and need no other part replaced.
+fn add_post(alloc: Global, version: Version, post: Option<u64>) -> Result<Version, AllocError>
+    requires { version.post ≡ None }
+    ensures { IfOk result (λ v. v ≡ record version { post = post }) }
+{
+    match post {
+        Some(_) => version.with_post(alloc, post),
+        None => Ok(version),
+    }
+}
+
+fn add_dev(alloc: Global, version: Version, dev: Option<u64>) -> Result<Version, AllocError>
+    requires { version.dev ≡ None }
+    ensures { IfOk result (λ v. v ≡ record version { dev = dev }) }
+{
+    match dev {
+        Some(_) => version.with_dev(alloc, dev),
+        None => Ok(version),
+    }
+}
+
+fn add_epoch(alloc: Global, version: Version, epoch: u64) -> Result<Version, AllocError>
+    requires { version.epoch ≡ 0 }
+    ensures { IfOk result (λ v. v ≡ record version { epoch = epoch }) }
+{
+    if epoch == 0 {
+        return Ok(version);
+    }
+    version.with_epoch(alloc, epoch)
+}
+
+// Most versions have few parts, and need no others replaced.
 fn assemble(
     alloc: Global,
     epoch: u64,
@@ -369,14 +404,10 @@ fn assemble(
     ensures { IfOk result (λ v. v ≡ from_parts epoch release.now suffix.pre suffix.post suffix.dev (map segment local.items)) }
 {
     let version = Version::new(alloc, release)?;
-    if epoch == 0 && suffix.is_empty() && local.is_empty() {
-        return Ok(version);
-    }
-    let version = version
-        .with_pre(alloc, suffix.pre)?
-        .with_post(alloc, suffix.post)?
-        .with_dev(alloc, suffix.dev)?
-        .with_epoch(alloc, epoch)?;
+    let version = add_pre(alloc, version, suffix.pre)?;
+    let version = add_post(alloc, version, suffix.post)?;
+    let version = add_dev(alloc, version, suffix.dev)?;
+    let version = add_epoch(alloc, version, epoch)?;
     if local.is_empty() {
         return Ok(version);
     }
