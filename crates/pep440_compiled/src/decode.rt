@@ -349,9 +349,16 @@ impl SuffixParts {
     {
         self.pre.is_some() || self.dev.is_some()
     }
+
+    fn is_empty(self) -> bool
+        ensures { result ≡ true → (self.pre ≡ None) × (self.post ≡ None) × (self.dev ≡ None) }
+    {
+        self.pre.is_none() && self.post.is_none() && self.dev.is_none()
+    }
 }
 
 // The version, which has no such part, with this pre-release, if it is one.
+#[inline(always)]
 fn add_pre(alloc: Global, version: Version, pre: Option<Prerelease>) -> Result<Version, AllocError>
     requires { version.pre ≡ None }
     ensures { IfOk result (λ v. v ≡ record version { pre = pre }) }
@@ -362,6 +369,7 @@ fn add_pre(alloc: Global, version: Version, pre: Option<Prerelease>) -> Result<V
     }
 }
 
+#[inline(always)]
 fn add_post(alloc: Global, version: Version, post: Option<u64>) -> Result<Version, AllocError>
     requires { version.post ≡ None }
     ensures { IfOk result (λ v. v ≡ record version { post = post }) }
@@ -372,6 +380,7 @@ fn add_post(alloc: Global, version: Version, post: Option<u64>) -> Result<Versio
     }
 }
 
+#[inline(always)]
 fn add_dev(alloc: Global, version: Version, dev: Option<u64>) -> Result<Version, AllocError>
     requires { version.dev ≡ None }
     ensures { IfOk result (λ v. v ≡ record version { dev = dev }) }
@@ -382,6 +391,7 @@ fn add_dev(alloc: Global, version: Version, dev: Option<u64>) -> Result<Version,
     }
 }
 
+#[inline(always)]
 fn add_epoch(alloc: Global, version: Version, epoch: u64) -> Result<Version, AllocError>
     requires { version.epoch ≡ 0 }
     ensures { IfOk result (λ v. v ≡ record version { epoch = epoch }) }
@@ -392,7 +402,7 @@ fn add_epoch(alloc: Global, version: Version, epoch: u64) -> Result<Version, All
     version.with_epoch(alloc, epoch)
 }
 
-// Most versions have few parts, and need no others replaced.
+// Most versions are only a release, and others have few parts; no others are replaced.
 fn assemble(
     alloc: Global,
     epoch: u64,
@@ -404,6 +414,9 @@ fn assemble(
     ensures { IfOk result (λ v. v ≡ from_parts epoch release.now suffix.pre suffix.post suffix.dev (map segment local.items)) }
 {
     let version = Version::new(alloc, release)?;
+    if epoch == 0 && suffix.is_empty() && local.is_empty() {
+        return Ok(version);
+    }
     let version = add_pre(alloc, version, suffix.pre)?;
     let version = add_post(alloc, version, suffix.post)?;
     let version = add_dev(alloc, version, suffix.dev)?;
