@@ -332,8 +332,7 @@ def allocating_calls(crate):
 
 def items_of(text):
     """From each name of a function, a constant or a type to the texts that define it, methods of all types of one name together."""
-    found = collections.defaultdict(str)
-    head = r"^( *)(?:pub(?:\([a-z]+\))? )?"
+    found, head = collections.defaultdict(str), r"^( *)(?:pub(?:\([a-z]+\))? )?"
     for item in re.finditer(rf"{head}(?:const )?(?:fn|struct|enum) (\w+).*?^\1\}}|{head}const (\w+): .*?;$", text, re.M | re.S):
         found[item[2] or item[4]] += item[0]
     for block in re.finditer(r"^impl[^\n]*?(\w+)(?:<[^\n]*>)? \{\n(.*?)^\}", text, re.M | re.S):
