@@ -225,10 +225,14 @@ unless_open key = if count_by is_string_quote key % 2 == 0 then Some key else No
 abbrev pub line_key : List ℕ → Option (List ℕ)
 line_key line = option_and_then unless_open (before_next 61 line)
 
+-- the path of the table with this name; of a long name a dot, with which no path of a table that is read begins, since the path stands before each key
+abbrev pub table_path : List ℕ → List ℕ
+table_path name = if nat_lt (length (key_path [] name)) 256 then key_path [] name else codes "."
+
 -- the table that the lines after one with this header stand in
 abbrev pub table_after : List ℕ → Option (List ℕ) → List ℕ
 table_after table None = table
-table_after table (Some name) = key_path [] name
+table_after table (Some name) = table_path name
 
 pub record KeyLine : Type 0 where
   pub path : List ℕ

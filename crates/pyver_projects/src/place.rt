@@ -2,7 +2,7 @@
 ghost use Rattle.std.specs.Prelude.{◌≡◌, ◌++◌, IfOk, ◌≤◌, ◌==◌, ◌||◌, ◌%◌, List, count_by, length, map, not, option_map, take, ℕ};
 ghost use Rattle.pyver_findings.specs.Views.{file_line_of};
 ghost use Rattle.pyver_projects.specs.Meanings.{IsBrokenReading, broken_at, string_line};
-ghost use Rattle.pyver_projects.specs.ProjectStrings.{HasPlaces, HasQuotedLines, after_blanks, before_next, document_keys, first_key, first_line, header_lines, header_name, is_key_byte, is_string_quote, key_line, key_on, key_path, known_line, last_bytes, line_after, line_at, line_key, line_keys, number_or, number_or_one, opened_string, others, own_line, section_path, string_number, table_after};
+ghost use Rattle.pyver_projects.specs.ProjectStrings.{HasPlaces, HasQuotedLines, after_blanks, before_next, document_keys, first_key, first_line, header_lines, header_name, is_key_byte, is_string_quote, key_line, key_on, key_path, known_line, last_bytes, line_after, line_at, line_key, line_keys, number_or, number_or_one, opened_string, others, own_line, section_path, string_number, table_after, table_path};
 ghost use Rattle.pyver_projects.specs.ProjectViews.{document_reading_of, key_line_of, project_string_of, section_of};
 ghost use Rattle.std.specs.BTreeMap.{get_by};
 ghost use Rattle.std.specs.List.{filter, prefix_len};
@@ -196,12 +196,23 @@ fn line_key(line: &[u8]) -> Option<&[u8]>
     }
 }
 
+// The path of the table with this name; of a long name a dot, since it is kept before each key.
+fn table_path(alloc: Global, name: &[u8]) -> Result<Vec<u8>, AllocError>
+    ensures { IfOk result (λ path. path.items ≡ table_path name.now) }
+{
+    let path = key_path(alloc, b"", name)?;
+    if path.len() < 256 {
+        return Ok(path);
+    }
+    Vec::from_slice(alloc, b".")
+}
+
 // The table that the lines after one with this header stand in.
 fn table_after(alloc: Global, table: Vec<u8>, name: Option<&[u8]>) -> Result<Vec<u8>, AllocError>
     ensures { IfOk result (λ after. after.items ≡ table_after table.items (option_map (λ n. n.now) name.entry)) }
 {
     match name {
-        Some(name) => key_path(alloc, b"", name),
+        Some(name) => table_path(alloc, name),
         None => Ok(table),
     }
 }
