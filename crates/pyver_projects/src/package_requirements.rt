@@ -178,7 +178,7 @@ fn strip_tilde(list: &str) -> Option<&str>
 }
 
 // What follows a caret stands for these versions.
-fn caret_list(alloc: Global, list: &str) -> Result<String, AllocError>
+fn list_after_caret(alloc: Global, list: &str) -> Result<String, AllocError>
     ensures { IfOk result (λ text. string_bytes text ≡ list_keeping caret_numbers list.now) }
 {
     let (version, _) = cut_at(list, ',');
@@ -190,7 +190,7 @@ fn caret_list(alloc: Global, list: &str) -> Result<String, AllocError>
 }
 
 // What follows a tilde stands for these versions.
-fn kept_by_tilde(alloc: Global, list: &str) -> Result<String, AllocError>
+fn list_after_tilde(alloc: Global, list: &str) -> Result<String, AllocError>
     ensures { IfOk result (λ text. string_bytes text ≡ list_keeping tilde_numbers list.now) }
 {
     let (version, _) = cut_at(list, ',');
@@ -227,7 +227,7 @@ fn tilde_list(alloc: Global, list: &str) -> Result<String, AllocError>
         return String::from_str(alloc, list);
     }
     match strip_tilde(list) {
-        Some(rest) => kept_by_tilde(alloc, rest),
+        Some(rest) => list_after_tilde(alloc, rest),
         None => bare_list(alloc, list),
     }
 }
@@ -237,7 +237,7 @@ pub(crate) fn poetry_list(alloc: Global, list: &str) -> Result<String, AllocErro
     ensures { IfOk result (λ text. string_bytes text ≡ poetry_list list.now) }
 {
     match strip_caret(list) {
-        Some(rest) => caret_list(alloc, rest),
+        Some(rest) => list_after_caret(alloc, rest),
         None => tilde_list(alloc, list),
     }
 }

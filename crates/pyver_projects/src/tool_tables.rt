@@ -394,7 +394,7 @@ fn push_unread_fields(
 // ---- all tables
 
 // Adds what uv, Rye and PDM add to groups.
-fn push_added(
+fn push_additions(
     alloc: Global,
     sources: &mut Vec<ProjectString>,
     tool: Option<&Value>,
@@ -428,7 +428,7 @@ pub(crate) fn push_tools(
     ensures { IfOk result (λ _. map project_string_of sources.new.items ≡ map project_string_of sources.old.items ++ tool_sources (option_map (λ v. view v.now) tool.entry)) }
 {
     push_poetry(alloc, sources, inside(tool, "poetry"))?;
-    push_added(alloc, sources, tool)?;
+    push_additions(alloc, sources, tool)?;
     push_all_unread(alloc, sources, tool)
 }
 
