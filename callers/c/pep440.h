@@ -391,9 +391,9 @@ uint8_t pep440_release_range_bounds(const uint8_t *list, size_t length, uint8_t 
    attacker. pep440_compare of two compiled versions, pep440_contains of a compiled list, and
    pep440_allows and the calls on sets of formats 6 and 7 read them as they lie: of bytes that begin
    as a compiled form and are none they write any result, or return the status of an invalid one. The
-   first three allocate nothing for compiled versions, nor the last two of these for a string in a
-   normal spelling. All other calls reject such bytes. So give bytes of unknown origin to
-   pep440_normalize or pep440_normalize_list once. */
+   first three allocate nothing for compiled versions, nor for most strings; pep440_compare of strings
+   allocates nothing for most, either. All other calls reject such bytes. So give bytes of unknown
+   origin to pep440_normalize or pep440_normalize_list once. */
 
 /* How many bytes suffice, by the length of a string: for the normal form of a version, for its sort
    key, and for its compiled form. */

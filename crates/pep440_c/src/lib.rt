@@ -13,7 +13,7 @@
 ghost use Rattle.std.specs.Prelude.{map, not, ◌==◌, ◌≡◌, ◌≢◌};
 ghost use Rattle.pep440_rs.specs.Bounds.{range_of, release_range_of};
 ghost use Rattle.pep440_calls.specs.Batches.{FilterMarks, FormsResult, KeysResult, NewestResult, SortResult};
-ghost use Rattle.pep440_calls.specs.CallResults.{AllowsResult, AsksInPlace, ContainsResult, IsCompiled, IsCompiledList, IsCompiledSpecifier, IsComplement, IsEditError, IsIntersection, IsKey, IsNormal, IsNormalList, IsRangeLines, IsShortNormalForm, IsSpecifier, IsUnion, IsVersionIn, JoinsBoundaries, JoinsMembers, JoinsRangeBounds, LacksRange, MatchesInPlace, NamesPrerelease, NeedsNoMemory, OrderResult, PartsResult, PatternResult, RejectsOperand, RejectsOperator, RejectsSpecifierBytes, SetFault, SubsetResult, TwoSetFaults, WordResult, WritesEdited};
+ghost use Rattle.pep440_calls.specs.CallResults.{AllowsResult, AsksInPlace, ContainsResult, IsCompiled, IsCompiledList, IsCompiledSpecifier, IsComplement, IsEditError, IsIntersection, IsKey, IsNormal, IsNormalList, IsRangeLines, IsSpecifier, IsUnion, IsVersionIn, JoinsBoundaries, JoinsMembers, JoinsRangeBounds, LacksRange, MatchesInPlace, NamesPrerelease, NeedsNoMemory, OrderResult, PartsResult, PatternResult, RejectsOperand, RejectsOperator, RejectsSpecifierBytes, SetFault, SubsetResult, TwoSetFaults, WordResult, WritesEdited};
 ghost use Rattle.pep440_calls.specs.Explanations.{ErrorResult, IsBuildError, IsNoOperator, RejectsNumbered};
 ghost use Rattle.pep440_calls.specs.Statuses.{IsFlagOf, WritesBytes, WritesBytesOr, WritesJoinedOr, WritesOr};
 ghost use Rattle.pep440_calls.specs.CallerBytes.{ListFaults, RejectsBytes};
@@ -155,7 +155,8 @@ pub extern "C" fn pep440_error(
 /// How the left version compares with the right one: -1 below, 0 equal, 1 above.
 #[unsafe(no_mangle)]
 pub extern "C" fn pep440_compare(alloc: Global, left: &[u8], right: &[u8], order: &mut i8) -> u8
-    ensures { OrderResult left.now right.now order.old order.new result }
+    ensures found { OrderResult left.now right.now order.old order.new result }
+    ensures memory { NeedsNoMemory left.now → NeedsNoMemory right.now → result ≢ 3 }
 {
     write_order(alloc, left, right, order)
 }
@@ -366,7 +367,7 @@ pub extern "C" fn pep440_compile(
     written: &mut usize,
 ) -> u8
     ensures found { WritesBytes (RejectsBytes text.now) ⊥ ⊥ (IsCompiled text.now) out.old out.new written.old written.new result }
-    ensures memory { IsShortNormalForm text.now → result ≢ 3 }
+    ensures memory { NeedsNoMemory text.now → result ≢ 3 }
 {
     write_compiled(alloc, text, out, written)
 }

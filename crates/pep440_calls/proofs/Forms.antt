@@ -1,7 +1,6 @@
 -- Bytes that are a string or a compiled form: what is read of each, and what is found in compiled bytes as they lie.
 use Rattle.std.proofs.Common.{◌≡◌, ◌∙◌, ℕ, List, Bool, ap, arith, codes, inl, inr, refl, subst, sym, ◌<◌, [], ◌∷◌, ◌++◌, true, map, Option, Some, None, ◌≤◌, ◌+◌, ◌*◌, ◌^◌, ◌%◌, ◌/◌, zero, suc, false, length}
-use Rattle.std.specs.Prelude.{Err, IfSome, Ok, Result, slice_get, unwrap_or, IsSome, MatchResult, codes, drop, nat_lt, if◌then◌else◌}
-use Rattle.std.specs.Result.{result_ok}
+use Rattle.std.specs.Prelude.{Err, IfOk, IsOk, IsSomeAnd, Ok, Result, slice_get, unwrap_or, MatchResult, codes, drop, nat_lt, if◌then◌else◌}
 use Rattle.std.specs.declared.cmp.Ordering.{Ordering}
 use Rattle.pep440_compiled.specs.Lists.{DenotesList, DenotesWithSet, HasListFormat, HasSetFormat, IsParsedMember}
 use Rattle.pep440_compiled.specs.SetForms.{HasLoneSetFormat}
@@ -11,7 +10,7 @@ use Rattle.pep440_rs.specs.Specifiers.{Spec}
 use Rattle.pep440_version.specs.Key.{record_cmp, dev_of, dev_rank, post_of, post_rank, stage_of, stage_rank}
 use Rattle.pep440_version.specs.Record.{Record, LocalSegmentValue, Number, Text}
 use Rattle.pep440_calls.proofs.Once.{never_both, one_bytes_list, one_version, no_format}
-use Rattle.pep440_calls.specs.Statuses.{Faults, HoldsOr, HoldsOrFaults, WritesBytesOr, WritesResult, fault_of_compile}
+use Rattle.pep440_calls.specs.Statuses.{Faults, HoldsOr, HoldsOrFaults, WritesBytesOr, WritesResult, fault_of_compile, fault_of_string}
 use Rattle.pep440_calls.specs.CallResults.{Contains, IsCompiled, IsOrder, IsPrerelease, RejectsSecond, order_number, IsKey}
 use Rattle.pep440_calls.specs.CallerBytes.{IsNoCompiledList, IsNoCompiledVersion, BytesDenote, BytesDenoteList, ListFaults, StringDenotesList, StringDenotes, RejectsBytes, RejectsListBytes, RejectsListString, RejectsString}
 use Rattle.pep440_calls.specs.declared.fault.Fault.{Fault}
@@ -19,7 +18,13 @@ use Rattle.std.proofs.lemmas.List.Elements.{All-weaker}
 use Rattle.std.specs.List.{All, list_all, flat_map}
 use Rattle.pep440_compiled.proofs.Exact.{parsed}
 use Rattle.pep440_version.specs.RoundTrip.{IsParsed}
+use Rattle.pep440_compiled.specs.Strings.{IsCompileStringError}
 use Rattle.pep440_compiled.specs.declared.error.CompileError.{CompileError}
+use Rattle.pep440_compiled.specs.declared.error.CompileStringError.{CompileStringError}
+use Rattle.pep440_compiled.specs.declared.error.CompileStringError.TheVariants as string
+use Rattle.pep440_version.specs.ErrorTexts.{rejection_text}
+use Rattle.pep440_version.specs.Errors.{error_rejection}
+use Rattle.pep440_version.specs.Rejections.{Rejection, Rejects}
 use Rattle.pep440_compiled.specs.declared.error.CompileError.TheVariants.{NotParsed, OutOfMemory}
 use Rattle.pep440_rs.proofs.Agreement.Operands.{list_has_texts}
 use Rattle.pep440_rs.proofs.Denoted.{is_denotable}
@@ -155,17 +160,6 @@ order_read left right r q o means also is = (
   inr ((r, means), (q, also)),
   λ x y first second. ap order_number (is ∙ (λ i. record_cmp (one_version left r x means first i) (one_version right q y also second i))),
 )
-
--- the order of a compiled version and of the compiled form of a string
-pub order_beside_string : {E : Type 0} (left text form : List ℕ) (result : Result Ordering E) → (r : Record) × DenotesVersion left r → IsCompiled text form
-    → ((r q : Record) → DenotesVersion left r → DenotesVersion form q → result ≡ Ok (record_cmp r q)) → IfSome (result_ok result) (λ o. IsOrder left text (order_number o))
-order_beside_string left text form result (r, d) (q, means, denotes) found =
-    subst (λ x. IfSome (result_ok x) (λ o. IsOrder left text (order_number o))) (sym (found r q d denotes)) (order_read left text r q (record_cmp r q) (inr d) means refl)
-
-pub order_of_string : {E : Type 0} (text form right : List ℕ) (result : Result Ordering E) → IsCompiled text form → (q : Record) × DenotesVersion right q
-    → ((r q : Record) → DenotesVersion form r → DenotesVersion right q → result ≡ Ok (record_cmp r q)) → IfSome (result_ok result) (λ o. IsOrder text right (order_number o))
-order_of_string text form right result (r, means, denotes) (q, d) found =
-    subst (λ x. IfSome (result_ok x) (λ o. IsOrder text right (order_number o))) (sym (found r q denotes d)) (order_read text right r q (record_cmp r q) means (inr d) refl)
 
 -- matching of a compiled list and the compiled form of a string
 module _ (list text form : List ℕ) (format : HasListFormat list) (r : Record) (means : BytesDenote text r) (compiled : DenotesVersion form r) where
@@ -328,16 +322,21 @@ string_compiled bytes form (r, d, denotes) = (r, inl (no_format bytes r d, (deri
 pub copied : (bytes copy : List ℕ) → (r : Record) × DenotesVersion bytes r → copy ≡ bytes → IsCompiled bytes copy
 copied bytes copy (r, d) same = (r, inr d, subst (λ b. DenotesVersion b r) (sym same) d)
 
--- the sort key in the compiled form of a string
-pub string_key : {K E : Type 0} (now : K → List ℕ) (bytes form : List ℕ) (result : Result K E) → (r : Record) × Derives bytes r × DenotesVersion form r
-    → ((r : Record) → DenotesVersion form r → MatchResult result (λ key. now key ≡ key_bytes r) (λ _. ⊥)) → IfSome (result_ok result) (λ key. IsKey bytes (now key))
-string_key now bytes form (Ok key) (r, d, denotes) found = (r, inl (no_format bytes r d, (derived_utf8 bytes r d, d)), found r denotes)
-string_key now bytes form (Err e) compiled found = tt
+-- why a string has no compiled form
+pub string_fault : (text : List ℕ) (f : Fault) (e : CompileStringError) → (¬ HasVersionFormat text) → f ≡ fault_of_string e → IsCompileStringError text e → Faults (RejectsBytes text) ⊥ ⊥ f
+string_fault text f string.NotUtf8 plain is why = subst (Faults (RejectsBytes text) ⊥ ⊥) (sym is) (codes "not UTF-8", inl (plain, inl (why, refl)))
+string_fault text f (string.Invalid error) plain is why = subst (Faults (RejectsBytes text) ⊥ ⊥) (sym is) (named (error_rejection error) why.1)
+  where
+    named : (o : Option Rejection) → IsSomeAnd o (Rejects text) → RejectsBytes text
+    named None none = absurd none
+    named (Some rejection) rejects = (rejection_text rejection, inl (plain, inr (why.0, rejection, rejects, refl)))
+string_fault text f string.OutOfMemory plain is why = subst (Faults (RejectsBytes text) ⊥ ⊥) (sym is) tt
 
-pub string_has_key : {K E : Type 0} (now : K → List ℕ) (bytes form : List ℕ) (result : Result K E) → (r : Record) × Derives bytes r × DenotesVersion form r
-    → ((r : Record) → DenotesVersion form r → MatchResult result (λ key. now key ≡ key_bytes r) (λ _. ⊥)) → IsSome (result_ok result)
-string_has_key now bytes form (Ok key) compiled found = refl
-string_has_key now bytes form (Err e) (r, d, denotes) found = absurd (found r denotes)
+-- the sort key in the compiled form of a string
+pub string_key : {K E : Type 0} (now : K → List ℕ) (bytes form : List ℕ) (result : Result K E) → IsCompiled bytes form
+    → ((r : Record) → DenotesVersion form r → MatchResult result (λ key. now key ≡ key_bytes r) (λ _. ⊥)) → IfOk result (λ key. IsKey bytes (now key)) × IsOk result
+string_key now bytes form (Ok key) (r, means, denotes) found = ((r, means, found r denotes), refl)
+string_key now bytes form (Err e) (r, means, denotes) found = absurd (found r denotes)
 
 -- ---- how long the forms of a version are at most, by the length of a string that denotes it
 

@@ -3,6 +3,7 @@
 -- packed, 8 it cannot be changed so, 9 bytes are to be nothing known, 10 none is found, 12 a list has no set, 13 a set has no list.
 use Rattle.std.specs.Prelude.{◌≡◌, ◌⊎◌, ◌≤◌, ◌<◌, ℕ, Bool, List, ◌++◌, drop, length, Result, Ok, Err, if◌then◌else◌, ◌+◌, [], ◌∷◌}
 use Rattle.pep440_compiled.specs.declared.error.CompileError.{CompileError}
+use Rattle.pep440_compiled.specs.declared.error.CompileStringError.{CompileStringError}
 use Rattle.pep440_compiled.specs.declared.error.CompiledError.{CompiledError}
 use Rattle.pep440_rs.specs.declared.range.error.RangeError.{RangeError}
 use Rattle.pep440_sets.specs.declared.error.SetError.{SetError}
@@ -10,6 +11,7 @@ use Rattle.pep440_calls.specs.declared.fault.Fault.{Fault}
 use Rattle.std.specs.List.{flat_map}
 use Rattle.pep440_calls.specs.declared.joined_strings.JoinedStrings.{JoinedStrings}
 use Rattle.pep440_compiled.specs.declared.error.CompileError.TheVariants as compile
+use Rattle.pep440_compiled.specs.declared.error.CompileStringError.TheVariants as string
 use Rattle.pep440_compiled.specs.declared.error.CompiledError.TheVariants as read
 use Rattle.pep440_rs.specs.declared.range.error.RangeError.TheVariants as range_error
 use Rattle.pep440_sets.specs.declared.error.SetError.TheVariants as set_error
@@ -29,6 +31,12 @@ fault_status fault.NoList = 13
 abbrev pub fault_of_compile : CompileError → Fault
 fault_of_compile compile.NotParsed = fault.InvalidVersion
 fault_of_compile compile.OutOfMemory = fault.OutOfMemory
+
+-- why a string has no compiled form
+abbrev pub fault_of_string : CompileStringError → Fault
+fault_of_string string.NotUtf8 = fault.InvalidVersion
+fault_of_string (string.Invalid error) = fault.InvalidVersion
+fault_of_string string.OutOfMemory = fault.OutOfMemory
 
 -- why a compiled form of a list or of a set is not read
 abbrev pub fault_of_read : CompiledError → Fault

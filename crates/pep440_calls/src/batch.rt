@@ -13,18 +13,17 @@ ghost use Rattle.pep440_version.specs.RoundTrip.{IsParsed};
 ghost use Rattle.pep440_calls.specs.Batches.{ArrangesPositions, HasEntries, IsEntryOf, entry_cmp, key_at, padded, position_cmp, FilterMarks, HoldsOrBatchFaults, IsMark, EncodingsResult, FormsResult, JoinsEncodings, KeysResult, Marks, encoding_bytes, SortResult, Sorts, ReportsBatchError, batch_error_at};
 ghost use Rattle.pep440_calls.specs.CallResults.{IsCompiled, IsKey};
 ghost use Rattle.pep440_calls.specs.CallerBytes.{BytesDenote, BytesDenoteList, ListFaults, RejectsBytes};
-ghost use Rattle.pep440_calls.specs.Statuses.{HoldsOr, HoldsOrFaults};
+ghost use Rattle.pep440_calls.specs.Statuses.{Faults, HoldsOr, HoldsOrFaults};
 ghost use Rattle.pep440_calls.specs.declared.batch.BatchError.TheVariants.{OutOfMemory};
 
 use crate::buffer::{put, put_both};
 use crate::fault::Fault;
 use crate::joined_strings::JoinedStrings;
-use crate::one_version::{compile_other, find_key, find_release_key, find_string_key, is_compiled};
+use crate::one_version::{compile, compile_string, find_key, make_key};
 use crate::read::{read, to_list};
-use arrayvec::ArrayVec;
 use pep440_compiled::{
-    ContainsError, SetFronts, compare_sort_keys, compile_normal, compile_release, has_set_format,
-    has_version_format, read_membership, read_membership_soon, view_fronts,
+    ContainsError, FormBuffer, SetFronts, compare_sort_keys, has_set_format, has_version_format,
+    read_membership, read_membership_soon, view_fronts,
 };
 use pep440_rs::VersionSpecifiers;
 use std::alloc::{AllocError, AllocFailed, Global};
@@ -104,6 +103,16 @@ fn version_mark(matches: bool, is_prerelease: bool) -> u8
     }
 }
 
+// The mark of a string that has no version; out of memory ends the batch.
+fn fault_mark(fault: Fault) -> Result<u8, AllocError>
+    ensures { (list : List Spec) (text : List ℕ) → Faults (RejectsBytes text) ⊥ ⊥ fault → IfOk result (IsMark list text) }
+{
+    if matches!(fault, Fault::OutOfMemory) {
+        return Err(AllocError);
+    }
+    Ok(NOT_A_VERSION)
+}
+
 // What the list says of the string.
 #[inline(always)]
 fn mark_string(alloc: Global, list: &VersionSpecifiers, text: &[u8]) -> Result<u8, AllocError>
@@ -114,8 +123,7 @@ fn mark_string(alloc: Global, list: &VersionSpecifiers, text: &[u8]) -> Result<u
             let matches = list.matches_literally(alloc, &version)?;
             Ok(version_mark(matches, version.any_prerelease()))
         }
-        Err(Fault::OutOfMemory) => Err(AllocError),
-        Err(_) => Ok(NOT_A_VERSION),
+        Err(fault) => fault_mark(fault),
     }
 }
 
@@ -149,46 +157,42 @@ fn compiled_mark(form: &[u8], fronts: &Option<SetFronts>, version: &[u8]) -> u8
     any_compiled_mark(form, version)
 }
 
-// What the set of a compiled list says of a string in a normal spelling, which is compiled first; `None` of another string. A call of its
-// own, so that compiled versions pay nothing for it.
+// What the set of a compiled list says of a string, which is compiled first. A call of its own, so that compiled versions pay nothing for it.
 #[inline(never)]
-fn string_mark(form: &[u8], fronts: &Option<SetFronts>, text: &[u8]) -> Option<u8>
+fn string_mark(
+    alloc: Global,
+    form: &[u8],
+    fronts: &Option<SetFronts>,
+    text: &[u8],
+) -> Result<u8, AllocError>
     requires form { HasSetFormat form.now }
     requires fronts { IfSome fronts.now (λ f. (s : Segments) → HasSet form.now s → IsFrontsOf f s) }
-    ensures { (list : List Spec) → BytesDenoteList form.now list → IfSome result (IsMark list text.now) }
+    requires text { ¬ HasVersionFormat text.now }
+    ensures { (list : List Spec) → BytesDenoteList form.now list → IfOk result (IsMark list text.now) }
 {
-    let mut compiled = ArrayVec::new();
-    if !compile_normal(&mut compiled, text) {
-        return release_mark(form, fronts, text);
+    let mut buffer = FormBuffer::new(alloc);
+    match compile_string(alloc, &mut buffer, text) {
+        Ok(compiled) => Ok(compiled_mark(form, fronts, compiled)),
+        Err(fault) => fault_mark(fault),
     }
-    Some(compiled_mark(form, fronts, compiled.as_slice()))
 }
 
-// As `string_mark`, of a string in another spelling, or with more or larger numbers. A call of its own, since few are.
-#[inline(never)]
-fn release_mark(form: &[u8], fronts: &Option<SetFronts>, text: &[u8]) -> Option<u8>
-    requires form { HasSetFormat form.now }
-    requires fronts { IfSome fronts.now (λ f. (s : Segments) → HasSet form.now s → IsFrontsOf f s) }
-    ensures { (list : List Spec) → BytesDenoteList form.now list → IfSome result (IsMark list text.now) }
-{
-    let mut compiled = ArrayVec::new();
-    if !compile_release(&mut compiled, text) {
-        return None;
-    }
-    Some(compiled_mark(form, fronts, compiled.as_slice()))
-}
-
-// What the set of a compiled list says of a compiled version or a string; `None` as above.
+// What the set of a compiled list says of a compiled version or a string.
 #[inline(always)]
-fn form_mark(form: &[u8], fronts: &Option<SetFronts>, text: &[u8]) -> Option<u8>
+fn form_mark(
+    alloc: Global,
+    form: &[u8],
+    fronts: &Option<SetFronts>,
+    text: &[u8],
+) -> Result<u8, AllocError>
     requires form { HasSetFormat form.now }
     requires fronts { IfSome fronts.now (λ f. (s : Segments) → HasSet form.now s → IsFrontsOf f s) }
-    ensures { (list : List Spec) → BytesDenoteList form.now list → IfSome result (IsMark list text.now) }
+    ensures { (list : List Spec) → BytesDenoteList form.now list → IfOk result (IsMark list text.now) }
 {
     if has_version_format(text) {
-        return Some(compiled_mark(form, fronts, text));
+        return Ok(compiled_mark(form, fronts, text));
     }
-    string_mark(form, fronts, text)
+    string_mark(alloc, form, fronts, text)
 }
 
 // What the list, which the bytes before it denote, says of the string.
@@ -205,9 +209,7 @@ fn mark(
     ensures { IfOk result (IsMark list.now text.now) }
 {
     if has_set_format(form) {
-        if let Some(mark) = form_mark(form, fronts, text) {
-            return Ok(mark);
-        }
+        return form_mark(alloc, form, fronts, text);
     }
     mark_string(alloc, list, text)
 }
@@ -485,122 +487,20 @@ fn write_encodings(
     }
 }
 
-// One more sort key: that of a string's version.
+// A version as it is written: a compiled one as it lies in the bytes, that of a string in the buffer.
 #[inline(always)]
-fn push_string_key(alloc: Global, keys: &mut JoinedStrings, bytes: &[u8]) -> Result<(), Fault>
-    ensures { HoldsOrFaults (RejectsBytes bytes.now) ⊥ ⊥ (λ _. (key : List ℕ) × IsKey bytes.now key
-        × (keys.new.bytes.items ≡ keys.old.bytes.items ++ key)
-        × (keys.new.ends.items ≡ keys.old.ends.items ++ length keys.new.bytes.items ∷ [])) result }
-{
-    let mut form = ArrayVec::new();
-    if let Some(key) = find_string_key(&mut form, bytes) {
-        return Ok(keys.push(key)?);
-    }
-    push_other_key(alloc, keys, bytes)
-}
-
-// As `push_string_key`, of a string that is in no normal spelling or has more numbers. A call of its own, since few are.
-#[inline(never)]
-fn push_other_key(alloc: Global, keys: &mut JoinedStrings, bytes: &[u8]) -> Result<(), Fault>
-    ensures { HoldsOrFaults (RejectsBytes bytes.now) ⊥ ⊥ (λ _. (key : List ℕ) × IsKey bytes.now key
-        × (keys.new.bytes.items ≡ keys.old.bytes.items ++ key)
-        × (keys.new.ends.items ≡ keys.old.ends.items ++ length keys.new.bytes.items ∷ [])) result }
-{
-    let mut form = ArrayVec::new();
-    if let Some(key) = find_release_key(&mut form, bytes) {
-        return Ok(keys.push(key)?);
-    }
-    let version = read(alloc, bytes)?;
-    Ok(keys.push_key(&version)?)
-}
-
-// One more sort key: that of the version which the bytes denote, of a compiled one as it lies in them.
-#[inline(always)]
-fn push_key(alloc: Global, keys: &mut JoinedStrings, bytes: &[u8]) -> Result<(), Fault>
-    ensures { HoldsOrFaults (RejectsBytes bytes.now) ⊥ ⊥ (λ _. (key : List ℕ) × IsKey bytes.now key
-        × (keys.new.bytes.items ≡ keys.old.bytes.items ++ key)
-        × (keys.new.ends.items ≡ keys.old.ends.items ++ length keys.new.bytes.items ∷ [])) result }
-{
-    if has_version_format(bytes) {
-        let key = find_key(bytes)?;
-        return Ok(keys.push(key)?);
-    }
-    push_string_key(alloc, keys, bytes)
-}
-
-// One more compiled form: that of the version which the bytes denote, of a compiled one these bytes.
-#[inline(always)]
-fn push_form(alloc: Global, forms: &mut JoinedStrings, bytes: &[u8]) -> Result<(), Fault>
-    ensures { HoldsOrFaults (RejectsBytes bytes.now) ⊥ ⊥ (λ _. (form : List ℕ) × IsCompiled bytes.now form
-        × (forms.new.bytes.items ≡ forms.old.bytes.items ++ form)
-        × (forms.new.ends.items ≡ forms.old.ends.items ++ length forms.new.bytes.items ∷ [])) result }
-{
-    if has_version_format(bytes) {
-        return push_given_form(forms, bytes);
-    }
-    push_string_form(alloc, forms, bytes)
-}
-
-// One more compiled form, which is given, if it is one.
-#[tactic(auto, using(crate::proofs::Forms::copied, crate::proofs::Forms::no_compiled))]
-fn push_given_form(forms: &mut JoinedStrings, form: &[u8]) -> Result<(), Fault>
-    requires { HasVersionFormat form.now }
-    ensures { HoldsOrFaults (RejectsBytes form.now) ⊥ ⊥ (λ _. (compiled : List ℕ) × IsCompiled form.now compiled
-        × (forms.new.bytes.items ≡ forms.old.bytes.items ++ compiled)
-        × (forms.new.ends.items ≡ forms.old.ends.items ++ length forms.new.bytes.items ∷ [])) result }
-{
-    if !is_compiled(form) {
-        return Err(Fault::InvalidVersion);
-    }
-    Ok(forms.push(form)?)
-}
-
-// One more compiled form: that of a string's version.
-#[tactic(auto, using(crate::proofs::Forms::string_compiled))]
-#[inline(always)]
-fn push_string_form(alloc: Global, forms: &mut JoinedStrings, bytes: &[u8]) -> Result<(), Fault>
-    ensures { HoldsOrFaults (RejectsBytes bytes.now) ⊥ ⊥ (λ _. (form : List ℕ) × IsCompiled bytes.now form
-        × (forms.new.bytes.items ≡ forms.old.bytes.items ++ form)
-        × (forms.new.ends.items ≡ forms.old.ends.items ++ length forms.new.bytes.items ∷ [])) result }
-{
-    let mut form = ArrayVec::new();
-    if compile_normal(&mut form, bytes) {
-        return Ok(forms.push(form.as_slice())?);
-    }
-    push_other_form(alloc, forms, bytes)
-}
-
-// As `push_string_form`, of a string that is in no normal spelling or has more numbers. A call of its own, since few are.
-#[tactic(auto, using(crate::proofs::Forms::string_compiled))]
-#[inline(never)]
-fn push_other_form(alloc: Global, forms: &mut JoinedStrings, bytes: &[u8]) -> Result<(), Fault>
-    ensures { HoldsOrFaults (RejectsBytes bytes.now) ⊥ ⊥ (λ _. (form : List ℕ) × IsCompiled bytes.now form
-        × (forms.new.bytes.items ≡ forms.old.bytes.items ++ form)
-        × (forms.new.ends.items ≡ forms.old.ends.items ++ length forms.new.bytes.items ∷ [])) result }
-{
-    let mut form = ArrayVec::new();
-    if compile_release(&mut form, bytes) {
-        return Ok(forms.push(form.as_slice())?);
-    }
-    let compiled = compile_other(alloc, bytes)?;
-    Ok(forms.push(compiled.as_slice())?)
-}
-
-// One more version, as it is written.
-#[inline(always)]
-fn push_encoding(
+fn encode<'a>(
     alloc: Global,
-    joined: &mut JoinedStrings,
+    buffer: &'a mut FormBuffer,
     encoding: Encoding,
-    bytes: &[u8],
-) -> Result<(), Fault>
-    ensures { HoldsOrFaults (RejectsBytes bytes.now) ⊥ ⊥ (λ _. (r : Record) × BytesDenote bytes.now r
-        × (joined.new.bytes.items ≡ joined.old.bytes.items ++ encoding_bytes encoding r)
-        × (joined.new.ends.items ≡ joined.old.ends.items ++ length joined.new.bytes.items ∷ [])) result }
+    bytes: &'a [u8],
+) -> Result<&'a [u8], Fault>
+    ensures { HoldsOrFaults (RejectsBytes bytes.now) ⊥ ⊥ (λ found. (r : Record) × BytesDenote bytes.now r
+        × (found.now ≡ encoding_bytes encoding r)) result }
 {
     match encoding {
-        Encoding::SortKey => push_key(alloc, joined, bytes),
-        Encoding::Compiled => push_form(alloc, joined, bytes),
+        Encoding::SortKey => make_key(alloc, buffer, bytes),
+        Encoding::Compiled => compile(alloc, buffer, bytes),
     }
 }
 
@@ -614,9 +514,10 @@ fn encode_all(
         (λ joined. JoinsEncodings (encoding_bytes encoding) (map (λ t. t.now) texts.now) joined.bytes.items joined.ends.items) result }
 {
     let mut joined = JoinedStrings::with_capacity(alloc, texts.len())?;
+    let mut buffer = FormBuffer::new(alloc);
     for (position, text) in texts.iter().enumerate() {
-        match push_encoding(alloc, &mut joined, encoding, text) {
-            Ok(()) => {}
+        match encode(alloc, &mut buffer, encoding, text) {
+            Ok(encoded) => joined.push(encoded)?,
             Err(fault) => return Err(BatchError::from_fault(position, fault)),
         }
     }

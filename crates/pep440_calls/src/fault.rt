@@ -1,9 +1,9 @@
 //! Why a call gives nothing.
 ghost use Rattle.std.specs.Prelude.{◌≡◌};
-ghost use Rattle.pep440_calls.specs.Statuses.{fault_of_compile, fault_of_range, fault_of_read, fault_of_set, fault_status};
+ghost use Rattle.pep440_calls.specs.Statuses.{fault_of_compile, fault_of_range, fault_of_read, fault_of_set, fault_of_string, fault_status};
 ghost use Rattle.pep440_calls.specs.declared.fault.Fault.TheVariants.{OutOfMemory};
 
-use pep440_compiled::{CompileError, CompiledError};
+use pep440_compiled::{CompileError, CompileStringError, CompiledError};
 use pep440_rs::RangeError;
 use pep440_sets::SetError;
 use std::alloc::{AllocError, AllocFailed};
@@ -67,6 +67,17 @@ impl From<RangeError> for Fault {
         match error {
             RangeError::NumberAtMax => Fault::NumberAtMax,
             RangeError::OutOfMemory => Fault::OutOfMemory,
+        }
+    }
+}
+
+impl From<CompileStringError> for Fault {
+    ghost from_gives = { λ error fault. fault ≡ fault_of_string error };
+
+    fn from(error: CompileStringError) -> Fault {
+        match error {
+            CompileStringError::NotUtf8 | CompileStringError::Invalid(_) => Fault::InvalidVersion,
+            CompileStringError::OutOfMemory => Fault::OutOfMemory,
         }
     }
 }

@@ -1,10 +1,7 @@
 //! Strings one after the other, and the end of each.
 ghost use Rattle.std.specs.Prelude.{IfOk, List, [], length, map, ℕ, ◌++◌, ◌∷◌, ◌≡◌};
-ghost use Rattle.pep440_keys.specs.SortKeys.{key_bytes};
 ghost use Rattle.pep440_calls.specs.Statuses.{Joins};
 
-use pep440_keys::push_sort_key;
-use pep440_rs::Version;
 use std::alloc::{AllocError, Global};
 
 // Strings one after the other, and the end of each.
@@ -36,15 +33,6 @@ impl JoinedStrings {
         Ok(())
     }
 
-    // The sort key of a version as one more string.
-    pub(crate) fn push_key(&mut self, version: &Version) -> Result<(), AllocError>
-        ensures bytes { IfOk result (λ _. self.new.bytes.items ≡ self.old.bytes.items ++ key_bytes version.now) }
-        ensures ends { IfOk result (λ _. self.new.ends.items ≡ self.old.ends.items ++ length self.new.bytes.items ∷ []) }
-    {
-        push_sort_key(&mut self.bytes, version)?;
-        self.ends.push(self.bytes.len())?;
-        Ok(())
-    }
     // The strings, as they lie.
     pub(crate) fn split(&self, alloc: Global) -> Result<Vec<&[u8]>, AllocError>
         requires { (strings : List (List ℕ)) × Joins strings self.now.bytes.items self.now.ends.items }

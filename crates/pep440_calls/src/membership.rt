@@ -2,24 +2,22 @@
 ghost use Rattle.std.specs.Prelude.{Bool, IfErr, List, ℕ, true, ◌↔◌, ◌≡◌, ◌≢◌, ◌≤◌};
 ghost use Rattle.pep440_compiled.specs.Lists.{HasListFormat};
 ghost use Rattle.pep440_compiled.specs.SetForms.{HasFormatOfSets, HasLoneSetFormat};
-ghost use Rattle.pep440_compiled.specs.Version.{HasShortForm, HasVersionFormat};
+ghost use Rattle.pep440_compiled.specs.Version.{HasVersionFormat};
 ghost use Rattle.pep440_rs.specs.Matching.{any_prerelease};
 ghost use Rattle.pep440_rs.specs.Specifiers.{Spec};
-ghost use Rattle.pep440_version.specs.Print.{print};
 ghost use Rattle.pep440_version.specs.Record.{Record};
-ghost use Rattle.pep440_calls.specs.CallResults.{AllowFaults, Allows, AllowsResult, AsksInPlace, AsksSet, Contains, ContainsResult, IsPrerelease, MatchesInPlace, RejectsSecond, RejectsSet, RejectsVersion, Selects, takes};
+ghost use Rattle.pep440_calls.specs.CallResults.{AllowFaults, Allows, AllowsResult, AsksInPlace, AsksSet, Contains, ContainsResult, IsPrerelease, IsShortNormalForm, MatchesInPlace, RejectsSecond, RejectsSet, RejectsVersion, Selects, takes};
 ghost use Rattle.pep440_calls.specs.CallerBytes.{BytesDenote, BytesDenoteList, ListFaults, RejectsBytes, RejectsListBytes};
 ghost use Rattle.pep440_calls.specs.Statuses.{Faults, HoldsOr, HoldsOrFaults};
 ghost use Rattle.pep440_calls.specs.declared.fault.Fault.TheVariants.{OutOfMemory};
 
 use crate::buffer::{OK, flag};
 use crate::fault::Fault;
-use crate::one_version::compile;
+use crate::one_version::compile_string;
 use crate::read::{read, read_list, to_list};
 use crate::set_calls::has_form;
-use arrayvec::ArrayVec;
 use pep440_compiled::{
-    ContainsError, compile_normal, has_list_format, has_lone_set_format, has_version_format,
+    ContainsError, FormBuffer, has_list_format, has_lone_set_format, has_version_format,
     set_contains_soon,
 };
 use pep440_rs::VersionSpecifiers;
@@ -75,19 +73,17 @@ fn name_fault(alloc: Global, list: &[u8], of_string: Fault) -> Fault
     }
 }
 
-// Whether a compiled list contains the version of a string, which is compiled first: in a normal spelling without allocating.
+// Whether a compiled list contains the version of a string, which is compiled first.
 fn contains_string(alloc: Global, list: &[u8], text: &[u8]) -> Result<(bool, bool), Fault>
-    requires { HasListFormat list.now }
+    requires list { HasListFormat list.now }
+    requires text { ¬ HasVersionFormat text.now }
     ensures found { HoldsOr (ListFaults (RejectsSecond list.now text.now) list.now ⊥)
         (λ found. Contains list.now text.now found.0 × IsPrerelease text.now found.1) result }
-    ensures memory { (r : Record) → HasShortForm r → text.now ≡ print r → IfErr result (λ f. f ≢ OutOfMemory) }
+    ensures memory { IsShortNormalForm text.now → IfErr result (λ f. f ≢ OutOfMemory) }
 {
-    let mut form = ArrayVec::new();
-    if compile_normal(&mut form, text) {
-        return contains_compiled(list, form.as_slice());
-    }
-    match compile(alloc, text) {
-        Ok(compiled) => contains_compiled(list, compiled.as_slice()),
+    let mut buffer = FormBuffer::new(alloc);
+    match compile_string(alloc, &mut buffer, text) {
+        Ok(form) => contains_compiled(list, form),
         Err(fault) => Err(name_fault(alloc, list, fault)),
     }
 }
@@ -113,8 +109,7 @@ fn write_string_match(
     prerelease: &mut u8,
 ) -> u8
     ensures found { ContainsResult list.now text.now contained.old contained.new prerelease.old prerelease.new result }
-    ensures memory { (r : Record) → HasListFormat list.now → (¬ HasVersionFormat text.now) → HasShortForm r → text.now ≡ print r
-        → result ≢ 3 }
+    ensures memory { HasListFormat list.now → (¬ HasVersionFormat text.now) → IsShortNormalForm text.now → result ≢ 3 }
 {
     if has_list_format(list) && !has_version_format(text) {
         return put_match(contains_string(alloc, list, text), contained, prerelease);
@@ -261,14 +256,18 @@ fn allows_form(set: &[u8], version: &[u8], prereleases: u8) -> Result<bool, Faul
     }
 }
 
-// Whether a compiled form with a set allows the version of a string in any spelling, which is compiled first.
-fn allows_spelling(alloc: Global, set: &[u8], text: &[u8], prereleases: u8) -> Result<bool, Fault>
+// Whether a compiled form with a set allows the version of a string, which is compiled first.
+#[inline(never)]
+fn allows_string(alloc: Global, set: &[u8], text: &[u8], prereleases: u8) -> Result<bool, Fault>
     requires set { HasFormatOfSets set.now }
     requires asked { ¬ AsksSet set.now prereleases }
-    ensures { HoldsOr (AllowFaults set.now text.now prereleases) (Allows set.now text.now prereleases) result }
+    requires text { ¬ HasVersionFormat text.now }
+    ensures found { HoldsOr (AllowFaults set.now text.now prereleases) (Allows set.now text.now prereleases) result }
+    ensures memory { IsShortNormalForm text.now → IfErr result (λ f. f ≢ OutOfMemory) }
 {
-    match compile(alloc, text) {
-        Ok(compiled) => allows_form(set, compiled.as_slice(), prereleases),
+    let mut buffer = FormBuffer::new(alloc);
+    match compile_string(alloc, &mut buffer, text) {
+        Ok(form) => allows_form(set, form, prereleases),
         Err(fault) => {
             if has_lone_set_format(set) {
                 return Err(fault);
@@ -276,21 +275,6 @@ fn allows_spelling(alloc: Global, set: &[u8], text: &[u8], prereleases: u8) -> R
             Err(name_fault(alloc, set, fault))
         }
     }
-}
-
-// Whether a compiled form with a set allows the version of a string: in a normal spelling without allocating.
-#[inline(never)]
-fn allows_string(alloc: Global, set: &[u8], text: &[u8], prereleases: u8) -> Result<bool, Fault>
-    requires set { HasFormatOfSets set.now }
-    requires asked { ¬ AsksSet set.now prereleases }
-    ensures found { HoldsOr (AllowFaults set.now text.now prereleases) (Allows set.now text.now prereleases) result }
-    ensures memory { (r : Record) → HasShortForm r → text.now ≡ print r → IfErr result (λ f. f ≢ OutOfMemory) }
-{
-    let mut form = ArrayVec::new();
-    if compile_normal(&mut form, text) {
-        return allows_form(set, form.as_slice(), prereleases);
-    }
-    allows_spelling(alloc, set, text, prereleases)
 }
 
 // Whether pre-releases are taken of a list that was read.

@@ -1,5 +1,5 @@
 //! What is made of one version: its normal form, compiled form, parts, sort key and word.
-ghost use Rattle.std.specs.Prelude.{IfErr, IfOk, IfSome, IsSome, [], false, string_bytes, true, ◌≡◌, ◌≢◌};
+ghost use Rattle.std.specs.Prelude.{IfErr, false, string_bytes, true, ◌≡◌, ◌≢◌};
 ghost use Rattle.pep440_compiled.specs.Version.{DenotesVersion, HasVersionFormat};
 ghost use Rattle.pep440_version.specs.Record.{Record};
 ghost use Rattle.pep440_calls.specs.CallResults.{IsCompiled, IsKey, IsShortNormalForm, IsNormal, PartsResult, HasPartsOf, IsPackedWord, NeedsNoMemory, WordResult, kind_number};
@@ -7,15 +7,13 @@ ghost use Rattle.pep440_calls.specs.CallerBytes.{RejectsBytes};
 ghost use Rattle.pep440_calls.specs.Statuses.{HoldsOrFaults, WritesBytes};
 ghost use Rattle.pep440_calls.specs.declared.fault.Fault.TheVariants.{OutOfMemory};
 
-use crate::buffer::{NOT_PACKED, OK, flag, put, put_and_count, put_bytes, put_slice, put_text};
+use crate::buffer::{NOT_PACKED, OK, flag, put, put_slice, put_text};
 use crate::fault::Fault;
-use crate::read::{read, read_spelling};
-use arrayvec::ArrayVec;
-use pep440_compiled::{compile_normal, compile_release, compile_version, has_version_format};
-use pep440_keys::sort_key;
+use crate::read::read;
+use pep440_compiled::{FormBuffer, has_version_format};
 use pep440_rs::{PrereleaseKind, Version};
 use pep440_version::laws::word;
-use std::alloc::{AllocError, Global};
+use std::alloc::Global;
 
 /// Writes the normal form of the version (PEP 440, "Normalization").
 pub fn write_normal_form(alloc: Global, text: &[u8], out: &mut [u8], written: &mut usize) -> u8
@@ -33,35 +31,17 @@ fn normalize(alloc: Global, bytes: &[u8]) -> Result<String, Fault>
 }
 
 /// Writes the compiled form of the version.
-#[tactic(auto, using(crate::proofs::Forms::string_compiled))]
 pub fn write_compiled(alloc: Global, text: &[u8], out: &mut [u8], written: &mut usize) -> u8
     ensures found { WritesBytes (RejectsBytes text.now) ⊥ ⊥ (IsCompiled text.now) out.old out.new written.old written.new result }
-    ensures memory { IsShortNormalForm text.now → result ≢ 3 }
+    ensures memory { NeedsNoMemory text.now → result ≢ 3 }
 {
-    let mut form = ArrayVec::new();
-    // no string in a normal spelling has the format of a compiled version
-    if compile_normal(&mut form, text) {
-        return put_and_count(form.as_slice(), out, written);
-    }
-    write_other_form(alloc, text, out, written)
-}
-
-// As `write_compiled`, of a string that is in no normal spelling or has more numbers. A call of its own, since few are.
-#[tactic(auto, using(crate::proofs::Forms::string_compiled))]
-#[inline(never)]
-fn write_other_form(alloc: Global, text: &[u8], out: &mut [u8], written: &mut usize) -> u8
-    ensures { WritesBytes (RejectsBytes text.now) ⊥ ⊥ (IsCompiled text.now) out.old out.new written.old written.new result }
-{
-    let mut release = ArrayVec::new();
-    if compile_release(&mut release, text) {
-        return put_and_count(release.as_slice(), out, written);
-    }
-    put_bytes(compile_other(alloc, text), out, written)
+    let mut buffer = FormBuffer::new(alloc);
+    put_slice(compile(alloc, &mut buffer, text), out, written)
 }
 
 // Whether the bytes are a compiled version, all of them. A call of its own, since two copies would make each program that compares larger.
 #[inline(never)]
-pub(crate) fn is_compiled(bytes: &[u8]) -> bool
+fn is_compiled(bytes: &[u8]) -> bool
     ensures form { result ≡ true → (r : Record) × DenotesVersion bytes.now r }
     ensures none { result ≡ false → (r : Record) → DenotesVersion bytes.now r → ⊥ }
 {
@@ -71,49 +51,48 @@ pub(crate) fn is_compiled(bytes: &[u8]) -> bool
     }
 }
 
-fn copy_bytes(alloc: Global, bytes: &[u8]) -> Result<Vec<u8>, AllocError>
-    ensures { IfOk result (λ copy. copy.items ≡ bytes.now) }
-{
-    let mut copy = Vec::with_capacity(alloc, bytes.len())?;
-    copy.extend_from_slice(bytes)?;
-    Ok(copy)
-}
-
-// A copy of a compiled version.
+// A compiled version, as it lies in the bytes.
 #[tactic(auto, using(crate::proofs::Forms::copied, crate::proofs::Forms::no_compiled))]
-fn copy_form(alloc: Global, form: &[u8]) -> Result<Vec<u8>, Fault>
-    requires { HasVersionFormat form.now }
-    ensures { HoldsOrFaults (RejectsBytes form.now) ⊥ ⊥ (λ compiled. IsCompiled form.now compiled.items) result }
+#[inline(always)]
+fn find_form(bytes: &[u8]) -> Result<&[u8], Fault>
+    requires { HasVersionFormat bytes.now }
+    ensures found { HoldsOrFaults (RejectsBytes bytes.now) ⊥ ⊥ (λ form. IsCompiled bytes.now form.now) result }
+    ensures memory { IfErr result (λ f. f ≢ OutOfMemory) }
 {
-    if is_compiled(form) {
-        let copy = copy_bytes(alloc, form)?;
-        return Ok(copy);
+    if !is_compiled(bytes) {
+        return Err(Fault::InvalidVersion);
     }
-    Err(Fault::InvalidVersion)
+    Ok(bytes)
 }
 
-// The compiled form of a version: of a string, or a copy of it.
-#[tactic(auto, using(crate::proofs::Forms::string_compiled))]
-pub(crate) fn compile(alloc: Global, text: &[u8]) -> Result<Vec<u8>, Fault>
-    ensures { HoldsOrFaults (RejectsBytes text.now) ⊥ ⊥ (λ compiled. IsCompiled text.now compiled.items) result }
+// The compiled form of a string, in the buffer.
+#[inline(always)]
+pub(crate) fn compile_string<'a>(
+    alloc: Global,
+    buffer: &'a mut FormBuffer,
+    text: &[u8],
+) -> Result<&'a [u8], Fault>
+    requires { ¬ HasVersionFormat text.now }
+    ensures found { HoldsOrFaults (RejectsBytes text.now) ⊥ ⊥ (λ form. IsCompiled text.now form.now) result }
+    ensures memory { IsShortNormalForm text.now → IfErr result (λ f. f ≢ OutOfMemory) }
 {
-    let mut release = ArrayVec::new();
-    if compile_release(&mut release, text) {
-        let copy = copy_bytes(alloc, release.as_slice())?;
-        return Ok(copy);
-    }
-    compile_other(alloc, text)
+    Ok(buffer.compile(alloc, text)?)
 }
 
-// As `compile`, of a string that is parsed first.
-pub(crate) fn compile_other(alloc: Global, text: &[u8]) -> Result<Vec<u8>, Fault>
-    ensures { HoldsOrFaults (RejectsBytes text.now) ⊥ ⊥ (λ compiled. IsCompiled text.now compiled.items) result }
+// The compiled form of a version: of a compiled one as it lies in the bytes, of a string in the buffer.
+#[inline(always)]
+pub(crate) fn compile<'a>(
+    alloc: Global,
+    buffer: &'a mut FormBuffer,
+    bytes: &'a [u8],
+) -> Result<&'a [u8], Fault>
+    ensures found { HoldsOrFaults (RejectsBytes bytes.now) ⊥ ⊥ (λ form. IsCompiled bytes.now form.now) result }
+    ensures memory { NeedsNoMemory bytes.now → IfErr result (λ f. f ≢ OutOfMemory) }
 {
-    if has_version_format(text) {
-        return copy_form(alloc, text);
+    if has_version_format(bytes) {
+        return find_form(bytes);
     }
-    let version = read_spelling(alloc, text)?;
-    Ok(compile_version(alloc, &version)?)
+    compile_string(alloc, buffer, bytes)
 }
 
 /// Writes the sort key of the version: `memcmp` orders keys as their versions (PEP 440, "Summary of permitted
@@ -122,35 +101,8 @@ pub fn write_sort_key(alloc: Global, text: &[u8], out: &mut [u8], written: &mut 
     ensures found { WritesBytes (RejectsBytes text.now) ⊥ ⊥ (IsKey text.now) out.old out.new written.old written.new result }
     ensures memory { NeedsNoMemory text.now → result ≢ 3 }
 {
-    if has_version_format(text) {
-        return put_slice(find_key(text), out, written);
-    }
-    write_string_key(alloc, text, out, written)
-}
-
-// Writes the sort key of a string.
-fn write_string_key(alloc: Global, text: &[u8], out: &mut [u8], written: &mut usize) -> u8
-    requires { ¬ HasVersionFormat text.now }
-    ensures found { WritesBytes (RejectsBytes text.now) ⊥ ⊥ (IsKey text.now) out.old out.new written.old written.new result }
-    ensures memory { NeedsNoMemory text.now → result ≢ 3 }
-{
-    let mut form = ArrayVec::new();
-    if let Some(key) = find_string_key(&mut form, text) {
-        return put_and_count(key, out, written);
-    }
-    write_other_key(alloc, text, out, written)
-}
-
-// As `write_string_key`, of a string that is in no normal spelling or has more numbers. A call of its own, since few are.
-#[inline(never)]
-fn write_other_key(alloc: Global, text: &[u8], out: &mut [u8], written: &mut usize) -> u8
-    ensures { WritesBytes (RejectsBytes text.now) ⊥ ⊥ (IsKey text.now) out.old out.new written.old written.new result }
-{
-    let mut form = ArrayVec::new();
-    if let Some(found) = find_release_key(&mut form, text) {
-        return put_and_count(found, out, written);
-    }
-    put_bytes(make_key(alloc, text), out, written)
+    let mut buffer = FormBuffer::new(alloc);
+    put_slice(make_key(alloc, &mut buffer, text), out, written)
 }
 
 // The sort key of a compiled version, as it lies in the bytes.
@@ -166,35 +118,38 @@ pub(crate) fn find_key(bytes: &[u8]) -> Result<&[u8], Fault>
     }
 }
 
-// The sort key of a string, which is compiled in the form; `None` if it is to be parsed.
-pub(crate) fn find_string_key<'a>(form: &'a mut ArrayVec<u8, 64>, text: &[u8]) -> Option<&'a [u8]>
-    requires { form.old.items ≡ [] }
-    ensures found { IfSome result (λ key. IsKey text.now key.now) }
-    ensures short { IsShortNormalForm text.now → IsSome result }
+// The sort key of a string, in the buffer.
+#[inline(always)]
+fn make_string_key<'a>(
+    alloc: Global,
+    buffer: &'a mut FormBuffer,
+    text: &[u8],
+) -> Result<&'a [u8], Fault>
+    requires { ¬ HasVersionFormat text.now }
+    ensures found { HoldsOrFaults (RejectsBytes text.now) ⊥ ⊥ (λ key. IsKey text.now key.now) result }
+    ensures memory { IsShortNormalForm text.now → IfErr result (λ f. f ≢ OutOfMemory) }
 {
-    if !compile_normal(form, text) {
-        return None;
+    let form = compile_string(alloc, buffer, text)?;
+    match pep440_compiled::sort_key(form) {
+        Ok(key) => Ok(key),
+        Err(_) => Err(Fault::InvalidVersion),
     }
-    pep440_compiled::sort_key(form.as_slice()).ok()
 }
 
-// As `find_string_key`, of a string in another spelling, or with more or larger numbers.
-pub(crate) fn find_release_key<'a>(form: &'a mut ArrayVec<u8, 64>, text: &[u8]) -> Option<&'a [u8]>
-    requires { form.old.items ≡ [] }
-    ensures { IfSome result (λ key. IsKey text.now key.now) }
+// The sort key of a version: of a compiled one as it lies in the bytes, of a string in the buffer.
+#[inline(always)]
+pub(crate) fn make_key<'a>(
+    alloc: Global,
+    buffer: &'a mut FormBuffer,
+    bytes: &'a [u8],
+) -> Result<&'a [u8], Fault>
+    ensures found { HoldsOrFaults (RejectsBytes bytes.now) ⊥ ⊥ (λ key. IsKey bytes.now key.now) result }
+    ensures memory { NeedsNoMemory bytes.now → IfErr result (λ f. f ≢ OutOfMemory) }
 {
-    if !compile_release(form, text) {
-        return None;
+    if has_version_format(bytes) {
+        return find_key(bytes);
     }
-    pep440_compiled::sort_key(form.as_slice()).ok()
-}
-
-// The sort key of a version.
-fn make_key(alloc: Global, bytes: &[u8]) -> Result<Vec<u8>, Fault>
-    ensures { HoldsOrFaults (RejectsBytes bytes.now) ⊥ ⊥ (λ key. IsKey bytes.now key.items) result }
-{
-    let version = read(alloc, bytes)?;
-    Ok(sort_key(alloc, &version)?)
+    make_string_key(alloc, buffer, bytes)
 }
 
 /// Writes the word of the version: words are numbers in the order of their versions (PEP 440, "Summary of permitted

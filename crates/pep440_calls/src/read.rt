@@ -43,15 +43,6 @@ fn read_compiled(alloc: Global, bytes: &[u8]) -> Result<Version, Fault>
     }
 }
 
-// The version of a string. Who knows that it is one pays nothing for compiled versions, and has no code for them.
-#[tactic(auto, using(crate::proofs::Forms::string_read))]
-pub(crate) fn read_spelling(alloc: Global, text: &[u8]) -> Result<Version, Fault>
-    requires { ¬ HasVersionFormat text.now }
-    ensures { HoldsOrFaults (RejectsBytes text.now) ⊥ ⊥ (BytesDenote text.now) result }
-{
-    read_string(alloc, text)
-}
-
 // The version that the bytes denote.
 #[tactic(auto, using(crate::proofs::Forms::string_read))]
 pub(crate) fn read(alloc: Global, bytes: &[u8]) -> Result<Version, Fault>

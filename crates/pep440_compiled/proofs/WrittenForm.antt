@@ -1,10 +1,14 @@
 -- A compiled form that is written part by part.
-use Rattle.std.proofs.Common.{◌≡◌, ◌∙◌, ◌<◌, ◌-◌, ℕ, List, [], ◌∷◌, ◌++◌, Option, None, Some, true, false, ap, inl, inr, refl, sym, subst, append_assoc, arith, true≢false, ◌≤◌, ◌+◌, suc, codes, drop, get_or, length, take}
+use Rattle.std.proofs.Common.{◌≡◌, ◌∙◌, ◌<◌, ◌-◌, ℕ, List, [], ◌∷◌, ◌++◌, Option, None, Some, true, false, ap, inl, inr, refl, sym, subst, append_assoc, arith, true≢false, ◌≤◌, ◌+◌, suc, codes, drop, get_or, length, take, ◌^◌, IfSome, is_none}
+use Rattle.std.proofs.lemmas.Bool.{lt-ltb}
 use Rattle.std.proofs.lemmas.Bool.Decides.{nat_tests}
 use Rattle.std.proofs.lemmas.Grind.{flat_map-append}
-use Rattle.std.proofs.lemmas.List.{append-nil, length-append, take-append-drop}
-use Rattle.std.specs.Char.{is_ascii_digit}
+use Rattle.std.proofs.lemmas.List.{append-nil, length-append, nil_from_length, take-append-drop}
+use Rattle.std.specs.Char.{is_ascii_alphanumeric, is_ascii_digit}
 use Rattle.std.specs.List.{flat_map, list_all, All}
+use Rattle.std.specs.Prelude.{IsSomeAnd}
+use Rattle.pep440_rs.proofs.Reread.Plain.{all_weaker}
+use Rattle.pep440_version.specs.Rejections.{Rejection, Rejects}
 use Rattle.pep440_keys.specs.SortKeys.{key_bytes, local_bytes, segment_bytes}
 use Rattle.pep440_version.proofs.Reading.LocalAgrees.{segments_cons}
 use Rattle.pep440_version.proofs.RoundTrip.PrintIsRead.{segment_reads}
@@ -25,6 +29,21 @@ use Rattle.pep440_version.specs.declared.prerelease.PrereleaseKind.{PrereleaseKi
 pub string_segment : (text : List ℕ) → list_all is_lower text ≡ true → list_all is_ascii_digit text ≡ false → IsSegment text (Text text)
 string_segment [] lower none = absurd (true≢false none)
 string_segment (b ∷ text) lower none = segment_reads (Text (b ∷ text)) tt (omega arith, lower, rw none refl)
+
+digit_alphanumeric : (b : ℕ) → is_ascii_digit b ≡ true → is_ascii_alphanumeric b ≡ true
+digit_alphanumeric b is = rw is refl
+
+-- a segment that is a number
+pub number_segment : (text rest : List ℕ) (n : ℕ) → ((digits : List ℕ) × IsNumber digits n × (text ≡ digits ++ rest)) → length rest ≡ 0 → IsSegment text (Number n)
+number_segment text rest n (digits, is, joined) none =
+    let same : text ≡ digits = joined ∙ ap (λ r. digits ++ r) (nil_from_length rest none) ∙ append-nil digits in
+    subst (λ t. IsSegment t (Number n)) (sym same)
+    (is.0, all_weaker is_ascii_digit is_ascii_alphanumeric digit_alphanumeric digits is.1, rw (is.1, is.2, lt-ltb n (2 ^ 64) is.3) refl)
+
+-- why a string is rejected
+pub named_error : (bytes text : List ℕ) (o : Option Rejection) → text ≡ bytes → is_none o ≡ false → IfSome o (Rejects text) → IsSomeAnd o (Rejects bytes)
+named_error bytes text None same some why = absurd (true≢false some)
+named_error bytes text (Some f) same some why = subst (λ t. Rejects t f) same why
 
 pub string_written : (old text : List ℕ) → ((old ++ 1 ∷ []) ++ text) ++ 0 ∷ [] ≡ old ++ segment_bytes (Text text)
 string_written old text = simp append_assoc

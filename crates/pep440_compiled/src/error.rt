@@ -1,6 +1,7 @@
 //! Why something is not compiled, and why bytes cannot be read.
 ghost use Rattle.std.specs.Prelude.{◌≡◌};
 
+use pep440_version::VersionParseError;
 use std::alloc::{AllocError, AllocFailed};
 
 /// Why a version or a list has no compiled form.
@@ -31,6 +32,30 @@ impl<T: Drop> From<AllocFailed<T>> for CompileError {
 
     fn from(_refused: AllocFailed<T>) -> CompileError {
         CompileError::OutOfMemory
+    }
+}
+
+/// Why a string has no compiled form.
+#[derive(Debug, PartialEq, Eq, Drop, thiserror::Error)]
+pub enum CompileStringError {
+    /// The bytes are not UTF-8.
+    #[error("not UTF-8")]
+    NotUtf8,
+    /// The string is no version.
+    #[error("{0}")]
+    Invalid(VersionParseError),
+    /// Out of memory.
+    #[error("out of memory")]
+    OutOfMemory,
+}
+
+impl From<AllocError> for CompileStringError {
+    ghost use Rattle.pep440_compiled.specs.declared.error.CompileStringError.TheVariants.{OutOfMemory};
+
+    ghost from_gives = { λ _ error. error ≡ OutOfMemory };
+
+    fn from(_refused: AllocError) -> CompileStringError {
+        CompileStringError::OutOfMemory
     }
 }
 

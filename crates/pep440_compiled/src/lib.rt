@@ -15,7 +15,7 @@
 //! them: of bytes that denote nothing they return an error or any result, and never read outside them. Read bytes
 //! from outside once before they are asked.
 //!
-//! In reading order: `version`, `list` and `set_forms`, the calls; `list_members`, `set_bytes` and `set_operations`, what lists and sets are made of; `views` and `key_parts`, where the parts lie in the bytes; `byte_order` and
+//! In reading order: `version`, `form_buffer`, `list` and `set_forms`, the calls; `stack_form`, which writes short forms of strings; `list_members`, `set_bytes` and `set_operations`, what lists and sets are made of; `views` and `key_parts`, where the parts lie in the bytes; `byte_order` and
 //! `matching`, which read no more than those; `decode`, `checked_version`, `parsed` and `operand`, which test each byte; `error`; and `laws`.
 #![tactic(auto)]
 
@@ -23,6 +23,7 @@ mod byte_order;
 mod checked_version;
 mod decode;
 mod error;
+mod form_buffer;
 mod key_parts;
 pub mod laws;
 mod list;
@@ -37,7 +38,8 @@ mod stack_form;
 mod version;
 mod views;
 
-pub use error::{CompileError, CompiledError, ContainsError, NotCompiled};
+pub use error::{CompileError, CompileStringError, CompiledError, ContainsError, NotCompiled};
+pub use form_buffer::FormBuffer;
 pub use list::{
     compile_list, contains, has_list_format, has_set_format, normalize_list, read_list,
     requests_prereleases,
@@ -46,7 +48,6 @@ pub use set_forms::{
     SetFronts, complement, has_lone_set_format, intersection, is_subset, read_membership,
     read_membership_soon, set_contains, set_contains_soon, set_keys, union, view_fronts,
 };
-pub use stack_form::{compile_normal, compile_release};
 pub use version::{
     any_prerelease, compare, compare_sort_keys, compile_version, normalize, push_compiled_form,
     read_sort_key, read_version, sort_key,

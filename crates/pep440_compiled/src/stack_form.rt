@@ -14,7 +14,7 @@ use crate::parsed::is_digits;
 use crate::version::push_zeros;
 use crate::views::VERSION;
 use arrayvec::ArrayVec;
-use pep440_keys::{KeySink, push_parts_key};
+use pep440_keys::{KeySink, push_number, push_parts_key};
 use pep440_version::{NormalParts, Prerelease, PrereleaseKind, parse_leading_parts};
 use std::alloc::AllocError;
 
@@ -53,7 +53,20 @@ fn push_digit(form: &mut ArrayVec<u8, 64>, digit: u8) -> Result<(), AllocError>
     }
 }
 
-// Appends the bytes of a segment of lower-case letters and digits; `false` of none, and of a number of more than one digit.
+// Appends the bytes of a segment of digits; `false` of none, and of a number from 2^64 on.
+#[inline(never)]
+fn push_digits(form: &mut ArrayVec<u8, 64>, text: &[u8]) -> Result<bool, AllocError>
+    ensures { IfOk result (λ done. done ≡ true
+        → (s : LocalSegmentValue) × IsSegment text.now s × (form.new.items ≡ form.old.items ++ segment_bytes s)) }
+{
+    let Some((number, [])) = split_number(text) else {
+        return Ok(false);
+    };
+    push_number(form, 2, number)?;
+    Ok(true)
+}
+
+// Appends the bytes of a segment of lower-case letters and digits; `false` of none, and of a number from 2^64 on.
 #[inline(always)]
 fn push_segment(form: &mut ArrayVec<u8, 64>, text: &[u8]) -> Result<bool, AllocError>
     requires { list_all is_lower text.now ≡ true }
@@ -68,6 +81,9 @@ fn push_segment(form: &mut ArrayVec<u8, 64>, text: &[u8]) -> Result<bool, AllocE
         form.append(text)?;
         form.append(&[0])?;
         return Ok(true);
+    }
+    if text.len() > 1 {
+        return push_digits(form, text);
     }
     let [digit] = text else {
         return Ok(false);
@@ -124,6 +140,14 @@ fn push_local(form: &mut ArrayVec<u8, 64>, text: &[u8]) -> Result<bool, AllocErr
     Ok(true)
 }
 
+// Whether it is no local part, or begins as one.
+#[inline(always)]
+fn begins_local(text: &[u8]) -> bool
+    ensures { (local : List LocalSegmentValue) → text.now ≡ local_text local → result ≡ true }
+{
+    matches!(text, [] | [b'+', ..])
+}
+
 // Appends the compiled form of the version of these parts, which ends with this local part; `false` of one as above. No
 // reference is taken of the parts but the release, so that no other one has a place in memory.
 #[inline(always)]
@@ -147,6 +171,10 @@ fn push_form(
         post,
         dev,
     } = parts;
+    // so that nothing is written for longer releases and other spellings
+    if !begins_local(local) {
+        return Ok(false);
+    }
     form.append(&[VERSION])?;
     push_parts_key(form, epoch, release.as_slice(), pre, post, dev)?;
     if !push_local(form, local)? {
@@ -285,14 +313,11 @@ fn push_release(bytes: &mut ArrayVec<u8, 64>, text: &[u8]) -> Result<bool, Alloc
     Ok(true)
 }
 
-/// Writes the compiled form of the version that the string of these bytes parses to, if the string is in a normal spelling and the
-/// form has at most 64 bytes: of the normalized form of a version, if it has up to four release numbers, no number above 2147483647,
-/// and no local segment of more than one digit and nothing else. `false` of any other string, which `compile_version` compiles once
-/// it is parsed; part of a form may then have been written.
-///
-/// Does not allocate.
+// Writes the compiled form of the version that the string of these bytes parses to, if the string is in a normal spelling and the
+// form has at most 64 bytes: of the normalized form of a version, if it has up to four release numbers, none of its numbers above 2147483647,
+// and no local segment of digits alone from 2^64 on. `false` of any other string; part of a form may then have been written.
 #[inline(always)]
-pub fn compile_normal(form: &mut ArrayVec<u8, 64>, text: &[u8]) -> bool
+pub(crate) fn compile_normal(form: &mut ArrayVec<u8, 64>, text: &[u8]) -> bool
     requires { form.old.items ≡ [] }
     ensures form { result ≡ true → (r : Record) × Derives text.now r × DenotesVersion form.new.items r }
     ensures short { (r : Record) → HasShortForm r → text.now ≡ print r → result ≡ true }
@@ -306,13 +331,11 @@ pub fn compile_normal(form: &mut ArrayVec<u8, 64>, text: &[u8]) -> bool
     }
 }
 
-/// Writes the compiled form of the version that the string of these bytes parses to, if the string is a release of up to sixteen numbers,
-/// with or without the letter `v` before it and a numbered pre-release in lower case after it, in any spelling, and the form has at most 64
-/// bytes; `false` of any other string: part of a form may then have been written.
-///
-/// Does not allocate.
+// Writes the compiled form of the version that the string of these bytes parses to, if the string is a release of up to sixteen numbers,
+// with or without the letter `v` before it and a numbered pre-release in lower case after it, in any spelling, and the form has at most 64
+// bytes; `false` of any other string: part of a form may then have been written.
 #[inline(never)]
-pub fn compile_release(form: &mut ArrayVec<u8, 64>, text: &[u8]) -> bool
+pub(crate) fn compile_release(form: &mut ArrayVec<u8, 64>, text: &[u8]) -> bool
     requires { form.old.items ≡ [] }
     ensures { result ≡ true → (r : Record) × Derives text.now r × DenotesVersion form.new.items r }
 {

@@ -1,9 +1,8 @@
 //! Compiled versions.
 use crate::given::{bytes_argument, print_bytes};
-use arrayvec::ArrayVec;
 use pep440_compiled::{
-    CompileError, CompiledError, ContainsError, any_prerelease, compare, compile_normal,
-    compile_release, compile_version, contains, has_version_format, normalize, push_compiled_form,
+    CompileError, CompileStringError, CompiledError, ContainsError, FormBuffer, any_prerelease,
+    compare, compile_version, contains, has_version_format, normalize, push_compiled_form,
     read_membership, read_sort_key, read_version, sort_key,
 };
 use pep440_version::{LocalSegment, Version};
@@ -59,22 +58,24 @@ pub fn compile_local(alloc: Global, text: &str) -> Result<String, CaseError> {
     print_compiled(alloc, &version)
 }
 
-/// The compiled form of a string in a normal spelling.
-pub fn compile_text(alloc: Global, text: &str) -> Result<String, CaseError> {
-    let mut form = ArrayVec::new();
-    if compile_normal(&mut form, text.as_bytes()) {
-        return Ok(print_bytes(alloc, form.as_slice())?);
+fn compile_bytes(alloc: Global, text: &[u8]) -> Result<String, CaseError> {
+    let mut buffer = FormBuffer::new(alloc);
+    match buffer.compile(alloc, text) {
+        Ok(form) => Ok(print_bytes(alloc, form)?),
+        Err(CompileStringError::NotUtf8) => Ok(String::from_str(alloc, "not UTF-8")?),
+        Err(CompileStringError::Invalid(_)) => Ok(String::from_str(alloc, "invalid")?),
+        Err(CompileStringError::OutOfMemory) => Err(CaseError::OutOfMemory),
     }
-    Ok(String::from_str(alloc, "not normal")?)
 }
 
-/// The compiled form of a release, with a pre-release in any spelling or without.
-pub fn compile_numbers(alloc: Global, text: &str) -> Result<String, CaseError> {
-    let mut form = ArrayVec::new();
-    if compile_release(&mut form, text.as_bytes()) {
-        return Ok(print_bytes(alloc, form.as_slice())?);
-    }
-    Ok(String::from_str(alloc, "not numbers")?)
+/// The compiled form of the version that a string parses to.
+pub fn compile_string(alloc: Global, text: &str) -> Result<String, CaseError> {
+    compile_bytes(alloc, text.as_bytes())
+}
+
+/// The same of a string's bytes.
+pub fn compile_string_bytes(alloc: Global, text: &str) -> Result<String, CaseError> {
+    compile_bytes(alloc, bytes_argument(alloc, text)?.as_slice())
 }
 
 /// `1` and `>=1`, compiled.

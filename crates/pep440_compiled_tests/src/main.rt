@@ -18,7 +18,7 @@ use compiled_lists::{
 use compiled_sets::{
     keys_of_set, set_complement, set_has, set_has_soon, set_intersection, set_subset, set_union,
 };
-use compiled_versions::{compile, compile_local, compile_numbers, compile_text, denotes};
+use compiled_versions::{compile, compile_local, compile_string, compile_string_bytes, denotes};
 use given::given_arguments;
 use ranges::{
     between, between_versions, complement, contains, intersection, of_number, of_version, segments,
@@ -42,8 +42,8 @@ fn of_one(alloc: Global, call: &str, text: &str) -> Result<String, CaseError> {
         "key" => key(alloc, text),
         "compile" => compile(alloc, text),
         "compile-local" => compile_local(alloc, text),
-        "compile-normal" => compile_text(alloc, text),
-        "compile-numbers" => compile_numbers(alloc, text),
+        "compile-string" => compile_string(alloc, text),
+        "compile-bytes" => compile_string_bytes(alloc, text),
         "compile-list" => compile_list_of(alloc, text),
         "denotes" => denotes(alloc, text),
         "denotes-list" => denotes_list(alloc, text),

@@ -1,10 +1,6 @@
-use Rattle.std.proofs.Common.{subst, sym}
 use Rattle.pep440_calls.proofs.Allowed.{marked_of_form}
-use Rattle.pep440_calls.proofs.Forms.{string_compiled}
 use Rattle.pep440_calls.proofs.batch.string_mark.Goals as goal
-use Rattle.pep440_calls.specs.CallResults.{IsCompiled}
 
-pub returns : goal.returns
-returns c list means =
-    let is = subst (IsCompiled c.args.text.now) (sym c.as_slice.ensures.value) (string_compiled c.args.text.now c.compile_normal.new.form.items (c.compile_normal.ensures.form c.if-not-compile_normal.false)) in
-    marked_of_form list c.args.text.now c.as_slice.result.now c.compiled_mark.result is (c.compiled_mark.ensures list means)
+pub returns-in-Ok : goal.returns-in-Ok
+returns-in-Ok c list means =
+    marked_of_form list c.args.text.now c.in-Ok.compiled.now c.compiled_mark.result c.in-Ok.ensures.found (c.compiled_mark.ensures list means)

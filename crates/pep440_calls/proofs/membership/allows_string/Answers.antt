@@ -1,10 +1,10 @@
-use Rattle.std.proofs.Common.{subst, sym}
-use Rattle.pep440_calls.proofs.Allowed.{allows_of_form}
-use Rattle.pep440_calls.proofs.Forms.{string_compiled}
+use Rattle.pep440_calls.proofs.Allowed.{allows_of_form, fault_named}
 use Rattle.pep440_calls.proofs.membership.allows_string.Goals as goal
-use Rattle.pep440_calls.specs.CallResults.{IsCompiled}
 
-pub returns-then-compile_normal-clause-found : goal.returns-then-compile_normal-clause-found
-returns-then-compile_normal-clause-found c =
-    let is = subst (IsCompiled c.args.text.now) (sym c.as_slice.ensures.value) (string_compiled c.args.text.now c.compile_normal.new.form.items (c.compile_normal.ensures.form c.if-compile_normal.true)) in
-    allows_of_form c.args.set.now c.args.text.now c.as_slice.result.now c.args.prereleases c.requires.set is.0 is.1 is.2 c.allows_form.result c.allows_form.ensures.found
+pub returns-in-Ok-clause-found : goal.returns-in-Ok-clause-found
+returns-in-Ok-clause-found c =
+    let is = c.in-Ok.ensures.found in
+    allows_of_form c.args.set.now c.args.text.now c.in-Ok.form.now c.args.prereleases c.requires.set is.0 is.1 is.2 c.allows_form.result c.allows_form.ensures.found
+
+pub returns-else-has_lone_set_format-clause-found : goal.returns-else-has_lone_set_format-clause-found
+returns-else-has_lone_set_format-clause-found c = fault_named c.args.set.now c.args.text.now c.args.prereleases c.name_fault.result (c.name_fault.ensures.fault c.args.text.now c.in-Err.ensures.found)

@@ -34,6 +34,11 @@ returns-in_err-append-3-clause-fits c = λ s again one is fits.
     let never = c.in_err-append-3.ensures.fits 0 second.1 in
     cc never.0
 
+pub returns-then-text-gt1-clause-fits : goal.returns-then-text-gt1-clause-fits
+returns-then-text-gt1-clause-fits c = λ s again one is fits.
+    let digit = digit_only c.args.text.now s one is (sym c.if-not-is_digits.ensures) in
+    absurd (omega (arith, digit.0, c.if-text-gt1.true))
+
 pub returns-in_default-clause-fits : goal.returns-in_default-clause-fits
 returns-in_default-clause-fits c = λ s again one is fits.
     let digit = digit_only c.args.text.now s one is (sym c.if-not-is_digits.ensures) in
