@@ -204,7 +204,8 @@ uint8_t pep440_compare(const uint8_t *left, size_t left_length, const uint8_t *r
    pep440_complement, pep440_intersection,
    pep440_union, pep440_is_subset             today's       matched
 
-   By no rule of matching go pep440_any_prerelease and the calls that print or compile a list. */
+   By no rule of matching go pep440_any_prerelease, pep440_requests_prereleases and the calls that
+   print or compile a list. */
 
 /* Writes to `contained` whether the list contains the version, 1 or 0: whether each of its
    specifiers does; and to `prerelease` whether the version is a pre-release or a developmental
@@ -232,6 +233,11 @@ uint8_t pep440_allows(const uint8_t *list, size_t list_length, const uint8_t *ve
 /* Writes to `any` whether the version of some specifier of the list is a pre-release or a
    developmental release, 1 or 0: of any operator, also `!=`, which `packaging` does not count. */
 uint8_t pep440_any_prerelease(const uint8_t *list, size_t length, uint8_t *any);
+
+/* Writes to `requests` whether the list asks for pre-releases, 1 or 0, as `prereleases` of `packaging`:
+   whether some specifier with another operator than `!=` has a version that is one, or a
+   developmental release. pep440_allows goes by it if `prereleases` is PEP440_ASKED_PRERELEASES. */
+uint8_t pep440_requests_prereleases(const uint8_t *list, size_t length, uint8_t *requests);
 
 /* Writes a version that the list matches, as `1.16` of `>=1.16`, and 0 bytes if it matches none, as
    `>1, <1`; `out` and `written` as for pep440_normalize. So with null and a size of 0
@@ -388,8 +394,8 @@ uint8_t pep440_release_range_bounds(const uint8_t *list, size_t length, uint8_t 
    string.
 
    Bytes are never read beyond their length, whether they are compiled, cut, changed or chosen by an
-   attacker. pep440_compare of two compiled versions, pep440_contains of a compiled list, and
-   pep440_allows and the calls on sets of formats 6 and 7 read them as they lie: of bytes that begin
+   attacker. pep440_compare of two compiled versions, pep440_contains and pep440_requests_prereleases
+   of a compiled list, and pep440_allows and the calls on sets of formats 6 and 7 read them as they lie: of bytes that begin
    as a compiled form and are none they write any result, or return the status of an invalid one. The
    first three allocate nothing for compiled versions, nor for most strings; pep440_compare of strings
    allocates nothing for most, either. All other calls reject such bytes. So give bytes of unknown

@@ -611,27 +611,14 @@ static int names_prerelease(Specifiers *self)
     return self->allows = (signed char)early;
 }
 
-/* Where a sort key ends, by where its local part lies: behind its segments, which are a 1, a string and a 0, or a number, and a 0. */
-static size_t key_end(const uint8_t *key, size_t local)
+/* Whether the compiled list asks for pre-releases; -1 with an error set. */
+static int list_requests_prereleases(pep440_string list)
 {
-    while (key[local])
-        local += key[local] == 1 ? 2 + strlen((const char *)key + local + 1) : (size_t)key[local] - 1;
-    return local + 1;
-}
-
-/* Whether the version behind any operator but `!=` is a pre-release, of a compiled list. */
-static int list_names_prerelease(pep440_string list)
-{
-    size_t at = LIST_HEAD;
-    int found = 0;
-    while (at < list.length && !found) {
-        uint8_t operator = list.bytes[at++] - OPERATOR;
-        KeyView view = view_key(list.bytes + at);
-        found = view.is_early && operator != PEP440_NOT_EQUAL;
-        for (at += key_end(list.bytes + at, view.local); at < list.length && list.bytes[at] == 1;)
-            at++;
-    }
-    return found;
+    uint8_t requests;
+    if (pep440_requests_prereleases(list.bytes, list.length, &requests) == PEP440_OK)
+        return requests;
+    PyErr_NoMemory();
+    return -1;
 }
 
 /* Whether some member allows pre-releases, asked again once `prereleases` of any specifier was set. */
@@ -645,8 +632,10 @@ static int some_allows(Specifiers *self)
     if (!self->members && compile_list_of(self) < 0) /* which makes members with `===` */
         return -1;
     if (!self->members) {
-        self->asked_at = asked_at;
-        return self->allows = (signed char)list_names_prerelease(list_of(self));
+        found = list_requests_prereleases(list_of(self));
+        if (found >= 0)
+            self->asked_at = asked_at, self->allows = (signed char)found;
+        return found;
     }
     members = Py_NewRef(self->members);
     all = PyObject_GetIter(members);

@@ -180,6 +180,9 @@ static void compare_and_match(void)
     hold(pep440_contains(LIST(">1.0rc1"), VERSION("1.0.post1"), &is, &early) == PEP440_OK && is == 0, "the ported crate's rule: a post-release of 1.0");
     hold(pep440_any_prerelease(LIST(">=1.0, <2.0rc1"), &is) == PEP440_OK && is == 1, "a pre-release among them");
     hold(pep440_any_prerelease(LIST(">=1.0, <2.0"), &is) == PEP440_OK && is == 0, "none among them");
+    hold(pep440_requests_prereleases(LIST(">=1.0, <2.0rc1"), &is) == PEP440_OK && is == 1, "a pre-release is asked for");
+    hold(pep440_requests_prereleases(LIST(">=1.0, !=2.0rc1"), &is) == PEP440_OK && is == 0, "an excluded pre-release is not asked for");
+    hold(pep440_requests_prereleases(LIST("===1.0.dev1"), &is) == PEP440_OK && is == 1, "a developmental release is asked for");
 }
 
 /* By today's rule, as SpecifierSet.contains of `packaging` 26.3 has it with False and with True; and with True if `prereleases` of the set is, else False. */
@@ -331,6 +334,7 @@ static void ask_members(const uint8_t *set, size_t length)
     hold(pep440_compile_list(set, length, out, sizeof out, &written) == PEP440_NO_LIST, "compile_list of a set");
     hold(pep440_specifiers_of(set, length, out, sizeof out, ends, 4, &written, &count) == PEP440_NO_LIST, "specifiers_of a set");
     hold(pep440_any_prerelease(set, length, &is) == PEP440_NO_LIST, "any_prerelease of a set");
+    hold(pep440_requests_prereleases(set, length, &is) == PEP440_NO_LIST, "requests_prereleases of a set");
     hold(pep440_version_in(set, length, out, sizeof out, &written) == PEP440_NO_LIST, "version_in of a set");
     hold(pep440_ranges(set, length, out, sizeof out, &written) == PEP440_NO_LIST, "ranges of a set");
     hold(pep440_range_bounds(set, length, out, sizeof out, ends, 4, &written, &count) == PEP440_NO_LIST, "range_bounds of a set");

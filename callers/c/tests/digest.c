@@ -7,7 +7,7 @@
 
 #include "pep440.h"
 
-enum { ROOM = 4096, ENDS = 256, MANY = 5, CALLS = 34 };
+enum { ROOM = 4096, ENDS = 256, MANY = 5, CALLS = 35 };
 
 typedef struct {
     uint8_t bytes[ROOM];
@@ -171,6 +171,7 @@ static uint8_t call(unsigned number)
     case 30: return pep440_union(OF(list), OF(invalid), OUT);
     case 31: return pep440_is_subset(OF(list), OF(invalid), &flag);
     case 32: count = MANY; return pep440_compile_all(batch, MANY, out, sizeof out, ends, ENDS, &written, &at);
+    case 33: return pep440_requests_prereleases(OF(list), &flag);
     default: count = 1, ends[0] = pep440_version_of_library(); return PEP440_OK;
     }
 }

@@ -65,6 +65,7 @@ static uint8_t compile_list(void) { return pep440_compile_list(IN, OUT); }
 static uint8_t version_in(void) { return pep440_version_in(IN, OUT); }
 static uint8_t ranges(void) { return pep440_ranges(IN, OUT); }
 static uint8_t any_prerelease(void) { return pep440_any_prerelease(IN, flag); }
+static uint8_t requests_prereleases(void) { return pep440_requests_prereleases(IN, flag); }
 static uint8_t specifiers_of(void) { return pep440_specifiers_of(IN, KEYS); }
 static uint8_t boundaries(void) { return pep440_boundaries(IN, KEYS); }
 static uint8_t complement(void) { return pep440_complement(IN, OUT); }
@@ -108,7 +109,8 @@ static const struct {
     {"list_error", list_error, "l", LIST, "", PEP440_OK}, {"list_error, why", list_error, "s", LIST ",=<1", "", PEP440_OK},
     {"compile_list", compile_list, "l", LIST, "", PEP440_OK}, {"compile_list, with its set", compile_list, "l", WITH_SET, "", PEP440_OK},
     {"version_in", version_in, "l", WITH_SET, "", PEP440_OK}, {"ranges", ranges, "l", WITH_SET, "", PEP440_OK},
-    {"any_prerelease", any_prerelease, "l", LIST, "", PEP440_OK}, {"specifiers_of", specifiers_of, "l", LIST, "", PEP440_OK},
+    {"any_prerelease", any_prerelease, "l", LIST, "", PEP440_OK}, {"requests_prereleases", requests_prereleases, "l", LIST, "", PEP440_OK},
+    {"requests_prereleases, with its set", requests_prereleases, "l", WITH_SET, "", PEP440_OK}, {"specifiers_of", specifiers_of, "l", LIST, "", PEP440_OK},
     {"boundaries", boundaries, "l", WITH_SET, "", PEP440_OK}, {"boundaries, no set", boundaries, "l", LIST, "", PEP440_NO_SET},
     {"complement", complement, "l", WITH_SET, "", PEP440_OK}, {"intersection", intersection, "ll", WITH_SET, "<1.5", PEP440_OK},
     {"union", unite, "ll", WITH_SET, "<1.5", PEP440_OK}, {"union, no set", unite, "ll", WITH_SET, LIST, PEP440_NO_SET},

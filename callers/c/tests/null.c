@@ -51,6 +51,7 @@ static void strings(void)
     hold(pep440_allows(NONE, (const uint8_t *)"1", 1, PEP440_NO_PRERELEASES, &is) == PEP440_OK && is == 1, "allows, list");
     hold(pep440_allows(EMPTY, NONE, PEP440_NO_PRERELEASES, &is) == PEP440_INVALID_VERSION, "allows, version");
     hold(pep440_any_prerelease(NONE, &is) == PEP440_OK && is == 0, "any_prerelease");
+    hold(pep440_requests_prereleases(NONE, &is) == PEP440_OK && is == 0, "requests_prereleases");
     hold(pep440_version_in(NONE, out, sizeof out, &written) == PEP440_OK && written == 6, "version_in"); /* 0.dev0 */
     hold(pep440_ranges(NONE, out, sizeof out, &written) == PEP440_OK && written == 7, "ranges");
     hold(pep440_specifiers_of(NONE, NONE, NONE, &written, &count) == PEP440_OK && written == 0 && count == 0, "specifiers_of");

@@ -118,6 +118,7 @@ static void of_either_list(pep440_string list, const char *part, size_t size)
     static const pep440_string versions[] = {{TEXT("0.5")}, {TEXT("0.5+a")}};
     CHECK(pep440_normalize_list(PARSED(list), OUT));
     CHECK(pep440_any_prerelease(PARSED(list), &is));
+    CHECK(pep440_requests_prereleases(PARSED(list), &is));
     CHECK(pep440_specifiers_of(PARSED(list), KEYS));
     CHECK(pep440_compile_list(PARSED(list), OUT));
     CHECK(pep440_version_in(PARSED(list), OUT));

@@ -38,6 +38,7 @@ static void *compare(void *unused) { pep440_compare(GIVEN, RIGHT, &order); retur
 static void *contains(void *unused) { pep440_contains(LIST, GIVEN, &flag, &early); return unused; }
 static void *allows(void *unused) { pep440_allows(LIST, GIVEN, PEP440_ASKED_PRERELEASES, &flag); return unused; }
 static void *any_prerelease(void *unused) { pep440_any_prerelease(LIST, &flag); return unused; }
+static void *requests_prereleases(void *unused) { pep440_requests_prereleases(LIST, &flag); return unused; }
 static void *parts_of(void *unused) { pep440_parts_of(GIVEN, &parts, release, LONG); return unused; }
 static void *sort_key(void *unused) { pep440_sort_key(GIVEN, OUT); return unused; }
 static void *word(void *unused) { pep440_word(GIVEN, &packed); return unused; }
@@ -110,6 +111,7 @@ static const struct {
              {"contains", contains},
              {"allows", allows},
              {"any_prerelease", any_prerelease},
+             {"requests_prereleases", requests_prereleases},
              {"parts_of", parts_of},
              {"sort_key", sort_key},
              {"word", word},

@@ -112,6 +112,7 @@ static uint8_t normalize_cut_set(Answer *answer) { return pep440_normalize_list(
 static uint8_t list_error(Answer *answer) { return pep440_list_error(FIRST(no_list), OUT); }
 static uint8_t list_error_cut(Answer *answer) { return pep440_list_error(FIRST(cut_list), OUT); }
 static uint8_t any_prerelease(Answer *answer) { return pep440_any_prerelease(FIRST(early), &answer->is); }
+static uint8_t requests_prereleases(Answer *answer) { return pep440_requests_prereleases(FIRST(early), &answer->is); }
 static uint8_t specifiers_of(Answer *answer) { return pep440_specifiers_of(FIRST(members), KEYS); }
 static uint8_t version_in(Answer *answer) { return pep440_version_in(FIRST(members), OUT); }
 static uint8_t version_in_no_list(Answer *answer) { return pep440_version_in(FIRST(no_list), OUT); }
@@ -221,6 +222,7 @@ static const Call CALLS[] = {
     CALL(normalize_no_list, PEP440_INVALID_LIST, 1),
     CALL(list_error, PEP440_OK, 1),
     CALL(any_prerelease, PEP440_OK, 1),
+    CALL(requests_prereleases, PEP440_OK, 1),
     CALL(specifiers_of, PEP440_OK, 1),
     CALL(version_in, PEP440_OK, 1),
     CALL(version_in_no_list, PEP440_INVALID_LIST, 1),

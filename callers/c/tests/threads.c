@@ -70,6 +70,7 @@ static void of_list(Memory *m, pep440_string list)
     fold(m, pep440_normalize_list(OF(list), OUT));
     fold(m, pep440_list_error(OF(list), OUT));
     fold(m, pep440_any_prerelease(OF(list), &m->flag));
+    fold(m, pep440_requests_prereleases(OF(list), &m->flag));
     fold(m, pep440_specifiers_of(OF(list), KEYS));
     fold(m, pep440_specifier_error(OF(list), OUT));
     fold(m, pep440_compile_list(OF(list), OUT));

@@ -11,9 +11,10 @@
 #![tactic(auto)]
 
 ghost use Rattle.std.specs.Prelude.{map, not, ◌==◌, ◌≡◌, ◌≢◌};
+ghost use Rattle.pep440_compiled.specs.Lists.{HasListFormat};
 ghost use Rattle.pep440_rs.specs.Bounds.{range_of, release_range_of};
 ghost use Rattle.pep440_calls.specs.Batches.{FilterMarks, FormsResult, KeysResult, NewestResult, SortResult};
-ghost use Rattle.pep440_calls.specs.CallResults.{AllowsResult, AsksInPlace, ContainsResult, IsCompiled, IsCompiledList, IsCompiledSpecifier, IsComplement, IsEditError, IsIntersection, IsKey, IsNormal, IsNormalList, IsRangeLines, IsSpecifier, IsUnion, IsVersionIn, JoinsBoundaries, JoinsMembers, JoinsRangeBounds, LacksRange, MatchesInPlace, NamesPrerelease, NeedsNoMemory, OrderResult, PartsResult, PatternResult, RejectsOperand, RejectsOperator, RejectsSpecifierBytes, SetFault, SubsetResult, TwoSetFaults, WordResult, WritesEdited};
+ghost use Rattle.pep440_calls.specs.CallResults.{AllowsResult, RequestsPrereleases, AsksInPlace, ContainsResult, IsCompiled, IsCompiledList, IsCompiledSpecifier, IsComplement, IsEditError, IsIntersection, IsKey, IsNormal, IsNormalList, IsRangeLines, IsSpecifier, IsUnion, IsVersionIn, JoinsBoundaries, JoinsMembers, JoinsRangeBounds, LacksRange, MatchesInPlace, NamesPrerelease, NeedsNoMemory, OrderResult, PartsResult, PatternResult, RejectsOperand, RejectsOperator, RejectsSpecifierBytes, SetFault, SubsetResult, TwoSetFaults, WordResult, WritesEdited};
 ghost use Rattle.pep440_calls.specs.Explanations.{ErrorResult, IsBuildError, IsNoOperator, RejectsNumbered};
 ghost use Rattle.pep440_calls.specs.Statuses.{IsFlagOf, WritesBytes, WritesBytesOr, WritesJoinedOr, WritesOr};
 ghost use Rattle.pep440_calls.specs.CallerBytes.{ListFaults, RejectsBytes};
@@ -24,8 +25,8 @@ use pep440_calls::{
     write_edited, write_error, write_forms, write_intersection, write_marks, write_match,
     write_members, write_newest, write_normal_form, write_normal_list, write_order, write_parts,
     write_pattern, write_positions, write_prerelease_flag, write_range, write_range_bounds,
-    write_release_range_bounds, write_sort_key, write_sort_keys, write_specifier, write_subset,
-    write_union, write_version_in, write_word,
+    write_release_range_bounds, write_request_flag, write_sort_key, write_sort_keys,
+    write_specifier, write_subset, write_union, write_version_in, write_word,
 };
 use std::alloc::Global;
 
@@ -197,6 +198,15 @@ pub extern "C" fn pep440_any_prerelease(alloc: Global, list: &[u8], any: &mut u8
     ensures { WritesOr (ListFaults ⊥ list.now ⊥) (IsFlagOf (NamesPrerelease list.now)) any.old any.new result }
 {
     write_prerelease_flag(alloc, list, any)
+}
+
+/// Whether the list asks for pre-releases, 1 or 0.
+#[unsafe(no_mangle)]
+pub extern "C" fn pep440_requests_prereleases(alloc: Global, list: &[u8], requests: &mut u8) -> u8
+    ensures found { WritesOr (ListFaults ⊥ list.now ⊥) (IsFlagOf (RequestsPrereleases list.now)) requests.old requests.new result }
+    ensures memory { HasListFormat list.now → result ≢ 3 }
+{
+    write_request_flag(alloc, list, requests)
 }
 
 /// Writes a version that the list matches literally, and nothing if it matches none that a string denotes.

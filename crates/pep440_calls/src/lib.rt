@@ -45,7 +45,8 @@ pub use membership::{write_allow_flag, write_match};
 pub use messages::{write_build_error, write_error};
 pub use newest_string::write_newest;
 pub use one_list::{
-    write_compiled_list, write_members, write_normal_list, write_prerelease_flag, write_version_in,
+    write_compiled_list, write_members, write_normal_list, write_prerelease_flag,
+    write_request_flag, write_version_in,
 };
 pub use one_version::{
     Parts, write_compiled, write_normal_form, write_parts, write_sort_key, write_word,

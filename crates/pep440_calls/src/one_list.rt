@@ -1,19 +1,22 @@
 //! What is made of one list: its normal form, compiled form and members, and a version that it matches.
 ghost use Rattle.std.specs.List.{flat_map, list_any};
 ghost use Rattle.std.specs.Option.{option_map_or};
-ghost use Rattle.std.specs.Prelude.{IfOk, List, OnOk, [], string_bytes, ℕ, ◌++◌, ◌≡◌};
+ghost use Rattle.std.specs.Prelude.{IfErr, IfOk, List, OnOk, [], string_bytes, ℕ, ◌++◌, ◌≡◌, ◌≢◌};
+ghost use Rattle.pep440_compiled.specs.Lists.{HasListFormat};
 ghost use Rattle.pep440_rs.specs.Matching.{any_prerelease};
 ghost use Rattle.pep440_rs.specs.Operators.{operator_text};
 ghost use Rattle.pep440_rs.specs.Specifiers.{Spec};
 ghost use Rattle.pep440_version.specs.Print.{print};
-ghost use Rattle.pep440_calls.specs.CallResults.{IsCompiledList, IsNormalList, IsVersionIn, NamesPrerelease, JoinsMembers, member_strings, version_string};
+ghost use Rattle.pep440_calls.specs.CallResults.{RequestsPrereleases, IsCompiledList, IsNormalList, IsVersionIn, NamesPrerelease, JoinsMembers, member_strings, version_string};
 ghost use Rattle.pep440_calls.specs.Statuses.{HoldsOr, IsFlagOf, Joins, WritesBytesOr, WritesJoinedOr, WritesOr};
 ghost use Rattle.pep440_calls.specs.CallerBytes.{ListFaults};
+ghost use Rattle.pep440_calls.specs.declared.fault.Fault.TheVariants.{OutOfMemory};
 
 use crate::buffer::{OK, flag, put_bytes, put_joined, put_text};
 use crate::fault::Fault;
 use crate::joined_strings::JoinedStrings;
 use crate::read::to_list;
+use pep440_compiled::has_list_format;
 use pep440_rs::{Version, VersionSpecifier, VersionSpecifiers};
 use pep440_sets::find_version;
 use std::alloc::{AllocError, Global};
@@ -73,6 +76,45 @@ fn any_prerelease(alloc: Global, list: &[u8]) -> Result<bool, Fault>
 {
     let specifiers = to_list(alloc, list)?;
     Ok(has_prerelease(&specifiers))
+}
+
+/// Whether the list asks for pre-releases, 1 or 0 (PEP 440, "Handling of pre-releases"): a specifier with another operator than `!=` names a
+/// pre-release or a developmental release. A compiled list is taken as it lies, and nothing is allocated for it.
+pub fn write_request_flag(alloc: Global, list: &[u8], requests: &mut u8) -> u8
+    ensures found { WritesOr (ListFaults ⊥ list.now ⊥) (IsFlagOf (RequestsPrereleases list.now)) requests.old requests.new result }
+    ensures memory { HasListFormat list.now → result ≢ 3 }
+{
+    match requests_prereleases(alloc, list) {
+        Ok(found) => {
+            *requests = flag(found);
+            OK
+        }
+        Err(fault) => fault.status(),
+    }
+}
+
+// Whether a compiled list asks for pre-releases.
+fn form_requests_prereleases(list: &[u8]) -> Result<bool, Fault>
+    requires { HasListFormat list.now }
+    ensures found { HoldsOr (ListFaults ⊥ list.now ⊥) (RequestsPrereleases list.now) result }
+    ensures memory { IfErr result (λ f. f ≢ OutOfMemory) }
+{
+    match pep440_compiled::requests_prereleases(list) {
+        Ok(found) => Ok(found),
+        Err(_) => Err(Fault::InvalidList),
+    }
+}
+
+// Whether the list asks for pre-releases.
+fn requests_prereleases(alloc: Global, list: &[u8]) -> Result<bool, Fault>
+    ensures found { HoldsOr (ListFaults ⊥ list.now ⊥) (RequestsPrereleases list.now) result }
+    ensures memory { HasListFormat list.now → IfErr result (λ f. f ≢ OutOfMemory) }
+{
+    if has_list_format(list) {
+        return form_requests_prereleases(list);
+    }
+    let specifiers = to_list(alloc, list)?;
+    Ok(specifiers.requests_prereleases())
 }
 
 /// Writes a version that the list matches literally, and nothing if it matches none that a string denotes (PEP 440, "Version specifiers").

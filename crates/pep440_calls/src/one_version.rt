@@ -1,5 +1,5 @@
 //! What is made of one version: its normal form, compiled form, parts, sort key and word.
-ghost use Rattle.std.specs.Prelude.{IfErr, false, string_bytes, true, ◌≡◌, ◌≢◌};
+ghost use Rattle.std.specs.Prelude.{IfErr, IsOk, false, string_bytes, true, ◌≡◌, ◌≢◌};
 ghost use Rattle.pep440_compiled.specs.Version.{DenotesVersion, HasVersionFormat};
 ghost use Rattle.pep440_version.specs.Record.{Record};
 ghost use Rattle.pep440_calls.specs.CallResults.{IsCompiled, IsKey, IsShortNormalForm, IsNormal, PartsResult, HasPartsOf, IsPackedWord, NeedsNoMemory, WordResult, kind_number};
@@ -74,7 +74,7 @@ pub(crate) fn compile_string<'a>(
 ) -> Result<&'a [u8], Fault>
     requires { ¬ HasVersionFormat text.now }
     ensures found { HoldsOrFaults (RejectsBytes text.now) ⊥ ⊥ (λ form. IsCompiled text.now form.now) result }
-    ensures memory { IsShortNormalForm text.now → IfErr result (λ f. f ≢ OutOfMemory) }
+    ensures memory { IsShortNormalForm text.now → IsOk result }
 {
     Ok(buffer.compile(alloc, text)?)
 }

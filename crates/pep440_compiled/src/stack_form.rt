@@ -315,7 +315,7 @@ fn push_release(bytes: &mut ArrayVec<u8, 64>, text: &[u8]) -> Result<bool, Alloc
 
 // Writes the compiled form of the version that the string of these bytes parses to, if the string is in a normal spelling and the
 // form has at most 64 bytes: of the normalized form of a version, if it has up to four release numbers, none of its numbers above 2147483647,
-// and no local segment of digits alone from 2^64 on. `false` of any other string; part of a form may then have been written.
+// and no local segment of digits that is a number from 2^64 on. `false` of any other string; part of a form may then have been written.
 #[inline(always)]
 pub(crate) fn compile_normal(form: &mut ArrayVec<u8, 64>, text: &[u8]) -> bool
     requires { form.old.items ≡ [] }

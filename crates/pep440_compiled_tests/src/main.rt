@@ -97,6 +97,7 @@ fn of_library(alloc: Global, call: &str, arguments: &[String]) -> Result<String,
         | "write_allow_flag_none"
         | "write_allow_flag_all"
         | "write_prerelease_flag"
+        | "write_request_flag"
         | "write_subset"
         | "write_word"
         | "write_newest"

@@ -2,8 +2,8 @@
 use crate::given::print_failure;
 use pep440_calls::{
     Parts, write_allow_flag, write_compiled, write_compiled_list, write_marks, write_match,
-    write_newest, write_order, write_parts, write_positions, write_prerelease_flag, write_subset,
-    write_word,
+    write_newest, write_order, write_parts, write_positions, write_prerelease_flag,
+    write_request_flag, write_subset, write_word,
 };
 use std::alloc::{AllocError, Global};
 use std::fmt::Display;
@@ -118,6 +118,12 @@ fn print_prerelease_flag(alloc: Global, list: &[u8]) -> Result<String, CaseError
     let mut any = 7;
     let status = write_prerelease_flag(alloc, list, &mut any);
     print_number(alloc, status, 7, any)
+}
+
+fn print_request_flag(alloc: Global, list: &[u8]) -> Result<String, CaseError> {
+    let mut requests = 7;
+    let status = write_request_flag(alloc, list, &mut requests);
+    print_number(alloc, status, 7, requests)
 }
 
 fn print_word(alloc: Global, version: &[u8]) -> Result<String, CaseError> {
@@ -240,6 +246,7 @@ pub fn print_call(alloc: Global, call: &str, given: &[&[u8]]) -> Result<String, 
             [left, right],
         ) => print_forms(alloc, call, left, right),
         ("write_prerelease_flag", [list]) => print_prerelease_flag(alloc, list),
+        ("write_request_flag", [list]) => print_request_flag(alloc, list),
         ("write_subset", [left, right]) => print_subset(alloc, left, right),
         ("write_word", [version]) => print_word(alloc, version),
         ("write_newest", [list, texts @ ..]) => print_newest(alloc, list, texts),

@@ -15,7 +15,10 @@ fn has_short_form(rt: HostRuntime, text: &str, length: usize) -> bool {
 fn sweep_normal_forms_take_none(rt: HostRuntime) -> Result<(), Fail> {
     assert!(rt; has_short_form(rt, "1.2.3", 13), "release");
     assert!(rt; has_short_form(rt, "1.2.3.4", 15), "four numbers");
-    assert!(rt; has_short_form(rt, "1!2147483647", 13), "epoch and the greatest small number");
+    assert!(rt;
+        has_short_form(rt, "1!2147483647", 13),
+        "epoch and the greatest small number"
+    );
     assert!(rt; has_short_form(rt, "1!2.259", 13), "epoch");
     assert!(rt; has_short_form(rt, "1.dev0", 9), "dev release");
     assert!(rt; has_short_form(rt, "1rc2.post3.dev4", 12), "suffixes");

@@ -6,5 +6,5 @@ returns-in-Ok-clause-found c =
     let is = c.in-Ok.ensures.found in
     allows_of_form c.args.set.now c.args.text.now c.in-Ok.form.now c.args.prereleases c.requires.set is.0 is.1 is.2 c.allows_form.result c.allows_form.ensures.found
 
-pub returns-else-has_lone_set_format-clause-found : goal.returns-else-has_lone_set_format-clause-found
-returns-else-has_lone_set_format-clause-found c = fault_named c.args.set.now c.args.text.now c.args.prereleases c.name_fault.result (c.name_fault.ensures.fault c.args.text.now c.in-Err.ensures.found)
+pub returns-clause-found : goal.returns-clause-found
+returns-clause-found c = fault_named c.args.set.now c.args.text.now c.args.prereleases c.name_fault.result (c.name_fault.ensures.fault c.args.text.now c.in-Err.ensures.found)

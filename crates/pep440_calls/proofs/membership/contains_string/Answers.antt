@@ -10,8 +10,8 @@ returns-in-Ok-clause-found c =
     let is = c.in-Ok.ensures.found in
     contains_of_form c.args.list.now c.args.text.now c.in-Ok.form.now c.requires.list is.0 is.1 is.2 c.contains_compiled.result c.contains_compiled.ensures.found
 
-pub returns-in-Err-clause-found : goal.returns-in-Err-clause-found
-returns-in-Err-clause-found c =
+pub returns-clause-found : goal.returns-clause-found
+returns-clause-found c =
     let list = c.args.list.now in
     let text = c.args.text.now in
     let named = c.name_fault.ensures.fault text c.in-Err.ensures.found in
