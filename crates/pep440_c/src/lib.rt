@@ -11,10 +11,9 @@
 #![tactic(auto)]
 
 ghost use Rattle.std.specs.Prelude.{map, not, ◌==◌, ◌≡◌, ◌≢◌};
-ghost use Rattle.pep440_compiled.specs.Lists.{HasListFormat};
 ghost use Rattle.pep440_rs.specs.Bounds.{range_of, release_range_of};
 ghost use Rattle.pep440_calls.specs.Batches.{FilterMarks, FormsResult, KeysResult, NewestResult, SortResult};
-ghost use Rattle.pep440_calls.specs.CallResults.{AllowsResult, RequestsPrereleases, AsksInPlace, ContainsResult, IsCompiled, IsCompiledList, IsCompiledSpecifier, IsComplement, IsEditError, IsIntersection, IsKey, IsNormal, IsNormalList, IsRangeLines, IsSpecifier, IsUnion, IsVersionIn, JoinsBoundaries, JoinsMembers, JoinsRangeBounds, LacksRange, MatchesInPlace, NamesPrerelease, NeedsNoMemory, OrderResult, PartsResult, PatternResult, RejectsOperand, RejectsOperator, RejectsSpecifierBytes, SetFault, SubsetResult, TwoSetFaults, WordResult, WritesEdited};
+ghost use Rattle.pep440_calls.specs.CallResults.{AllowsResult, RequestsPrereleases, AsksInPlace, ContainsResult, IsCompiled, IsCompiledList, IsCompiledSpecifier, IsComplement, IsEditError, IsIntersection, IsKey, IsNormal, IsNormalList, IsRangeLines, IsSpecifier, IsTakenAsList, IsUnion, IsVersionIn, JoinsBoundaries, JoinsMembers, JoinsRangeBounds, LacksRange, MatchesInPlace, NamesPrerelease, NeedsNoMemory, OrderResult, PartsResult, PatternResult, RejectsOperand, RejectsOperator, RejectsSpecifierBytes, SetFault, SubsetResult, TwoSetFaults, WordResult, WritesEdited};
 ghost use Rattle.pep440_calls.specs.Explanations.{ErrorResult, IsBuildError, IsNoOperator, RejectsNumbered};
 ghost use Rattle.pep440_calls.specs.Statuses.{IsFlagOf, WritesBytes, WritesBytesOr, WritesJoinedOr, WritesOr};
 ghost use Rattle.pep440_calls.specs.CallerBytes.{ListFaults, RejectsBytes};
@@ -204,7 +203,7 @@ pub extern "C" fn pep440_any_prerelease(alloc: Global, list: &[u8], any: &mut u8
 #[unsafe(no_mangle)]
 pub extern "C" fn pep440_requests_prereleases(alloc: Global, list: &[u8], requests: &mut u8) -> u8
     ensures found { WritesOr (ListFaults ⊥ list.now ⊥) (IsFlagOf (RequestsPrereleases list.now)) requests.old requests.new result }
-    ensures memory { HasListFormat list.now → result ≢ 3 }
+    ensures memory { IsTakenAsList list.now → result ≢ 3 }
 {
     write_request_flag(alloc, list, requests)
 }

@@ -108,14 +108,6 @@ encodings_more encode texts i x bytes new ends new_ends v inside means more (ver
   subst (λ (l : List (List ℕ)). Joins l new new_ends) (sym (map-append encode versions (v ∷ []))) (more (map encode versions) joins),
 )
 
--- the version, of what is written of it
-pub encoding_of_pushed : {X : Type 0} (encode : Record → List ℕ) (Is : List ℕ → List ℕ → Type 0) (text old new old_ends new_ends : List ℕ) (result : Result X Fault)
-    → ((form : List ℕ) → Is text form → (r : Record) × BytesDenote text r × (form ≡ encode r))
-    → HoldsOrFaults (RejectsBytes text) ⊥ ⊥ (λ _. (form : List ℕ) × Is text form × (new ≡ old ++ form) × (new_ends ≡ old_ends ++ length new ∷ [])) result
-    → HoldsOrFaults (RejectsBytes text) ⊥ ⊥ (λ _. (r : Record) × BytesDenote text r × (new ≡ old ++ encode r) × (new_ends ≡ old_ends ++ length new ∷ [])) result
-encoding_of_pushed encode Is text old new old_ends new_ends (Ok x) of (form, is, more, ended) = let found = of form is in (found.0, found.1, more ∙ ap (λ f. old ++ f) found.2, ended)
-encoding_of_pushed encode Is text old new old_ends new_ends (Err f) of why = why
-
 -- ---- sort keys
 
 -- one more key, as it lies in a text

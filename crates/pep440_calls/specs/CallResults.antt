@@ -174,10 +174,14 @@ ContainsResult list text old contained old_prerelease prerelease status =
 abbrev pub NamesPrerelease : List ℕ → Bool → Type 0
 NamesPrerelease text any = (list : List Spec) × BytesDenoteList text list × (any ≡ list_any (λ (s : Spec). any_prerelease s.version) list)
 
--- whether the list asks for pre-releases; what begins as a compiled one is taken as it lies
+-- the bytes begin as a compiled list, which is taken as it lies
+abbrev pub IsTakenAsList : List ℕ → Type 0
+IsTakenAsList text = HasListFormat text
+
+-- whether the list asks for pre-releases
 abbrev pub RequestsPrereleases : List ℕ → Bool → Type 0
 RequestsPrereleases text requests =
-    (HasListFormat text ⊎ ((list : List Spec) × BytesDenoteList text list))
+    (IsTakenAsList text ⊎ ((list : List Spec) × BytesDenoteList text list))
     × ((list : List Spec) → BytesDenoteList text list → requests ≡ requests_prereleases list)
 
 -- ---- parts

@@ -7,7 +7,7 @@ ghost use Rattle.pep440_rs.specs.Matching.{any_prerelease};
 ghost use Rattle.pep440_rs.specs.Operators.{operator_text};
 ghost use Rattle.pep440_rs.specs.Specifiers.{Spec};
 ghost use Rattle.pep440_version.specs.Print.{print};
-ghost use Rattle.pep440_calls.specs.CallResults.{RequestsPrereleases, IsCompiledList, IsNormalList, IsVersionIn, NamesPrerelease, JoinsMembers, member_strings, version_string};
+ghost use Rattle.pep440_calls.specs.CallResults.{RequestsPrereleases, IsCompiledList, IsNormalList, IsTakenAsList, IsVersionIn, NamesPrerelease, JoinsMembers, member_strings, version_string};
 ghost use Rattle.pep440_calls.specs.Statuses.{HoldsOr, IsFlagOf, Joins, WritesBytesOr, WritesJoinedOr, WritesOr};
 ghost use Rattle.pep440_calls.specs.CallerBytes.{ListFaults};
 ghost use Rattle.pep440_calls.specs.declared.fault.Fault.TheVariants.{OutOfMemory};
@@ -82,7 +82,7 @@ fn any_prerelease(alloc: Global, list: &[u8]) -> Result<bool, Fault>
 /// pre-release or a developmental release. A compiled list is taken as it lies, and nothing is allocated for it.
 pub fn write_request_flag(alloc: Global, list: &[u8], requests: &mut u8) -> u8
     ensures found { WritesOr (ListFaults ⊥ list.now ⊥) (IsFlagOf (RequestsPrereleases list.now)) requests.old requests.new result }
-    ensures memory { HasListFormat list.now → result ≢ 3 }
+    ensures memory { IsTakenAsList list.now → result ≢ 3 }
 {
     match requests_prereleases(alloc, list) {
         Ok(found) => {
