@@ -514,8 +514,8 @@ fn encode_all(
         (λ joined. JoinsEncodings (encoding_bytes encoding) (map (λ t. t.now) texts.now) joined.bytes.items joined.ends.items) result }
 {
     let mut joined = JoinedStrings::with_capacity(alloc, texts.len())?;
-    let mut buffer = FormBuffer::new(alloc);
     for (position, text) in texts.iter().enumerate() {
+        let mut buffer = FormBuffer::new(alloc);
         match encode(alloc, &mut buffer, encoding, text) {
             Ok(encoded) => joined.push(encoded)?,
             Err(fault) => return Err(BatchError::from_fault(position, fault)),

@@ -1,6 +1,8 @@
 //! How two versions compare.
 ghost use Rattle.std.specs.Prelude.{IfErr, ◌≡◌, ◌≢◌};
-ghost use Rattle.pep440_calls.specs.CallResults.{NeedsNoMemory, OrderResult, ReturnsOrder, order_number};
+ghost use Rattle.pep440_calls.specs.CallerBytes.{RejectsBytes};
+ghost use Rattle.pep440_calls.specs.Statuses.{HoldsOrFaults};
+ghost use Rattle.pep440_calls.specs.CallResults.{IsCompiled, NeedsNoMemory, OrderResult, ReturnsOrder, order_number};
 ghost use Rattle.pep440_calls.specs.declared.fault.Fault.TheVariants.{OutOfMemory};
 
 use crate::buffer::OK;
@@ -37,6 +39,19 @@ fn order_number(order: Ordering) -> i8
     }
 }
 
+// The compiled form of a version. A call of its own, since two copies would make each program that compares larger.
+#[inline(never)]
+fn make_form<'a>(
+    alloc: Global,
+    buffer: &'a mut FormBuffer,
+    bytes: &'a [u8],
+) -> Result<&'a [u8], Fault>
+    ensures found { HoldsOrFaults (RejectsBytes bytes.now) ⊥ ⊥ (λ form. IsCompiled bytes.now form.now) result }
+    ensures memory { NeedsNoMemory bytes.now → IfErr result (λ f. f ≢ OutOfMemory) }
+{
+    compile(alloc, buffer, bytes)
+}
+
 // How versions compare by their compiled forms, of which strings have none yet.
 #[inline(never)]
 fn compare_forms(alloc: Global, left: &[u8], right: &[u8]) -> Result<Ordering, Fault>
@@ -45,8 +60,8 @@ fn compare_forms(alloc: Global, left: &[u8], right: &[u8]) -> Result<Ordering, F
 {
     let mut left_buffer = FormBuffer::new(alloc);
     let mut right_buffer = FormBuffer::new(alloc);
-    let first = compile(alloc, &mut left_buffer, left)?;
-    match compile(alloc, &mut right_buffer, right) {
+    let first = make_form(alloc, &mut left_buffer, left)?;
+    match make_form(alloc, &mut right_buffer, right) {
         Ok(second) => {
             let order = pep440_compiled::compare(first, second);
             Ok(order.unwrap_or(Ordering::Equal))

@@ -68,7 +68,7 @@ impl FormBuffer {
     /// Does not allocate for the normalized form of a version whose compiled form has at most 64 bytes, if it has up to four release
     /// numbers, none above 2147483647, and no local segment of digits, but of one. Nor does it for longer numbers in the local part, for
     /// releases of up to sixteen numbers, and in other spellings of their pre-releases.
-    #[inline(never)]
+    #[inline(always)]
     pub fn compile<'a>(
         &'a mut self,
         alloc: Global,
@@ -78,7 +78,7 @@ impl FormBuffer {
         ensures rejected { IfErr result (IsCompileStringError text.now) }
         ensures memory { (r : Record) → HasShortForm r → text.now ≡ print r → IsOk result }
     {
-        self.stack = ArrayVec::new();
+        self.stack.clear();
         if compile_normal(&mut self.stack, text) {
             return Ok(self.stack.as_slice());
         }
@@ -95,7 +95,7 @@ impl FormBuffer {
         ensures found { IfOk result (λ form. (r : Record) × Derives text.now r × DenotesVersion form.now r) }
         ensures rejected { IfErr result (IsCompileStringError text.now) }
     {
-        self.stack = ArrayVec::new();
+        self.stack.clear();
         if compile_release(&mut self.stack, text) {
             return Ok(self.stack.as_slice());
         }
