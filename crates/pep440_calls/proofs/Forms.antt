@@ -1,6 +1,6 @@
 -- Bytes that are a string or a compiled form: what is read of each, and what is found in compiled bytes as they lie.
 use Rattle.std.proofs.Common.{◌≡◌, ◌∙◌, ℕ, List, Bool, ap, arith, codes, inl, inr, refl, subst, sym, ◌<◌, [], ◌∷◌, ◌++◌, true, map, Option, Some, None, ◌≤◌, ◌+◌, ◌*◌, ◌^◌, ◌%◌, ◌/◌, zero, suc, false, length}
-use Rattle.std.specs.Prelude.{Err, IfOk, IsOk, IsSomeAnd, Ok, Result, slice_get, unwrap_or, MatchResult, codes, drop, nat_lt, if◌then◌else◌}
+use Rattle.std.specs.Prelude.{Err, IfOk, IsOk, Ok, ◌⊎◌, Result, slice_get, unwrap_or, MatchResult, codes, drop, nat_lt, if◌then◌else◌}
 use Rattle.std.specs.declared.cmp.Ordering.{Ordering}
 use Rattle.pep440_compiled.specs.Lists.{DenotesList, DenotesWithSet, HasListFormat, HasSetFormat, IsParsedMember}
 use Rattle.pep440_compiled.specs.SetForms.{HasLoneSetFormat}
@@ -23,7 +23,6 @@ use Rattle.pep440_compiled.specs.declared.error.CompileError.{CompileError}
 use Rattle.pep440_compiled.specs.declared.error.CompileStringError.{CompileStringError}
 use Rattle.pep440_compiled.specs.declared.error.CompileStringError.TheVariants as string
 use Rattle.pep440_version.specs.ErrorTexts.{rejection_text}
-use Rattle.pep440_version.specs.Errors.{error_rejection}
 use Rattle.pep440_version.specs.Rejections.{Rejection, Rejects}
 use Rattle.pep440_compiled.specs.declared.error.CompileError.TheVariants.{NotParsed, OutOfMemory}
 use Rattle.pep440_rs.proofs.Agreement.Operands.{list_has_texts}
@@ -324,12 +323,11 @@ copied bytes copy (r, d) same = (r, inr d, subst (λ b. DenotesVersion b r) (sym
 
 -- why a string has no compiled form
 pub string_fault : (text : List ℕ) (f : Fault) (e : CompileStringError) → (¬ HasVersionFormat text) → f ≡ fault_of_string e → IsCompileStringError text e → Faults (RejectsBytes text) ⊥ ⊥ f
-string_fault text f string.NotUtf8 plain is why = subst (Faults (RejectsBytes text) ⊥ ⊥) (sym is) (codes "not UTF-8", inl (plain, inl (why, refl)))
-string_fault text f (string.Invalid error) plain is why = subst (Faults (RejectsBytes text) ⊥ ⊥) (sym is) (named (error_rejection error) why.1)
+string_fault text f string.NotAVersion plain is why = subst (Faults (RejectsBytes text) ⊥ ⊥) (sym is) (named why)
   where
-    named : (o : Option Rejection) → IsSomeAnd o (Rejects text) → RejectsBytes text
-    named None none = absurd none
-    named (Some rejection) rejects = (rejection_text rejection, inl (plain, inr (why.0, rejection, rejects, refl)))
+    named : (¬ IsUtf8 text) ⊎ (IsUtf8 text × (rejection : Rejection) × Rejects text rejection) → RejectsBytes text
+    named (inl not_utf8) = (codes "not UTF-8", inl (plain, inl (not_utf8, refl)))
+    named (inr (utf8, rejection, rejects)) = (rejection_text rejection, inl (plain, inr (utf8, rejection, rejects, refl)))
 string_fault text f string.OutOfMemory plain is why = subst (Faults (RejectsBytes text) ⊥ ⊥) (sym is) tt
 
 -- the sort key in the compiled form of a string

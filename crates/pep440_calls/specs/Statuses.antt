@@ -34,8 +34,7 @@ fault_of_compile compile.OutOfMemory = fault.OutOfMemory
 
 -- why a string has no compiled form
 abbrev pub fault_of_string : CompileStringError → Fault
-fault_of_string string.NotUtf8 = fault.InvalidVersion
-fault_of_string (string.Invalid error) = fault.InvalidVersion
+fault_of_string string.NotAVersion = fault.InvalidVersion
 fault_of_string string.OutOfMemory = fault.OutOfMemory
 
 -- why a compiled form of a list or of a set is not read

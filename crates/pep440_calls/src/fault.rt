@@ -76,7 +76,7 @@ impl From<CompileStringError> for Fault {
 
     fn from(error: CompileStringError) -> Fault {
         match error {
-            CompileStringError::NotUtf8 | CompileStringError::Invalid(_) => Fault::InvalidVersion,
+            CompileStringError::NotAVersion => Fault::InvalidVersion,
             CompileStringError::OutOfMemory => Fault::OutOfMemory,
         }
     }

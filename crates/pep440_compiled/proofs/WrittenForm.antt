@@ -6,7 +6,6 @@ use Rattle.std.proofs.lemmas.Grind.{flat_map-append}
 use Rattle.std.proofs.lemmas.List.{append-nil, length-append, nil_from_length, take-append-drop}
 use Rattle.std.specs.Char.{is_ascii_alphanumeric, is_ascii_digit}
 use Rattle.std.specs.List.{flat_map, list_all, All}
-use Rattle.std.specs.Prelude.{IsSomeAnd}
 use Rattle.pep440_rs.proofs.Reread.Plain.{all_weaker}
 use Rattle.pep440_version.specs.Rejections.{Rejection, Rejects}
 use Rattle.pep440_keys.specs.SortKeys.{key_bytes, local_bytes, segment_bytes}
@@ -40,10 +39,10 @@ number_segment text rest n (digits, is, joined) none =
     subst (λ t. IsSegment t (Number n)) (sym same)
     (is.0, all_weaker is_ascii_digit is_ascii_alphanumeric digit_alphanumeric digits is.1, rw (is.1, is.2, lt-ltb n (2 ^ 64) is.3) refl)
 
--- why a string is rejected
-pub named_error : (bytes text : List ℕ) (o : Option Rejection) → text ≡ bytes → is_none o ≡ false → IfSome o (Rejects text) → IsSomeAnd o (Rejects bytes)
-named_error bytes text None same some why = absurd (true≢false some)
-named_error bytes text (Some f) same some why = subst (λ t. Rejects t f) same why
+-- a string is rejected, if its error is not 'out of memory'
+pub rejected : (bytes text : List ℕ) (o : Option Rejection) → text ≡ bytes → is_none o ≡ false → IfSome o (Rejects text) → (f : Rejection) × Rejects bytes f
+rejected bytes text None same some why = absurd (true≢false some)
+rejected bytes text (Some f) same some why = (f, subst (λ t. Rejects t f) same why)
 
 pub string_written : (old text : List ℕ) → ((old ++ 1 ∷ []) ++ text) ++ 0 ∷ [] ≡ old ++ segment_bytes (Text text)
 string_written old text = simp append_assoc

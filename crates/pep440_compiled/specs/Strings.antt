@@ -1,13 +1,11 @@
 -- Why a string has no compiled form.
-use Rattle.std.specs.Prelude.{IsSomeAnd, List, ℕ}
+use Rattle.std.specs.Prelude.{List, ℕ, ◌⊎◌}
 use Rattle.std.specs.Str.{IsUtf8}
 use Rattle.pep440_compiled.specs.declared.error.CompileStringError.{CompileStringError}
-use Rattle.pep440_compiled.specs.declared.error.CompileStringError.TheVariants.{Invalid, NotUtf8, OutOfMemory}
-use Rattle.pep440_version.specs.Errors.{error_rejection}
-use Rattle.pep440_version.specs.Rejections.{Rejects}
+use Rattle.pep440_compiled.specs.declared.error.CompileStringError.TheVariants.{NotAVersion, OutOfMemory}
+use Rattle.pep440_version.specs.Rejections.{Rejection, Rejects}
 
--- the bytes are not UTF-8, or the string is rejected for what the error has; out of memory may take the place of both
+-- the bytes are not UTF-8, or a string that is rejected; out of memory may take the place of both
 abbrev pub IsCompileStringError : List ℕ → CompileStringError → Type 0
-IsCompileStringError text NotUtf8 = ¬ IsUtf8 text
-IsCompileStringError text (Invalid error) = IsUtf8 text × IsSomeAnd (error_rejection error) (Rejects text)
+IsCompileStringError text NotAVersion = (¬ IsUtf8 text) ⊎ (IsUtf8 text × (rejection : Rejection) × Rejects text rejection)
 IsCompileStringError text OutOfMemory = Unit {0}

@@ -1,7 +1,6 @@
 //! Why something is not compiled, and why bytes cannot be read.
 ghost use Rattle.std.specs.Prelude.{◌≡◌};
 
-use pep440_version::VersionParseError;
 use std::alloc::{AllocError, AllocFailed};
 
 /// Why a version or a list has no compiled form.
@@ -36,14 +35,11 @@ impl<T: Drop> From<AllocFailed<T>> for CompileError {
 }
 
 /// Why a string has no compiled form.
-#[derive(Debug, PartialEq, Eq, Drop, thiserror::Error)]
+#[derive(Clone, Copy, Debug, PartialEq, Eq, thiserror::Error)]
 pub enum CompileStringError {
-    /// The bytes are not UTF-8.
-    #[error("not UTF-8")]
-    NotUtf8,
-    /// The string is no version.
-    #[error("{0}")]
-    Invalid(VersionParseError),
+    /// The string is no version, for which `Version::from_str` returns why, or the bytes are not UTF-8.
+    #[error("not a version")]
+    NotAVersion,
     /// Out of memory.
     #[error("out of memory")]
     OutOfMemory,

@@ -19,7 +19,7 @@ fn parse(alloc: Global, text: &[u8]) -> Result<Version, CompileStringError>
     ensures rejected { IfErr result (IsCompileStringError text.now) }
 {
     let Ok(text) = std::str::from_utf8(text) else {
-        return Err(CompileStringError::NotUtf8);
+        return Err(CompileStringError::NotAVersion);
     };
     match Version::from_str(alloc, text) {
         Ok(version) => Ok(version),
@@ -27,7 +27,7 @@ fn parse(alloc: Global, text: &[u8]) -> Result<Version, CompileStringError>
             if error.is_out_of_memory() {
                 return Err(CompileStringError::OutOfMemory);
             }
-            Err(CompileStringError::Invalid(error))
+            Err(CompileStringError::NotAVersion)
         }
     }
 }

@@ -62,8 +62,7 @@ fn compile_bytes(alloc: Global, text: &[u8]) -> Result<String, CaseError> {
     let mut buffer = FormBuffer::new(alloc);
     match buffer.compile(alloc, text) {
         Ok(form) => Ok(print_bytes(alloc, form)?),
-        Err(CompileStringError::NotUtf8) => Ok(String::from_str(alloc, "not UTF-8")?),
-        Err(CompileStringError::Invalid(_)) => Ok(String::from_str(alloc, "invalid")?),
+        Err(CompileStringError::NotAVersion) => Ok(String::from_str(alloc, "invalid")?),
         Err(CompileStringError::OutOfMemory) => Err(CaseError::OutOfMemory),
     }
 }

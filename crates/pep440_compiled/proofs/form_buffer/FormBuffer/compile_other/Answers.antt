@@ -2,7 +2,10 @@ use Rattle.std.proofs.Common.{◌∙◌}
 use Rattle.pep440_compiled.proofs.Exact.{parsed}
 use Rattle.pep440_compiled.proofs.form_buffer.FormBuffer.compile_other.Goals as goal
 
-pub returns-clause-found : goal.returns-clause-found
-returns-clause-found c =
+pub returns : goal.returns
+returns c =
     let (r, derives, bytes) = c.in_ok-self.ensures.found in
-    (r, derives, record { parsed = parsed c.args.text.now r derives; same = c.as_slice-2.ensures.value ∙ bytes })
+    record {
+      found = (r, derives, record { parsed = parsed c.args.text.now r derives; same = c.as_slice-2.ensures.value ∙ bytes });
+      rejected = tt;
+    }
