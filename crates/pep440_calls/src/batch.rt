@@ -19,7 +19,7 @@ ghost use Rattle.pep440_calls.specs.declared.batch.BatchError.TheVariants.{OutOf
 use crate::buffer::{put, put_both};
 use crate::fault::Fault;
 use crate::joined_strings::JoinedStrings;
-use crate::one_version::{compile, compile_string, find_key, make_key};
+use crate::one_version::{compile_string, find_form, find_key, make_string_key};
 use crate::read::{read, to_list};
 use pep440_compiled::{
     ContainsError, FormBuffer, SetFronts, compare_sort_keys, has_set_format, has_version_format,
@@ -487,21 +487,56 @@ fn write_encodings(
     }
 }
 
-// A version as it is written: a compiled one as it lies in the bytes, that of a string in the buffer.
+// A compiled version as it is written, as it lies in its form.
 #[inline(always)]
-fn encode<'a>(
-    alloc: Global,
-    buffer: &'a mut FormBuffer,
-    encoding: Encoding,
-    bytes: &'a [u8],
-) -> Result<&'a [u8], Fault>
-    ensures { HoldsOrFaults (RejectsBytes bytes.now) ⊥ ⊥ (λ found. (r : Record) × BytesDenote bytes.now r
+fn view_encoding(encoding: Encoding, form: &[u8]) -> Result<&[u8], Fault>
+    requires { HasVersionFormat form.now }
+    ensures { HoldsOrFaults (RejectsBytes form.now) ⊥ ⊥ (λ found. (r : Record) × BytesDenote form.now r
         × (found.now ≡ encoding_bytes encoding r)) result }
 {
     match encoding {
-        Encoding::SortKey => make_key(alloc, buffer, bytes),
-        Encoding::Compiled => compile(alloc, buffer, bytes),
+        Encoding::SortKey => find_key(form),
+        Encoding::Compiled => find_form(form),
     }
+}
+
+// The version of a string as it is written, in the buffer.
+#[inline(always)]
+fn encode_string<'a>(
+    alloc: Global,
+    buffer: &'a mut FormBuffer,
+    encoding: Encoding,
+    text: &[u8],
+) -> Result<&'a [u8], Fault>
+    requires { ¬ HasVersionFormat text.now }
+    ensures { HoldsOrFaults (RejectsBytes text.now) ⊥ ⊥ (λ found. (r : Record) × BytesDenote text.now r
+        × (found.now ≡ encoding_bytes encoding r)) result }
+{
+    match encoding {
+        Encoding::SortKey => make_string_key(alloc, buffer, text),
+        Encoding::Compiled => compile_string(alloc, buffer, text),
+    }
+}
+
+// One more version, as it is written. Compiled ones pay nothing for the buffer.
+#[inline(always)]
+fn push_encoding(
+    alloc: Global,
+    joined: &mut JoinedStrings,
+    encoding: Encoding,
+    bytes: &[u8],
+) -> Result<(), Fault>
+    ensures { HoldsOrFaults (RejectsBytes bytes.now) ⊥ ⊥ (λ _. (r : Record) × BytesDenote bytes.now r
+        × (joined.new.bytes.items ≡ joined.old.bytes.items ++ encoding_bytes encoding r)
+        × (joined.new.ends.items ≡ joined.old.ends.items ++ length joined.new.bytes.items ∷ [])) result }
+{
+    if has_version_format(bytes) {
+        let found = view_encoding(encoding, bytes)?;
+        return Ok(joined.push(found)?);
+    }
+    let mut buffer = FormBuffer::new(alloc);
+    let made = encode_string(alloc, &mut buffer, encoding, bytes)?;
+    Ok(joined.push(made)?)
 }
 
 // The versions of the strings, as they are written.
@@ -515,9 +550,8 @@ fn encode_all(
 {
     let mut joined = JoinedStrings::with_capacity(alloc, texts.len())?;
     for (position, text) in texts.iter().enumerate() {
-        let mut buffer = FormBuffer::new(alloc);
-        match encode(alloc, &mut buffer, encoding, text) {
-            Ok(encoded) => joined.push(encoded)?,
+        match push_encoding(alloc, &mut joined, encoding, text) {
+            Ok(()) => {}
             Err(fault) => return Err(BatchError::from_fault(position, fault)),
         }
     }

@@ -35,8 +35,11 @@ pub fn write_compiled(alloc: Global, text: &[u8], out: &mut [u8], written: &mut 
     ensures found { WritesBytes (RejectsBytes text.now) ⊥ ⊥ (IsCompiled text.now) out.old out.new written.old written.new result }
     ensures memory { NeedsNoMemory text.now → result ≢ 3 }
 {
+    if has_version_format(text) {
+        return put_slice(find_form(text), out, written);
+    }
     let mut buffer = FormBuffer::new(alloc);
-    put_slice(compile(alloc, &mut buffer, text), out, written)
+    put_slice(compile_string(alloc, &mut buffer, text), out, written)
 }
 
 // Whether the bytes are a compiled version, all of them. A call of its own, since two copies would make each program that compares larger.
@@ -54,7 +57,7 @@ fn is_compiled(bytes: &[u8]) -> bool
 // A compiled version, as it lies in the bytes.
 #[tactic(auto, using(crate::proofs::Forms::copied, crate::proofs::Forms::no_compiled))]
 #[inline(always)]
-fn find_form(bytes: &[u8]) -> Result<&[u8], Fault>
+pub(crate) fn find_form(bytes: &[u8]) -> Result<&[u8], Fault>
     requires { HasVersionFormat bytes.now }
     ensures found { HoldsOrFaults (RejectsBytes bytes.now) ⊥ ⊥ (λ form. IsCompiled bytes.now form.now) result }
     ensures memory { IfErr result (λ f. f ≢ OutOfMemory) }
@@ -101,8 +104,11 @@ pub fn write_sort_key(alloc: Global, text: &[u8], out: &mut [u8], written: &mut 
     ensures found { WritesBytes (RejectsBytes text.now) ⊥ ⊥ (IsKey text.now) out.old out.new written.old written.new result }
     ensures memory { NeedsNoMemory text.now → result ≢ 3 }
 {
+    if has_version_format(text) {
+        return put_slice(find_key(text), out, written);
+    }
     let mut buffer = FormBuffer::new(alloc);
-    put_slice(make_key(alloc, &mut buffer, text), out, written)
+    put_slice(make_string_key(alloc, &mut buffer, text), out, written)
 }
 
 // The sort key of a compiled version, as it lies in the bytes.
@@ -120,7 +126,7 @@ pub(crate) fn find_key(bytes: &[u8]) -> Result<&[u8], Fault>
 
 // The sort key of a string, in the buffer.
 #[inline(always)]
-fn make_string_key<'a>(
+pub(crate) fn make_string_key<'a>(
     alloc: Global,
     buffer: &'a mut FormBuffer,
     text: &[u8],
@@ -134,22 +140,6 @@ fn make_string_key<'a>(
         Ok(key) => Ok(key),
         Err(_) => Err(Fault::InvalidVersion),
     }
-}
-
-// The sort key of a version: of a compiled one as it lies in the bytes, of a string in the buffer.
-#[inline(always)]
-pub(crate) fn make_key<'a>(
-    alloc: Global,
-    buffer: &'a mut FormBuffer,
-    bytes: &'a [u8],
-) -> Result<&'a [u8], Fault>
-    ensures found { HoldsOrFaults (RejectsBytes bytes.now) ⊥ ⊥ (λ key. IsKey bytes.now key.now) result }
-    ensures memory { NeedsNoMemory bytes.now → IfErr result (λ f. f ≢ OutOfMemory) }
-{
-    if has_version_format(bytes) {
-        return find_key(bytes);
-    }
-    make_string_key(alloc, buffer, bytes)
 }
 
 /// Writes the word of the version: words are numbers in the order of their versions (PEP 440, "Summary of permitted
