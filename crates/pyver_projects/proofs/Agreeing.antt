@@ -51,13 +51,13 @@ use Rattle.pyver_findings.proofs.Grouping.{under_unmarked}
 use Rattle.pyver_findings.specs.declared.cause.Cause.TheVariants as cause
 
 -- a project with this table was read
-pub project_read : (file : File) (t : Members) (x : DocumentReading) → HasTable file t → IsDocumentReading (record { kind = Project; file = file }) x → (xs : List StringReading) × AllZip (IsStringReading (groups t) file) (sources t) xs × (x ≡ IsProject (has_group_tool t) (project_names t) (overridden_names t) xs)
+pub project_read : (file : File) (t : Members) (x : DocumentReading) → HasTable file t → IsDocumentReading (record { kind = Project; file = file }) x → (xs : List StringReading) × AllZip (IsStringReading (groups t) file) (sources t) xs × (x ≡ IsProject t (has_group_tool t) (project_names t) (overridden_names t) xs)
 project_read file t x (text, e) (inl (none, (position, told))) = absurd (none text)
 project_read file t x (text, e) (inr (again, inr (none, broken))) = let same : Some t ≡ None = sym e ∙ none in cc same
 project_read file t x (text, e) (inr (again, inl (u, f, (xs, h, is)))) =
     let same : Some u ≡ Some t = sym f ∙ e in
     let table : u ≡ t = cc same in
-    (xs, subst (λ (m : Members). AllZip (IsStringReading (groups m) file) (sources m) xs) table h, is ∙ ap (λ (m : Members). IsProject (has_group_tool m) (project_names m) (overridden_names m) xs) table)
+    (xs, subst (λ (m : Members). AllZip (IsStringReading (groups m) file) (sources m) xs) table h, is ∙ ap (λ (m : Members). IsProject m (has_group_tool m) (project_names m) (overridden_names m) xs) table)
 
 -- a lock with this was read
 lock_read : (file : File) (kind : LockKind) (l : LockContents) (x : DocumentReading) → HasContents kind file l → IsDocumentReading (record { kind = Lock kind; file = file }) x → IsLockReading file.name l x
@@ -114,7 +114,7 @@ asks_for file q list m d (inr (f, r, is)) = absurd (not_both_list q.list list f 
 
 -- none of the documents that were read names this
 module _ (documents : List Document) (name : List ℕ) (named : DocumentReading → List (List ℕ)) (of_lock : (parts : LockParts) (ys : List LockedReading) (ms fs : List LineMeaning) → named (IsLock parts ys ms fs) ≡ []) (of_broken : (f : Finding) → named (IsBroken f) ≡ [])
-    (others : (other : File) (u : Members) (xs : List StringReading) → HasProject documents other u → list_any (bytes_eq name) (named (IsProject (has_group_tool u) (project_names u) (overridden_names u) xs)) ≡ false) where
+    (others : (other : File) (u : Members) (xs : List StringReading) → HasProject documents other u → list_any (bytes_eq name) (named (IsProject u (has_group_tool u) (project_names u) (overridden_names u) xs)) ≡ false) where
   abbrev OtherNames : DocumentReading → Type 0
   OtherNames x = list_any (bytes_eq name) (named x) ≡ false
 

@@ -496,7 +496,7 @@ module _ (documents : List Document) where
   nothing_broken Project f y = All-nil Right
   nothing_broken (Lock kind) f y = All-nil Right
 
-  nothing_beside : (kind : DocumentKind) (together : Bool) (names overridden : List (List ℕ)) (xs : List StringReading) (f : Finding) → All Right (found_beside kind (IsProject together names overridden xs) (IsBroken f))
+  nothing_beside : (kind : DocumentKind) (together : Bool) (names overridden : List (List ℕ)) (xs : List StringReading) (f : Finding) → All Right (found_beside kind (IsProject t together names overridden xs) (IsBroken f))
   nothing_beside Project together names overridden xs f = All-nil Right
   nothing_beside (Lock kind) together names overridden xs f = All-nil Right
 
@@ -508,18 +508,18 @@ module _ (documents : List Document) where
   broken_right kind file x y (position, reason, is) = subst (λ (z : DocumentReading). All Right (found_beside kind z y)) (sym is) (nothing_broken kind (NoRequirement (position_line file position) reason (last_bytes (take position file.text))) y)
 
   module _ (file : File) (t : Members) (known : HasProject documents file t) (xs : List StringReading) (g : AllZip (IsStringReading (groups t) file) (sources t) xs) where
-    beside_broken : (kind : DocumentKind) (other : File) (y : DocumentReading) → IsBrokenReading other y → All Right (found_beside kind (IsProject (has_group_tool t) (project_names t) (overridden_names t) xs) y)
+    beside_broken : (kind : DocumentKind) (other : File) (y : DocumentReading) → IsBrokenReading other y → All Right (found_beside kind (IsProject t (has_group_tool t) (project_names t) (overridden_names t) xs) y)
     beside_broken kind other y (position, reason, is) =
-        subst (λ (z : DocumentReading). All Right (found_beside kind (IsProject (has_group_tool t) (project_names t) (overridden_names t) xs) z)) (sym is) (nothing_beside kind (has_group_tool t) (project_names t) (overridden_names t) xs (NoRequirement (position_line other position) reason (last_bytes (take position other.text))))
+        subst (λ (z : DocumentReading). All Right (found_beside kind (IsProject t (has_group_tool t) (project_names t) (overridden_names t) xs) z)) (sym is) (nothing_beside kind (has_group_tool t) (project_names t) (overridden_names t) xs (NoRequirement (position_line other position) reason (last_bytes (take position other.text))))
 
     beside_project : (kind : DocumentKind) (other : File) (y : DocumentReading) → Contains documents (record { kind = kind; file = other }) → IsDocumentReading (record { kind = kind; file = other }) y
-        → All Right (found_beside kind (IsProject (has_group_tool t) (project_names t) (overridden_names t) xs) y)
+        → All Right (found_beside kind (IsProject t (has_group_tool t) (project_names t) (overridden_names t) xs) y)
     beside_project kind other y at (inl (none, (position, told))) = beside_broken kind other y (position, _, told)
     beside_project Project other y at (inr (text, inr (none, broken))) = beside_broken Project other y broken
     beside_project (Lock kind) other y at (inr (text, inr (none, broken))) = beside_broken (Lock kind) other y broken
-    beside_project Project other y at (inr (text, inl (u, e, (zs, h, is)))) = subst (λ (z : DocumentReading). All Right (found_beside Project (IsProject (has_group_tool t) (project_names t) (overridden_names t) xs) z)) (sym is) (All-nil Right)
+    beside_project Project other y at (inr (text, inl (u, e, (zs, h, is)))) = subst (λ (z : DocumentReading). All Right (found_beside Project (IsProject t (has_group_tool t) (project_names t) (overridden_names t) xs) z)) (sym is) (All-nil Right)
     beside_project (Lock kind) other y at (inr (text, inl (u, e, (ys, ms, fs, h, required, files, is)))) =
-        subst (λ (z : DocumentReading). All Right (found_beside (Lock kind) (IsProject (has_group_tool t) (project_names t) (overridden_names t) xs) z)) (sym is) (pair_right file other kind t u known (at, (text, e)) xs ys g h)
+        subst (λ (z : DocumentReading). All Right (found_beside (Lock kind) (IsProject t (has_group_tool t) (project_names t) (overridden_names t) xs) z)) (sym is) (pair_right file other kind t u known (at, (text, e)) xs ys g h)
 
   beside_right : (kind : DocumentKind) (file : File) (other : Document) (x y : DocumentReading) → Contains documents (record { kind = kind; file = file }) → Contains documents other → IsDocumentReading (record { kind = kind; file = file }) x
       → IsDocumentReading other y → All Right (found_beside other.kind x y)

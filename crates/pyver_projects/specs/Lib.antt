@@ -2,6 +2,7 @@ pub mod ProjectStrings
 pub mod PipfileLocks
 pub mod PackageRequirements
 pub mod LockedFiles
+pub mod ContentHashes
 pub mod Documents
 pub mod Groups
 pub mod KnownEnvironments

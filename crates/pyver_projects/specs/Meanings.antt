@@ -181,13 +181,13 @@ pub record Document : Type 0 where
 -- a document that was read: of a project whether its groups hold together with its dependencies, its names, those that it overrides, and its strings; the parts and packages of a lock,
 -- what they require, and what is wrong with their files and beside one another; or why it was not read
 pub data DocumentReading : Type 0 where
-  IsProject : Bool → (names overridden : List (List ℕ)) → List StringReading → DocumentReading
+  IsProject : Members → Bool → (names overridden : List (List ℕ)) → List StringReading → DocumentReading
   IsLock : (parts : LockParts) → List LockedReading → (requirements faults : List LineMeaning) → DocumentReading
   IsBroken : Finding → DocumentReading
 
 -- what a project with this table is
 abbrev pub IsProjectReading : File → Members → DocumentReading → Type 0
-IsProjectReading file t x = (xs : List StringReading) × AllZip (IsStringReading (groups t) file) (sources t) xs × (x ≡ IsProject (has_group_tool t) (project_names t) (overridden_names t) xs)
+IsProjectReading file t x = (xs : List StringReading) × AllZip (IsStringReading (groups t) file) (sources t) xs × (x ≡ IsProject t (has_group_tool t) (project_names t) (overridden_names t) xs)
 
 -- what a lock is that has this
 abbrev pub IsLockReading : List ℕ → LockContents → DocumentReading → Type 0
@@ -227,6 +227,6 @@ IsSoundString x = All IsSound (demands_in x.meaning)
 
 -- and the lists of a project
 abbrev pub IsSoundDocument : DocumentReading → Type 0
-IsSoundDocument (IsProject together names overridden xs) = All IsSoundString xs
+IsSoundDocument (IsProject t together names overridden xs) = All IsSoundString xs
 IsSoundDocument (IsLock parts ys ms fs) = ⊤
 IsSoundDocument (IsBroken f) = ⊤

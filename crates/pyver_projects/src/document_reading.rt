@@ -42,6 +42,7 @@ use toml::Table;
 // A project that was read.
 #[derive(Drop)]
 pub(crate) struct ProjectReading {
+    pub(crate) table: Table,
     // Its groups hold together with its dependencies.
     pub(crate) together: bool,
     // In its normal form.
@@ -82,21 +83,22 @@ fn read_project(
     alloc: Global,
     name: &[u8],
     text: &str,
-    table: &Table,
+    table: Table,
 ) -> Result<DocumentReading, AllocError>
-    ensures { IfOk result (λ x. IsProjectReading (record { name = name.now; text = text.now }) (table_view table.now) (document_reading_of x)) }
+    ensures { IfOk result (λ x. IsProjectReading (record { name = name.now; text = text.now }) (table_view table) (document_reading_of x)) }
 {
-    let strings = project_strings(alloc, table)?;
-    let names = group_names(alloc, table)?;
+    let strings = project_strings(alloc, &table)?;
+    let names = group_names(alloc, &table)?;
     let inclusions = string_inclusions(alloc, strings.as_slice())?;
     let groups = Groups::new(alloc, names.as_slice(), inclusions.as_slice())?;
     let keys = document_keys(alloc, text.as_bytes())?;
     let places = read_places(alloc, text.as_bytes(), keys.as_slice())?;
     let strings = read_strings(alloc, &groups, name, &places, strings.as_slice())?;
-    let together = has_group_tool(table);
-    let name = project_name(alloc, table)?;
-    let overridden = overridden_names(alloc, table)?;
+    let together = has_group_tool(&table);
+    let name = project_name(alloc, &table)?;
+    let overridden = overridden_names(alloc, &table)?;
     Ok(DocumentReading::Project(ProjectReading {
+        table,
         together,
         name,
         overridden,
@@ -155,7 +157,7 @@ fn read_toml_project(alloc: Global, name: &[u8], text: &str) -> Result<DocumentR
     ensures { IfOk result (λ x. IsTextReading of_kind.Project (record { name = name.now; text = text.now }) (document_reading_of x)) }
 {
     match toml::table_from_str(alloc, text) {
-        Ok(table) => read_project(alloc, name, text, &table),
+        Ok(table) => read_project(alloc, name, text, table),
         Err(error) if error.is_memory() => Err(AllocError),
         Err(error) => reject_toml(alloc, name, text, &error),
     }

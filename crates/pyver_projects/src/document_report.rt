@@ -1,5 +1,6 @@
 //! The report of documents.
 ghost use Rattle.std.specs.Prelude.{◌≡◌, ◌++◌, [], IfOk, map};
+ghost use Rattle.toml.specs.Data.{no_members};
 ghost use Rattle.std.specs.List.{All, AllZip, flat_map, zip};
 ghost use Rattle.pyver_findings.specs.Reports.{empty_report, invalid_in, left_out_in};
 ghost use Rattle.pyver_findings.specs.MarkedConflicts.{FindsOfEach};
@@ -46,7 +47,7 @@ fn report_strings(
     together: bool,
     strings: Vec<StringReading>,
 ) -> Result<Report, AllocError>
-    ensures { IfOk result (λ r. report_of r ≡ own_report (is_excused []) (IsProject together [] [] (map string_reading_of strings.items))) }
+    ensures { IfOk result (λ r. report_of r ≡ own_report (is_excused []) (IsProject no_members together [] [] (map string_reading_of strings.items))) }
 {
     let mut report = Report::empty(alloc);
     report.lines = strings.len();
@@ -170,6 +171,7 @@ fn report_document(
     match document {
         DocumentReading::Project(project) => {
             let ProjectReading {
+                table: _table,
                 together,
                 name: _name,
                 overridden: _overridden,

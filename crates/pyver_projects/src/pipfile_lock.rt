@@ -288,6 +288,7 @@ pub(crate) fn pipfile_contents(
             extras: Vec::new(alloc),
             groups: Vec::new(alloc),
             environments: Vec::new(alloc),
+            hash: None,
         },
         packages,
         requirements: Vec::new(alloc),
