@@ -1,5 +1,5 @@
 //! The hash of a project that Poetry and PDM write into its lock: of tables of `pyproject.toml` as JSON.
-ghost use Rattle.std.specs.Prelude.{◌≡◌, ◌++◌, ◌∷◌, [], IfOk, codes, map, option_and_then, option_map};
+ghost use Rattle.std.specs.Prelude.{◌≡◌, ◌++◌, ◌∷◌, [], IfOk, codes, false, map, option_and_then, option_map};
 ghost use Rattle.std.specs.List.{flat_map, list_all, list_any};
 ghost use Rattle.cli_io.specs.Escapes.{hex_digits};
 ghost use Rattle.pyver_findings.specs.NamedFiles.{folder};
@@ -59,8 +59,22 @@ fn push_value_or(
     Ok(())
 }
 
-// Adds an object at the key, if it has members.
+// Adds an object at the key.
 fn push_object(
+    alloc: Global,
+    members: &mut Vec<Vec<u8>>,
+    key: &str,
+    inner: &[Vec<u8>],
+) -> Result<(), AllocError>
+    ensures { IfOk result (λ _. map (λ p. p.items) members.new.items ≡ map (λ p. p.items) members.old.items ++ json_member key.now (json_object (map (λ p. p.items) inner.now)) ∷ []) }
+{
+    let text = json_object(alloc, inner)?;
+    members.push(json_member(alloc, key.as_bytes(), text.as_slice())?)?;
+    Ok(())
+}
+
+// The same, if it has members.
+fn push_object_if_some(
     alloc: Global,
     members: &mut Vec<Vec<u8>>,
     key: &str,
@@ -71,9 +85,7 @@ fn push_object(
     if inner.is_empty() {
         return Ok(());
     }
-    let text = json_object(alloc, inner)?;
-    members.push(json_member(alloc, key.as_bytes(), text.as_slice())?)?;
-    Ok(())
+    push_object(alloc, members, key, inner)
 }
 
 // ---- Poetry
@@ -147,11 +159,9 @@ fn push_tool(
     ensures { IfOk result (λ _. map (λ p. p.items) members.new.items ≡ map (λ p. p.items) members.old.items ++ json_member (codes "tool") (json_object (json_member (codes "poetry") (json_object (poetry_members false (option_map (λ v. view v.now) poetry.entry))) ∷ [])) ∷ []) }
 {
     let of_poetry = poetry_members(alloc, false, poetry)?;
-    let object = json_object(alloc, of_poetry.as_slice())?;
-    let member = json_member(alloc, b"poetry", object.as_slice())?;
-    let tool = json_object(alloc, &[member])?;
-    members.push(json_member(alloc, b"tool", tool.as_slice())?)?;
-    Ok(())
+    let mut tool = Vec::new(alloc);
+    push_object(alloc, &mut tool, "poetry", of_poetry.as_slice())?;
+    push_object(alloc, members, "tool", tool.as_slice())
 }
 
 // Poetry's table beside these members, or alone without some.
@@ -176,7 +186,7 @@ fn project_text(alloc: Global, document: &Table) -> Result<Vec<u8>, AllocError>
 {
     let mut members = Vec::new(alloc);
     let project = project_members(alloc, top(document, "project"))?;
-    push_object(alloc, &mut members, "project", project.as_slice())?;
+    push_object_if_some(alloc, &mut members, "project", project.as_slice())?;
     text_beside(alloc, poetry_table_of(document), members)
 }
 
@@ -187,8 +197,8 @@ fn groups_text(alloc: Global, document: &Table) -> Result<Vec<u8>, AllocError>
     let mut members = Vec::new(alloc);
     let groups = table_members(alloc, top(document, "dependency-groups"))?;
     let project = project_members(alloc, top(document, "project"))?;
-    push_object(alloc, &mut members, "dependency-groups", groups.as_slice())?;
-    push_object(alloc, &mut members, "project", project.as_slice())?;
+    push_object_if_some(alloc, &mut members, "dependency-groups", groups.as_slice())?;
+    push_object_if_some(alloc, &mut members, "project", project.as_slice())?;
     text_beside(alloc, poetry_table_of(document), members)
 }
 
@@ -280,21 +290,18 @@ fn push_project_members(
     push_value_or(alloc, members, "\"\"", "requires-python", python)
 }
 
-// Adds the groups.
-fn push_groups(
+// The groups of both tables.
+fn group_members(
     alloc: Global,
-    members: &mut Vec<Vec<u8>>,
     groups: Option<&Value>,
     pdm: Option<&Value>,
-) -> Result<(), AllocError>
-    ensures { IfOk result (λ _. map (λ p. p.items) members.new.items ≡ map (λ p. p.items) members.old.items ++ json_member (codes "dev-dependencies") (json_object (table_members (option_map (λ v. view v.now) groups.entry) ++ table_members (inside (codes "dev-dependencies") (option_map (λ v. view v.now) pdm.entry)))) ∷ []) }
+) -> Result<Vec<Vec<u8>>, AllocError>
+    ensures { IfOk result (λ texts. map (λ p. p.items) texts.items ≡ table_members (option_map (λ v. view v.now) groups.entry) ++ table_members (inside (codes "dev-dependencies") (option_map (λ v. view v.now) pdm.entry))) }
 {
-    let mut all = table_members(alloc, groups)?;
+    let mut members = table_members(alloc, groups)?;
     let mut added = table_members(alloc, inside(pdm, "dev-dependencies"))?;
-    all.append(&mut added)?;
-    let object = json_object(alloc, all.as_slice())?;
-    members.push(json_member(alloc, b"dev-dependencies", object.as_slice())?)?;
-    Ok(())
+    members.append(&mut added)?;
+    Ok(members)
 }
 
 fn pdm_members(
@@ -307,8 +314,9 @@ fn pdm_members(
 {
     let mut members = Vec::new(alloc);
     let dependencies = inside(project, "dependencies");
+    let all = group_members(alloc, groups, pdm)?;
     push_value_or(alloc, &mut members, "[]", "dependencies", dependencies)?;
-    push_groups(alloc, &mut members, groups, pdm)?;
+    push_object(alloc, &mut members, "dev-dependencies", all.as_slice())?;
     push_project_members(alloc, &mut members, project)?;
     push_value_or(alloc, &mut members, "{}", "resolution", inside(pdm, "resolution"))?;
     push_value_or(alloc, &mut members, "[]", "sources", inside(pdm, "source"))?;
