@@ -84,9 +84,9 @@ no_include a line true false one other e = cc e
 no_include a line false c one other e = cc e
 
 -- nor does a list
-never_asks : (a : Demand) (line : FileLine) (b : Bool) (reason : List ℕ) → Asks a ≡ (if b then IsNone (NoRequirement line reason 0) else AsksNothing) → ⊥
-never_asks a line true reason e = cc e
-never_asks a line false reason e = cc e
+never_asks : (a : Demand) (f : Finding) (b : Bool) → Asks a ≡ (if b then IsNone f else AsksNothing) → ⊥
+never_asks a f true e = cc e
+never_asks a f false e = cc e
 
 -- what is left out if it is none asks for what it asked
 of_entry : (line : FileLine) (a : Demand) (m : LineMeaning) → IsPartsMeaning line (line_parts line.text) m → Asks a ≡ left_out_if_none m → AsksFor line (line_parts line.text) a
@@ -554,19 +554,19 @@ module _ (documents : List Document) where
   module _ (file lock : File) (kind : LockKind) (t : Members) (l : LockContents) (known : HasProject documents file t) (has : HasLock documents kind lock l) (near : folder file.name ≡ folder lock.name) where
     stale_hash : (hash : ContentHash) → l.parts.hash ≡ Some hash → (b : Bool) → is_stale hash t ≡ b → All Right (if b then stale_finding lock hash.rule ∷ [] else [])
     stale_hash hash written true is = All-cons Right (stale_finding lock hash.rule) [] (inr (inr (inr (inr (inr (inr (inr (inr (inr (inr (inr (inr (record {
-        file = file;
-        table = t;
-        lock = lock;
-        kind = kind;
-        contents = l;
-        hash = hash;
-        has = known;
-        known = has;
-        beside = near;
-        written = written;
-        none = other_hashes hash.value (hashed_texts hash.rule t) (none_passes (list_any (may_have hash.value) (hashed_texts hash.rule t)) is);
-        is = refl;
-      }))))))))))))) (All-nil Right)
+      file = file;
+      table = t;
+      lock = lock;
+      kind = kind;
+      contents = l;
+      hash = hash;
+      has = known;
+      known = has;
+      beside = near;
+      written = written;
+      none = other_hashes hash.value (hashed_texts hash.rule t) (none_passes (list_any (may_have hash.value) (hashed_texts hash.rule t)) is);
+      is = refl;
+    }))))))))))))) (All-nil Right)
     stale_hash hash written false is = All-nil Right
 
     stale_right : (hash : Option ContentHash) → l.parts.hash ≡ hash → All Right (stale_by lock t hash)

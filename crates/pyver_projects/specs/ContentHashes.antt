@@ -5,6 +5,7 @@ use Rattle.std.specs.Fmt.{signed_decimal}
 use Rattle.std.specs.List.{flat_map, list_all, list_any, starts_with}
 use Rattle.std.specs.Prelude.{nat_eq}
 use Rattle.cli_io.specs.Escapes.{hex_digits}
+use Rattle.hex.specs.Hex.{encode_lower}
 use Rattle.pep440_pick.specs.Names.{is_name, normal}
 use Rattle.pep440_pick.specs.RequirementReading.{split_at_byte}
 use Rattle.sha2.specs.Sha256.{sha256}
@@ -50,11 +51,11 @@ abbrev pub with_commas : List (List ℕ) → List ℕ
 with_commas [] = []
 with_commas (piece ∷ pieces) = piece ++ flat_map after_comma pieces
 
-abbrev pub json_array : List (List ℕ) → List ℕ
-json_array items = codes "[" ++ (with_commas items ++ codes "]")
+abbrev pub array_text : List (List ℕ) → List ℕ
+array_text items = codes "[" ++ (with_commas items ++ codes "]")
 
-abbrev pub json_object : List (List ℕ) → List ℕ
-json_object members = codes "{" ++ (with_commas members ++ codes "}")
+abbrev pub object_text : List (List ℕ) → List ℕ
+object_text members = codes "{" ++ (with_commas members ++ codes "}")
 
 -- a member of an object: its key and the JSON of its value
 abbrev pub json_member : List ℕ → List ℕ → List ℕ
@@ -68,8 +69,8 @@ abbrev mutual
   json_text (float x) = unknown
   json_text (boolean b) = if b then codes "true" else codes "false"
   json_text (datetime d) = unknown
-  json_text (array ds) = json_array (item_texts ds)
-  json_text (table ms) = json_object (member_texts ms)
+  json_text (array ds) = array_text (item_texts ds)
+  json_text (table ms) = object_text (member_texts ms)
 
   pub item_texts : Items → List (List ℕ)
   item_texts no_items = []
@@ -80,12 +81,12 @@ abbrev mutual
   member_texts (member key d ms) = json_member key (json_text d) ∷ member_texts ms
 
 -- the members of a table, if there is one
-abbrev pub members_in : Option Members → List (List ℕ)
-members_in None = []
-members_in (Some ms) = member_texts ms
+abbrev pub texts_in : Option Members → List (List ℕ)
+texts_in None = []
+texts_in (Some ms) = member_texts ms
 
 abbrev pub table_members : Option Data → List (List ℕ)
-table_members value = members_in (option_and_then as_table value)
+table_members value = texts_in (option_and_then as_table value)
 
 -- the member of this key, if there is a value
 abbrev pub value_member : List ℕ → Option Data → List (List ℕ)
@@ -100,7 +101,7 @@ member_or default key (Some d) = json_member key (json_text d) ∷ []
 -- the object of these members at the key, if there are some
 abbrev pub object_member : List ℕ → List (List ℕ) → List (List ℕ)
 object_member key [] = []
-object_member key (m ∷ ms) = json_member key (json_object (m ∷ ms)) ∷ []
+object_member key (m ∷ ms) = json_member key (object_text (m ∷ ms)) ∷ []
 
 -- ---- Poetry
 
@@ -129,12 +130,12 @@ poetry_table_of t = inside (codes "poetry") (get_member (codes "tool") t)
 
 -- by Poetry 1, which hashes only its table
 abbrev pub poetry_text : Option Data → List ℕ
-poetry_text poetry = json_object (poetry_members true poetry)
+poetry_text poetry = object_text (poetry_members true poetry)
 
 -- its table beside these members, or alone without some
 abbrev pub text_beside : Option Data → List (List ℕ) → List ℕ
 text_beside poetry [] = poetry_text poetry
-text_beside poetry (m ∷ ms) = json_object ((m ∷ ms) ++ json_member (codes "tool") (json_object (json_member (codes "poetry") (json_object (poetry_members false poetry)) ∷ [])) ∷ [])
+text_beside poetry (m ∷ ms) = object_text ((m ∷ ms) ++ json_member (codes "tool") (object_text (json_member (codes "poetry") (object_text (poetry_members false poetry)) ∷ [])) ∷ [])
 
 -- by Poetry 2 before 2.3
 abbrev pub project_text : Members → List ℕ
@@ -166,7 +167,7 @@ are_plain_groups one other = is_one_empty (table_members one) (table_members oth
 -- of the table `project`, its groups and the table of PDM
 abbrev pub pdm_members : Option Data → Option Data → Option Data → List (List ℕ)
 pdm_members project groups pdm = member_or (codes "[]") (codes "dependencies") (inside (codes "dependencies") project)
-    ++ (json_member (codes "dev-dependencies") (json_object (table_members groups ++ table_members (inside (codes "dev-dependencies") pdm))) ∷ []
+    ++ (json_member (codes "dev-dependencies") (object_text (table_members groups ++ table_members (inside (codes "dev-dependencies") pdm))) ∷ []
     ++ (member_or (codes "{}") (codes "optional-dependencies") (inside (codes "optional-dependencies") project)
     ++ (member_or (codes "\"\"") (codes "requires-python") (inside (codes "requires-python") project)
     ++ (member_or (codes "{}") (codes "resolution") (inside (codes "resolution") pdm)
@@ -177,11 +178,15 @@ abbrev pub is_plain_project : Option Data → Option Data → Option Data → Bo
 is_plain_project project groups pdm = is_some project && (is_none (inside (codes "workspace") pdm)
     && (is_none (inside (codes "lock_inputs") (inside (codes "resolution") pdm)) && are_plain_groups groups (inside (codes "dev-dependencies") pdm)))
 
-abbrev pub text_of_pdm : Option Data → Option Data → Option Data → List ℕ
-text_of_pdm project groups pdm = if is_plain_project project groups pdm then json_object (pdm_members project groups pdm) else unknown
+unfoldable pub text_of_pdm : Option Data → Option Data → Option Data → List ℕ
+text_of_pdm project groups pdm = if is_plain_project project groups pdm then object_text (pdm_members project groups pdm) else unknown
+
+-- the table of PDM
+abbrev pub pdm_table_of : Members → Option Data
+pdm_table_of t = inside (codes "pdm") (get_member (codes "tool") t)
 
 abbrev pub pdm_text : Members → List ℕ
-pdm_text t = text_of_pdm (get_member (codes "project") t) (get_member (codes "dependency-groups") t) (inside (codes "pdm") (get_member (codes "tool") t))
+pdm_text t = text_of_pdm (get_member (codes "project") t) (get_member (codes "dependency-groups") t) (pdm_table_of t)
 
 -- ---- the hash of a lock
 
@@ -243,7 +248,7 @@ hashed_texts rule.Pdm t = pdm_text t ∷ []
 
 -- SHA-256 in hexadecimal digits
 unfoldable pub hash_of : List ℕ → List ℕ
-hash_of text = flat_map hex_digits (sha256 text)
+hash_of text = encode_lower (sha256 text)
 
 -- all that the text has is known
 abbrev pub is_known_text : List ℕ → Bool

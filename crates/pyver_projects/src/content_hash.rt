@@ -1,11 +1,10 @@
 //! The hash of a project that Poetry and PDM write into its lock: of tables of `pyproject.toml` as JSON.
-ghost use Rattle.std.specs.Prelude.{◌≡◌, ◌++◌, ◌∷◌, [], IfOk, codes, false, map, option_and_then, option_map};
-ghost use Rattle.std.specs.List.{flat_map, list_all, list_any};
-ghost use Rattle.cli_io.specs.Escapes.{hex_digits};
+ghost use Rattle.std.specs.Prelude.{◌≡◌, ◌++◌, ◌∷◌, [], IfOk, codes, false, map, option_and_then, option_map, string_bytes};
+ghost use Rattle.std.specs.List.{list_all, list_any};
 ghost use Rattle.pyver_findings.specs.NamedFiles.{folder};
 ghost use Rattle.pyver_findings.specs.Views.{file_line_of, file_of, finding_of};
 ghost use Rattle.pyver_projects.specs.Comparing.{hash_key, hash_line, in_one_folder, stale_beside, stale_by, stale_finding, stale_in_pair};
-ghost use Rattle.pyver_projects.specs.ContentHashes.{are_plain_groups, groups_text, hash_by, has_plain_groups, hash_of, hashed_texts, is_before_groups, is_known_text, is_one_empty, is_plain_group, is_plain_project, is_stale, is_version_of_pdm, json_member, json_object, json_text, lock_hash, may_have, member_or, object_member, of_algorithm, pdm_hash, pdm_members, pdm_text, poetry_hash, poetry_member, poetry_members, poetry_table_of, poetry_text, project_members, project_text, rule_of_poetry, table_members, text_beside, text_of_pdm, value_member};
+ghost use Rattle.pyver_projects.specs.ContentHashes.{are_plain_groups, groups_text, hash_by, has_plain_groups, hash_of, hashed_texts, is_before_groups, is_known_text, is_one_empty, is_plain_group, is_plain_project, is_stale, is_version_of_pdm, json_member, object_text, json_text, lock_hash, may_have, member_or, object_member, of_algorithm, pdm_hash, pdm_members, pdm_table_of, pdm_text, poetry_hash, poetry_member, poetry_members, poetry_table_of, poetry_text, project_members, project_text, rule_of_poetry, table_members, text_beside, text_of_pdm, value_member};
 ghost use Rattle.pyver_projects.specs.ProjectStrings.{inside, key_line, key_path, members_list, number_or_one};
 ghost use Rattle.pep440_pick.specs.RequirementReading.{split_at_byte};
 ghost use Rattle.pyver_projects.specs.ProjectViews.{content_hash_of, document_of, document_reading_of, read_pair};
@@ -13,11 +12,10 @@ ghost use Rattle.toml.specs.View.{table_view, view};
 
 use crate::document_kind::{Document, LockKind, folder};
 use crate::document_reading::{DocumentReading, ReadDocument};
-use crate::json_text::{json_member, json_object, json_text, table_members};
+use crate::json_text::{json_member, json_text, object_text, table_members};
 use crate::locked_package::{ContentHash, HashRule, split_at_byte};
 use crate::place::{document_keys, key_path, number_keys};
 use crate::table::{inside, table, text, top};
-use cli_io::push_hex_digits;
 use pep440_pick::is_name;
 use pyver_findings::{FileLine, Finding, SourceFile, normalize_name};
 use sha2::{Digest, Sha256};
@@ -66,9 +64,9 @@ fn push_object(
     key: &str,
     inner: &[Vec<u8>],
 ) -> Result<(), AllocError>
-    ensures { IfOk result (λ _. map (λ p. p.items) members.new.items ≡ map (λ p. p.items) members.old.items ++ json_member key.now (json_object (map (λ p. p.items) inner.now)) ∷ []) }
+    ensures { IfOk result (λ _. map (λ p. p.items) members.new.items ≡ map (λ p. p.items) members.old.items ++ json_member key.now (object_text (map (λ p. p.items) inner.now)) ∷ []) }
 {
-    let text = json_object(alloc, inner)?;
+    let text = object_text(alloc, inner)?;
     members.push(json_member(alloc, key.as_bytes(), text.as_slice())?)?;
     Ok(())
 }
@@ -96,7 +94,12 @@ fn project_members(alloc: Global, project: Option<&Value>) -> Result<Vec<Vec<u8>
     let mut members = Vec::new(alloc);
     let extras = inside(project, "optional-dependencies");
     let python = inside(project, "requires-python");
-    push_value(alloc, &mut members, "dependencies", inside(project, "dependencies"))?;
+    push_value(
+        alloc,
+        &mut members,
+        "dependencies",
+        inside(project, "dependencies"),
+    )?;
     push_value(alloc, &mut members, "optional-dependencies", extras)?;
     push_value(alloc, &mut members, "requires-python", python)?;
     Ok(members)
@@ -147,7 +150,7 @@ fn poetry_text(alloc: Global, poetry: Option<&Value>) -> Result<Vec<u8>, AllocEr
     ensures { IfOk result (λ text. text.items ≡ poetry_text (option_map (λ v. view v.now) poetry.entry)) }
 {
     let members = poetry_members(alloc, true, poetry)?;
-    json_object(alloc, members.as_slice())
+    object_text(alloc, members.as_slice())
 }
 
 // Adds Poetry's table at the key `tool`.
@@ -156,7 +159,7 @@ fn push_tool(
     members: &mut Vec<Vec<u8>>,
     poetry: Option<&Value>,
 ) -> Result<(), AllocError>
-    ensures { IfOk result (λ _. map (λ p. p.items) members.new.items ≡ map (λ p. p.items) members.old.items ++ json_member (codes "tool") (json_object (json_member (codes "poetry") (json_object (poetry_members false (option_map (λ v. view v.now) poetry.entry))) ∷ [])) ∷ []) }
+    ensures { IfOk result (λ _. map (λ p. p.items) members.new.items ≡ map (λ p. p.items) members.old.items ++ json_member (codes "tool") (object_text (json_member (codes "poetry") (object_text (poetry_members false (option_map (λ v. view v.now) poetry.entry))) ∷ [])) ∷ []) }
 {
     let of_poetry = poetry_members(alloc, false, poetry)?;
     let mut tool = Vec::new(alloc);
@@ -177,7 +180,7 @@ fn text_beside(
         return poetry_text(alloc, poetry);
     }
     push_tool(alloc, &mut members, poetry)?;
-    json_object(alloc, members.as_slice())
+    object_text(alloc, members.as_slice())
 }
 
 // What Poetry 2 hashes before 2.3.
@@ -318,11 +321,18 @@ fn pdm_members(
     push_value_or(alloc, &mut members, "[]", "dependencies", dependencies)?;
     push_object(alloc, &mut members, "dev-dependencies", all.as_slice())?;
     push_project_members(alloc, &mut members, project)?;
-    push_value_or(alloc, &mut members, "{}", "resolution", inside(pdm, "resolution"))?;
+    push_value_or(
+        alloc,
+        &mut members,
+        "{}",
+        "resolution",
+        inside(pdm, "resolution"),
+    )?;
     push_value_or(alloc, &mut members, "[]", "sources", inside(pdm, "source"))?;
     Ok(members)
 }
 
+#[tactic(auto, unfolding(crate::specs::ContentHashes::text_of_pdm))]
 fn text_of_pdm(
     alloc: Global,
     project: Option<&Value>,
@@ -335,7 +345,13 @@ fn text_of_pdm(
         return Vec::from_slice(alloc, b"\0");
     }
     let members = pdm_members(alloc, project, groups, pdm)?;
-    json_object(alloc, members.as_slice())
+    object_text(alloc, members.as_slice())
+}
+
+fn pdm_table_of(document: &Table) -> Option<&Value>
+    ensures { option_map (λ v. view v.now) result ≡ pdm_table_of (table_view document.now) }
+{
+    inside(top(document, "tool"), "pdm")
 }
 
 // What PDM hashes; if it is not known, a byte that JSON does not have.
@@ -344,7 +360,7 @@ fn pdm_text(alloc: Global, document: &Table) -> Result<Vec<u8>, AllocError>
 {
     let project = top(document, "project");
     let groups = top(document, "dependency-groups");
-    text_of_pdm(alloc, project, groups, inside(top(document, "tool"), "pdm"))
+    text_of_pdm(alloc, project, groups, pdm_table_of(document))
 }
 
 // ---- the hash of a lock
@@ -419,7 +435,11 @@ fn sha256_value(text: Option<&str>) -> Option<&str>
     ensures { option_map (λ t. t.now) result ≡ of_algorithm (option_and_then (split_at_byte 58) (option_map (λ t. t.now) text.entry)) }
 {
     let (algorithm, value) = split_at_byte(text?, ':')?;
-    if algorithm == "sha256" { Some(value) } else { None }
+    if algorithm == "sha256" {
+        Some(value)
+    } else {
+        None
+    }
 }
 
 fn pdm_hash(alloc: Global, metadata: Option<&Value>) -> Result<Option<ContentHash>, AllocError>
@@ -454,47 +474,12 @@ pub(crate) fn lock_hash(
 
 // ---- a project beside it
 
-// The texts that are hashed of the project with this table.
-fn hashed_texts(
-    alloc: Global,
-    rule: HashRule,
-    document: &Table,
-) -> Result<Vec<Vec<u8>>, AllocError>
-    ensures { IfOk result (λ texts. map (λ p. p.items) texts.items ≡ hashed_texts rule (table_view document.now)) }
-{
-    let mut texts = Vec::new(alloc);
-    if matches!(rule, HashRule::Pdm) {
-        texts.push(pdm_text(alloc, document)?)?;
-        return Ok(texts);
-    }
-    texts.push(groups_text(alloc, document)?)?;
-    if matches!(rule, HashRule::PoetryGroups) {
-        return Ok(texts);
-    }
-    texts.push(project_text(alloc, document)?)?;
-    if matches!(rule, HashRule::PoetryTables) {
-        texts.push(poetry_text(alloc, poetry_table_of(document))?)?;
-    }
-    Ok(texts)
-}
-
-fn push_digits(text: &mut Vec<u8>, bytes: &[u8]) -> Result<(), AllocError>
-    ensures { IfOk result (λ _. text.new.items ≡ text.old.items ++ flat_map hex_digits bytes.now) }
-{
-    for byte in bytes {
-        push_hex_digits(text, *byte)?;
-    }
-    Ok(())
-}
-
 // SHA-256 in hexadecimal digits.
-fn hash_of(alloc: Global, text: &[u8]) -> Result<Vec<u8>, AllocError>
-    ensures { IfOk result (λ hash. hash.items ≡ hash_of text.now) }
+#[tactic(auto, unfolding(crate::specs::ContentHashes::hash_of))]
+fn hash_of(alloc: Global, text: &[u8]) -> Result<String, AllocError>
+    ensures { IfOk result (λ hash. string_bytes hash ≡ hash_of text.now) }
 {
-    let digest = Sha256::digest(text);
-    let mut hash = Vec::new(alloc);
-    push_digits(&mut hash, digest.as_slice())?;
-    Ok(hash)
+    hex::encode(alloc, Sha256::digest(text))
 }
 
 fn is_known_text(text: &[u8]) -> bool
@@ -511,26 +496,38 @@ fn may_have(alloc: Global, value: &[u8], text: &[u8]) -> Result<bool, AllocError
         return Ok(true);
     }
     let hash = hash_of(alloc, text)?;
-    Ok(value == hash.as_slice())
+    Ok(value == hash.as_bytes())
 }
 
-fn may_have_any(alloc: Global, value: &[u8], texts: &[Vec<u8>]) -> Result<bool, AllocError>
-    ensures { IfOk result (λ b. b ≡ list_any (may_have value.now) (map (λ p. p.items) texts.now)) }
+// One of the texts that are hashed of the project has the hash, or is not known.
+fn may_have_any(alloc: Global, hash: &ContentHash, document: &Table) -> Result<bool, AllocError>
+    ensures { IfOk result (λ b. b ≡ list_any (may_have hash.now.value.items) (hashed_texts hash.now.rule (table_view document.now))) }
 {
-    for text in texts {
-        if may_have(alloc, value, text.as_slice())? {
-            return Ok(true);
-        }
+    let value = hash.value.as_slice();
+    if matches!(hash.rule, HashRule::Pdm) {
+        return may_have(alloc, value, pdm_text(alloc, document)?.as_slice());
     }
-    Ok(false)
+    if may_have(alloc, value, groups_text(alloc, document)?.as_slice())? {
+        return Ok(true);
+    }
+    if matches!(hash.rule, HashRule::PoetryGroups) {
+        return Ok(false);
+    }
+    if may_have(alloc, value, project_text(alloc, document)?.as_slice())? {
+        return Ok(true);
+    }
+    if matches!(hash.rule, HashRule::PoetryProject) {
+        return Ok(false);
+    }
+    let text = poetry_text(alloc, poetry_table_of(document))?;
+    may_have(alloc, value, text.as_slice())
 }
 
 // The lock is out of date.
 fn is_stale(alloc: Global, hash: &ContentHash, document: &Table) -> Result<bool, AllocError>
     ensures { IfOk result (λ b. b ≡ is_stale (content_hash_of hash.now) (table_view document.now)) }
 {
-    let texts = hashed_texts(alloc, hash.rule, document)?;
-    Ok(!may_have_any(alloc, hash.value.as_slice(), texts.as_slice())?)
+    Ok(!may_have_any(alloc, hash, document)?)
 }
 
 fn hash_key(rule: HashRule) -> &'static str

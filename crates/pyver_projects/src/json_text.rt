@@ -1,7 +1,7 @@
 //! Values of TOML as JSON, as Python's `json.dumps` writes it with sorted keys.
 ghost use Rattle.std.specs.Prelude.{◌≡◌, ◌++◌, IfOk, map, option_map};
 ghost use Rattle.std.specs.List.{flat_map};
-ghost use Rattle.pyver_projects.specs.ContentHashes.{after_comma, ascii_escape, ascii_string, control_escape, item_texts, json_array, json_member, json_object, json_text, member_texts, table_members, with_commas};
+ghost use Rattle.pyver_projects.specs.ContentHashes.{after_comma, ascii_escape, ascii_string, control_escape, item_texts, array_text, json_member, object_text, json_text, member_texts, table_members, with_commas};
 ghost use Rattle.toml.specs.Data as toml_data;
 ghost use Rattle.toml.specs.View.{array_view, table_view, view};
 
@@ -83,8 +83,8 @@ fn push_with_commas(text: &mut Vec<u8>, pieces: &[Vec<u8>]) -> Result<(), AllocE
     push_after_commas(text, rest)
 }
 
-fn json_array(alloc: Global, items: &[Vec<u8>]) -> Result<Vec<u8>, AllocError>
-    ensures { IfOk result (λ text. text.items ≡ json_array (map (λ p. p.items) items.now)) }
+fn array_text(alloc: Global, items: &[Vec<u8>]) -> Result<Vec<u8>, AllocError>
+    ensures { IfOk result (λ text. text.items ≡ array_text (map (λ p. p.items) items.now)) }
 {
     let mut text = Vec::from_slice(alloc, b"[")?;
     push_with_commas(&mut text, items)?;
@@ -92,8 +92,8 @@ fn json_array(alloc: Global, items: &[Vec<u8>]) -> Result<Vec<u8>, AllocError>
     Ok(text)
 }
 
-pub(crate) fn json_object(alloc: Global, members: &[Vec<u8>]) -> Result<Vec<u8>, AllocError>
-    ensures { IfOk result (λ text. text.items ≡ json_object (map (λ p. p.items) members.now)) }
+pub(crate) fn object_text(alloc: Global, members: &[Vec<u8>]) -> Result<Vec<u8>, AllocError>
+    ensures { IfOk result (λ text. text.items ≡ object_text (map (λ p. p.items) members.now)) }
 {
     let mut text = Vec::from_slice(alloc, b"{")?;
     push_with_commas(&mut text, members)?;
@@ -141,11 +141,11 @@ pub(crate) fn json_text(alloc: Global, value: &Value) -> Result<Vec<u8>, AllocEr
         Value::Datetime(_) => Vec::from_slice(alloc, b"\0"),
         Value::Array(items) => {
             let texts = item_texts(alloc, items)?;
-            json_array(alloc, texts.as_slice())
+            array_text(alloc, texts.as_slice())
         }
         Value::Table(members) => {
             let texts = member_texts(alloc, members)?;
-            json_object(alloc, texts.as_slice())
+            object_text(alloc, texts.as_slice())
         }
     }
 }
@@ -174,7 +174,10 @@ fn member_texts(alloc: Global, members: &Table) -> Result<Vec<Vec<u8>>, AllocErr
 }
 
 // The members of the table, if there is one.
-pub(crate) fn table_members(alloc: Global, value: Option<&Value>) -> Result<Vec<Vec<u8>>, AllocError>
+pub(crate) fn table_members(
+    alloc: Global,
+    value: Option<&Value>,
+) -> Result<Vec<Vec<u8>>, AllocError>
     ensures { IfOk result (λ texts. map (λ p. p.items) texts.items ≡ table_members (option_map (λ v. view v.now) value.entry)) }
 {
     match table(value) {
