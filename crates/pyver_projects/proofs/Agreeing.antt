@@ -26,8 +26,7 @@ use Rattle.std.proofs.lemmas.List.Elements.{All-contains_itself, All-head, All-t
 use Rattle.pep440_pick.specs.Names.{normal}
 use Rattle.pyver_projects.specs.Comparing.{FindsOfReading, absent, beside_all, compared, compared_demand, documents_report, excluded, excluded_in, found_beside, found_in_pair, invalid_package, is_beside, in_one_folder, is_excused, is_installer, is_locked, is_project_reading, lacking, leaves_out, missing, names_read, overrides_read, own_report, partly_locked, stale_beside, stale_by, stale_finding, stale_in_pair, taken_packages, unlocked, unmet, unmet_demand, with_found, with_own_reports}
 use Rattle.pyver_projects.specs.Documents.{has_group_tool, overridden_names, project_names, sources}
-use Rattle.pyver_projects.specs.Groups.{groups, Inclusion, inclusions}
-use Rattle.pyver_projects.specs.Meanings.{Document, DocumentReading, IsDocumentReading, IsFileReading, IsBroken, IsLock, IsLockReading, IsProject, IsRequirementReading, IsStringReading, LockedReading, StringReading, fault_meaning, file_meaning, is_of_version, reference_marker, requirement_line, string_line, IsSoundString}
+use Rattle.pyver_projects.specs.Meanings.{groups, Inclusion, inclusions, Document, DocumentReading, IsDocumentReading, IsFileReading, IsBroken, IsLock, IsLockReading, IsProject, IsRequirementReading, IsStringReading, LockedReading, StringReading, fault_meaning, file_meaning, is_of_version, reference_marker, requirement_line, string_line, IsSoundString}
 use Rattle.pyver_projects.specs.ProjectLaws.{AllAlone, AllContained, AllFresh, AllMet, AllOfVersion, AllPresent, HasContents, HasProject, HasTable, IsPart, NoFindingImpliesContained, NoFindingImpliesSatisfiable}
 use Rattle.pyver_projects.specs.ProjectStrings.{ContentHash, LockContents, LockFault, LockParts, LockedFile, LockedRequirement, Section, Build, Dependencies, Extra, Group}
 use Rattle.pyver_projects.specs.declared.document_kind.DocumentKind.{DocumentKind}

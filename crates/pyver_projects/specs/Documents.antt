@@ -7,10 +7,9 @@ use Rattle.pep440_rs.specs.Blanks.{opens}
 use Rattle.pep440_version.specs.Reading.{lead}
 use Rattle.toml.specs.Data.{Data, Members, as_str, as_table, get, get_member}
 use Rattle.pyver_projects.specs.ContentHashes.{lock_hash}
-use Rattle.pyver_projects.specs.LockedFiles.{array_faults, files_from, last_section, counted_names, has_markers, locked_python, package_condition, package_faults, package_name_in}
+use Rattle.pyver_projects.specs.LockedFiles.{array_faults, files_from, last_section, counted_names, has_markers, locked_python, package_condition, package_faults, package_name_in, document_faults, member_packages}
 use Rattle.pyver_projects.specs.PackageRequirements.{poetry_list, requirement_text, requirements_from}
 use Rattle.pyver_projects.specs.ProjectStrings.{Build, Dependencies, Entry, Extra, Group, Include, Invalid, LockContents, LockFault, LockParts, LockedPackage, PackageCondition, ProjectString, Python, Section, Unread, Version, header_lines, entries, inside, is_array_or_none, is_table_or_none, key_path, listed, text_in}
-use Rattle.pyver_projects.specs.PipfileLocks.{document_faults, member_packages}
 use Rattle.pyver_findings.specs.NamedFiles.{folder}
 use Rattle.pyver_findings.specs.declared.cause.Cause.{Cause}
 use Rattle.pyver_findings.specs.declared.cause.Cause.TheVariants as cause

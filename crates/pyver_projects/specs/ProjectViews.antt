@@ -2,9 +2,8 @@
 -- by the groups that have them, places of groups, packages by names, and names of projects.
 use Rattle.std.specs.Prelude.{map, option_map, option_to_list, string_bytes, Bool, List, None, Option, Some, [], bytes_eq, count_by, if◌then◌else◌, is_some, nat_eq, nat_lt, not, ℕ, ◌||◌, ◌≡◌}
 use Rattle.pyver_findings.specs.Views.{file_line_of, file_of, finding_of, line_meaning_of}
-use Rattle.pyver_projects.specs.Groups.{Inclusion, Groups}
+use Rattle.pyver_projects.specs.Meanings.{Inclusion, Groups, Document, DocumentReading, IsBroken, IsLock, IsProject, LockedReading, StringReading}
 use Rattle.pyver_projects.specs.KnownEnvironments.{ReadCondition}
-use Rattle.pyver_projects.specs.Meanings.{Document, DocumentReading, IsBroken, IsLock, IsProject, LockedReading, StringReading}
 use Rattle.pyver_projects.specs.ProjectStrings.{Build, ContentHash, Dependencies, Entry, Extra, Group, Include, Invalid, KeyLine, LockContents, LockFault, LockParts, LockedFile, LockedPackage, LockedRequirement, PackageCondition, Section, Python, ProjectString, Unread, Version}
 use Rattle.pyver_projects.specs.declared.document_kind.Document.{Document as DocumentValue}
 use Rattle.pyver_projects.specs.declared.document_reading.DocumentReading.{DocumentReading as DocumentReadingValue}

@@ -1,7 +1,7 @@
 //! What strings of a project and documents are to the check.
 ghost use Rattle.std.specs.Prelude.{◌≡◌, IfOk, IfSome, Some, map, string_bytes, is_none, false};
 ghost use Rattle.pyver_projects.specs.Documents.{locked, toml_contents};
-ghost use Rattle.pyver_projects.specs.Meanings.{ArePythons, AreVersions, IsBrokenReading, IsContentsReading, IsDocumentReading, IsEntryMeaning, IsLockReading, IsProjectReading, IsTextReading, IsSectionMeaning, IsStringReading, IsVersionMeaning, list_versions};
+ghost use Rattle.pyver_projects.specs.Meanings.{ArePythons, AreVersions, IsBrokenReading, IsContentsReading, IsDocumentReading, IsEntryMeaning, IsLockReading, IsProjectReading, IsTextReading, IsSectionMeaning, IsStringReading, IsVersionMeaning, list_versions, include_meaning, no_group};
 ghost use Rattle.pyver_projects.specs.ProjectViews.{contents_of, document_of, document_reading_of, HasGroups, groups_of, project_string_of, section_of, string_reading_of};
 ghost use Rattle.pyver_projects.specs.declared.document_kind.DocumentKind.TheVariants as of_kind;
 ghost use Rattle.pyver_projects.specs.declared.document_kind.LockKind.TheVariants as lock_kind;
@@ -14,7 +14,6 @@ ghost use Rattle.pep440_version.specs.Rejections.{Rejection};
 ghost use Rattle.pyver_findings.specs.FileLines.{NoRequirement};
 ghost use Rattle.pyver_findings.specs.LineMeanings.{IsNone};
 ghost use Rattle.pyver_findings.specs.Views.{file_line_of, line_meaning_of};
-ghost use Rattle.pyver_projects.specs.Groups.{include_meaning, no_group};
 ghost use Rattle.pyver_projects.specs.ProjectStrings.{HasPlaces};
 
 use crate::document_kind::{Document, DocumentKind, LockKind};

@@ -2,8 +2,7 @@ use Rattle.std.proofs.Common.{◌≡◌, ◌∙◌, ap, map, subst}
 use Rattle.std.specs.List.{AllZip}
 use Rattle.pyver_findings.specs.FileLines.{File}
 use Rattle.pyver_projects.specs.Documents.{group_names, sources}
-use Rattle.pyver_projects.specs.Groups.{Groups, groups, inclusions}
-use Rattle.pyver_projects.specs.Meanings.{IsProject, IsStringReading}
+use Rattle.pyver_projects.specs.Meanings.{Groups, groups, inclusions, IsProject, IsStringReading}
 use Rattle.pyver_projects.specs.ProjectViews.{groups_of, inclusion_of, project_string_of, string_reading_of}
 use Rattle.pyver_projects.specs.ProjectStrings.{ProjectString}
 use Rattle.toml.specs.View.{table_view}
