@@ -96,7 +96,7 @@ of_entry line a AsksNothing is e = cc e
 
 -- what a string asks for
 pub of_section : (all : Groups) (line : FileLine) (text : List ℕ) (a : Demand) (section : Section) → IsSectionMeaning all section line text (Asks a) → AsksFor line (line_parts line.text) a
-of_section all line text a Python (inl (list, d, e)) = absurd (never_asks a line _ _ e)
+of_section all line text a Python (inl (list, d, e)) = absurd (never_asks a _ _ e)
 of_section all line text a Python (inr (f, r, e)) = cc e
 of_section all line text a Version (inl (v, d, e)) = cc e
 of_section all line text a Version (inr (f, r, e)) = cc e

@@ -539,14 +539,21 @@ fn hash_key(rule: HashRule) -> &'static str
     }
 }
 
+// The number of the first line of the text that has the key with this path.
+fn key_line(alloc: Global, text: &[u8], path: &[u8]) -> Result<Option<usize>, AllocError>
+    ensures { IfOk result (λ number. number ≡ key_line text.now path.now) }
+{
+    let keys = document_keys(alloc, text)?;
+    let numbers = number_keys(alloc, keys.as_slice())?;
+    Ok(numbers.get(path).copied())
+}
+
 // The number of the line of the hash in the lock with this text.
 fn hash_number(alloc: Global, text: &[u8], rule: HashRule) -> Result<u64, AllocError>
     ensures { IfOk result (λ number. number ≡ number_or_one (key_line text.now (key_path (codes "metadata.") (hash_key rule)))) }
 {
     let path = key_path(alloc, b"metadata.", hash_key(rule).as_bytes())?;
-    let keys = document_keys(alloc, text)?;
-    let numbers = number_keys(alloc, keys.as_slice())?;
-    match numbers.get(path.as_slice()).copied() {
+    match key_line(alloc, text, path.as_slice())? {
         Some(number) => Ok(number as u64),
         None => Ok(1),
     }
