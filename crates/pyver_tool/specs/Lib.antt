@@ -1,3 +1,4 @@
+pub mod Options
 pub mod SplitWords
 pub mod Settings
 pub mod Tasks
