@@ -10,7 +10,7 @@ use Rattle.std.specs.declared.cmp.Ordering.TheVariants.{Less, Equal, Greater}
 use Rattle.pep440_version.specs.Key.{record_cmp}
 use Rattle.pep440_version.specs.Key.KeyLaws.{record_total}
 use Rattle.pep440_version.specs.Record.{Record}
-use Rattle.examples.specs.Page.{IsLastGreatest, LastGreatest}
+use Rattle.examples.specs.Versions.{IsLastGreatest, LastGreatest}
 
 -- the later of two where they are equal
 abbrev pub newer : Record → Record → Record

@@ -1,4 +1,2 @@
 pub mod Lock
-pub mod Page
-pub mod Verdicts
-pub mod Within
+pub mod Versions

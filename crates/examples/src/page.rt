@@ -1,6 +1,6 @@
 //! The newest candidate of an index page.
 ghost use Rattle.std.specs.Prelude.{◌≡◌, IfOk};
-ghost use Rattle.examples.specs.Page.{LastGreatest, collect_matches};
+ghost use Rattle.examples.specs.Versions.{LastGreatest, collect_matches};
 
 use pep440_rs::{Version, VersionSpecifiers};
 use std::alloc::{AllocError, Global};

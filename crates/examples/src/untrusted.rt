@@ -1,7 +1,7 @@
 //! A reader of untrusted strings: each is accepted or rejected with an error, and none ends the process.
 ghost use Rattle.std.specs.Prelude.{IfOk};
 ghost use Rattle.std.specs.List.{AllZip};
-ghost use Rattle.examples.specs.Verdicts.{IsVerdict};
+ghost use Rattle.examples.specs.Versions.{IsVerdict};
 
 use pep440_rs::Version;
 use std::alloc::{AllocError, Global};

@@ -6,7 +6,7 @@ ghost use Rattle.pep440_version.specs.Key.{record_cmp};
 ghost use Rattle.pep440_rs.specs.Agreement.{HasOperand, IsCandidate};
 ghost use Rattle.pep440_rs.specs.Bounds.{list_range, range_of};
 ghost use Rattle.pep440_rs.specs.Matching.{list_matches};
-ghost use Rattle.examples.specs.Within.{versions_within};
+ghost use Rattle.examples.specs.Versions.{versions_within};
 
 use pep440_rs::{RangeError, Ranges, Version, VersionSpecifiers, specifiers_to_ranges};
 use std::alloc::Global;

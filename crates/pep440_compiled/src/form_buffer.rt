@@ -43,7 +43,7 @@ fn parse_and_compile(alloc: Global, text: &[u8]) -> Result<Vec<u8>, CompileStrin
     Ok(form)
 }
 
-/// A buffer for the compiled form of a string: on the stack for one of at most 64 bytes, as that of nearly every string is.
+/// A buffer for the compiled form of a string: on the stack if it has at most 64 bytes, as for nearly every string.
 #[derive(Drop)]
 pub struct FormBuffer {
     stack: ArrayVec<u8, 64>,

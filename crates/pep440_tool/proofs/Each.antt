@@ -18,11 +18,10 @@ use Rattle.pep440_rs.specs.Specifiers.{Spec}
 use Rattle.pep440_version.specs.Key.{record_cmp}
 use Rattle.pep440_version.specs.Print.{print}
 use Rattle.pep440_version.specs.Record.{Record}
+use Rattle.pep440_tool.specs.Answers.{line, RejectsFirst, ToolAnswer, shown}
 use Rattle.pep440_tool.specs.Lines.{LineDenotes, ShowsContained, numbered_lines}
 use Rattle.pep440_tool.specs.Picks.{CandidateDenotes, PickAnswer}
-use Rattle.pep440_tool.specs.Texts.{line}
 use Rattle.pep440_version.proofs.ChangeWords.Items.{rest_is}
-use Rattle.pep440_tool.specs.Answers.{RejectsFirst, ToolAnswer, shown}
 
 -- what was found, of which this holds, and the texts that are left
 pub record Found {A : Type 0} (Means : ℕ × List ℕ → A → Type 0) (texts left : List (ℕ × List ℕ)) (P : List A → Type 0) : Type 0 where

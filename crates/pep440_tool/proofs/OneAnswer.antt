@@ -25,7 +25,7 @@ use Rattle.pep440_version.proofs.Rejections.ExactlyOne.{not_both, one_refusal}
 use Rattle.pep440_tool.specs.Answers.{DenotesChange, ReadsVersion, ReadsEach, ReadsList, RejectsChange, ToolAnswer, candidate_fault_text, shown_error, shown_list_error, shown, shown_lines}
 use Rattle.pep440_tool.specs.Commands.{Show, Compare, Match, Edit as AskEdit, Range, Filter, Pick, Usage}
 use Rattle.pep440_tool.specs.Lines.{LineDenotes, RejectsLine, ShowsContained, numbered_lines, shown_version_error}
-use Rattle.pep440_tool.specs.OneAnswer.{AnswerIsUnique}
+use Rattle.pep440_tool.specs.Commands.{AnswerIsUnique}
 use Rattle.pep440_tool.specs.Picks.{CandidateDenotes, PickAnswer, RejectsCandidate, ShowsNewest, newest_text, shown_requirement_error}
 
 reads_once : (word : List ℕ) (P Q : Record → Type 0) (a b : ToolAnswer) → ((r : Record) → P r → Q r → a ≡ b) → ReadsVersion word P a → ReadsVersion word Q b → a ≡ b

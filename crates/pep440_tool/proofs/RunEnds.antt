@@ -5,10 +5,9 @@ use Rattle.std.specs.Io.KnownBytes.{Appends}
 use Rattle.cli_io.proofs.Bytes.{WroteBeginning-none}
 use Rattle.cli_io.specs.Runs.{AtOnce, Nothing}
 use Rattle.cli_io.specs.Streams.{WroteBeginning}
-use Rattle.pep440_tool.specs.Answers.{ToolAnswer}
+use Rattle.pep440_tool.specs.Answers.{ToolAnswer, memory_text}
 use Rattle.pep440_tool.specs.Commands.{IsAnswer, request_of_words, reads_input}
 use Rattle.pep440_tool.specs.Runs.{RunEnds, TookInput}
-use Rattle.pep440_tool.specs.Texts.{memory_text}
 use Rattle.pep440_tool.specs.Lines.{numbered_from}
 use Rattle.cli_io.specs.Newlines.{input_lines}
 use Rattle.pep440_tool.specs.LinesLeft.{left_of}

@@ -1,7 +1,7 @@
 -- What the program prints: bytes and a status. Each command's answer is determined by what its words denote.
-use Rattle.std.specs.Prelude.{◌≡◌, ◌⊎◌, ℕ, List, ◌∷◌, ◌++◌, Bool, true, false, codes, Option, Some, None, Result, Ok, Err}
+use Rattle.std.specs.Prelude.{◌≡◌, ◌⊎◌, ℕ, List, ◌∷◌, ◌++◌, Bool, true, false, codes, Option, Some, None, Result, Ok, Err, []}
 use Rattle.std.specs.Fmt.{decimal}
-use Rattle.std.specs.List.{AllZip, enumerate_from}
+use Rattle.std.specs.List.{AllZip, enumerate_from, flat_map}
 use Rattle.std.specs.declared.cmp.Ordering.{Ordering}
 use Rattle.std.specs.declared.cmp.Ordering.TheVariants.{Less, Equal, Greater}
 use Rattle.pep440_version.specs.Changes.ChangeWords.{change_of, not_a_change_text}
@@ -22,7 +22,24 @@ use Rattle.pep440_version.specs.Print.{print}
 use Rattle.pep440_version.specs.Record.{Record}
 use Rattle.pep440_version.specs.Rejections.{Rejection, Rejects}
 use Rattle.pep440_version.specs.declared.change.ChangeError.{ChangeError}
-use Rattle.pep440_tool.specs.Texts.{line, lines_of, usage_text}
+
+-- ---- the fixed strings of the program, each a line of its own
+
+-- the string and a newline
+abbrev pub line : List ℕ → List ℕ
+line text = text ++ 10 ∷ []
+
+-- each string as a line
+abbrev pub lines_of : List (List ℕ) → List ℕ
+lines_of texts = flat_map line texts
+
+-- the usage line
+abbrev pub usage_text : List ℕ
+usage_text = codes "usage: pep440 show V / compare A B / match SPECS V / edit V CHANGE.. / range SPECS / filter SPECS / pick NAME V..\n"
+
+-- the line `error: out of memory`
+abbrev pub memory_text : List ℕ
+memory_text = codes "error: out of memory\n"
 
 -- what is written, and the status of the process
 pub record ToolAnswer : Type 0 where

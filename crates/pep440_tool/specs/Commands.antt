@@ -72,3 +72,7 @@ abbrev pub reads_input : CommandRequest → Bool
 reads_input (Filter specifiers) = true
 reads_input (Pick name candidates) = true
 reads_input _ = false
+
+-- words and input have at most one answer
+abbrev pub AnswerIsUnique : Type 0
+AnswerIsUnique = (asked : CommandRequest) (input : List ℕ) (a b : ToolAnswer) → IsAnswer asked input a → IsAnswer asked input b → a ≡ b

@@ -1,9 +1,7 @@
-pub mod Texts
 pub mod Answers
 pub mod Lines
 pub mod Picks
 pub mod Commands
-pub mod OneAnswer
 pub mod Runs
 pub mod CommandErrors
 pub mod LinesLeft

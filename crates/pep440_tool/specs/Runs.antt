@@ -2,9 +2,8 @@
 use Rattle.std.specs.Prelude.{◌≡◌, ℕ, ◌⊎◌, Bool, true, false, List, [], Option}
 use Rattle.std.specs.Io.KnownBytes.{Consumes, IsAtEnd}
 use Rattle.cli_io.specs.Runs.{AtOnce, OutputProgress, Ends, InParts, Nothing, Outcome}
-use Rattle.pep440_tool.specs.Answers.{ToolAnswer}
+use Rattle.pep440_tool.specs.Answers.{ToolAnswer, memory_text}
 use Rattle.pep440_tool.specs.Commands.{IsAnswer, request_of_words, reads_input}
-use Rattle.pep440_tool.specs.Texts.{memory_text}
 
 module _ {R : Type 0} (remaining : R → Option (List ℕ)) where
   -- a command that needs the input has read all of it; any other has read nothing

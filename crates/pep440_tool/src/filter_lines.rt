@@ -3,11 +3,10 @@ ghost use Rattle.std.specs.Prelude.{◌≡◌, ◌∷◌, ◌++◌, [], IfOk, Li
 ghost use Rattle.std.specs.Fmt.{WritesStyledOnOk};
 ghost use Rattle.std.specs.List.{AllZip, filter, flat_map};
 ghost use Rattle.pep440_rs.specs.Matching.{list_matches};
-ghost use Rattle.pep440_tool.specs.Answers.{RejectsFirst};
+ghost use Rattle.pep440_tool.specs.Answers.{RejectsFirst, line};
 ghost use Rattle.pep440_tool.specs.CommandErrors.{HoldsOrPrints};
 ghost use Rattle.pep440_tool.specs.Lines.{FilterAnswer, LineDenotes, RejectsLine, numbered_lines, shown_version_error};
 ghost use Rattle.pep440_tool.specs.AnswerValues.{HoldsOfAnswer};
-ghost use Rattle.pep440_tool.specs.Texts.{line};
 ghost use Rattle.pep440_version.specs.Grammar.{Derives};
 ghost use Rattle.pep440_version.specs.Print.{print};
 ghost use Rattle.pep440_version.specs.Record.{Record};

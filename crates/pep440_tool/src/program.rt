@@ -4,7 +4,7 @@ ghost use Rattle.std.specs.Io.KnownBytes.{Appends};
 ghost use Rattle.cli_io.specs.Streams.{WroteBeginning};
 ghost use Rattle.pep440_tool.specs.Commands.{request_of_words, reads_input};
 ghost use Rattle.pep440_tool.specs.Runs.{RunEnds};
-ghost use Rattle.pep440_tool.specs.Texts.{memory_text};
+ghost use Rattle.pep440_tool.specs.Answers.{memory_text};
 
 use crate::command::Command;
 use cli_io::status::{FAILED, OUT_OF_MEMORY};

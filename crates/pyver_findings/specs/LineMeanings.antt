@@ -18,9 +18,10 @@ use Rattle.pyver_requirements.specs.declared.line_fault.LineFault.TheVariants as
 use Rattle.pyver_findings.specs.Demands.{Demand, line_demand}
 use Rattle.pyver_findings.specs.Columns.{column, marker_column, list_column}
 use Rattle.cli_io.specs.Escapes.{is_printable}
-use Rattle.pyver_findings.specs.FileLines.{FileLine, Finding, NoRequirement}
+use Rattle.pyver_findings.specs.FileLines.{Conflicting, FileLine, Finding, NoRequirement}
 use Rattle.pyver_findings.specs.declared.cause.Cause.{Cause}
 use Rattle.pyver_findings.specs.declared.cause.Cause.TheVariants as cause
+use Rattle.pyver_findings.specs.declared.finding.Conflict.TheVariants.{NoVersion}
 
 -- a requirement; a line that is none; a line that is left out, and why; a line that asks for no package, as the name of another file
 pub data LineMeaning : Type 0 where
@@ -126,7 +127,7 @@ IsPartsMeaning line p x = ((¬ IsPlain p.requirement) × (x ≡ not_plain line p
 
 -- what a list of specifiers is, which asks for no package: some version matches it, or none
 abbrev pub list_meaning : FileLine → List Spec → LineMeaning
-list_meaning line list = if is_none (common_version list) then IsNone (NoRequirement line (codes "no version satisfies it") 0) else AsksNothing
+list_meaning line list = if is_none (common_version list) then IsNone (Conflicting NoVersion (line ∷ []) None) else AsksNothing
 
 -- what a string of this line is that is to be a list of specifiers
 abbrev pub IsListMeaning : FileLine → List ℕ → LineMeaning → Type 0

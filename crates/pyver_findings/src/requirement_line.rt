@@ -1,5 +1,5 @@
 //! Lines that are requirements or lists of specifiers, or should be.
-ghost use Rattle.std.specs.Prelude.{◌≡◌, Some, IfOk, IfSome, false, option_map, string_bytes, is_none};
+ghost use Rattle.std.specs.Prelude.{◌≡◌, ◌∷◌, [], None, Some, IfOk, IfSome, false, option_map, string_bytes, is_none};
 ghost use Rattle.std.specs.List.{list_any};
 ghost use Rattle.pep440_pick.specs.RequirementGrammar.{RequirementRejection};
 ghost use Rattle.pep440_pick.specs.Requirements.{IsPositioned, IsRequirementLifted, needed, requirement_rejection_of};
@@ -10,9 +10,10 @@ ghost use Rattle.pep440_rs.specs.Lists.ListErrors.{IsListLifted, list_rejection_
 ghost use Rattle.pep440_rs.specs.Lists.ListErrorTexts.{list_rejection_text, list_text_of};
 ghost use Rattle.pep440_rs.specs.Lists.ListGrammar.{PieceRejection};
 ghost use Rattle.pyver_findings.specs.Columns.{list_column};
-ghost use Rattle.pyver_findings.specs.FileLines.{NoRequirement};
+ghost use Rattle.pyver_findings.specs.FileLines.{Conflicting, NoRequirement};
 ghost use Rattle.pyver_findings.specs.LineMeanings.{IsNone, IsPartsMeaning, IsPlain, before_url, requirement_meaning, rejection_meaning, under_marker, with_url, IsListMeaning, list_meaning};
 ghost use Rattle.pyver_findings.specs.Views.{file_line_of, is_memory_error, line_meaning_of, piece_text_of, reason_text_of};
+ghost use Rattle.pyver_findings.specs.declared.finding.Conflict.TheVariants as of_conflict;
 ghost use Rattle.pyver_requirements.specs.LineParts.{is_blank_byte, line_parts, pip_parts};
 ghost use Rattle.pyver_requirements.specs.LineViews.{line_parts_of};
 ghost use Rattle.pyver_requirements.specs.MarkerReading.{marker};
@@ -21,7 +22,7 @@ use crate::cause::Cause;
 use crate::column::{column, list_column, marker_column};
 use crate::demand::Demand;
 use crate::file_line::FileLine;
-use crate::finding::Finding;
+use crate::finding::{Conflict, Finding};
 use crate::line_meaning::LineMeaning;
 use crate::plain::plain_text;
 use pep440_pick::{Requirement, RequirementError, RequirementParseError};
@@ -224,6 +225,16 @@ fn reject_list(
     reject(alloc, line, reason.as_str(), column)
 }
 
+// That no version satisfies the line.
+fn reject_unsatisfiable(alloc: Global, line: &FileLine) -> Result<LineMeaning, AllocError>
+    ensures { IfOk result (λ x. line_meaning_of x ≡ IsNone (Conflicting of_conflict.NoVersion (file_line_of line.now ∷ []) None)) }
+{
+    let mut lines = Vec::new(alloc);
+    lines.push(line.clone()?)?;
+    let finding = Finding::Conflicting(Conflict::NoVersion, lines, None);
+    Ok(LineMeaning::IsNone(finding))
+}
+
 // What a list of specifiers is.
 fn list_meaning(
     alloc: Global,
@@ -234,7 +245,7 @@ fn list_meaning(
 {
     match find_version(alloc, list.as_slice())? {
         Some(_) => Ok(LineMeaning::AsksNothing),
-        None => reject(alloc, line, "no version satisfies it", 0),
+        None => reject_unsatisfiable(alloc, line),
     }
 }
 

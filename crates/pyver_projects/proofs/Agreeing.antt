@@ -1,6 +1,6 @@
 -- Where nothing is found, each requirement contains a locked version of its name, and requirements that hold together have a version in common: all of
 -- them, and so those of each part.
-use Rattle.std.proofs.Common.{◌≡◌, ◌∙◌, ℕ, List, [], ◌++◌, Bool, true, false, Some, None, refl, sym, ap, subst, inl, inr, if◌then◌else◌, bytes_eq, map, not, ◌∷◌, ◌||◌, Option, cond, is_none, is_some, length, nat_lt}
+use Rattle.std.proofs.Common.{◌≡◌, ◌∙◌, ℕ, arith, suc, zero, List, [], ◌++◌, Bool, true, false, Some, None, refl, sym, ap, subst, inl, inr, if◌then◌else◌, bytes_eq, map, not, ◌∷◌, ◌||◌, Option, cond, is_none, is_some, length, nat_lt}
 use Rattle.std.specs.Prelude.{⊤}
 use Rattle.std.specs.List.{All, AllZip, Contains, flat_map, list_any, zip, filter}
 use Rattle.pep440_pick.specs.RequirementGrammar.{Needed}
@@ -24,16 +24,17 @@ use Rattle.std.proofs.lemmas.Grind.{flat_map-append}
 use Rattle.std.proofs.lemmas.List.Folds.{list_any-append, list_any_at}
 use Rattle.std.proofs.lemmas.List.Elements.{All-contains_itself, All-head, All-tail, All-cons, All-contains, All-filter, All-nil, All-weaker}
 use Rattle.pep440_pick.specs.Names.{normal}
-use Rattle.pyver_projects.specs.Comparing.{FindsOfReading, absent, beside_all, compared, compared_demand, documents_report, excluded, excluded_in, found_beside, found_in_pair, invalid_package, is_beside, is_excused, is_installer, is_locked, is_project_reading, lacking, leaves_out, missing, names_read, overrides_read, own_report, partly_locked, taken_packages, unlocked, unmet, unmet_demand, with_found, with_own_reports}
+use Rattle.pyver_projects.specs.Comparing.{FindsOfReading, absent, beside_all, compared, compared_demand, documents_report, excluded, excluded_in, found_beside, found_in_pair, invalid_package, is_beside, in_one_folder, is_excused, is_installer, is_locked, is_project_reading, lacking, leaves_out, missing, names_read, overrides_read, own_report, partly_locked, stale_beside, stale_by, stale_finding, stale_in_pair, taken_packages, unlocked, unmet, unmet_demand, with_found, with_own_reports}
 use Rattle.pyver_projects.specs.Documents.{has_group_tool, overridden_names, project_names, sources}
-use Rattle.pyver_projects.specs.Groups.{groups, Inclusion, inclusions}
-use Rattle.pyver_projects.specs.Meanings.{Document, DocumentReading, IsDocumentReading, IsFileReading, IsBroken, IsLock, IsLockReading, IsProject, IsRequirementReading, IsStringReading, LockedReading, StringReading, fault_meaning, file_meaning, is_of_version, reference_marker, requirement_line, string_line, IsSoundString}
-use Rattle.pyver_projects.specs.ProjectLaws.{AllAlone, AllContained, AllMet, AllOfVersion, AllPresent, HasContents, HasProject, HasTable, IsPart, NoFindingImpliesContained, NoFindingImpliesSatisfiable}
-use Rattle.pyver_projects.specs.ProjectStrings.{LockContents, LockFault, LockParts, LockedFile, LockedRequirement, Section, Build, Dependencies, Extra, Group}
+use Rattle.pyver_projects.specs.Meanings.{groups, Inclusion, inclusions, Document, DocumentReading, IsDocumentReading, IsFileReading, IsBroken, IsLock, IsLockReading, IsProject, IsRequirementReading, IsStringReading, LockedReading, StringReading, fault_meaning, file_meaning, is_of_version, reference_marker, requirement_line, string_line, IsSoundString}
+use Rattle.pyver_projects.specs.ProjectLaws.{AllAlone, AllContained, AllFresh, AllMet, AllOfVersion, AllPresent, HasContents, HasProject, HasTable, IsPart, NoFindingImpliesContained, NoFindingImpliesSatisfiable}
+use Rattle.pyver_projects.specs.ProjectStrings.{ContentHash, LockContents, LockFault, LockParts, LockedFile, LockedRequirement, Section, Build, Dependencies, Extra, Group}
 use Rattle.pyver_projects.specs.declared.document_kind.DocumentKind.{DocumentKind}
 use Rattle.pyver_projects.specs.declared.document_kind.DocumentKind.TheVariants.{Lock, Project}
 use Rattle.pyver_projects.specs.declared.document_kind.LockKind.{LockKind}
 use Rattle.std.proofs.lemmas.Slice.Eq.{bytes_eq-Decides}
+use Rattle.pyver_findings.specs.NamedFiles.{folder}
+use Rattle.pyver_projects.specs.ContentHashes.{hash_of, hashed_texts, is_known_text, may_have}
 use Rattle.pyver_findings.proofs.Found.{Some_is}
 use Rattle.pyver_findings.specs.FindingLaws.{IsAmong, IsAmongIn}
 use Rattle.pyver_findings.specs.Conflicts.{first_mentions, has_same_marker, has_same_name, have_none, unmarked}
@@ -51,13 +52,13 @@ use Rattle.pyver_findings.proofs.Grouping.{under_unmarked}
 use Rattle.pyver_findings.specs.declared.cause.Cause.TheVariants as cause
 
 -- a project with this table was read
-pub project_read : (file : File) (t : Members) (x : DocumentReading) → HasTable file t → IsDocumentReading (record { kind = Project; file = file }) x → (xs : List StringReading) × AllZip (IsStringReading (groups t) file) (sources t) xs × (x ≡ IsProject (has_group_tool t) (project_names t) (overridden_names t) xs)
+pub project_read : (file : File) (t : Members) (x : DocumentReading) → HasTable file t → IsDocumentReading (record { kind = Project; file = file }) x → (xs : List StringReading) × AllZip (IsStringReading (groups t) file) (sources t) xs × (x ≡ IsProject t (has_group_tool t) (project_names t) (overridden_names t) xs)
 project_read file t x (text, e) (inl (none, (position, told))) = absurd (none text)
 project_read file t x (text, e) (inr (again, inr (none, broken))) = let same : Some t ≡ None = sym e ∙ none in cc same
 project_read file t x (text, e) (inr (again, inl (u, f, (xs, h, is)))) =
     let same : Some u ≡ Some t = sym f ∙ e in
     let table : u ≡ t = cc same in
-    (xs, subst (λ (m : Members). AllZip (IsStringReading (groups m) file) (sources m) xs) table h, is ∙ ap (λ (m : Members). IsProject (has_group_tool m) (project_names m) (overridden_names m) xs) table)
+    (xs, subst (λ (m : Members). AllZip (IsStringReading (groups m) file) (sources m) xs) table h, is ∙ ap (λ (m : Members). IsProject m (has_group_tool m) (project_names m) (overridden_names m) xs) table)
 
 -- a lock with this was read
 lock_read : (file : File) (kind : LockKind) (l : LockContents) (x : DocumentReading) → HasContents kind file l → IsDocumentReading (record { kind = Lock kind; file = file }) x → IsLockReading file.name l x
@@ -94,8 +95,9 @@ all_contained documents zs h found file lock kind l s p n v (t, ((k, inside, at)
     let (xs, g, is_project) = project_read file t x table rx in
     let (ys, ms, fs, q, required, files, is_lock) = lock_read lock kind l y other ry in
     let nothing : found_beside (Lock kind) x y ≡ [] =
-    counted (is_beside documents project locked) (found_beside (Lock kind) x y) beside
-    (nil_at (found_in_pair documents (project, x)) pairs (locked, y) b in_y is_y (nil_at (beside_all documents pairs) pairs (project, x) a in_x is_x found)) in
+    right_nil (stale_in_pair (project, x) (locked, y)) (found_beside (Lock kind) x y)
+    (counted (is_beside documents project locked) (stale_in_pair (project, x) (locked, y) ++ found_beside (Lock kind) x y) beside
+    (nil_at (found_in_pair documents (project, x)) pairs (locked, y) b in_y is_y (nil_at (beside_all documents pairs) pairs (project, x) a in_x is_x found))) in
     let compares : flat_map (compared kind l.parts (project_names t) (overridden_names t) ys) xs ≡ [] = (λ e. found_beside (Lock kind) (sym is_project e) (sym is_lock e)) ∙ nothing in
     let (z, (c, in_z, is_z), rz) = beside_it (IsStringReading (groups t) file) (sources t) xs s i within here g in
     let meaning = asks_always (string_line file s) n asks.0 asks.1 asks.2 asks.3 (groups t) s.text s.section z.meaning counts rz.1 in
@@ -106,6 +108,44 @@ all_contained documents zs h found file lock kind l s p n v (t, ((k, inside, at)
     not_excluded lock.name l.packages (string_line file s) n ys q p j under this v locks
     (not_lacking (leaves_out kind l.parts.names s.section) (excluded asked ys) has_it (right_nil (missing kind l.parts (project_names t) ys s.section asked) (excluded_in kind l.parts (project_names t) ys s.section asked) both))
 
+-- what has the hash, if it is known
+abbrev SomeHash : List ℕ → List (List ℕ) → Type 0
+SomeHash value texts = (text : List ℕ) × Contains texts text × (is_known_text text ≡ true → value ≡ hash_of text)
+
+known_so : (b c : Bool) → (not b || c) ≡ true → b ≡ true → c ≡ true
+known_so true c e known = e
+known_so false c e known = absurd (true≢false (sym known))
+
+some_hash_by : (value text : List ℕ) (texts : List (List ℕ)) (b : Bool) → may_have value text ≡ b → (b || list_any (may_have value) texts) ≡ true → (list_any (may_have value) texts ≡ true → SomeHash value texts) → SomeHash value (text ∷ texts)
+some_hash_by value text texts true is e later =
+    (text, (zero, omega arith, refl), λ known. (bytes_eq-Decides value (hash_of text)).0 (known_so (is_known_text text) (bytes_eq value (hash_of text)) is known))
+some_hash_by value text texts false is e later = let (found, (k, inside, at), has) = later e in (found, (suc k, omega (arith, inside), at), has)
+
+some_hash : (value : List ℕ) (texts : List (List ℕ)) → list_any (may_have value) texts ≡ true → SomeHash value texts
+some_hash value [] e = absurd (true≢false (sym e))
+some_hash value (text ∷ texts) e = some_hash_by value text texts (may_have value text) refl e (some_hash value texts)
+
+not_stale : (lock : File) (hash : ContentHash) (b : Bool) → (if not b then stale_finding lock hash.rule ∷ [] else []) ≡ [] → b ≡ true
+not_stale lock hash true e = refl
+not_stale lock hash false e = cc e
+
+all_fresh : (documents : List Document) (zs : List DocumentReading) → AllZip IsDocumentReading documents zs → flat_map (beside_all documents (zip documents zs)) (zip documents zs) ≡ [] → AllFresh documents
+all_fresh documents zs h found file lock kind l t hash ((k, inside, at), table) ((m, below, there), other) beside near written =
+    let project : Document = record { kind = Project; file = file } in
+    let locked : Document = record { kind = Lock kind; file = lock } in
+    let pairs = zip documents zs in
+    let (x, (a, in_x, is_x), rx) = beside_pair IsDocumentReading documents zs project k inside at h in
+    let (y, (b, in_y, is_y), ry) = beside_pair IsDocumentReading documents zs locked m below there h in
+    let (xs, g, is_project) = project_read file t x table rx in
+    let (ys, ms, fs, q, required, files, is_lock) = lock_read lock kind l y other ry in
+    let nothing : stale_in_pair (project, x) (locked, y) ≡ [] =
+    left_nil (stale_in_pair (project, x) (locked, y)) (found_beside (Lock kind) x y)
+    (counted (is_beside documents project locked) (stale_in_pair (project, x) (locked, y) ++ found_beside (Lock kind) x y) beside
+    (nil_at (found_in_pair documents (project, x)) pairs (locked, y) b in_y is_y (nil_at (beside_all documents pairs) pairs (project, x) a in_x is_x found))) in
+    let here : stale_beside lock x y ≡ [] = counted (in_one_folder project locked) (stale_beside lock x y) ((bytes_eq-Decides (folder file.name) (folder lock.name)).1 near) nothing in
+    let fresh : stale_by lock t l.parts.hash ≡ [] = (λ e. stale_beside lock (sym is_project e) (sym is_lock e)) ∙ here in
+    some_hash hash.value (hashed_texts hash.rule t) (not_stale lock hash (list_any (may_have hash.value) (hashed_texts hash.rule t)) (ap (stale_by lock t) (sym written) ∙ fresh))
+
 -- a requirement asks for its list
 asks_for : (file : List ℕ) (q : LockedRequirement) (list : List Spec) (m : LineMeaning) → DerivesList q.list list → IsRequirementReading file q m → m ≡ Asks (line_demand (requirement_line file q) (reference_marker q.is_reference) (record { name = q.name; extras = []; specifiers = list }))
 asks_for file q list m d (inl (other, e, is)) =
@@ -114,7 +154,7 @@ asks_for file q list m d (inr (f, r, is)) = absurd (not_both_list q.list list f 
 
 -- none of the documents that were read names this
 module _ (documents : List Document) (name : List ℕ) (named : DocumentReading → List (List ℕ)) (of_lock : (parts : LockParts) (ys : List LockedReading) (ms fs : List LineMeaning) → named (IsLock parts ys ms fs) ≡ []) (of_broken : (f : Finding) → named (IsBroken f) ≡ [])
-    (others : (other : File) (u : Members) (xs : List StringReading) → HasProject documents other u → list_any (bytes_eq name) (named (IsProject (has_group_tool u) (project_names u) (overridden_names u) xs)) ≡ false) where
+    (others : (other : File) (u : Members) (xs : List StringReading) → HasProject documents other u → list_any (bytes_eq name) (named (IsProject u (has_group_tool u) (project_names u) (overridden_names u) xs)) ≡ false) where
   abbrev OtherNames : DocumentReading → Type 0
   OtherNames x = list_any (bytes_eq name) (named x) ≡ false
 
@@ -236,7 +276,7 @@ no_finding_means_contained documents r (zs, h, fs, cs, finds, is) none =
     let compared = flat_map (beside_all documents (zip documents zs)) (zip documents zs) in
     let found : (with_own_reports (is_excused zs) empty_report zs).findings ++ compared ≡ [] = left_nil ((with_own_reports (is_excused zs) empty_report zs).findings ++ compared) fs (sym (ap (λ (e : Report). e.findings) is) ∙ none) in
     let own : flat_map (λ x. (own_report (is_excused zs) x).findings) zs ≡ [] = sym (findings_of documents (is_excused zs) empty_report zs) ∙ left_nil (with_own_reports (is_excused zs) empty_report zs).findings compared found in
-    (all_contained documents zs h (right_nil (with_own_reports (is_excused zs) empty_report zs).findings compared found), (all_met documents zs h own, (all_present documents zs h own, (all_of_version documents zs h own, all_alone documents zs h own))))
+    (all_contained documents zs h (right_nil (with_own_reports (is_excused zs) empty_report zs).findings compared found), (all_met documents zs h own, (all_present documents zs h own, (all_of_version documents zs h own, (all_alone documents zs h own, all_fresh documents zs h (right_nil (with_own_reports (is_excused zs) empty_report zs).findings compared found))))))
 
 -- parts that are the same are equal
 same_is : (a b : Section) → same_part a b ≡ true → a ≡ b

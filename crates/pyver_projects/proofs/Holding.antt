@@ -1,6 +1,6 @@
 -- Each finding of a report of documents is right, as are requirements of a project that have no version in common; documents that were read have
 -- lists that strings can give; and requirements that count always.
-use Rattle.std.proofs.Common.{Bool, Err, List, None, Ok, Option, Result, Some, [], ap, bytes_eq, codes, false, if◌then◌else◌, inl, inr, is_none, length, map, option_map, refl, subst, sym, true, ℕ, ◌++◌, ◌+◌, ◌∙◌, ◌∷◌, ◌≡◌, take}
+use Rattle.std.proofs.Common.{Bool, Err, List, None, Ok, Option, Result, Some, [], ap, bytes_eq, codes, false, if◌then◌else◌, inl, inr, is_none, length, map, not, option_map, refl, subst, sym, true, ℕ, ◌++◌, ◌+◌, ◌∙◌, ◌∷◌, ◌≡◌, ◌||◌, take}
 use Rattle.std.proofs.lemmas.Bool.{true≢false}
 use Rattle.std.proofs.lemmas.List.{append-nil, append_assoc}
 use Rattle.std.proofs.lemmas.List.Elements.{All-append, All-cons, All-contains_itself, All-head, All-map, All-nil, All-tail, All-weaker}
@@ -19,14 +19,16 @@ use Rattle.pyver_requirements.specs.LineParts.{LineParts, line_parts}
 use Rattle.toml.specs.Data.{Members}
 use Rattle.toml.specs.Parse.{parse_document}
 use Rattle.pyver_projects.specs.Together.{FindsOfPart, FindsOfParts, demand_in_part, has_group, holds_in, part_demands, parts, project_domain, same_finding, sections, with_new}
-use Rattle.pyver_projects.proofs.Walks.{all_flat, pairs_each, zip_each}
-use Rattle.pyver_projects.specs.Comparing.{Excuse, FindsOfReading, absent, beside_all, compared, compared_demand, documents_report, excluded, excluded_in, found_beside, found_in_pair, has_name, invalid_package, invalid_string, is_beside, is_excused, is_installer, is_locked, is_needed, lacking, leaves_out, own_report, partly_locked, taken_packages, unlocked, unmet, unmet_demand, with_own_reports}
+use Rattle.pyver_projects.proofs.Walks.{all_flat, left_false, pairs_each, right_false, zip_each}
+use Rattle.pyver_findings.specs.NamedFiles.{folder}
+use Rattle.std.proofs.lemmas.Slice.Eq.{bytes_eq-Decides}
+use Rattle.pyver_projects.specs.ContentHashes.{hash_of, hashed_texts, is_known_text, is_stale, may_have}
+use Rattle.pyver_projects.specs.Comparing.{Excuse, FindsOfReading, absent, beside_all, compared, compared_demand, documents_report, excluded, excluded_in, found_beside, found_in_pair, has_name, invalid_package, invalid_string, is_beside, is_excused, is_installer, is_locked, is_needed, in_one_folder, lacking, leaves_out, own_report, partly_locked, stale_beside, stale_by, stale_finding, stale_in_pair, taken_packages, unlocked, unmet, unmet_demand, with_own_reports}
 use Rattle.pyver_projects.specs.Documents.{has_group_tool, locked, overridden_names, project_names, sources}
-use Rattle.pyver_projects.specs.Groups.{Groups, Inclusion, groups, inclusions, no_group}
+use Rattle.pyver_projects.specs.Meanings.{Groups, Inclusion, groups, inclusions, no_group, Document, DocumentReading, IsBroken, IsBrokenReading, IsDocumentReading, IsFileReading, IsLock, IsLockedReading, IsProject, IsRequirementReading, IsSectionMeaning, IsSoundDocument, IsSoundString, IsStringReading, IsVersionReading, LockedReading, StringReading, fault_meaning, file_meaning, is_of_version, left_out_if_none, package_line, reference_marker, requirement_line, string_line, position_line}
 use Rattle.pyver_projects.proofs.LockedPackages.{IsLackHere, IsOutsideHere, excluded_right, none_named, partly_right}
-use Rattle.pyver_projects.specs.Meanings.{Document, DocumentReading, IsBroken, IsBrokenReading, IsDocumentReading, IsFileReading, IsLock, IsLockedReading, IsProject, IsRequirementReading, IsSectionMeaning, IsSoundDocument, IsSoundString, IsStringReading, IsVersionReading, LockedReading, StringReading, fault_meaning, file_meaning, is_of_version, left_out_if_none, package_line, reference_marker, requirement_line, string_line, position_line}
-use Rattle.pyver_projects.specs.ProjectLaws.{AlwaysAsks, DocumentFindingsHold, HasLock, HasPackage, HasProject, IsDocumentFinding, IsReadable, IsReadableAs, IsRightPart, line_in_part, part_lines}
-use Rattle.pyver_projects.specs.ProjectStrings.{Build, Dependencies, Entry, Extra, Group, Include, Invalid, LockContents, LockFault, LockParts, LockedFile, LockedPackage, LockedRequirement, ProjectString, Python, Section, Unread, Version, last_bytes}
+use Rattle.pyver_projects.specs.ProjectLaws.{AlwaysAsks, DocumentFindingsHold, HasLock, HasOtherHash, HasPackage, HasProject, IsDocumentFinding, IsReadable, IsReadableAs, IsRightPart, line_in_part, part_lines}
+use Rattle.pyver_projects.specs.ProjectStrings.{Build, ContentHash, Dependencies, Entry, Extra, Group, Include, Invalid, LockContents, LockFault, LockParts, LockedFile, LockedPackage, LockedRequirement, ProjectString, Python, Section, Unread, Version, last_bytes}
 use Rattle.pyver_projects.specs.declared.document_kind.DocumentKind.{DocumentKind}
 use Rattle.pyver_projects.specs.declared.document_kind.DocumentKind.TheVariants.{Lock, Project}
 use Rattle.pyver_projects.specs.declared.document_kind.LockKind.{LockKind}
@@ -81,9 +83,9 @@ no_include a line true false one other e = cc e
 no_include a line false c one other e = cc e
 
 -- nor does a list
-never_asks : (a : Demand) (line : FileLine) (b : Bool) (reason : List ℕ) → Asks a ≡ (if b then IsNone (NoRequirement line reason 0) else AsksNothing) → ⊥
-never_asks a line true reason e = cc e
-never_asks a line false reason e = cc e
+never_asks : (a : Demand) (f : Finding) (b : Bool) → Asks a ≡ (if b then IsNone f else AsksNothing) → ⊥
+never_asks a f true e = cc e
+never_asks a f false e = cc e
 
 -- what is left out if it is none asks for what it asked
 of_entry : (line : FileLine) (a : Demand) (m : LineMeaning) → IsPartsMeaning line (line_parts line.text) m → Asks a ≡ left_out_if_none m → AsksFor line (line_parts line.text) a
@@ -94,7 +96,7 @@ of_entry line a AsksNothing is e = cc e
 
 -- what a string asks for
 pub of_section : (all : Groups) (line : FileLine) (text : List ℕ) (a : Demand) (section : Section) → IsSectionMeaning all section line text (Asks a) → AsksFor line (line_parts line.text) a
-of_section all line text a Python (inl (list, d, e)) = absurd (never_asks a line _ _ e)
+of_section all line text a Python (inl (list, d, e)) = absurd (never_asks a _ _ e)
 of_section all line text a Python (inr (f, r, e)) = cc e
 of_section all line text a Version (inl (v, d, e)) = cc e
 of_section all line text a Version (inr (f, r, e)) = cc e
@@ -327,7 +329,7 @@ module _ (documents : List Document) where
       let n : Needed = record { name = q.name; extras = []; specifiers = list } in
       let line = requirement_line lock.name q in
       All-weaker (IsLackHere lock.name l.packages line n l.parts) Right
-      (λ f lack. inr (inr (inr (inr (inr (inr (inr (inr (inr (inr (inr (record {
+      (λ f lack. inr (inr (inr (inr (inr (inr (inr (inr (inr (inr (inr (inl (record {
         lock = lock;
         kind = kind;
         contents = l;
@@ -338,7 +340,7 @@ module _ (documents : List Document) where
         read = read;
         always = is;
         lack = lack;
-      }))))))))))))
+      })))))))))))))
       (partly_locked l.parts line (taken_packages ys (line_demand line None n))) (partly_right lock.name l.packages line n ys h l.parts)
 
   -- a requirement of a package
@@ -496,9 +498,9 @@ module _ (documents : List Document) where
   nothing_broken Project f y = All-nil Right
   nothing_broken (Lock kind) f y = All-nil Right
 
-  nothing_beside : (kind : DocumentKind) (together : Bool) (names overridden : List (List ℕ)) (xs : List StringReading) (f : Finding) → All Right (found_beside kind (IsProject together names overridden xs) (IsBroken f))
-  nothing_beside Project together names overridden xs f = All-nil Right
-  nothing_beside (Lock kind) together names overridden xs f = All-nil Right
+  nothing_beside : (kind : DocumentKind) (t : Members) (together : Bool) (names overridden : List (List ℕ)) (xs : List StringReading) (f : Finding) → All Right (found_beside kind (IsProject t together names overridden xs) (IsBroken f))
+  nothing_beside Project t together names overridden xs f = All-nil Right
+  nothing_beside (Lock kind) t together names overridden xs f = All-nil Right
 
   nothing_of_lock : (kind : DocumentKind) (parts : LockParts) (ys : List LockedReading) (ms fs : List LineMeaning) (y : DocumentReading) → All Right (found_beside kind (IsLock parts ys ms fs) y)
   nothing_of_lock Project parts ys ms fs y = All-nil Right
@@ -508,18 +510,18 @@ module _ (documents : List Document) where
   broken_right kind file x y (position, reason, is) = subst (λ (z : DocumentReading). All Right (found_beside kind z y)) (sym is) (nothing_broken kind (NoRequirement (position_line file position) reason (last_bytes (take position file.text))) y)
 
   module _ (file : File) (t : Members) (known : HasProject documents file t) (xs : List StringReading) (g : AllZip (IsStringReading (groups t) file) (sources t) xs) where
-    beside_broken : (kind : DocumentKind) (other : File) (y : DocumentReading) → IsBrokenReading other y → All Right (found_beside kind (IsProject (has_group_tool t) (project_names t) (overridden_names t) xs) y)
+    beside_broken : (kind : DocumentKind) (other : File) (y : DocumentReading) → IsBrokenReading other y → All Right (found_beside kind (IsProject t (has_group_tool t) (project_names t) (overridden_names t) xs) y)
     beside_broken kind other y (position, reason, is) =
-        subst (λ (z : DocumentReading). All Right (found_beside kind (IsProject (has_group_tool t) (project_names t) (overridden_names t) xs) z)) (sym is) (nothing_beside kind (has_group_tool t) (project_names t) (overridden_names t) xs (NoRequirement (position_line other position) reason (last_bytes (take position other.text))))
+        subst (λ (z : DocumentReading). All Right (found_beside kind (IsProject t (has_group_tool t) (project_names t) (overridden_names t) xs) z)) (sym is) (nothing_beside kind t (has_group_tool t) (project_names t) (overridden_names t) xs (NoRequirement (position_line other position) reason (last_bytes (take position other.text))))
 
     beside_project : (kind : DocumentKind) (other : File) (y : DocumentReading) → Contains documents (record { kind = kind; file = other }) → IsDocumentReading (record { kind = kind; file = other }) y
-        → All Right (found_beside kind (IsProject (has_group_tool t) (project_names t) (overridden_names t) xs) y)
+        → All Right (found_beside kind (IsProject t (has_group_tool t) (project_names t) (overridden_names t) xs) y)
     beside_project kind other y at (inl (none, (position, told))) = beside_broken kind other y (position, _, told)
     beside_project Project other y at (inr (text, inr (none, broken))) = beside_broken Project other y broken
     beside_project (Lock kind) other y at (inr (text, inr (none, broken))) = beside_broken (Lock kind) other y broken
-    beside_project Project other y at (inr (text, inl (u, e, (zs, h, is)))) = subst (λ (z : DocumentReading). All Right (found_beside Project (IsProject (has_group_tool t) (project_names t) (overridden_names t) xs) z)) (sym is) (All-nil Right)
+    beside_project Project other y at (inr (text, inl (u, e, (zs, h, is)))) = subst (λ (z : DocumentReading). All Right (found_beside Project (IsProject t (has_group_tool t) (project_names t) (overridden_names t) xs) z)) (sym is) (All-nil Right)
     beside_project (Lock kind) other y at (inr (text, inl (u, e, (ys, ms, fs, h, required, files, is)))) =
-        subst (λ (z : DocumentReading). All Right (found_beside (Lock kind) (IsProject (has_group_tool t) (project_names t) (overridden_names t) xs) z)) (sym is) (pair_right file other kind t u known (at, (text, e)) xs ys g h)
+        subst (λ (z : DocumentReading). All Right (found_beside (Lock kind) (IsProject t (has_group_tool t) (project_names t) (overridden_names t) xs) z)) (sym is) (pair_right file other kind t u known (at, (text, e)) xs ys g h)
 
   beside_right : (kind : DocumentKind) (file : File) (other : Document) (x y : DocumentReading) → Contains documents (record { kind = kind; file = file }) → Contains documents other → IsDocumentReading (record { kind = kind; file = file }) x
       → IsDocumentReading other y → All Right (found_beside other.kind x y)
@@ -529,6 +531,76 @@ module _ (documents : List Document) where
   beside_right (Lock kind) file other x y known at (inr (text, inl (t, e, (ys, ms, fs, g, h, k, is)))) r = subst (λ (z : DocumentReading). All Right (found_beside other.kind z y)) (sym is) (nothing_of_lock other.kind t.parts ys ms (fs ++ map (fault_meaning file.name) t.faults) y)
   beside_right Project file other x y known at (inr (text, inl (t, e, (xs, h, is)))) r =
       subst (λ (z : DocumentReading). All Right (found_beside other.kind z y)) (sym is) (beside_project file t (known, (text, e)) xs h other.kind other.file y at r)
+
+  -- ---- the hash of a project in a lock
+
+  other_known : (b c : Bool) → (not b || c) ≡ false → (b ≡ true) × (c ≡ false)
+  other_known true c e = (refl, e)
+  other_known false c e = absurd (true≢false e)
+
+  -- none of the texts has the hash
+  other_hashes : (value : List ℕ) (texts : List (List ℕ)) → list_any (may_have value) texts ≡ false → All (HasOtherHash value) texts
+  other_hashes value [] e = All-nil (HasOtherHash value)
+  other_hashes value (text ∷ texts) e =
+      let (known, other) = other_known (is_known_text text) (bytes_eq value (hash_of text)) (left_false (may_have value text) (list_any (may_have value) texts) e) in
+      All-cons (HasOtherHash value) text texts (known, λ same. true≢false (sym ((bytes_eq-Decides value (hash_of text)).1 same) ∙ other))
+      (other_hashes value texts (right_false (may_have value text) (list_any (may_have value) texts) e))
+
+  none_passes : (b : Bool) → not b ≡ true → b ≡ false
+  none_passes true e = absurd (true≢false (sym e))
+  none_passes false e = refl
+
+  module _ (file lock : File) (kind : LockKind) (t : Members) (l : LockContents) (known : HasProject documents file t) (has : HasLock documents kind lock l) (near : folder file.name ≡ folder lock.name) where
+    stale_hash : (hash : ContentHash) → l.parts.hash ≡ Some hash → (b : Bool) → is_stale hash t ≡ b → All Right (if b then stale_finding lock hash.rule ∷ [] else [])
+    stale_hash hash written true is = All-cons Right (stale_finding lock hash.rule) [] (inr (inr (inr (inr (inr (inr (inr (inr (inr (inr (inr (inr (record {
+      file = file;
+      table = t;
+      lock = lock;
+      kind = kind;
+      contents = l;
+      hash = hash;
+      has = known;
+      known = has;
+      beside = near;
+      written = written;
+      none = other_hashes hash.value (hashed_texts hash.rule t) (none_passes (list_any (may_have hash.value) (hashed_texts hash.rule t)) is);
+      is = refl;
+    }))))))))))))) (All-nil Right)
+    stale_hash hash written false is = All-nil Right
+
+    stale_right : (hash : Option ContentHash) → l.parts.hash ≡ hash → All Right (stale_by lock t hash)
+    stale_right None written = All-nil Right
+    stale_right (Some hash) written = stale_hash hash written (is_stale hash t) refl
+
+  module _ (file : File) (t : Members) (known : HasProject documents file t) (xs : List StringReading) where
+    abbrev IsRightBeside : File → DocumentReading → Type 0
+    IsRightBeside lock y = All Right (stale_beside lock (IsProject t (has_group_tool t) (project_names t) (overridden_names t) xs) y)
+
+    fresh_broken : (lock : File) (y : DocumentReading) → IsBrokenReading lock y → IsRightBeside lock y
+    fresh_broken lock y (position, reason, is) = subst (IsRightBeside lock) (sym is) (All-nil Right)
+
+    project_fresh : (kind : DocumentKind) (lock : File) (y : DocumentReading) → folder file.name ≡ folder lock.name → Contains documents (record { kind = kind; file = lock }) → IsDocumentReading (record { kind = kind; file = lock }) y → IsRightBeside lock y
+    project_fresh kind lock y near at (inl (none, (position, told))) = fresh_broken lock y (position, _, told)
+    project_fresh Project lock y near at (inr (text, inr (none, broken))) = fresh_broken lock y broken
+    project_fresh (Lock kind) lock y near at (inr (text, inr (none, broken))) = fresh_broken lock y broken
+    project_fresh Project lock y near at (inr (text, inl (u, e, (zs, h, is)))) = subst (IsRightBeside lock) (sym is) (All-nil Right)
+    project_fresh (Lock kind) lock y near at (inr (text, inl (u, e, (ys, ms, fs, h, required, files, is)))) = subst (IsRightBeside lock) (sym is) (stale_right file lock kind t u known (at, (text, e)) near u.parts.hash refl)
+
+  broken_fresh : (lock file : File) (x y : DocumentReading) → IsBrokenReading file x → All Right (stale_beside lock x y)
+  broken_fresh lock file x y (position, reason, is) = subst (λ (z : DocumentReading). All Right (stale_beside lock z y)) (sym is) (All-nil Right)
+
+  fresh_right : (kind : DocumentKind) (file : File) (other : Document) (x y : DocumentReading) → folder file.name ≡ folder other.file.name → Contains documents (record { kind = kind; file = file }) → Contains documents other
+      → IsDocumentReading (record { kind = kind; file = file }) x → IsDocumentReading other y → All Right (stale_beside other.file x y)
+  fresh_right kind file other x y near known at (inl (none, (position, told))) r = broken_fresh other.file file x y (position, _, told)
+  fresh_right Project file other x y near known at (inr (text, inr (none, broken))) r = broken_fresh other.file file x y broken
+  fresh_right (Lock kind) file other x y near known at (inr (text, inr (none, broken))) r = broken_fresh other.file file x y broken
+  fresh_right (Lock kind) file other x y near known at (inr (text, inl (t, e, (ys, ms, fs, g, h, k, is)))) r = subst (λ (z : DocumentReading). All Right (stale_beside other.file z y)) (sym is) (All-nil Right)
+  fresh_right Project file other x y near known at (inr (text, inl (t, e, (xs, h, is)))) r =
+      subst (λ (z : DocumentReading). All Right (stale_beside other.file z y)) (sym is) (project_fresh file t (known, (text, e)) xs other.kind other.file y near at r)
+
+  near_right : (d e : Document) (x y : DocumentReading) → Contains documents d → Contains documents e → IsDocumentReading d x → IsDocumentReading e y → (b : Bool) → in_one_folder d e ≡ b → All Right (if b then stale_beside e.file x y else [])
+  near_right d e x y known at r s true near = fresh_right d.kind d.file e x y ((bytes_eq-Decides (folder d.file.name) (folder e.file.name)).0 near) known at r s
+  near_right d e x y known at r s false near = All-nil Right
 
   -- ---- all documents
 
@@ -552,7 +624,9 @@ module _ (documents : List Document) where
       (pairs_each IsDocumentReading (Contains documents) (λ a. All Right (beside_all documents pairs a))
       (λ d x known r. all_flat Right (found_in_pair documents (d, x)) pairs
       (pairs_each IsDocumentReading (Contains documents) (λ b. All Right (found_in_pair documents (d, x) b))
-      (λ e y at s. counted_right (is_beside documents d e) (found_beside e.kind x y) (beside_right d.kind d.file e x y known at r s)) documents xs (All-contains_itself documents) h)) documents xs
+      (λ e y at s. counted_right (is_beside documents d e) (stale_in_pair (d, x) (e, y) ++ found_beside e.kind x y)
+      (All-append Right (stale_in_pair (d, x) (e, y)) (found_beside e.kind x y) (near_right d e x y known at r s (in_one_folder d e) refl) (beside_right d.kind d.file e x y known at r s)))
+      documents xs (All-contains_itself documents) h)) documents xs
       (All-contains_itself documents) h))
 
 -- what is found of the requirements of a document

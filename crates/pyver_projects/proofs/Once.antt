@@ -25,9 +25,8 @@ use Rattle.toml.specs.Data.{Members}
 use Rattle.pyver_projects.proofs.Walks.{zip_once}
 use Rattle.pyver_projects.specs.Comparing.{FindsOfReading, documents_report, with_found}
 use Rattle.pyver_projects.specs.Documents.{has_group_tool, overridden_names, project_names, sources}
-use Rattle.pyver_projects.specs.Groups.{Groups, groups, inclusions}
+use Rattle.pyver_projects.specs.Meanings.{Groups, groups, inclusions, ArePythons, left_out_if_none, DocumentReading, IsBroken, IsConditionReading, IsDocumentReading, IsFileReading, IsLock, IsLockReading, IsLockedReading, IsProject, IsProjectReading, IsRequirementReading, reference_marker, IsSectionMeaning, IsStringReading, IsVersionReading, LockedReading, StringReading, fault_meaning, file_meaning, is_of_version, package_line, requirement_line, string_line, list_versions}
 use Rattle.pyver_projects.specs.KnownEnvironments.{ReadCondition}
-use Rattle.pyver_projects.specs.Meanings.{ArePythons, left_out_if_none, DocumentReading, IsBroken, IsConditionReading, IsDocumentReading, IsFileReading, IsLock, IsLockReading, IsLockedReading, IsProject, IsProjectReading, IsRequirementReading, reference_marker, IsSectionMeaning, IsStringReading, IsVersionReading, LockedReading, StringReading, fault_meaning, file_meaning, is_of_version, package_line, requirement_line, string_line, list_versions}
 use Rattle.pyver_projects.specs.ProjectLaws.{DocumentReportsOnce, IsReadable, IsReadableAs}
 use Rattle.pyver_projects.specs.ProjectStrings.{Build, Dependencies, Entry, Extra, Group, Include, Invalid, LockContents, LockedFile, LockedPackage, LockedRequirement, PackageCondition, Section, Python, ProjectString, Unread, Version}
 use Rattle.pyver_projects.specs.declared.document_kind.DocumentKind.{DocumentKind}
@@ -102,7 +101,7 @@ one_package file p x y (a, b) (c, d) =
 
 one_project : (file : File) (t : Members) (x y : DocumentReading) → IsProjectReading file t x → IsProjectReading file t y → x ≡ y
 one_project file t x y (xs, g, a) (ys, h, b) =
-    a ∙ ap (λ (zs : List StringReading). IsProject (has_group_tool t) (project_names t) (overridden_names t) zs)
+    a ∙ ap (λ (zs : List StringReading). IsProject t (has_group_tool t) (project_names t) (overridden_names t) zs)
     (zip_once (IsStringReading (groups t) file) (Contains (sources t)) (λ s v w known p q. one_string (groups t) file s v w p q) (sources t) xs ys (All-contains_itself (sources t)) g h) ∙ sym b
 
 one_requirement : (file : List ℕ) (q : LockedRequirement) (x y : LineMeaning) → IsRequirementReading file q x → IsRequirementReading file q y → x ≡ y
@@ -152,7 +151,7 @@ part_told : (together : Bool) (xs : List StringReading) (part : Section) (fs : L
 part_told together xs part fs cs finds = names_tell (project_domain xs) (part_demands together (inclusions (sections xs)) part xs) fs cs finds
 
 reading_told : (x : DocumentReading) (fs : List Finding) (cs : List Cause) → FindsOfReading x fs cs → IsTold cs
-reading_told (IsProject together names overridden xs) fs cs (found, finds, is) = each_told (FindsOfPart together xs) (part_told together xs) (parts xs) found cs finds
+reading_told (IsProject t together names overridden xs) fs cs (found, finds, is) = each_told (FindsOfPart together xs) (part_told together xs) (parts xs) found cs finds
 reading_told (IsLock parts ys ms files) fs cs (is, also) = inl also
 reading_told (IsBroken f) fs cs (is, also) = inl also
 
@@ -180,7 +179,7 @@ new_alike found (f ∷ fs) =
     ∙ ap (λ l. with_new same_finding l (map without_environment fs)) (mapped_new (list_any (same_finding f) found) (list_any (same_finding (without_environment f)) (map without_environment found)) f found (any_alike f found))
 
 reading_once : (x : DocumentReading) → IsOnce (FindsOfReading x)
-reading_once (IsProject together names overridden xs) fs gs (found, finds, is) (others, also, so) =
+reading_once (IsProject t together names overridden xs) fs gs (found, finds, is) (others, also, so) =
     ap (map without_environment) is ∙ new_alike [] found
     ∙ ap (with_new same_finding []) (each_once (FindsOfPart together xs) (λ part. names_once (project_domain xs) (part_demands together (inclusions (sections xs)) part xs)) (parts xs) found others finds also)
     ∙ sym (new_alike [] others) ∙ ap (map without_environment) (sym so)

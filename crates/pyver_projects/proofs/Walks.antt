@@ -26,7 +26,7 @@ use Rattle.pyver_findings.specs.Demands.{Demand}
 use Rattle.pyver_projects.specs.Comparing.{accepts_version, excluded, has_name, is_allowed, locked_line, outside}
 use Rattle.pyver_findings.specs.FileLines.{FileLine}
 use Rattle.pyver_projects.specs.KnownEnvironments.{ReadCondition}
-use Rattle.pyver_projects.specs.Meanings.{IsConditionReading, IsLockedReading, IsVersionReading, LockedReading, package_line}
+use Rattle.pyver_projects.specs.Meanings.{IsConditionReading, IsLockedReading, IsVersionReading, LockedReading, package_line, Inclusion, includes, includes_by, includes_within}
 use Rattle.std.proofs.lemmas.Bool.Decides.{Decides-eqb}
 use Rattle.std.proofs.lemmas.Str.Pattern.{NoCharPasses-char, drop_at_char, ends_text}
 use Rattle.std.specs.Str.{NoCharPasses}
@@ -34,7 +34,6 @@ use Rattle.std.specs.Str.Pattern.{FindsTextSuffix, RFindsChar, StripsSuffix}
 use Rattle.pep440_pick.proofs.Joined.{has_none}
 use Rattle.std.proofs.lemmas.List.Folds.{list_any-append}
 use Rattle.pyver_findings.proofs.Steps.{rest_at}
-use Rattle.pyver_projects.specs.Groups.{Inclusion, includes, includes_by, includes_within}
 
 pub left_nil : {X : Type 0} (xs ys : List X) → xs ++ ys ≡ [] → xs ≡ []
 left_nil [] ys e = refl

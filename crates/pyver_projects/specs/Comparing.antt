@@ -5,7 +5,7 @@ use Rattle.pep440_rs.specs.LiteralMatching.{list_matches_literally}
 use Rattle.pep440_rs.specs.Specifiers.{Spec}
 use Rattle.pep440_version.specs.Record.{Record}
 use Rattle.pyver_findings.specs.Demands.{Demand}
-use Rattle.pyver_findings.specs.FileLines.{Conflicting, FileLine, Finding, NoRequirement}
+use Rattle.pyver_findings.specs.FileLines.{Conflicting, File, FileLine, Finding, NoRequirement}
 use Rattle.pyver_findings.specs.LineMeanings.{LineMeaning}
 use Rattle.pyver_findings.specs.MarkedConflicts.{FindsNothing, FindsOfEach}
 use Rattle.pyver_findings.specs.Reports.{Report, demands_in, empty_report, invalid_in, joined_report, left_out_in}
@@ -13,7 +13,11 @@ use Rattle.pyver_findings.specs.declared.cause.Cause.{Cause}
 use Rattle.pyver_findings.specs.declared.finding.Conflict.TheVariants.{PinOutside}
 use Rattle.pyver_projects.specs.KnownEnvironments.{environment_name, is_left_out_in, known_environments}
 use Rattle.pyver_projects.specs.Meanings.{Document, DocumentReading, IsBroken, IsDocumentReading, IsLock, IsProject, LockedReading, StringReading}
-use Rattle.pyver_projects.specs.ProjectStrings.{Dependencies, Entry, Extra, Group, LockParts, Section}
+use Rattle.pyver_projects.specs.ProjectStrings.{ContentHash, Dependencies, Entry, Extra, Group, LockParts, Section, key_line, key_path, number_or_one}
+use Rattle.pyver_projects.specs.ContentHashes.{is_stale}
+use Rattle.pyver_projects.specs.declared.locked_package.HashRule.{HashRule}
+use Rattle.pyver_projects.specs.declared.locked_package.HashRule.TheVariants as rule
+use Rattle.toml.specs.Data.{Members}
 use Rattle.pyver_projects.specs.Together.{FindsOfParts}
 use Rattle.pyver_findings.specs.NamedFiles.{folder}
 use Rattle.pyver_projects.specs.Documents.{is_listed_part, lies_above}
@@ -111,19 +115,19 @@ abbrev pub is_installer : List ℕ → Bool
 is_installer name = bytes_eq name (codes "setuptools") || (bytes_eq name (codes "distribute") || (bytes_eq name (codes "pip") || bytes_eq name (codes "wheel")))
 
 abbrev pub is_project_reading : DocumentReading → Bool
-is_project_reading (IsProject together names overridden xs) = true
+is_project_reading (IsProject t together names overridden xs) = true
 is_project_reading (IsLock parts ys ms fs) = false
 is_project_reading (IsBroken f) = false
 
 -- the names of a project
 abbrev pub names_read : DocumentReading → List (List ℕ)
-names_read (IsProject together names overridden xs) = names
+names_read (IsProject t together names overridden xs) = names
 names_read (IsLock parts ys ms fs) = []
 names_read (IsBroken f) = []
 
 -- the names that a project overrides
 abbrev pub overrides_read : DocumentReading → List (List ℕ)
-overrides_read (IsProject together names overridden xs) = overridden
+overrides_read (IsProject t together names overridden xs) = overridden
 overrides_read (IsLock parts ys ms fs) = []
 overrides_read (IsBroken f) = []
 
@@ -155,7 +159,7 @@ module _ (excused : List ℕ → Excuse) where
 
   -- the report of a document by itself: the strings or the packages count as lines
   abbrev pub own_report : DocumentReading → Report
-  own_report (IsProject together names overridden xs) = record { findings = flat_map invalid_string xs; ignored = []; lines = length xs; files = 1; left_out = flat_map left_out_string xs }
+  own_report (IsProject t together names overridden xs) = record { findings = flat_map invalid_string xs; ignored = []; lines = length xs; files = 1; left_out = flat_map left_out_string xs }
   own_report (IsLock parts ys ms fs) = record { findings = flat_map invalid_package ys ++ (flat_map invalid_in fs ++ flat_map (unmet parts ys) ms); ignored = []; lines = length ys; files = 1; left_out = flat_map left_out_in ms }
   own_report (IsBroken f) = record { findings = f ∷ []; ignored = []; lines = 0; files = 1; left_out = [] }
 
@@ -234,8 +238,33 @@ module _ (kind : LockKind) (parts : LockParts) (names : List (List ℕ)) where
 
 -- the first document beside the second, of this kind, if that is a project and this a lock
 abbrev pub found_beside : DocumentKind → DocumentReading → DocumentReading → List Finding
-found_beside (Lock kind) (IsProject together names overridden xs) (IsLock parts ys ms fs) = flat_map (compared kind parts names overridden ys) xs
+found_beside (Lock kind) (IsProject t together names overridden xs) (IsLock parts ys ms fs) = flat_map (compared kind parts names overridden ys) xs
 found_beside kind x y = []
+
+-- ---- the hash of a project in its lock
+
+-- the key of the hash in the table `metadata`
+abbrev pub hash_key : HashRule → List ℕ
+hash_key rule.Pdm = codes "content_hash"
+hash_key by = codes "content-hash"
+
+-- the line of the hash in the lock
+abbrev pub hash_line : File → HashRule → FileLine
+hash_line lock by = record { file = lock.name; number = number_or_one (key_line lock.text (key_path (codes "metadata.") (hash_key by))); text = hash_key by; comment = [] }
+
+-- that the lock is out of date
+abbrev pub stale_finding : File → HashRule → Finding
+stale_finding lock by = NoRequirement (hash_line lock by) (codes "not the hash of the project: the lock is out of date") 0
+
+-- the project with this table does not have the hash that the lock has
+abbrev pub stale_by : File → Members → Option ContentHash → List Finding
+stale_by lock t None = []
+stale_by lock t (Some hash) = if is_stale hash t then stale_finding lock hash.rule ∷ [] else []
+
+-- the first document, if it is a project, does not have the hash of the second, if this is a lock, in this file
+abbrev pub stale_beside : File → DocumentReading → DocumentReading → List Finding
+stale_beside lock (IsProject t together names overridden xs) (IsLock parts ys ms fs) = stale_by lock t parts.hash
+stale_beside lock x y = []
 
 -- ---- which lock is compared with which project
 
@@ -272,9 +301,17 @@ is_beside documents project lock =
     if list_any (is_below lock) documents then lies_above lock.file.name project.file.name && not (list_any (is_nearer project lock) documents)
     else true
 
+-- both are in one folder: a lock has the hash of the project there, and of none below
+abbrev pub in_one_folder : Document → Document → Bool
+in_one_folder one other = bytes_eq (folder one.file.name) (folder other.file.name)
+
+-- the hash of a lock beside a project
+abbrev pub stale_in_pair : Document × DocumentReading → Document × DocumentReading → List Finding
+stale_in_pair a b = if in_one_folder a.0 b.0 then stale_beside b.0.file a.1 b.1 else []
+
 -- a document that was read beside another, if it is compared with it
 abbrev pub found_in_pair : List Document → Document × DocumentReading → Document × DocumentReading → List Finding
-found_in_pair documents a b = if is_beside documents a.0 b.0 then found_beside b.0.kind a.1 b.1 else []
+found_in_pair documents a b = if is_beside documents a.0 b.0 then stale_in_pair a b ++ found_beside b.0.kind a.1 b.1 else []
 
 -- a document beside each of these
 abbrev pub beside_all : List Document → List (Document × DocumentReading) → Document × DocumentReading → List Finding
@@ -292,7 +329,7 @@ documents_report documents xs = with_findings (with_own_reports (is_excused xs) 
 
 -- of a project the requirements that hold together and have no version in common
 abbrev pub FindsOfReading : DocumentReading → List Finding → List Cause → Type 0
-FindsOfReading (IsProject together names overridden xs) fs cs = FindsOfParts together xs fs cs
+FindsOfReading (IsProject t together names overridden xs) fs cs = FindsOfParts together xs fs cs
 FindsOfReading (IsLock parts ys ms files) fs cs = FindsNothing fs cs
 FindsOfReading (IsBroken f) fs cs = FindsNothing fs cs
 

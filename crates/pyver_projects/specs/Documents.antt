@@ -6,10 +6,10 @@ use Rattle.pep440_pick.specs.Names.{is_name, is_name_byte, normal}
 use Rattle.pep440_rs.specs.Blanks.{opens}
 use Rattle.pep440_version.specs.Reading.{lead}
 use Rattle.toml.specs.Data.{Data, Members, as_str, as_table, get, get_member}
-use Rattle.pyver_projects.specs.LockedFiles.{array_faults, files_from, last_section, counted_names, has_markers, locked_python, package_condition, package_faults, package_name_in}
+use Rattle.pyver_projects.specs.ContentHashes.{lock_hash}
+use Rattle.pyver_projects.specs.LockedFiles.{array_faults, files_from, last_section, counted_names, has_markers, locked_python, package_condition, package_faults, package_name_in, document_faults, member_packages}
 use Rattle.pyver_projects.specs.PackageRequirements.{poetry_list, requirement_text, requirements_from}
 use Rattle.pyver_projects.specs.ProjectStrings.{Build, Dependencies, Entry, Extra, Group, Include, Invalid, LockContents, LockFault, LockParts, LockedPackage, PackageCondition, ProjectString, Python, Section, Unread, Version, header_lines, entries, inside, is_array_or_none, is_table_or_none, key_path, listed, text_in}
-use Rattle.pyver_projects.specs.PipfileLocks.{document_faults, member_packages}
 use Rattle.pyver_findings.specs.NamedFiles.{folder}
 use Rattle.pyver_findings.specs.declared.cause.Cause.{Cause}
 use Rattle.pyver_findings.specs.declared.cause.Cause.TheVariants as cause
@@ -329,13 +329,14 @@ package_parts kind packages = []
 abbrev pub texts_listed : Option Data → List (List ℕ)
 texts_listed value = flat_map (λ (d : Data). option_to_list (as_str d)) (listed value)
 
--- the parts of a lock with these packages. Only one of PEP 751 has extras and groups for markers, and environments
-abbrev pub lock_parts : LockKind → Members → List Data → LockParts
-lock_parts kind document packages = record {
+-- the parts of a lock with this text and these packages. Only one of PEP 751 has extras and groups for markers, and environments
+abbrev pub lock_parts : LockKind → List ℕ → Members → List Data → LockParts
+lock_parts kind text document packages = record {
   names = part_names kind document ++ package_parts kind packages;
   extras = names_listed (get_member (codes "extras") document);
   groups = names_listed (get_member (codes "dependency-groups") document) ++ names_listed (get_member (codes "default-groups") document);
   environments = texts_listed (get_member (codes "environments") document);
+  hash = lock_hash kind text document;
 }
 
 -- what the tables of packages of a lock of this kind have, each with its line, beside these parts and faults, that have markers or not, for these
@@ -349,14 +350,14 @@ table_contents kind parts found marked python names tables = record {
   faults = found ++ flat_map (package_faults kind marked names) tables;
 }
 
--- what a lock of this kind has in these packages, with these lines of headers, beside these faults
-abbrev pub packages_contents : LockKind → List ℕ → List LockFault → Members → List Data → LockContents
-packages_contents kind lines found document packages =
-    table_contents kind (lock_parts kind document packages) found (has_markers kind document) (locked_python kind document) (flat_map (counted_names kind) packages) (numbered_tables lines 0 packages)
+-- what a lock of this kind with this text has in these packages, with these lines of headers, beside these faults
+abbrev pub packages_contents : LockKind → List ℕ → List ℕ → List LockFault → Members → List Data → LockContents
+packages_contents kind text lines found document packages =
+    table_contents kind (lock_parts kind text document packages) found (has_markers kind document) (locked_python kind document) (flat_map (counted_names kind) packages) (numbered_tables lines 0 packages)
 
 -- in those in the array of tables at this key, each under this header, of a lock with this text
 abbrev pub contents : LockKind → List ℕ → List ℕ → List ℕ → Members → LockContents
-contents kind header text key document = packages_contents kind (header_lines header text) (array_faults text key (get_member key document)) document (listed (get_member key document))
+contents kind header text key document = packages_contents kind text (header_lines header text) (array_faults text key (get_member key document)) document (listed (get_member key document))
 
 -- the path is this name, or ends with it after a `/`
 abbrev pub ends_path : List ℕ → List ℕ → List ℕ → Bool
@@ -403,7 +404,7 @@ toml_contents kind key header text = option_map (contents kind header text key) 
 
 -- what `Pipfile.lock` with this text has: only packages
 abbrev pub pipfile_contents : List ℕ → JsonData → LockContents
-pipfile_contents text document = record { parts = record { names = []; extras = []; groups = []; environments = [] }; packages = member_packages text document; requirements = []; files = []; faults = document_faults text document }
+pipfile_contents text document = record { parts = record { names = []; extras = []; groups = []; environments = []; hash = None }; packages = member_packages text document; requirements = []; files = []; faults = document_faults text document }
 
 -- what a lock with this text has, if it is TOML, or JSON, of a known format
 abbrev pub locked : LockKind → List ℕ → Option LockContents

@@ -1,9 +1,8 @@
 pub mod ProjectStrings
-pub mod PipfileLocks
 pub mod PackageRequirements
 pub mod LockedFiles
+pub mod ContentHashes
 pub mod Documents
-pub mod Groups
 pub mod KnownEnvironments
 pub mod Meanings
 pub mod ProjectViews

@@ -1,6 +1,6 @@
--- What a string of `pyproject.toml`, a locked package and a document are to the check.
-use Rattle.std.specs.Prelude.{◌≡◌, ◌⊎◌, ℕ, ◌+◌, List, [], ◌++◌, Bool, true, false, Option, Some, None, codes, if◌then◌else◌, length, map, ⊤, ◌-◌, drop, take}
-use Rattle.std.specs.List.{AllZip, All}
+-- What a string of `pyproject.toml`, a locked package and a document are to the check; and groups that include others (PEP 735).
+use Rattle.std.specs.Prelude.{◌≡◌, ◌⊎◌, ℕ, ◌+◌, List, [], ◌++◌, Bool, true, false, Option, Some, None, codes, if◌then◌else◌, length, map, ⊤, ◌-◌, drop, take, ◌||◌, ◌&&◌, suc, zero, ◌∷◌, bytes_eq}
+use Rattle.std.specs.List.{AllZip, All, flat_map, list_any}
 use Rattle.std.specs.Str.{IsUtf8}
 use Rattle.pep440_pick.specs.Names.{normal}
 use Rattle.pep440_rs.specs.Bounds.{Segments}
@@ -20,14 +20,69 @@ use Rattle.pyver_findings.specs.declared.cause.Cause.TheVariants as cause
 use Rattle.pyver_requirements.specs.LineParts.{line_parts}
 use Rattle.toml.specs.Data.{Members}
 use Rattle.toml.specs.Parse.{parse_document}
-use Rattle.pyver_projects.specs.Documents.{has_group_tool, locked, overridden_names, project_names, sources}
-use Rattle.pyver_projects.specs.Groups.{Groups, groups, include_meaning, no_group}
+use Rattle.pyver_projects.specs.Documents.{has_group_tool, locked, overridden_names, project_names, sources, group_names}
 use Rattle.pyver_projects.specs.KnownEnvironments.{ReadCondition}
 use Rattle.pyver_projects.specs.PackageRequirements.{package_text, requirement_text}
 use Rattle.pyver_projects.specs.ProjectStrings.{Build, Dependencies, Entry, Extra, Group, Include, Invalid, LockContents, LockFault, LockParts, LockedFile, LockedPackage, LockedRequirement, PackageCondition, ProjectString, Python, Section, Unread, Version, string_number, last_bytes, line_after, line_at}
 use Rattle.pyver_projects.specs.declared.document_kind.DocumentKind.{DocumentKind}
 use Rattle.pyver_projects.specs.declared.document_kind.DocumentKind.TheVariants.{Lock, Project}
 use Rattle.pyver_findings.specs.Reports.{demands_in}
+
+-- ---- groups that include others
+
+-- one group includes another: both names in their normal form
+pub record Inclusion : Type 0 where
+  pub group : List ℕ
+  pub included : List ℕ
+
+-- the inclusion of a section
+abbrev pub inclusion : Section → List Inclusion
+inclusion (Include group included) = record { group = group; included = included } ∷ []
+inclusion Dependencies = []
+inclusion (Extra name) = []
+inclusion (Group name) = []
+inclusion (Invalid table reason) = []
+inclusion (Entry table name) = []
+inclusion (Unread c) = []
+inclusion Build = []
+inclusion Python = []
+inclusion Version = []
+
+-- the groups of a project: their names, and which includes which
+pub record Groups : Type 0 where
+  pub names : List (List ℕ)
+  pub inclusions : List Inclusion
+
+-- the inclusions of these sections
+abbrev pub inclusions : List Section → List Inclusion
+inclusions sections = flat_map inclusion sections
+
+-- the groups of `pyproject.toml`
+abbrev pub groups : Members → Groups
+groups document = record { names = group_names document; inclusions = inclusions (map (λ (s : ProjectString). s.section) (sources document)) }
+
+-- it includes the group, and has this property
+abbrev pub includes_by : (List ℕ → Bool) → List ℕ → Inclusion → Bool
+includes_by has name i = bytes_eq name i.included && has i.group
+
+-- the first group is the second, or includes it by at most so many steps
+abbrev pub includes_within : List Inclusion → List ℕ → ℕ → List ℕ → Bool
+includes_within is group zero name = bytes_eq name group
+includes_within is group (suc n) name = includes_within is group n name || list_any (includes_by (includes_within is group n) name) is
+
+-- the first group is the second, or includes it, itself or through others
+abbrev pub includes : List Inclusion → List ℕ → List ℕ → Bool
+includes is group name = includes_within is group (length is) name
+
+-- the name of a group on this line, which is invalid for this reason
+abbrev pub no_group : FileLine → List ℕ → LineMeaning
+no_group line reason = IsNone (NoRequirement line reason 0)
+
+-- what the name of an included group is: there is a group of this name, and it does not include the group in turn
+abbrev pub include_meaning : Groups → FileLine → List ℕ → List ℕ → LineMeaning
+include_meaning all line group included = if list_any (bytes_eq included) all.names
+    then (if includes all.inclusions included group then no_group line (codes "the group includes itself") else AsksNothing)
+    else no_group line (codes "there is no group of this name")
 
 -- ---- strings of `pyproject.toml`
 
@@ -181,13 +236,13 @@ pub record Document : Type 0 where
 -- a document that was read: of a project whether its groups hold together with its dependencies, its names, those that it overrides, and its strings; the parts and packages of a lock,
 -- what they require, and what is wrong with their files and beside one another; or why it was not read
 pub data DocumentReading : Type 0 where
-  IsProject : Bool → (names overridden : List (List ℕ)) → List StringReading → DocumentReading
+  IsProject : Members → Bool → (names overridden : List (List ℕ)) → List StringReading → DocumentReading
   IsLock : (parts : LockParts) → List LockedReading → (requirements faults : List LineMeaning) → DocumentReading
   IsBroken : Finding → DocumentReading
 
 -- what a project with this table is
 abbrev pub IsProjectReading : File → Members → DocumentReading → Type 0
-IsProjectReading file t x = (xs : List StringReading) × AllZip (IsStringReading (groups t) file) (sources t) xs × (x ≡ IsProject (has_group_tool t) (project_names t) (overridden_names t) xs)
+IsProjectReading file t x = (xs : List StringReading) × AllZip (IsStringReading (groups t) file) (sources t) xs × (x ≡ IsProject t (has_group_tool t) (project_names t) (overridden_names t) xs)
 
 -- what a lock is that has this
 abbrev pub IsLockReading : List ℕ → LockContents → DocumentReading → Type 0
@@ -227,6 +282,6 @@ IsSoundString x = All IsSound (demands_in x.meaning)
 
 -- and the lists of a project
 abbrev pub IsSoundDocument : DocumentReading → Type 0
-IsSoundDocument (IsProject together names overridden xs) = All IsSoundString xs
+IsSoundDocument (IsProject t together names overridden xs) = All IsSoundString xs
 IsSoundDocument (IsLock parts ys ms fs) = ⊤
 IsSoundDocument (IsBroken f) = ⊤

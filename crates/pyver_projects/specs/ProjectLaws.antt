@@ -1,6 +1,6 @@
 -- What holds of reports of documents: each finding is right; where there is none, each requirement contains a locked version of its
 -- name; there is one report.
-use Rattle.std.specs.Prelude.{◌≡◌, ◌⊎◌, ℕ, ◌+◌, List, [], ◌∷◌, Bool, false, true, IsTrue, if◌then◌else◌, None, Some, bytes_eq, codes, length}
+use Rattle.std.specs.Prelude.{◌≡◌, ◌≢◌, ◌⊎◌, ℕ, ◌+◌, List, [], ◌∷◌, Bool, false, true, IsTrue, if◌then◌else◌, None, Some, bytes_eq, codes, length}
 use Rattle.std.specs.List.{All, AllZip, Contains, filter, flat_map, list_any}
 use Rattle.std.specs.Str.{IsUtf8}
 use Rattle.pep440_pick.specs.Names.{normal, same_name}
@@ -26,12 +26,13 @@ use Rattle.pyver_requirements.specs.LineParts.{line_parts}
 use Rattle.pyver_requirements.specs.MarkerGrammar.{DenotesMarker, Marker}
 use Rattle.toml.specs.Data.{Members}
 use Rattle.toml.specs.Parse.{parse_document}
-use Rattle.pyver_projects.specs.Comparing.{IsDocumentsReport, is_beside, is_installer, is_locked, is_needed, lack_in, leaves_out}
+use Rattle.pyver_projects.specs.Comparing.{IsDocumentsReport, is_beside, is_installer, is_locked, is_needed, lack_in, leaves_out, stale_finding}
+use Rattle.pyver_findings.specs.NamedFiles.{folder}
+use Rattle.pyver_projects.specs.ContentHashes.{hash_of, hashed_texts, is_known_text}
 use Rattle.pyver_projects.specs.Documents.{has_group_tool, locked, overridden_names, project_names, sources}
-use Rattle.pyver_projects.specs.Groups.{groups}
+use Rattle.pyver_projects.specs.Meanings.{groups, Document, IsSectionMeaning, IsStringReading, StringReading, fault_meaning, file_meaning, is_of_version, package_line, requirement_line, string_line}
 use Rattle.pyver_projects.specs.KnownEnvironments.{is_for, known_environment, known_environments, python_record}
-use Rattle.pyver_projects.specs.Meanings.{Document, IsSectionMeaning, IsStringReading, StringReading, fault_meaning, file_meaning, is_of_version, package_line, requirement_line, string_line}
-use Rattle.pyver_projects.specs.ProjectStrings.{LockContents, LockFault, LockParts, LockedFile, LockedPackage, LockedRequirement, PackageCondition, ProjectString, Section}
+use Rattle.pyver_projects.specs.ProjectStrings.{ContentHash, LockContents, LockFault, LockParts, LockedFile, LockedPackage, LockedRequirement, PackageCondition, ProjectString, Section}
 use Rattle.pyver_projects.specs.Together.{has_group, holds_in, part_demands, project_domain, section_part}
 use Rattle.pyver_projects.specs.declared.document_kind.DocumentKind.{DocumentKind}
 use Rattle.pyver_projects.specs.declared.document_kind.DocumentKind.TheVariants.{Lock, Project}
@@ -189,6 +190,10 @@ pub record IsLockFault (documents : List Document) (f : Finding) : Type 0 where
   pub within : Contains contents.faults fault
   pub is : IsNone f ≡ fault_meaning lock.name fault
 
+-- the text is known, and has another hash
+abbrev pub HasOtherHash : List ℕ → List ℕ → Type 0
+HasOtherHash value text = IsTrue (is_known_text text) × (value ≢ hash_of text)
+
 -- the project needs a package, and some lock has none of its name
 pub record IsMissing (documents : List Document) (f : Finding) : Type 0 where
   pub file : File
@@ -282,10 +287,25 @@ pub record IsPartlyAbsent (documents : List Document) (f : Finding) : Type 0 whe
   pub always : requirement.is_reference ≡ false
   pub lack : IsLack contents.parts contents.packages requirement.name list (requirement_line lock.name requirement) f
 
+-- a lock does not have the hash of the project in its folder
+pub record IsStale (documents : List Document) (f : Finding) : Type 0 where
+  pub file : File
+  pub table : Members
+  pub lock : File
+  pub kind : LockKind
+  pub contents : LockContents
+  pub hash : ContentHash
+  pub has : HasProject documents file table
+  pub known : HasLock documents kind lock contents
+  pub beside : folder file.name ≡ folder lock.name
+  pub written : contents.parts.hash ≡ Some hash
+  pub none : All (HasOtherHash hash.value) (hashed_texts hash.rule table)
+  pub is : f ≡ stale_finding lock hash.rule
+
 -- the finding is right
 abbrev pub IsDocumentFinding : List Document → Finding → Type 0
 IsDocumentFinding documents f = IsInvalidString documents f
-    ⊎ (IsInvalidPackage documents f ⊎ (IsUnread documents f ⊎ (IsMissing documents f ⊎ (IsExcluded documents f ⊎ (IsConflict documents f ⊎ (IsUnmet documents f ⊎ (IsAbsent documents f ⊎ (IsOtherFile documents f ⊎ (IsLockFault documents f ⊎ (IsPartlyMissing documents f ⊎ IsPartlyAbsent documents f))))))))))
+    ⊎ (IsInvalidPackage documents f ⊎ (IsUnread documents f ⊎ (IsMissing documents f ⊎ (IsExcluded documents f ⊎ (IsConflict documents f ⊎ (IsUnmet documents f ⊎ (IsAbsent documents f ⊎ (IsOtherFile documents f ⊎ (IsLockFault documents f ⊎ (IsPartlyMissing documents f ⊎ (IsPartlyAbsent documents f ⊎ IsStale documents f)))))))))))
 
 -- each finding is right
 abbrev pub DocumentFindingsHold : Type 0
@@ -332,9 +352,15 @@ AllOfVersion documents = (lock : File) (kind : LockKind) (l : LockContents) (f :
 abbrev pub AllAlone : List Document → Type 0
 AllAlone documents = (lock : File) (kind : LockKind) (l : LockContents) → HasLock documents kind lock l → l.faults ≡ []
 
+-- each lock with a hash has that of the project in its folder, if what is hashed is known
+abbrev pub AllFresh : List Document → Type 0
+AllFresh documents = (file lock : File) (kind : LockKind) (l : LockContents) (t : Members) (hash : ContentHash) → HasProject documents file t → HasLock documents kind lock l
+    → IsTrue (is_beside documents (record { kind = Project; file = file }) (record { kind = Lock kind; file = lock })) → folder file.name ≡ folder lock.name → l.parts.hash ≡ Some hash
+    → (text : List ℕ) × Contains (hashed_texts hash.rule t) text × (IsTrue (is_known_text text) → hash.value ≡ hash_of text)
+
 -- where nothing is found, they do
 abbrev pub NoFindingImpliesContained : Type 0
-NoFindingImpliesContained = (documents : List Document) (r : Report) → IsDocumentsReport documents r → r.findings ≡ [] → AllContained documents × (AllMet documents × (AllPresent documents × (AllOfVersion documents × AllAlone documents)))
+NoFindingImpliesContained = (documents : List Document) (r : Report) → IsDocumentsReport documents r → r.findings ≡ [] → AllContained documents × (AllMet documents × (AllPresent documents × (AllOfVersion documents × (AllAlone documents × AllFresh documents))))
 
 -- the lines are the requirements of a part of a project, which is installed in the environments of the domain
 pub record IsPart (documents : List Document) (d : Domain) (lines : List Demand) : Type 0 where

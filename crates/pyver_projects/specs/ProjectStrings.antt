@@ -7,6 +7,7 @@ use Rattle.std.specs.BTreeMap.{get_by}
 use Rattle.std.specs.Cmp.Lexicographic.{slice_cmp}
 use Rattle.std.specs.Ordering.{nat_cmp}
 use Rattle.pyver_findings.specs.declared.cause.Cause.{Cause}
+use Rattle.pyver_projects.specs.declared.locked_package.HashRule.{HashRule}
 use Rattle.pyver_projects.specs.declared.place.Places.{Places}
 use Rattle.pyver_projects.specs.declared.place.QuotedLines.{QuotedLines}
 use Rattle.toml.specs.Data.{Data, Items, Members, as_array, as_str, as_table, get, item, member, no_items, no_members}
@@ -114,14 +115,20 @@ pub record LockFault : Type 0 where
   pub text : List ℕ
   pub reason : List ℕ
 
+-- the hash of its project that a lock has, in hexadecimal digits, and what is hashed
+pub record ContentHash : Type 0 where
+  pub rule : HashRule
+  pub value : List ℕ
+
 -- the parts of a project that a lock has, in normal form: the names of its groups and extras, with `default` for the dependencies; and what `extras` and
 -- `dependency_groups` are in its markers where all that it has is installed; and the markers of the environments that it is for, or none (PEP 751,
--- "Installation")
+-- "Installation"); and the hash of the project, if it is known what is hashed
 pub record LockParts : Type 0 where
   pub names : List (List ℕ)
   pub extras : List (List ℕ)
   pub groups : List (List ℕ)
   pub environments : List (List ℕ)
+  pub hash : Option ContentHash
 
 -- what is read of a lock
 pub record LockContents : Type 0 where

@@ -2,10 +2,9 @@
 -- by the groups that have them, places of groups, packages by names, and names of projects.
 use Rattle.std.specs.Prelude.{map, option_map, option_to_list, string_bytes, Bool, List, None, Option, Some, [], bytes_eq, count_by, if◌then◌else◌, is_some, nat_eq, nat_lt, not, ℕ, ◌||◌, ◌≡◌}
 use Rattle.pyver_findings.specs.Views.{file_line_of, file_of, finding_of, line_meaning_of}
-use Rattle.pyver_projects.specs.Groups.{Inclusion, Groups}
+use Rattle.pyver_projects.specs.Meanings.{Inclusion, Groups, Document, DocumentReading, IsBroken, IsLock, IsProject, LockedReading, StringReading}
 use Rattle.pyver_projects.specs.KnownEnvironments.{ReadCondition}
-use Rattle.pyver_projects.specs.Meanings.{Document, DocumentReading, IsBroken, IsLock, IsProject, LockedReading, StringReading}
-use Rattle.pyver_projects.specs.ProjectStrings.{Build, Dependencies, Entry, Extra, Group, Include, Invalid, KeyLine, LockContents, LockFault, LockParts, LockedFile, LockedPackage, LockedRequirement, PackageCondition, Section, Python, ProjectString, Unread, Version}
+use Rattle.pyver_projects.specs.ProjectStrings.{Build, ContentHash, Dependencies, Entry, Extra, Group, Include, Invalid, KeyLine, LockContents, LockFault, LockParts, LockedFile, LockedPackage, LockedRequirement, PackageCondition, Section, Python, ProjectString, Unread, Version}
 use Rattle.pyver_projects.specs.declared.document_kind.Document.{Document as DocumentValue}
 use Rattle.pyver_projects.specs.declared.document_reading.DocumentReading.{DocumentReading as DocumentReadingValue}
 use Rattle.pyver_projects.specs.declared.document_reading.ReadDocument.{ReadDocument as ReadDocumentValue}
@@ -14,6 +13,7 @@ use Rattle.pyver_projects.specs.declared.groups.Inclusion.{Inclusion as Inclusio
 use Rattle.pyver_projects.specs.declared.locked_package.LockContents.{LockContents as ContentsValue}
 use Rattle.pyver_projects.specs.declared.locked_package.PackageCondition.{PackageCondition as ConditionValue}
 use Rattle.pyver_projects.specs.declared.known_environment.ReadCondition.{ReadCondition as ReadConditionValue}
+use Rattle.pyver_projects.specs.declared.locked_package.ContentHash.{ContentHash as HashValue}
 use Rattle.pyver_projects.specs.declared.locked_package.LockFault.{LockFault as FaultValue}
 use Rattle.pyver_projects.specs.declared.locked_package.LockParts.{LockParts as PartsValue}
 use Rattle.pyver_projects.specs.declared.locked_package.LockedFile.{LockedFile as FileValue}
@@ -26,6 +26,7 @@ use Rattle.pyver_projects.specs.declared.project.Section.{Section as SectionValu
 use Rattle.pyver_projects.specs.declared.project.Section.TheVariants as section
 use Rattle.pyver_projects.specs.declared.document_reading.StringReading.{StringReading as StringReadingValue}
 use Rattle.std.specs.Borrow.{Bor}
+use Rattle.toml.specs.View.{table_view}
 use Rattle.std.specs.HashMap.{HashMap, get_by}
 use Rattle.std.specs.List.{filter, list_all, list_any}
 use Rattle.std.specs.Option.{option_map_or, unwrap_or}
@@ -76,8 +77,11 @@ locked_file_of f = record { line = f.line; name = string_bytes f.name; version =
 abbrev pub fault_of : FaultValue → LockFault
 fault_of f = record { line = f.line; text = f.text.items; reason = f.reason.now }
 
+abbrev pub content_hash_of : HashValue → ContentHash
+content_hash_of h = record { rule = h.rule; value = h.value.items }
+
 abbrev pub parts_of : PartsValue → LockParts
-parts_of p = record { names = map (λ n. n.items) p.names.items; extras = map (λ n. n.items) p.extras.items; groups = map (λ n. n.items) p.groups.items; environments = map (λ t. t.items) p.environments.items }
+parts_of p = record { names = map (λ n. n.items) p.names.items; extras = map (λ n. n.items) p.extras.items; groups = map (λ n. n.items) p.groups.items; environments = map (λ t. t.items) p.environments.items; hash = option_map content_hash_of p.hash }
 
 abbrev pub contents_of : ContentsValue → LockContents
 contents_of l = record { parts = parts_of l.parts; packages = map locked_of l.packages.items; requirements = map requirement_of l.requirements.items; files = map locked_file_of l.files.items; faults = map fault_of l.faults.items }
@@ -92,7 +96,7 @@ abbrev pub document_of : DocumentValue → Document
 document_of d = record { kind = d.kind; file = file_of d.file }
 
 abbrev pub document_reading_of : DocumentReadingValue → DocumentReading
-document_reading_of (reading.Project p) = IsProject p.together (option_to_list (option_map (λ n. n.items) p.name)) (map (λ n. n.items) p.overridden.items) (map string_reading_of p.strings.items)
+document_reading_of (reading.Project p) = IsProject (table_view p.table) p.together (option_to_list (option_map (λ n. n.items) p.name)) (map (λ n. n.items) p.overridden.items) (map string_reading_of p.strings.items)
 document_reading_of (reading.Lock l) = IsLock (parts_of l.parts) (map locked_reading_of l.packages.items) (map line_meaning_of l.requirements.items) (map line_meaning_of l.faults.items)
 document_reading_of (reading.Broken f) = IsBroken (finding_of f)
 

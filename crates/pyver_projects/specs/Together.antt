@@ -10,8 +10,7 @@ use Rattle.pyver_findings.specs.MarkedConflicts.{FindsOfEach, FindsOfNames}
 use Rattle.pyver_findings.specs.Reports.{demands_in}
 use Rattle.pyver_findings.specs.declared.cause.Cause.{Cause}
 use Rattle.pyver_markers.specs.Conditions.{Domain}
-use Rattle.pyver_projects.specs.Groups.{Inclusion, includes, inclusions}
-use Rattle.pyver_projects.specs.Meanings.{StringReading}
+use Rattle.pyver_projects.specs.Meanings.{Inclusion, includes, inclusions, StringReading}
 use Rattle.pyver_projects.specs.ProjectStrings.{Build, Dependencies, Entry, Extra, Group, Include, Invalid, Python, Section, Unread, Version}
 
 -- ---- parts of a project

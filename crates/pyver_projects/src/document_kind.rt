@@ -151,7 +151,7 @@ fn last_section(path: &[u8]) -> &[u8]
 
 // Up to the last `/`, with it.
 #[tactic(auto, using(crate::proofs::Walks::folder_is, crate::proofs::Walks::section_fits))]
-fn folder(path: &[u8]) -> &[u8]
+pub(crate) fn folder(path: &[u8]) -> &[u8]
     ensures { result.now ≡ folder path.now }
 {
     &path[..path.len() - last_section(path).len()]

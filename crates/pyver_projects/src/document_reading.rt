@@ -1,7 +1,7 @@
 //! What strings of a project and documents are to the check.
 ghost use Rattle.std.specs.Prelude.{◌≡◌, IfOk, IfSome, Some, map, string_bytes, is_none, false};
 ghost use Rattle.pyver_projects.specs.Documents.{locked, toml_contents};
-ghost use Rattle.pyver_projects.specs.Meanings.{ArePythons, AreVersions, IsBrokenReading, IsContentsReading, IsDocumentReading, IsEntryMeaning, IsLockReading, IsProjectReading, IsTextReading, IsSectionMeaning, IsStringReading, IsVersionMeaning, list_versions};
+ghost use Rattle.pyver_projects.specs.Meanings.{ArePythons, AreVersions, IsBrokenReading, IsContentsReading, IsDocumentReading, IsEntryMeaning, IsLockReading, IsProjectReading, IsTextReading, IsSectionMeaning, IsStringReading, IsVersionMeaning, list_versions, include_meaning, no_group};
 ghost use Rattle.pyver_projects.specs.ProjectViews.{contents_of, document_of, document_reading_of, HasGroups, groups_of, project_string_of, section_of, string_reading_of};
 ghost use Rattle.pyver_projects.specs.declared.document_kind.DocumentKind.TheVariants as of_kind;
 ghost use Rattle.pyver_projects.specs.declared.document_kind.LockKind.TheVariants as lock_kind;
@@ -14,7 +14,6 @@ ghost use Rattle.pep440_version.specs.Rejections.{Rejection};
 ghost use Rattle.pyver_findings.specs.FileLines.{NoRequirement};
 ghost use Rattle.pyver_findings.specs.LineMeanings.{IsNone};
 ghost use Rattle.pyver_findings.specs.Views.{file_line_of, line_meaning_of};
-ghost use Rattle.pyver_projects.specs.Groups.{include_meaning, no_group};
 ghost use Rattle.pyver_projects.specs.ProjectStrings.{HasPlaces};
 
 use crate::document_kind::{Document, DocumentKind, LockKind};
@@ -42,6 +41,7 @@ use toml::Table;
 // A project that was read.
 #[derive(Drop)]
 pub(crate) struct ProjectReading {
+    pub(crate) table: Table,
     // Its groups hold together with its dependencies.
     pub(crate) together: bool,
     // In its normal form.
@@ -82,21 +82,22 @@ fn read_project(
     alloc: Global,
     name: &[u8],
     text: &str,
-    table: &Table,
+    table: Table,
 ) -> Result<DocumentReading, AllocError>
-    ensures { IfOk result (λ x. IsProjectReading (record { name = name.now; text = text.now }) (table_view table.now) (document_reading_of x)) }
+    ensures { IfOk result (λ x. IsProjectReading (record { name = name.now; text = text.now }) (table_view table) (document_reading_of x)) }
 {
-    let strings = project_strings(alloc, table)?;
-    let names = group_names(alloc, table)?;
+    let strings = project_strings(alloc, &table)?;
+    let names = group_names(alloc, &table)?;
     let inclusions = string_inclusions(alloc, strings.as_slice())?;
     let groups = Groups::new(alloc, names.as_slice(), inclusions.as_slice())?;
     let keys = document_keys(alloc, text.as_bytes())?;
     let places = read_places(alloc, text.as_bytes(), keys.as_slice())?;
     let strings = read_strings(alloc, &groups, name, &places, strings.as_slice())?;
-    let together = has_group_tool(table);
-    let name = project_name(alloc, table)?;
-    let overridden = overridden_names(alloc, table)?;
+    let together = has_group_tool(&table);
+    let name = project_name(alloc, &table)?;
+    let overridden = overridden_names(alloc, &table)?;
     Ok(DocumentReading::Project(ProjectReading {
+        table,
         together,
         name,
         overridden,
@@ -155,7 +156,7 @@ fn read_toml_project(alloc: Global, name: &[u8], text: &str) -> Result<DocumentR
     ensures { IfOk result (λ x. IsTextReading of_kind.Project (record { name = name.now; text = text.now }) (document_reading_of x)) }
 {
     match toml::table_from_str(alloc, text) {
-        Ok(table) => read_project(alloc, name, text, &table),
+        Ok(table) => read_project(alloc, name, text, table),
         Err(error) if error.is_memory() => Err(AllocError),
         Err(error) => reject_toml(alloc, name, text, &error),
     }

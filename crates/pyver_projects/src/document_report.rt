@@ -1,5 +1,6 @@
 //! The report of documents.
 ghost use Rattle.std.specs.Prelude.{◌≡◌, ◌++◌, [], IfOk, map};
+ghost use Rattle.toml.specs.Data.{no_members};
 ghost use Rattle.std.specs.List.{All, AllZip, flat_map, zip};
 ghost use Rattle.pyver_findings.specs.Reports.{empty_report, invalid_in, left_out_in};
 ghost use Rattle.pyver_findings.specs.MarkedConflicts.{FindsOfEach};
@@ -46,7 +47,7 @@ fn report_strings(
     together: bool,
     strings: Vec<StringReading>,
 ) -> Result<Report, AllocError>
-    ensures { IfOk result (λ r. report_of r ≡ own_report (is_excused []) (IsProject together [] [] (map string_reading_of strings.items))) }
+    ensures { IfOk result (λ r. report_of r ≡ own_report (is_excused []) (IsProject no_members together [] [] (map string_reading_of strings.items))) }
 {
     let mut report = Report::empty(alloc);
     report.lines = strings.len();
@@ -170,6 +171,7 @@ fn report_document(
     match document {
         DocumentReading::Project(project) => {
             let ProjectReading {
+                table: _table,
                 together,
                 name: _name,
                 overridden: _overridden,
@@ -287,7 +289,8 @@ fn read_documents<'a>(
 /// in which the lock leaves out all packages that it may take, unless that is one of them, setuptools, distribute, pip or wheel, and the locked
 /// versions of its name, if it contains none.
 /// Then what is wrong in each project beside each lock in its folder, or in the nearest above that has one of its kind, and beside each
-/// lock for which that is no project: for each requirement, in order, whether the lock lacks a package of its name, or such an environment,
+/// lock for which that is no project: in one folder whether `metadata.content-hash` of `poetry.lock`, or `metadata.content_hash` of `pdm.lock`, is the hash
+/// of the project, on the line of that key; for each requirement, in order, whether the lock lacks a package of its name, or such an environment,
 /// and the lines of the locked versions of its name with the line of the requirement, if it contains none. Then the requirements of each project that hold
 /// together and have no version in common, as `pyver_findings` reports them, each once: `project.dependencies`; these with each extra; each group with
 /// all that it includes, and with these if there is a table `tool.uv` or `tool.poetry`; and what the build requires. Those with markers are reported in an

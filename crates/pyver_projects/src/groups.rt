@@ -2,7 +2,7 @@
 ghost use Rattle.std.specs.Prelude.{◌≡◌, ◌++◌, IfOk, bytes_eq, map, ◌∷◌, [], List, ℕ, if◌then◌else◌, count_by, nat_lt, ◌&&◌};
 ghost use Rattle.std.specs.List.{flat_map, list_any, filter, list_all};
 ghost use Rattle.pyver_projects.specs.Documents.{entry_names, group_names, has_group_tool, has_tool};
-ghost use Rattle.pyver_projects.specs.Groups.{includes, inclusion, inclusions, includes_by};
+ghost use Rattle.pyver_projects.specs.Meanings.{includes, inclusion, inclusions, includes_by};
 ghost use Rattle.pyver_projects.specs.ProjectViews.{HasGroups, IsInclusionIndex, IsNameIndex, IsGroupOrder, groups_of, inclusions_of, indexed_names, is_repeated, inclusion_of, project_string_of, section_of, string_reading_of, stands_before, rank_of, GainsNames, IsFound, KeepsFound, has_key};
 ghost use Rattle.pyver_projects.specs.Together.{sections};
 ghost use Rattle.pyver_projects.specs.ProjectStrings.{members_list};

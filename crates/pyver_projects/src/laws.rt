@@ -4,7 +4,8 @@ ghost use Rattle.pyver_projects.specs.ProjectLaws.{DocumentReportsOnce, Document
 /// What is reported by itself is a string of a project that is not what it is to be there, a group that is invalid, a package whose version
 /// is none or is not that in the name of one of its files, a package whose name and marker another has, too, or a dependency on two, if the
 /// format has one, a document that is not TOML, or JSON, in UTF-8, or a requirement whose name no package of some lock has, or which in some
-/// environment no package meets that the lock does not leave out. Lines that are
+/// environment no package meets that the lock does not leave out, or a lock that has another hash than what is hashed of the project in its folder.
+/// Lines that are
 /// reported together belong to a requirement, of a project or of a package in the same lock, and to packages of its name, none of whose
 /// versions it contains, or to requirements of a project that hold together, have no version in common, and have one without any one of them.
 pub fn findings_hold()
@@ -17,6 +18,7 @@ pub fn findings_hold()
 /// leave out, if there is a project, none has this name, and it is none of setuptools, distribute, pip and wheel.
 /// Each file of a locked package from an index, in whose name a version is read, has one that `==` with the package's version matches.
 /// No package has the name and the marker of another, if the format has one, and no dependency of `uv.lock` is on two.
+/// Each lock with a hash has that of what is hashed of the project in its folder, unless this is not known.
 ///
 /// The requirements of a project that hold together, of one name and without a marker, have a version
 /// in common: its dependencies, with what Poetry's tables ask for; these with an extra; a group with all that it includes, and with these if there is a table `tool.uv` or

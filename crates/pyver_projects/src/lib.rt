@@ -3,10 +3,12 @@
 //! In reading order: `DocumentKind`, `kind_of_path` and `kind_of_word`; `Document` and `find_document_problems`; and `laws`.
 #![tactic(auto)]
 
+mod content_hash;
 mod document_kind;
 mod document_reading;
 mod document_report;
 mod groups;
+mod json_text;
 mod known_environment;
 mod known_projects;
 pub mod laws;

@@ -9,6 +9,7 @@ ghost use Rattle.pyver_projects.specs.ProjectViews.{IsIndex, excuses, index_part
 ghost use Rattle.std.specs.HashMap.{get_by};
 ghost use Rattle.std.specs.Option.{option_map_or};
 
+use crate::content_hash::push_stale_in_pair;
 use crate::document_kind::{Document, DocumentKind, LockKind, is_beside};
 use crate::document_reading::{DocumentReading, ReadDocument, StringReading};
 use crate::known_environment::{KnownEnvironment, known_environments};
@@ -712,6 +713,7 @@ fn push_pair_of_documents(
     if !is_beside(documents, read.document, other.document) {
         return Ok(());
     }
+    push_stale_in_pair(alloc, findings, read, other)?;
     push_beside(
         alloc,
         findings,

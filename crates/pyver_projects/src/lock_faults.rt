@@ -9,6 +9,7 @@ ghost use Rattle.pyver_projects.specs.declared.document_kind.LockKind.TheVariant
 ghost use Rattle.toml.specs.Data.{as_str};
 ghost use Rattle.toml.specs.View.{table_view, view};
 
+use crate::content_hash::lock_hash;
 use crate::document_kind::LockKind;
 use crate::groups::NameIndex;
 use crate::locked_package::{
@@ -329,10 +330,11 @@ fn listed_texts(alloc: Global, list: &[Value]) -> Result<Vec<Vec<u8>>, AllocErro
 pub(crate) fn lock_parts(
     alloc: Global,
     kind: LockKind,
+    text: &[u8],
     document: &Table,
     packages: &[Value],
 ) -> Result<LockParts, AllocError>
-    ensures { IfOk result (λ parts. parts_of parts ≡ lock_parts kind (table_view document.now) (map view packages.now)) }
+    ensures { IfOk result (λ parts. parts_of parts ≡ lock_parts kind text.now (table_view document.now) (map view packages.now)) }
 {
     let mut names = part_names(alloc, kind, document)?;
     push_package_parts(alloc, &mut names, kind, packages)?;
@@ -340,11 +342,13 @@ pub(crate) fn lock_parts(
     let mut groups = listed_names(alloc, top(document, "dependency-groups"))?;
     push_listed_names(alloc, &mut groups, top(document, "default-groups"))?;
     let environments = listed_texts(alloc, items(top(document, "environments")))?;
+    let hash = lock_hash(alloc, kind, text, document)?;
     Ok(LockParts {
         names,
         extras,
         groups,
         environments,
+        hash,
     })
 }
 

@@ -69,6 +69,27 @@ pub(crate) struct LockFault {
     pub(crate) reason: &'static str,
 }
 
+// What is hashed of a project.
+#[derive(Clone, Copy, Debug, PartialEq, Eq)]
+pub(crate) enum HashRule {
+    // What each Poetry does: 1 the tables of Poetry, 2 also the table `project`, from 2.3 on also the groups.
+    PoetryTables,
+    // What Poetry 2 does.
+    PoetryProject,
+    // What Poetry does from 2.3 on.
+    PoetryGroups,
+    // What PDM does.
+    Pdm,
+}
+
+// The hash of its project that a lock has.
+#[derive(Drop)]
+pub(crate) struct ContentHash {
+    pub(crate) rule: HashRule,
+    // In hexadecimal digits.
+    pub(crate) value: Vec<u8>,
+}
+
 // The parts of a project that a lock has, in normal form.
 #[derive(Drop)]
 pub(crate) struct LockParts {
@@ -79,6 +100,8 @@ pub(crate) struct LockParts {
     pub(crate) groups: Vec<Vec<u8>>,
     // The markers of the environments that it is for, or none.
     pub(crate) environments: Vec<Vec<u8>>,
+    // The hash of the project, if it is known what is hashed.
+    pub(crate) hash: Option<ContentHash>,
 }
 
 // What is read of a lock.

@@ -3,7 +3,7 @@ ghost use Rattle.std.specs.Prelude.{◌≡◌, ◌++◌, IfOk, Some, codes, map,
 ghost use Rattle.std.specs.List.{flat_map};
 ghost use Rattle.std.specs.Option.{option_map_or};
 ghost use Rattle.pep440_version.specs.Changes.ChangeWords.{after};
-ghost use Rattle.pyver_projects.specs.PipfileLocks.{document_faults, invalid_value, has_version, is_object, is_string, member_faults, member_package, named_fault, section_faults, new_package, object_entries, object_entries_or_none, package_version, pinned_version, same_version, section_members};
+ghost use Rattle.pyver_projects.specs.LockedFiles.{document_faults, invalid_value, has_version, is_object, is_string, member_faults, member_package, named_fault, section_faults, new_package, object_entries, object_entries_or_none, package_version, pinned_version, same_version, section_members};
 ghost use Rattle.pyver_projects.specs.Documents.{pipfile_contents};
 ghost use Rattle.pyver_projects.specs.ProjectViews.{contents_of, fault_of, locked_of};
 ghost use Rattle.pyver_projects.specs.ProjectStrings.{HasQuotedLines};
@@ -288,6 +288,7 @@ pub(crate) fn pipfile_contents(
             extras: Vec::new(alloc),
             groups: Vec::new(alloc),
             environments: Vec::new(alloc),
+            hash: None,
         },
         packages,
         requirements: Vec::new(alloc),

@@ -287,7 +287,10 @@ pub(crate) fn document_keys(alloc: Global, text: &[u8]) -> Result<Vec<KeyLine>, 
 }
 
 // The number of the first line of each key.
-fn number_keys(alloc: Global, keys: &[KeyLine]) -> Result<BTreeMap<&[u8], usize>, AllocError>
+pub(crate) fn number_keys(
+    alloc: Global,
+    keys: &[KeyLine],
+) -> Result<BTreeMap<&[u8], usize>, AllocError>
     ensures { IfOk result (λ numbers. (path : List ℕ) → get_by (λ k. slice_cmp nat_cmp path k.now) numbers ≡ first_key path (map key_line_of keys.now)) }
 {
     let mut numbers = BTreeMap::new(alloc);

@@ -5,9 +5,8 @@ ghost use Rattle.pyver_findings.specs.Reports.{demands_in};
 ghost use Rattle.pyver_findings.specs.MarkedConflicts.{FindsOfEach};
 ghost use Rattle.pyver_findings.specs.Views.{AddsFound, demand_of, file_line_of, finding_of, line_meaning_of};
 ghost use Rattle.pyver_markers.specs.EnvironmentViews.{domain_of};
-ghost use Rattle.pyver_projects.specs.Groups.{inclusions as inclusions_in};
+ghost use Rattle.pyver_projects.specs.Meanings.{inclusions as inclusions_in, IsSoundString};
 ghost use Rattle.pyver_projects.specs.ProjectViews.{IsInclusionIndex, has_key, inclusions_of, section_of, string_reading_of};
-ghost use Rattle.pyver_projects.specs.Meanings.{IsSoundString};
 ghost use Rattle.pyver_projects.specs.Together.{FindsOfPart, FindsOfParts, all_demands, demand_in_part, has_dependencies, has_group, holds_in, is_build, is_extra, is_marked, part_demands, parts, project_domain, project_python, same_finding, same_line, same_lines, same_part, section_part, sections, with_new};
 
 use crate::document_reading::StringReading;

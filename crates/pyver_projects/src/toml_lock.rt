@@ -167,6 +167,6 @@ pub(crate) fn toml_contents(
         python,
         names: NameIndex::new(alloc, names.as_slice())?,
     };
-    let parts = lock_parts(alloc, kind, document, tables)?;
+    let parts = lock_parts(alloc, kind, text.as_bytes(), document, tables)?;
     read_tables(alloc, parts, faults, &counted, lines.as_slice(), tables)
 }

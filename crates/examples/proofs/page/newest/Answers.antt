@@ -2,7 +2,7 @@ use Rattle.std.proofs.Common.{◌≡◌, ◌∙◌, List, ap, length, subst, sym
 use Rattle.std.proofs.lemmas.Iterator.Adapters.{YieldsList-from_vec}
 use Rattle.std.proofs.lemmas.Iterator.Consumers.{reduce_from_yields_List}
 use Rattle.pep440_version.specs.Record.{Record}
-use Rattle.examples.specs.Page.{LastGreatest, collect_matches}
+use Rattle.examples.specs.Versions.{LastGreatest, collect_matches}
 use Rattle.examples.proofs.Newest.{newer, newest_of_all}
 use Rattle.examples.proofs.page.newest.Goals as goal
 

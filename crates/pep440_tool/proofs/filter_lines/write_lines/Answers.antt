@@ -2,7 +2,7 @@ use Rattle.std.proofs.Common.{refl}
 use Rattle.std.proofs.Output.{has_written_styled_append, has_written_styled_of_eq}
 use Rattle.pep440_version.proofs.RoundTrip.Writing.{flat_map_item}
 use Rattle.pep440_version.specs.Print.{print}
-use Rattle.pep440_tool.specs.Texts.{line}
+use Rattle.pep440_tool.specs.Answers.{line}
 use Rattle.pep440_tool.proofs.filter_lines.write_lines.Goals as goal
 
 pub loop-version-preserved : goal.loop-version-preserved

@@ -2,7 +2,7 @@ use Rattle.std.proofs.Common.{take}
 use Rattle.std.specs.List.{flat_map}
 use Rattle.std.specs.Fmt.{HasWrittenStyled, IsFlush}
 use Rattle.pep440_version.specs.Print.{print}
-use Rattle.pep440_tool.specs.Texts.{line}
+use Rattle.pep440_tool.specs.Answers.{line}
 use Rattle.pep440_tool.proofs.filter_lines.write_lines.Given as goal
 
 abbrev pub invariant-loop-version : goal.invariant-loop-version

@@ -2,8 +2,7 @@ use Rattle.std.proofs.Common.{◌≡◌, ◌∙◌, ap, map, subst}
 use Rattle.std.specs.List.{AllZip}
 use Rattle.pyver_findings.specs.FileLines.{File}
 use Rattle.pyver_projects.specs.Documents.{group_names, sources}
-use Rattle.pyver_projects.specs.Groups.{Groups, groups, inclusions}
-use Rattle.pyver_projects.specs.Meanings.{IsProject, IsStringReading}
+use Rattle.pyver_projects.specs.Meanings.{Groups, groups, inclusions, IsProject, IsStringReading}
 use Rattle.pyver_projects.specs.ProjectViews.{groups_of, inclusion_of, project_string_of, string_reading_of}
 use Rattle.pyver_projects.specs.ProjectStrings.{ProjectString}
 use Rattle.toml.specs.View.{table_view}
@@ -11,7 +10,7 @@ use Rattle.pyver_projects.proofs.document_reading.read_project.Goals as goal
 
 pub returns : goal.returns
 returns c =
-    let t = table_view c.args.table.now in
+    let t = table_view c.args.table in
     let all = groups_of c.in_ok-groups.groups in
     let xs = map string_reading_of c.in_ok-strings-2.strings.items in
     let names : map (λ n. n.items) c.as_slice-2.result.now ≡ group_names t = ap (map (λ n. n.items)) c.as_slice-2.ensures.value ∙ c.in_ok-names.ensures in
@@ -24,4 +23,4 @@ returns c =
     let file : File = record { name = c.args.name.now; text = c.args.text.now } in
     let read : AllZip (IsStringReading all file) (map project_string_of c.as_slice-5.result.now) xs =
     subst (λ bytes. AllZip (IsStringReading all (record { name = c.args.name.now; text = bytes })) (map project_string_of c.as_slice-5.result.now) xs) text c.in_ok-strings-2.ensures in
-    (xs, subst (λ (g : Groups). AllZip (IsStringReading g file) (sources t) xs) same (subst (λ ss. AllZip (IsStringReading all file) ss xs) again read), λ j. IsProject (c.has_group_tool-together.ensures j) (c.in_ok-name.ensures j) (c.in_ok-overridden.ensures j) xs)
+    (xs, subst (λ (g : Groups). AllZip (IsStringReading g file) (sources t) xs) same (subst (λ ss. AllZip (IsStringReading all file) ss xs) again read), λ j. IsProject t (c.has_group_tool-together.ensures j) (c.in_ok-name.ensures j) (c.in_ok-overridden.ensures j) xs)

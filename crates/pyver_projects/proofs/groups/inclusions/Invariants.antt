@@ -1,5 +1,5 @@
 use Rattle.std.proofs.Common.{◌≡◌, ◌++◌, drop, map}
-use Rattle.pyver_projects.specs.Groups.{inclusions}
+use Rattle.pyver_projects.specs.Meanings.{inclusions}
 use Rattle.pyver_projects.specs.ProjectViews.{inclusion_of, string_reading_of}
 use Rattle.pyver_projects.specs.Together.{sections}
 use Rattle.pyver_projects.proofs.groups.inclusions.Given as goal

@@ -1,5 +1,5 @@
 use Rattle.std.proofs.Common.{◌≡◌, ◌++◌, drop, map}
-use Rattle.pyver_projects.specs.Groups.{inclusions}
+use Rattle.pyver_projects.specs.Meanings.{inclusions}
 use Rattle.pyver_projects.specs.ProjectStrings.{ProjectString}
 use Rattle.pyver_projects.specs.ProjectViews.{inclusion_of, project_string_of}
 use Rattle.pyver_projects.proofs.groups.string_inclusions.Given as goal

@@ -1,7 +1,7 @@
 use Rattle.std.proofs.Common.{◌≡◌, ◌++◌, map}
 use Rattle.std.specs.List.{flat_map}
 use Rattle.serde_json.specs.View.{members_view}
-use Rattle.pyver_projects.specs.PipfileLocks.{member_faults, object_entries}
+use Rattle.pyver_projects.specs.LockedFiles.{member_faults, object_entries}
 use Rattle.pyver_projects.specs.ProjectViews.{fault_of}
 use Rattle.pyver_projects.proofs.pipfile_lock.push_all_member_faults.Given as goal
 

@@ -1,7 +1,7 @@
 use Rattle.std.proofs.Common.{◌≡◌, ◌++◌, map, option_map}
 use Rattle.std.specs.List.{flat_map}
 use Rattle.serde_json.specs.View.{members_view, view}
-use Rattle.pyver_projects.specs.PipfileLocks.{new_package, object_entries}
+use Rattle.pyver_projects.specs.LockedFiles.{new_package, object_entries}
 use Rattle.pyver_projects.specs.ProjectViews.{locked_of}
 use Rattle.pyver_projects.proofs.pipfile_lock.push_members.Given as goal
 

@@ -1,0 +1,263 @@
+-- The hash of a project that Poetry and PDM write into its lock: SHA-256 of tables of `pyproject.toml` as JSON, which Python's `json.dumps` writes with
+-- sorted keys (Poetry: `poetry.packages.locker`, `_get_content_hash`; PDM: `pdm.project.project_file`, `content_hash`).
+use Rattle.std.specs.Prelude.{Bool, List, None, Option, Some, [], bytes_eq, codes, false, if◌then◌else◌, is_none, is_some, length, nat_lt, not, option_and_then, option_map, true, ℕ, ◌&&◌, ◌++◌, ◌==◌, ◌||◌, ◌∷◌}
+use Rattle.std.specs.Fmt.{signed_decimal}
+use Rattle.std.specs.List.{flat_map, list_all, list_any, starts_with}
+use Rattle.std.specs.Prelude.{nat_eq}
+use Rattle.cli_io.specs.Escapes.{hex_digits}
+use Rattle.hex.specs.Hex.{encode_lower}
+use Rattle.pep440_pick.specs.Names.{is_name, normal}
+use Rattle.pep440_pick.specs.RequirementReading.{split_at_byte}
+use Rattle.sha2.specs.Sha256.{sha256}
+use Rattle.toml.specs.Data.{Data, Items, Members, array, as_array, as_table, boolean, datetime, float, get_member, integer, item, member, no_items, no_members, string, table}
+use Rattle.pyver_projects.specs.ProjectStrings.{ContentHash, entries, inside, text_in}
+use Rattle.pyver_projects.specs.declared.document_kind.LockKind.{LockKind}
+use Rattle.pyver_projects.specs.declared.document_kind.LockKind.TheVariants as lock_kind
+use Rattle.pyver_projects.specs.declared.locked_package.HashRule.{HashRule}
+use Rattle.pyver_projects.specs.declared.locked_package.HashRule.TheVariants as rule
+
+-- ---- JSON (RFC 8259), in ASCII, with a blank after `,` and `:`
+
+-- what stands for what is not known as JSON here, a float, a date and bytes beyond ASCII: a byte that JSON does not have
+abbrev pub unknown : List ℕ
+unknown = 0 ∷ []
+
+-- a control character in a string
+abbrev pub control_escape : ℕ → List ℕ
+control_escape b =
+    if b == 8 then codes "\\b"
+    else if b == 9 then codes "\\t"
+    else if b == 10 then codes "\\n"
+    else if b == 12 then codes "\\f"
+    else if b == 13 then codes "\\r"
+    else codes "\\u00" ++ hex_digits b
+
+-- a byte in a string
+abbrev pub ascii_escape : ℕ → List ℕ
+ascii_escape b =
+    if b == 34 || b == 92 then 92 ∷ (b ∷ [])
+    else if nat_lt b 32 || b == 127 then control_escape b
+    else if nat_lt b 128 then b ∷ []
+    else unknown
+
+abbrev pub ascii_string : List ℕ → List ℕ
+ascii_string text = codes "\"" ++ (flat_map ascii_escape text ++ codes "\"")
+
+abbrev pub after_comma : List ℕ → List ℕ
+after_comma piece = codes ", " ++ piece
+
+-- one after another, with `, ` between them
+abbrev pub with_commas : List (List ℕ) → List ℕ
+with_commas [] = []
+with_commas (piece ∷ pieces) = piece ++ flat_map after_comma pieces
+
+abbrev pub array_text : List (List ℕ) → List ℕ
+array_text items = codes "[" ++ (with_commas items ++ codes "]")
+
+abbrev pub object_text : List (List ℕ) → List ℕ
+object_text members = codes "{" ++ (with_commas members ++ codes "}")
+
+-- a member of an object: its key and the JSON of its value
+abbrev pub json_member : List ℕ → List ℕ → List ℕ
+json_member key value = ascii_string key ++ (codes ": " ++ value)
+
+-- the JSON of a value, and those of items and of members. The keys of a table are in the order of their code points, which is that of their bytes
+abbrev mutual
+  pub json_text : Data → List ℕ
+  json_text (string text) = ascii_string text
+  json_text (integer z) = signed_decimal z
+  json_text (float x) = unknown
+  json_text (boolean b) = if b then codes "true" else codes "false"
+  json_text (datetime d) = unknown
+  json_text (array ds) = array_text (item_texts ds)
+  json_text (table ms) = object_text (member_texts ms)
+
+  pub item_texts : Items → List (List ℕ)
+  item_texts no_items = []
+  item_texts (item d ds) = json_text d ∷ item_texts ds
+
+  pub member_texts : Members → List (List ℕ)
+  member_texts no_members = []
+  member_texts (member key d ms) = json_member key (json_text d) ∷ member_texts ms
+
+-- the members of a table, if there is one
+abbrev pub texts_in : Option Members → List (List ℕ)
+texts_in None = []
+texts_in (Some ms) = member_texts ms
+
+abbrev pub table_members : Option Data → List (List ℕ)
+table_members value = texts_in (option_and_then as_table value)
+
+-- the member of this key, if there is a value
+abbrev pub value_member : List ℕ → Option Data → List (List ℕ)
+value_member key None = []
+value_member key (Some d) = json_member key (json_text d) ∷ []
+
+-- or with this JSON, if there is none
+abbrev pub member_or : List ℕ → List ℕ → Option Data → List (List ℕ)
+member_or default key None = json_member key default ∷ []
+member_or default key (Some d) = json_member key (json_text d) ∷ []
+
+-- the object of these members at the key, if there are some
+abbrev pub object_member : List ℕ → List (List ℕ) → List (List ℕ)
+object_member key [] = []
+object_member key (m ∷ ms) = json_member key (object_text (m ∷ ms)) ∷ []
+
+-- ---- Poetry
+
+-- of the table `project`
+abbrev pub project_members : Option Data → List (List ℕ)
+project_members project = value_member (codes "dependencies") (inside (codes "dependencies") project)
+    ++ (value_member (codes "optional-dependencies") (inside (codes "optional-dependencies") project)
+    ++ value_member (codes "requires-python") (inside (codes "requires-python") project))
+
+-- a key of Poetry's table: null without a value, if only this table is hashed
+abbrev pub poetry_member : Bool → List ℕ → Option Data → List (List ℕ)
+poetry_member true key poetry = member_or (codes "null") key (inside key poetry)
+poetry_member false key poetry = value_member key (inside key poetry)
+
+-- of Poetry's table
+abbrev pub poetry_members : Bool → Option Data → List (List ℕ)
+poetry_members is_alone poetry = poetry_member is_alone (codes "dependencies") poetry
+    ++ (poetry_member is_alone (codes "dev-dependencies") poetry
+    ++ (poetry_member is_alone (codes "extras") poetry
+    ++ (poetry_member false (codes "group") poetry
+    ++ poetry_member is_alone (codes "source") poetry)))
+
+-- Poetry's table
+abbrev pub poetry_table_of : Members → Option Data
+poetry_table_of t = inside (codes "poetry") (get_member (codes "tool") t)
+
+-- by Poetry 1, which hashes only its table
+abbrev pub poetry_text : Option Data → List ℕ
+poetry_text poetry = object_text (poetry_members true poetry)
+
+-- its table beside these members, or alone without some
+abbrev pub text_beside : Option Data → List (List ℕ) → List ℕ
+text_beside poetry [] = poetry_text poetry
+text_beside poetry (m ∷ ms) = object_text ((m ∷ ms) ++ json_member (codes "tool") (object_text (json_member (codes "poetry") (object_text (poetry_members false poetry)) ∷ [])) ∷ [])
+
+-- by Poetry 2 before 2.3
+abbrev pub project_text : Members → List ℕ
+project_text t = text_beside (poetry_table_of t) (object_member (codes "project") (project_members (get_member (codes "project") t)))
+
+-- by Poetry from 2.3 on, with the groups
+abbrev pub groups_text : Members → List ℕ
+groups_text t = text_beside (poetry_table_of t)
+    (object_member (codes "dependency-groups") (table_members (get_member (codes "dependency-groups") t))
+    ++ object_member (codes "project") (project_members (get_member (codes "project") t)))
+
+-- ---- PDM
+
+-- an array with a name in normal form, which PDM does not change
+abbrev pub is_plain_group : List ℕ × Data → Bool
+is_plain_group e = is_name e.0 && (bytes_eq (normal e.0) e.0 && is_some (as_array e.1))
+
+-- each group of the table, if there is one
+abbrev pub has_plain_groups : Option Data → Bool
+has_plain_groups groups = list_all is_plain_group (entries groups)
+
+abbrev pub is_one_empty : List (List ℕ) → List (List ℕ) → Bool
+is_one_empty one other = length one == 0 || length other == 0
+
+-- the groups of these two tables are known as PDM joins them: one has none, and those of the other are plain
+abbrev pub are_plain_groups : Option Data → Option Data → Bool
+are_plain_groups one other = is_one_empty (table_members one) (table_members other) && (has_plain_groups one && has_plain_groups other)
+
+-- of the table `project`, its groups and the table of PDM
+abbrev pub pdm_members : Option Data → Option Data → Option Data → List (List ℕ)
+pdm_members project groups pdm = member_or (codes "[]") (codes "dependencies") (inside (codes "dependencies") project)
+    ++ (json_member (codes "dev-dependencies") (object_text (table_members groups ++ table_members (inside (codes "dev-dependencies") pdm))) ∷ []
+    ++ (member_or (codes "{}") (codes "optional-dependencies") (inside (codes "optional-dependencies") project)
+    ++ (member_or (codes "\"\"") (codes "requires-python") (inside (codes "requires-python") project)
+    ++ (member_or (codes "{}") (codes "resolution") (inside (codes "resolution") pdm)
+    ++ member_or (codes "[]") (codes "sources") (inside (codes "source") pdm)))))
+
+-- what PDM hashes of a project with a table `project` is known, but of a workspace, and where it is to have no hash
+abbrev pub is_plain_project : Option Data → Option Data → Option Data → Bool
+is_plain_project project groups pdm = is_some project && (is_none (inside (codes "workspace") pdm)
+    && (is_none (inside (codes "lock_inputs") (inside (codes "resolution") pdm)) && are_plain_groups groups (inside (codes "dev-dependencies") pdm)))
+
+unfoldable pub text_of_pdm : Option Data → Option Data → Option Data → List ℕ
+text_of_pdm project groups pdm = if is_plain_project project groups pdm then object_text (pdm_members project groups pdm) else unknown
+
+-- the table of PDM
+abbrev pub pdm_table_of : Members → Option Data
+pdm_table_of t = inside (codes "pdm") (get_member (codes "tool") t)
+
+abbrev pub pdm_text : Members → List ℕ
+pdm_text t = text_of_pdm (get_member (codes "project") t) (get_member (codes "dependency-groups") t) (pdm_table_of t)
+
+-- ---- the hash of a lock
+
+-- the hash, if it has the length of SHA-256 in hexadecimal digits
+abbrev pub hash_by : HashRule → Option (List ℕ) → Option ContentHash
+hash_by by None = None
+hash_by by (Some value) = if length value == 64 then Some (record { rule = by; value = value }) else None
+
+-- a lock with this text is of Poetry 2 before 2.3, as its first line says
+abbrev pub is_before_groups : List ℕ → Bool
+is_before_groups text = starts_with nat_eq text (codes "# This file is automatically @generated by Poetry 2.0.")
+    || (starts_with nat_eq text (codes "# This file is automatically @generated by Poetry 2.1.")
+    || starts_with nat_eq text (codes "# This file is automatically @generated by Poetry 2.2."))
+
+-- what Poetry hashes for a lock of this version with this text
+abbrev pub rule_of_poetry : List ℕ → List ℕ → Option HashRule
+rule_of_poetry text version =
+    if bytes_eq version (codes "2.1") then Some (if is_before_groups text then rule.PoetryProject else rule.PoetryGroups)
+    else if bytes_eq version (codes "2.0") || bytes_eq version (codes "1.1") then Some rule.PoetryTables
+    else None
+
+abbrev pub poetry_hash_by : Option Data → Option HashRule → Option ContentHash
+poetry_hash_by metadata None = None
+poetry_hash_by metadata (Some by) = hash_by by (text_in (inside (codes "content-hash") metadata))
+
+abbrev pub poetry_hash : List ℕ → Option Data → Option ContentHash
+poetry_hash text metadata = poetry_hash_by metadata (option_and_then (rule_of_poetry text) (text_in (inside (codes "lock-version") metadata)))
+
+-- the version of a lock for which PDM hashes these tables
+abbrev pub is_version_of_pdm : Option (List ℕ) → Bool
+is_version_of_pdm None = false
+is_version_of_pdm (Some version) = bytes_eq version (codes "4.4.2") || (bytes_eq version (codes "4.5.0") || bytes_eq version (codes "4.5.1"))
+
+-- the hash of this algorithm, if it is SHA-256
+abbrev pub of_algorithm : Option (List ℕ × List ℕ) → Option (List ℕ)
+of_algorithm None = None
+of_algorithm (Some x) = if bytes_eq x.0 (codes "sha256") then Some x.1 else None
+
+abbrev pub pdm_hash : Option Data → Option ContentHash
+pdm_hash metadata =
+    if is_version_of_pdm (text_in (inside (codes "lock_version") metadata)) && is_none (inside (codes "lock_inputs") metadata)
+    then hash_by rule.Pdm (of_algorithm (option_and_then (split_at_byte 58) (text_in (inside (codes "content_hash") metadata))))
+    else None
+
+-- the hash of its project that a lock of this kind with this text has, if it is known what is hashed
+abbrev pub lock_hash : LockKind → List ℕ → Members → Option ContentHash
+lock_hash lock_kind.Poetry text document = poetry_hash text (get_member (codes "metadata") document)
+lock_hash lock_kind.Pdm text document = pdm_hash (get_member (codes "metadata") document)
+lock_hash kind text document = None
+
+-- ---- a project beside it
+
+-- the texts that are hashed of a project with this table: by each Poetry that may have written the lock
+abbrev pub hashed_texts : HashRule → Members → List (List ℕ)
+hashed_texts rule.PoetryTables t = groups_text t ∷ (project_text t ∷ (poetry_text (poetry_table_of t) ∷ []))
+hashed_texts rule.PoetryProject t = groups_text t ∷ (project_text t ∷ [])
+hashed_texts rule.PoetryGroups t = groups_text t ∷ []
+hashed_texts rule.Pdm t = pdm_text t ∷ []
+
+-- SHA-256 in hexadecimal digits
+unfoldable pub hash_of : List ℕ → List ℕ
+hash_of text = encode_lower (sha256 text)
+
+-- all that the text has is known
+abbrev pub is_known_text : List ℕ → Bool
+is_known_text text = list_all (nat_lt 0) text
+
+-- the text may have the hash: it has, or is not known
+abbrev pub may_have : List ℕ → List ℕ → Bool
+may_have value text = not (is_known_text text) || bytes_eq value (hash_of text)
+
+-- the lock is out of date: none of the texts has its hash
+abbrev pub is_stale : ContentHash → Members → Bool
+is_stale hash t = not (list_any (may_have hash.value) (hashed_texts hash.rule t))

@@ -1,0 +1,633 @@
+//! The hash of a project that Poetry and PDM write into its lock: of tables of `pyproject.toml` as JSON.
+ghost use Rattle.std.specs.Prelude.{◌≡◌, ◌++◌, ◌∷◌, [], IfOk, codes, false, map, option_and_then, option_map, string_bytes};
+ghost use Rattle.std.specs.List.{list_all, list_any};
+ghost use Rattle.pyver_findings.specs.NamedFiles.{folder};
+ghost use Rattle.pyver_findings.specs.Views.{file_line_of, file_of, finding_of};
+ghost use Rattle.pyver_projects.specs.Comparing.{hash_key, hash_line, in_one_folder, stale_beside, stale_by, stale_finding, stale_in_pair};
+ghost use Rattle.pyver_projects.specs.ContentHashes.{are_plain_groups, groups_text, hash_by, has_plain_groups, hash_of, hashed_texts, is_before_groups, is_known_text, is_one_empty, is_plain_group, is_plain_project, is_stale, is_version_of_pdm, json_member, object_text, json_text, lock_hash, may_have, member_or, object_member, of_algorithm, pdm_hash, pdm_members, pdm_table_of, pdm_text, poetry_hash, poetry_member, poetry_members, poetry_table_of, poetry_text, project_members, project_text, rule_of_poetry, table_members, text_beside, text_of_pdm, value_member};
+ghost use Rattle.pyver_projects.specs.ProjectStrings.{inside, key_line, key_path, members_list, number_or_one};
+ghost use Rattle.pep440_pick.specs.RequirementReading.{split_at_byte};
+ghost use Rattle.pyver_projects.specs.ProjectViews.{content_hash_of, document_of, document_reading_of, read_pair};
+ghost use Rattle.toml.specs.View.{table_view, view};
+
+use crate::document_kind::{Document, LockKind, folder};
+use crate::document_reading::{DocumentReading, ReadDocument};
+use crate::json_text::{json_member, json_text, object_text, table_members};
+use crate::locked_package::{ContentHash, HashRule, split_at_byte};
+use crate::place::{document_keys, key_path, number_keys};
+use crate::table::{inside, table, text, top};
+use pep440_pick::is_name;
+use pyver_findings::{FileLine, Finding, SourceFile, normalize_name};
+use sha2::{Digest, Sha256};
+use std::alloc::{AllocError, Global};
+use toml::{Table, Value};
+
+// ---- members of objects
+
+// Adds the member of this key, if there is a value.
+fn push_value(
+    alloc: Global,
+    members: &mut Vec<Vec<u8>>,
+    key: &str,
+    value: Option<&Value>,
+) -> Result<(), AllocError>
+    ensures { IfOk result (λ _. map (λ p. p.items) members.new.items ≡ map (λ p. p.items) members.old.items ++ value_member key.now (option_map (λ v. view v.now) value.entry)) }
+{
+    if let Some(value) = value {
+        let text = json_text(alloc, value)?;
+        members.push(json_member(alloc, key.as_bytes(), text.as_slice())?)?;
+    }
+    Ok(())
+}
+
+// Adds it, with this JSON if there is no value.
+fn push_value_or(
+    alloc: Global,
+    members: &mut Vec<Vec<u8>>,
+    default: &str,
+    key: &str,
+    value: Option<&Value>,
+) -> Result<(), AllocError>
+    ensures { IfOk result (λ _. map (λ p. p.items) members.new.items ≡ map (λ p. p.items) members.old.items ++ member_or default.now key.now (option_map (λ v. view v.now) value.entry)) }
+{
+    if value.is_some() {
+        return push_value(alloc, members, key, value);
+    }
+    members.push(json_member(alloc, key.as_bytes(), default.as_bytes())?)?;
+    Ok(())
+}
+
+// Adds an object at the key.
+fn push_object(
+    alloc: Global,
+    members: &mut Vec<Vec<u8>>,
+    key: &str,
+    inner: &[Vec<u8>],
+) -> Result<(), AllocError>
+    ensures { IfOk result (λ _. map (λ p. p.items) members.new.items ≡ map (λ p. p.items) members.old.items ++ json_member key.now (object_text (map (λ p. p.items) inner.now)) ∷ []) }
+{
+    let text = object_text(alloc, inner)?;
+    members.push(json_member(alloc, key.as_bytes(), text.as_slice())?)?;
+    Ok(())
+}
+
+// The same, if it has members.
+fn push_object_if_some(
+    alloc: Global,
+    members: &mut Vec<Vec<u8>>,
+    key: &str,
+    inner: &[Vec<u8>],
+) -> Result<(), AllocError>
+    ensures { IfOk result (λ _. map (λ p. p.items) members.new.items ≡ map (λ p. p.items) members.old.items ++ object_member key.now (map (λ p. p.items) inner.now)) }
+{
+    if inner.is_empty() {
+        return Ok(());
+    }
+    push_object(alloc, members, key, inner)
+}
+
+// ---- Poetry
+
+fn project_members(alloc: Global, project: Option<&Value>) -> Result<Vec<Vec<u8>>, AllocError>
+    ensures { IfOk result (λ texts. map (λ p. p.items) texts.items ≡ project_members (option_map (λ v. view v.now) project.entry)) }
+{
+    let mut members = Vec::new(alloc);
+    let extras = inside(project, "optional-dependencies");
+    let python = inside(project, "requires-python");
+    push_value(
+        alloc,
+        &mut members,
+        "dependencies",
+        inside(project, "dependencies"),
+    )?;
+    push_value(alloc, &mut members, "optional-dependencies", extras)?;
+    push_value(alloc, &mut members, "requires-python", python)?;
+    Ok(members)
+}
+
+// Adds a key of Poetry's table: null without a value, if only this table is hashed.
+fn push_poetry_member(
+    alloc: Global,
+    members: &mut Vec<Vec<u8>>,
+    is_alone: bool,
+    key: &str,
+    poetry: Option<&Value>,
+) -> Result<(), AllocError>
+    ensures { IfOk result (λ _. map (λ p. p.items) members.new.items ≡ map (λ p. p.items) members.old.items ++ poetry_member is_alone key.now (option_map (λ v. view v.now) poetry.entry)) }
+{
+    let value = inside(poetry, key);
+    if is_alone {
+        push_value_or(alloc, members, "null", key, value)
+    } else {
+        push_value(alloc, members, key, value)
+    }
+}
+
+fn poetry_members(
+    alloc: Global,
+    is_alone: bool,
+    poetry: Option<&Value>,
+) -> Result<Vec<Vec<u8>>, AllocError>
+    ensures { IfOk result (λ texts. map (λ p. p.items) texts.items ≡ poetry_members is_alone (option_map (λ v. view v.now) poetry.entry)) }
+{
+    let mut members = Vec::new(alloc);
+    push_poetry_member(alloc, &mut members, is_alone, "dependencies", poetry)?;
+    push_poetry_member(alloc, &mut members, is_alone, "dev-dependencies", poetry)?;
+    push_poetry_member(alloc, &mut members, is_alone, "extras", poetry)?;
+    push_poetry_member(alloc, &mut members, false, "group", poetry)?;
+    push_poetry_member(alloc, &mut members, is_alone, "source", poetry)?;
+    Ok(members)
+}
+
+fn poetry_table_of(document: &Table) -> Option<&Value>
+    ensures { option_map (λ v. view v.now) result ≡ poetry_table_of (table_view document.now) }
+{
+    inside(top(document, "tool"), "poetry")
+}
+
+// What Poetry 1 hashes.
+fn poetry_text(alloc: Global, poetry: Option<&Value>) -> Result<Vec<u8>, AllocError>
+    ensures { IfOk result (λ text. text.items ≡ poetry_text (option_map (λ v. view v.now) poetry.entry)) }
+{
+    let members = poetry_members(alloc, true, poetry)?;
+    object_text(alloc, members.as_slice())
+}
+
+// Adds Poetry's table at the key `tool`.
+fn push_tool(
+    alloc: Global,
+    members: &mut Vec<Vec<u8>>,
+    poetry: Option<&Value>,
+) -> Result<(), AllocError>
+    ensures { IfOk result (λ _. map (λ p. p.items) members.new.items ≡ map (λ p. p.items) members.old.items ++ json_member (codes "tool") (object_text (json_member (codes "poetry") (object_text (poetry_members false (option_map (λ v. view v.now) poetry.entry))) ∷ [])) ∷ []) }
+{
+    let of_poetry = poetry_members(alloc, false, poetry)?;
+    let mut tool = Vec::new(alloc);
+    push_object(alloc, &mut tool, "poetry", of_poetry.as_slice())?;
+    push_object(alloc, members, "tool", tool.as_slice())
+}
+
+// Poetry's table beside these members, or alone without some.
+fn text_beside(
+    alloc: Global,
+    poetry: Option<&Value>,
+    members: Vec<Vec<u8>>,
+) -> Result<Vec<u8>, AllocError>
+    ensures { IfOk result (λ text. text.items ≡ text_beside (option_map (λ v. view v.now) poetry.entry) (map (λ p. p.items) members.items)) }
+{
+    let mut members = members;
+    if members.is_empty() {
+        return poetry_text(alloc, poetry);
+    }
+    push_tool(alloc, &mut members, poetry)?;
+    object_text(alloc, members.as_slice())
+}
+
+// What Poetry 2 hashes before 2.3.
+fn project_text(alloc: Global, document: &Table) -> Result<Vec<u8>, AllocError>
+    ensures { IfOk result (λ text. text.items ≡ project_text (table_view document.now)) }
+{
+    let mut members = Vec::new(alloc);
+    let project = project_members(alloc, top(document, "project"))?;
+    push_object_if_some(alloc, &mut members, "project", project.as_slice())?;
+    text_beside(alloc, poetry_table_of(document), members)
+}
+
+// What Poetry hashes from 2.3 on.
+fn groups_text(alloc: Global, document: &Table) -> Result<Vec<u8>, AllocError>
+    ensures { IfOk result (λ text. text.items ≡ groups_text (table_view document.now)) }
+{
+    let mut members = Vec::new(alloc);
+    let groups = table_members(alloc, top(document, "dependency-groups"))?;
+    let project = project_members(alloc, top(document, "project"))?;
+    push_object_if_some(alloc, &mut members, "dependency-groups", groups.as_slice())?;
+    push_object_if_some(alloc, &mut members, "project", project.as_slice())?;
+    text_beside(alloc, poetry_table_of(document), members)
+}
+
+// ---- PDM
+
+// An array with a name in normal form.
+fn is_plain_group(alloc: Global, name: &str, value: &Value) -> Result<bool, AllocError>
+    ensures { IfOk result (λ b. b ≡ is_plain_group (name.now, view value.now)) }
+{
+    if !is_name(name) {
+        return Ok(false);
+    }
+    let normal = normalize_name(alloc, name)?;
+    Ok(normal.as_slice() == name.as_bytes() && value.as_array().is_some())
+}
+
+fn is_plain_table(alloc: Global, groups: &Table) -> Result<bool, AllocError>
+    ensures { IfOk result (λ b. b ≡ list_all is_plain_group (members_list (table_view groups.now))) }
+{
+    for (name, value) in groups.iter() {
+        if !is_plain_group(alloc, name.as_str(), value)? {
+            return Ok(false);
+        }
+    }
+    Ok(true)
+}
+
+// Each group of the table, if there is one.
+fn has_plain_groups(alloc: Global, groups: Option<&Value>) -> Result<bool, AllocError>
+    ensures { IfOk result (λ b. b ≡ has_plain_groups (option_map (λ v. view v.now) groups.entry)) }
+{
+    match table(groups) {
+        Some(groups) => is_plain_table(alloc, groups),
+        None => Ok(true),
+    }
+}
+
+fn is_one_empty(one: &[Vec<u8>], other: &[Vec<u8>]) -> bool
+    ensures { result ≡ is_one_empty (map (λ p. p.items) one.now) (map (λ p. p.items) other.now) }
+{
+    one.is_empty() || other.is_empty()
+}
+
+// The groups of the two tables are known as PDM joins them.
+fn are_plain_groups(
+    alloc: Global,
+    one: Option<&Value>,
+    other: Option<&Value>,
+) -> Result<bool, AllocError>
+    ensures { IfOk result (λ b. b ≡ are_plain_groups (option_map (λ v. view v.now) one.entry) (option_map (λ v. view v.now) other.entry)) }
+{
+    let first = table_members(alloc, one)?;
+    let second = table_members(alloc, other)?;
+    if !is_one_empty(first.as_slice(), second.as_slice()) {
+        return Ok(false);
+    }
+    Ok(has_plain_groups(alloc, one)? && has_plain_groups(alloc, other)?)
+}
+
+// What PDM hashes is known.
+fn is_plain_project(
+    alloc: Global,
+    project: Option<&Value>,
+    groups: Option<&Value>,
+    pdm: Option<&Value>,
+) -> Result<bool, AllocError>
+    ensures { IfOk result (λ b. b ≡ is_plain_project (option_map (λ v. view v.now) project.entry) (option_map (λ v. view v.now) groups.entry) (option_map (λ v. view v.now) pdm.entry)) }
+{
+    if project.is_none() || inside(pdm, "workspace").is_some() {
+        return Ok(false);
+    }
+    if inside(inside(pdm, "resolution"), "lock_inputs").is_some() {
+        return Ok(false);
+    }
+    are_plain_groups(alloc, groups, inside(pdm, "dev-dependencies"))
+}
+
+// Adds what PDM hashes of the table `project`, but for its dependencies.
+fn push_project_members(
+    alloc: Global,
+    members: &mut Vec<Vec<u8>>,
+    project: Option<&Value>,
+) -> Result<(), AllocError>
+    ensures { IfOk result (λ _. map (λ p. p.items) members.new.items ≡ map (λ p. p.items) members.old.items ++ (member_or (codes "{}") (codes "optional-dependencies") (inside (codes "optional-dependencies") (option_map (λ v. view v.now) project.entry)) ++ member_or (codes "\"\"") (codes "requires-python") (inside (codes "requires-python") (option_map (λ v. view v.now) project.entry)))) }
+{
+    let extras = inside(project, "optional-dependencies");
+    let python = inside(project, "requires-python");
+    push_value_or(alloc, members, "{}", "optional-dependencies", extras)?;
+    push_value_or(alloc, members, "\"\"", "requires-python", python)
+}
+
+// The groups of both tables.
+fn group_members(
+    alloc: Global,
+    groups: Option<&Value>,
+    pdm: Option<&Value>,
+) -> Result<Vec<Vec<u8>>, AllocError>
+    ensures { IfOk result (λ texts. map (λ p. p.items) texts.items ≡ table_members (option_map (λ v. view v.now) groups.entry) ++ table_members (inside (codes "dev-dependencies") (option_map (λ v. view v.now) pdm.entry))) }
+{
+    let mut members = table_members(alloc, groups)?;
+    let mut added = table_members(alloc, inside(pdm, "dev-dependencies"))?;
+    members.append(&mut added)?;
+    Ok(members)
+}
+
+fn pdm_members(
+    alloc: Global,
+    project: Option<&Value>,
+    groups: Option<&Value>,
+    pdm: Option<&Value>,
+) -> Result<Vec<Vec<u8>>, AllocError>
+    ensures { IfOk result (λ texts. map (λ p. p.items) texts.items ≡ pdm_members (option_map (λ v. view v.now) project.entry) (option_map (λ v. view v.now) groups.entry) (option_map (λ v. view v.now) pdm.entry)) }
+{
+    let mut members = Vec::new(alloc);
+    let dependencies = inside(project, "dependencies");
+    let all = group_members(alloc, groups, pdm)?;
+    push_value_or(alloc, &mut members, "[]", "dependencies", dependencies)?;
+    push_object(alloc, &mut members, "dev-dependencies", all.as_slice())?;
+    push_project_members(alloc, &mut members, project)?;
+    push_value_or(
+        alloc,
+        &mut members,
+        "{}",
+        "resolution",
+        inside(pdm, "resolution"),
+    )?;
+    push_value_or(alloc, &mut members, "[]", "sources", inside(pdm, "source"))?;
+    Ok(members)
+}
+
+#[tactic(auto, unfolding(crate::specs::ContentHashes::text_of_pdm))]
+fn text_of_pdm(
+    alloc: Global,
+    project: Option<&Value>,
+    groups: Option<&Value>,
+    pdm: Option<&Value>,
+) -> Result<Vec<u8>, AllocError>
+    ensures { IfOk result (λ text. text.items ≡ text_of_pdm (option_map (λ v. view v.now) project.entry) (option_map (λ v. view v.now) groups.entry) (option_map (λ v. view v.now) pdm.entry)) }
+{
+    if !is_plain_project(alloc, project, groups, pdm)? {
+        return Vec::from_slice(alloc, b"\0");
+    }
+    let members = pdm_members(alloc, project, groups, pdm)?;
+    object_text(alloc, members.as_slice())
+}
+
+fn pdm_table_of(document: &Table) -> Option<&Value>
+    ensures { option_map (λ v. view v.now) result ≡ pdm_table_of (table_view document.now) }
+{
+    inside(top(document, "tool"), "pdm")
+}
+
+// What PDM hashes; if it is not known, a byte that JSON does not have.
+fn pdm_text(alloc: Global, document: &Table) -> Result<Vec<u8>, AllocError>
+    ensures { IfOk result (λ text. text.items ≡ pdm_text (table_view document.now)) }
+{
+    let project = top(document, "project");
+    let groups = top(document, "dependency-groups");
+    text_of_pdm(alloc, project, groups, pdm_table_of(document))
+}
+
+// ---- the hash of a lock
+
+// The hash, if it has the length of SHA-256.
+fn hash_by(
+    alloc: Global,
+    rule: HashRule,
+    value: Option<&str>,
+) -> Result<Option<ContentHash>, AllocError>
+    ensures { IfOk result (λ hash. option_map content_hash_of hash ≡ hash_by rule (option_map (λ t. t.now) value.entry)) }
+{
+    let Some(value) = value else {
+        return Ok(None);
+    };
+    if value.len() != 64 {
+        return Ok(None);
+    }
+    let value = Vec::from_slice(alloc, value.as_bytes())?;
+    Ok(Some(ContentHash { rule, value }))
+}
+
+// The lock with this text is of Poetry 2 before 2.3.
+fn is_before_groups(text: &[u8]) -> bool
+    ensures { result ≡ is_before_groups text.now }
+{
+    text.starts_with(b"# This file is automatically @generated by Poetry 2.0.")
+        || text.starts_with(b"# This file is automatically @generated by Poetry 2.1.")
+        || text.starts_with(b"# This file is automatically @generated by Poetry 2.2.")
+}
+
+// What Poetry hashes for a lock of this version with this text.
+fn rule_of_poetry(text: &[u8], version: &str) -> Option<HashRule>
+    ensures { result ≡ rule_of_poetry text.now version.now }
+{
+    match version {
+        "2.1" if is_before_groups(text) => Some(HashRule::PoetryProject),
+        "2.1" => Some(HashRule::PoetryGroups),
+        "2.0" | "1.1" => Some(HashRule::PoetryTables),
+        _ => None,
+    }
+}
+
+fn poetry_hash(
+    alloc: Global,
+    text: &[u8],
+    metadata: Option<&Value>,
+) -> Result<Option<ContentHash>, AllocError>
+    ensures { IfOk result (λ hash. option_map content_hash_of hash ≡ poetry_hash text.now (option_map (λ v. view v.now) metadata.entry)) }
+{
+    let Some(version) = self::text(inside(metadata, "lock-version")) else {
+        return Ok(None);
+    };
+    match rule_of_poetry(text, version) {
+        Some(rule) => hash_by(alloc, rule, self::text(inside(metadata, "content-hash"))),
+        None => Ok(None),
+    }
+}
+
+// PDM hashes these tables for a lock of this version.
+fn is_version_of_pdm(version: Option<&str>) -> bool
+    ensures { result ≡ is_version_of_pdm (option_map (λ t. t.now) version.entry) }
+{
+    match version {
+        Some(version) => matches!(version, "4.4.2" | "4.5.0" | "4.5.1"),
+        None => false,
+    }
+}
+
+// What follows the name of the algorithm, if that is SHA-256.
+fn sha256_value(text: Option<&str>) -> Option<&str>
+    ensures { option_map (λ t. t.now) result ≡ of_algorithm (option_and_then (split_at_byte 58) (option_map (λ t. t.now) text.entry)) }
+{
+    let (algorithm, value) = split_at_byte(text?, ':')?;
+    if algorithm == "sha256" {
+        Some(value)
+    } else {
+        None
+    }
+}
+
+fn pdm_hash(alloc: Global, metadata: Option<&Value>) -> Result<Option<ContentHash>, AllocError>
+    ensures { IfOk result (λ hash. option_map content_hash_of hash ≡ pdm_hash (option_map (λ v. view v.now) metadata.entry)) }
+{
+    if !is_version_of_pdm(text(inside(metadata, "lock_version"))) {
+        return Ok(None);
+    }
+    if inside(metadata, "lock_inputs").is_some() {
+        return Ok(None);
+    }
+    let value = sha256_value(text(inside(metadata, "content_hash")));
+    hash_by(alloc, HashRule::Pdm, value)
+}
+
+// The hash of its project that a lock of this kind with this text has.
+pub(crate) fn lock_hash(
+    alloc: Global,
+    kind: LockKind,
+    text: &[u8],
+    document: &Table,
+) -> Result<Option<ContentHash>, AllocError>
+    ensures { IfOk result (λ hash. option_map content_hash_of hash ≡ lock_hash kind text.now (table_view document.now)) }
+{
+    let metadata = top(document, "metadata");
+    match kind {
+        LockKind::Poetry => poetry_hash(alloc, text, metadata),
+        LockKind::Pdm => pdm_hash(alloc, metadata),
+        _ => Ok(None),
+    }
+}
+
+// ---- a project beside it
+
+// SHA-256 in hexadecimal digits.
+#[tactic(auto, unfolding(crate::specs::ContentHashes::hash_of))]
+fn hash_of(alloc: Global, text: &[u8]) -> Result<String, AllocError>
+    ensures { IfOk result (λ hash. string_bytes hash ≡ hash_of text.now) }
+{
+    hex::encode(alloc, Sha256::digest(text))
+}
+
+fn is_known_text(text: &[u8]) -> bool
+    ensures { result ≡ is_known_text text.now }
+{
+    text.iter().all(|byte| *byte > 0)
+}
+
+// The text has the hash, or is not known.
+fn may_have(alloc: Global, value: &[u8], text: &[u8]) -> Result<bool, AllocError>
+    ensures { IfOk result (λ b. b ≡ may_have value.now text.now) }
+{
+    if !is_known_text(text) {
+        return Ok(true);
+    }
+    let hash = hash_of(alloc, text)?;
+    Ok(value == hash.as_bytes())
+}
+
+// One of the texts that are hashed of the project has the hash, or is not known.
+fn may_have_any(alloc: Global, hash: &ContentHash, document: &Table) -> Result<bool, AllocError>
+    ensures { IfOk result (λ b. b ≡ list_any (may_have hash.now.value.items) (hashed_texts hash.now.rule (table_view document.now))) }
+{
+    let value = hash.value.as_slice();
+    if matches!(hash.rule, HashRule::Pdm) {
+        return may_have(alloc, value, pdm_text(alloc, document)?.as_slice());
+    }
+    if may_have(alloc, value, groups_text(alloc, document)?.as_slice())? {
+        return Ok(true);
+    }
+    if matches!(hash.rule, HashRule::PoetryGroups) {
+        return Ok(false);
+    }
+    if may_have(alloc, value, project_text(alloc, document)?.as_slice())? {
+        return Ok(true);
+    }
+    if matches!(hash.rule, HashRule::PoetryProject) {
+        return Ok(false);
+    }
+    let text = poetry_text(alloc, poetry_table_of(document))?;
+    may_have(alloc, value, text.as_slice())
+}
+
+// The lock is out of date.
+fn is_stale(alloc: Global, hash: &ContentHash, document: &Table) -> Result<bool, AllocError>
+    ensures { IfOk result (λ b. b ≡ is_stale (content_hash_of hash.now) (table_view document.now)) }
+{
+    Ok(!may_have_any(alloc, hash, document)?)
+}
+
+fn hash_key(rule: HashRule) -> &'static str
+    ensures { result.now ≡ hash_key rule }
+{
+    match rule {
+        HashRule::Pdm => "content_hash",
+        _ => "content-hash",
+    }
+}
+
+// The number of the first line of the text that has the key with this path.
+fn key_line(alloc: Global, text: &[u8], path: &[u8]) -> Result<Option<usize>, AllocError>
+    ensures { IfOk result (λ number. number ≡ key_line text.now path.now) }
+{
+    let keys = document_keys(alloc, text)?;
+    let numbers = number_keys(alloc, keys.as_slice())?;
+    Ok(numbers.get(path).copied())
+}
+
+// The number of the line of the hash in the lock with this text.
+fn hash_number(alloc: Global, text: &[u8], rule: HashRule) -> Result<u64, AllocError>
+    ensures { IfOk result (λ number. number ≡ number_or_one (key_line text.now (key_path (codes "metadata.") (hash_key rule)))) }
+{
+    let path = key_path(alloc, b"metadata.", hash_key(rule).as_bytes())?;
+    match key_line(alloc, text, path.as_slice())? {
+        Some(number) => Ok(number as u64),
+        None => Ok(1),
+    }
+}
+
+fn stale_finding(alloc: Global, lock: &SourceFile, rule: HashRule) -> Result<Finding, AllocError>
+    ensures { IfOk result (λ f. finding_of f ≡ stale_finding (file_of lock.now) rule) }
+{
+    let line = FileLine {
+        file: Vec::from_slice(alloc, lock.name.as_slice())?,
+        number: hash_number(alloc, lock.text.as_slice(), rule)?,
+        text: Vec::from_slice(alloc, hash_key(rule).as_bytes())?,
+        comment: Vec::new(alloc),
+    };
+    let reason = "not the hash of the project: the lock is out of date";
+    Ok(Finding::NoRequirement(line, String::from_str(alloc, reason)?, 0))
+}
+
+// Adds that the project with this table does not have the hash of the lock in this file, if that has one.
+fn push_stale(
+    alloc: Global,
+    findings: &mut Vec<Finding>,
+    lock: &SourceFile,
+    document: &Table,
+    hash: &Option<ContentHash>,
+) -> Result<(), AllocError>
+    ensures { IfOk result (λ _. map finding_of findings.new.items ≡ map finding_of findings.old.items ++ stale_by (file_of lock.now) (table_view document.now) (option_map content_hash_of hash.now)) }
+{
+    if let Some(hash) = hash {
+        if is_stale(alloc, hash, document)? {
+            findings.push(stale_finding(alloc, lock, hash.rule)?)?;
+        }
+    }
+    Ok(())
+}
+
+// The same, if the first document is a project, and the second this lock.
+fn push_stale_beside(
+    alloc: Global,
+    findings: &mut Vec<Finding>,
+    lock: &SourceFile,
+    reading: &DocumentReading,
+    other: &DocumentReading,
+) -> Result<(), AllocError>
+    ensures { IfOk result (λ _. map finding_of findings.new.items ≡ map finding_of findings.old.items ++ stale_beside (file_of lock.now) (document_reading_of reading.now) (document_reading_of other.now)) }
+{
+    let DocumentReading::Project(project) = reading else {
+        return Ok(());
+    };
+    let DocumentReading::Lock(read) = other else {
+        return Ok(());
+    };
+    push_stale(alloc, findings, lock, &project.table, &read.parts.hash)
+}
+
+// Both are in one folder.
+fn in_one_folder(one: &Document, other: &Document) -> bool
+    ensures { result ≡ in_one_folder (document_of one.now) (document_of other.now) }
+{
+    folder(one.file.name.as_slice()) == folder(other.file.name.as_slice())
+}
+
+// Adds that the first, if it is a project, does not have the hash of the second, a lock in its folder.
+pub(crate) fn push_stale_in_pair(
+    alloc: Global,
+    findings: &mut Vec<Finding>,
+    read: &ReadDocument<'_>,
+    other: &ReadDocument<'_>,
+) -> Result<(), AllocError>
+    ensures { IfOk result (λ _. map finding_of findings.new.items ≡ map finding_of findings.old.items ++ stale_in_pair (read_pair read.now) (read_pair other.now)) }
+{
+    if !in_one_folder(read.document, other.document) {
+        return Ok(());
+    }
+    let lock = &other.document.file;
+    push_stale_beside(alloc, findings, lock, &read.reading, &other.reading)
+}

@@ -1,0 +1,187 @@
+//! Values of TOML as JSON, as Python's `json.dumps` writes it with sorted keys.
+ghost use Rattle.std.specs.Prelude.{◌≡◌, ◌++◌, IfOk, map, option_map};
+ghost use Rattle.std.specs.List.{flat_map};
+ghost use Rattle.pyver_projects.specs.ContentHashes.{after_comma, ascii_escape, ascii_string, control_escape, item_texts, array_text, json_member, object_text, json_text, member_texts, table_members, with_commas};
+ghost use Rattle.toml.specs.Data as toml_data;
+ghost use Rattle.toml.specs.View.{array_view, table_view, view};
+
+use crate::table::table;
+use cli_io::push_hex_digits;
+use std::alloc::{AllocError, Global};
+use toml::value::Array;
+use toml::{Table, Value};
+
+fn push_control_escape(text: &mut Vec<u8>, byte: u8) -> Result<(), AllocError>
+    ensures { IfOk result (λ _. text.new.items ≡ text.old.items ++ control_escape byte) }
+{
+    match byte {
+        8 => text.extend_from_slice(b"\\b"),
+        b'\t' => text.extend_from_slice(b"\\t"),
+        b'\n' => text.extend_from_slice(b"\\n"),
+        12 => text.extend_from_slice(b"\\f"),
+        b'\r' => text.extend_from_slice(b"\\r"),
+        _ => {
+            text.extend_from_slice(b"\\u00")?;
+            push_hex_digits(text, byte)
+        }
+    }
+}
+
+// The byte in a string; of one beyond ASCII a byte that JSON does not have.
+fn push_ascii_escape(text: &mut Vec<u8>, byte: u8) -> Result<(), AllocError>
+    ensures { IfOk result (λ _. text.new.items ≡ text.old.items ++ ascii_escape byte) }
+{
+    if byte == b'"' || byte == b'\\' {
+        return text.extend_from_slice(&[b'\\', byte]);
+    }
+    if byte < 32 || byte == 127 {
+        return push_control_escape(text, byte);
+    }
+    if byte < 128 {
+        text.push(byte)?;
+    } else {
+        text.push(0)?;
+    }
+    Ok(())
+}
+
+fn push_ascii_escapes(text: &mut Vec<u8>, bytes: &[u8]) -> Result<(), AllocError>
+    ensures { IfOk result (λ _. text.new.items ≡ text.old.items ++ flat_map ascii_escape bytes.now) }
+{
+    for byte in bytes {
+        push_ascii_escape(text, *byte)?;
+    }
+    Ok(())
+}
+
+fn ascii_string(alloc: Global, bytes: &[u8]) -> Result<Vec<u8>, AllocError>
+    ensures { IfOk result (λ text. text.items ≡ ascii_string bytes.now) }
+{
+    let mut text = Vec::from_slice(alloc, b"\"")?;
+    push_ascii_escapes(&mut text, bytes)?;
+    text.push(b'"')?;
+    Ok(text)
+}
+
+fn push_after_commas(text: &mut Vec<u8>, pieces: &[Vec<u8>]) -> Result<(), AllocError>
+    ensures { IfOk result (λ _. text.new.items ≡ text.old.items ++ flat_map after_comma (map (λ p. p.items) pieces.now)) }
+{
+    for piece in pieces {
+        text.extend_from_slice(b", ")?;
+        text.extend_from_slice(piece.as_slice())?;
+    }
+    Ok(())
+}
+
+fn push_with_commas(text: &mut Vec<u8>, pieces: &[Vec<u8>]) -> Result<(), AllocError>
+    ensures { IfOk result (λ _. text.new.items ≡ text.old.items ++ with_commas (map (λ p. p.items) pieces.now)) }
+{
+    let [first, rest @ ..] = pieces else {
+        return Ok(());
+    };
+    text.extend_from_slice(first.as_slice())?;
+    push_after_commas(text, rest)
+}
+
+fn array_text(alloc: Global, items: &[Vec<u8>]) -> Result<Vec<u8>, AllocError>
+    ensures { IfOk result (λ text. text.items ≡ array_text (map (λ p. p.items) items.now)) }
+{
+    let mut text = Vec::from_slice(alloc, b"[")?;
+    push_with_commas(&mut text, items)?;
+    text.push(b']')?;
+    Ok(text)
+}
+
+pub(crate) fn object_text(alloc: Global, members: &[Vec<u8>]) -> Result<Vec<u8>, AllocError>
+    ensures { IfOk result (λ text. text.items ≡ object_text (map (λ p. p.items) members.now)) }
+{
+    let mut text = Vec::from_slice(alloc, b"{")?;
+    push_with_commas(&mut text, members)?;
+    text.push(b'}')?;
+    Ok(text)
+}
+
+// The member of an object with this key and the JSON of its value.
+pub(crate) fn json_member(alloc: Global, key: &[u8], value: &[u8]) -> Result<Vec<u8>, AllocError>
+    ensures { IfOk result (λ text. text.items ≡ json_member key.now value.now) }
+{
+    let mut text = ascii_string(alloc, key)?;
+    text.extend_from_slice(b": ")?;
+    text.extend_from_slice(value)?;
+    Ok(text)
+}
+
+fn integer_text(alloc: Global, number: i64) -> Result<Vec<u8>, AllocError>
+    ensures { IfOk result (λ text. text.items ≡ json_text (toml_data.integer number)) }
+{
+    let text = number.to_string(alloc)?;
+    Vec::from_slice(alloc, text.as_bytes())
+}
+
+fn boolean_text(alloc: Global, is_true: bool) -> Result<Vec<u8>, AllocError>
+    ensures { IfOk result (λ text. text.items ≡ json_text (toml_data.boolean is_true)) }
+{
+    if is_true {
+        Vec::from_slice(alloc, b"true")
+    } else {
+        Vec::from_slice(alloc, b"false")
+    }
+}
+
+// The JSON of a value; of a float or a date a byte that JSON does not have.
+#[cycle(json)]
+pub(crate) fn json_text(alloc: Global, value: &Value) -> Result<Vec<u8>, AllocError>
+    ensures { IfOk result (λ text. text.items ≡ json_text (view value.now)) }
+{
+    match value {
+        Value::String(text) => ascii_string(alloc, text.as_bytes()),
+        Value::Integer(number) => integer_text(alloc, *number),
+        Value::Float(_) => Vec::from_slice(alloc, b"\0"),
+        Value::Boolean(is_true) => boolean_text(alloc, *is_true),
+        Value::Datetime(_) => Vec::from_slice(alloc, b"\0"),
+        Value::Array(items) => {
+            let texts = item_texts(alloc, items)?;
+            array_text(alloc, texts.as_slice())
+        }
+        Value::Table(members) => {
+            let texts = member_texts(alloc, members)?;
+            object_text(alloc, texts.as_slice())
+        }
+    }
+}
+
+#[cycle(json)]
+fn item_texts(alloc: Global, items: &Array) -> Result<Vec<Vec<u8>>, AllocError>
+    ensures { IfOk result (λ texts. map (λ p. p.items) texts.items ≡ item_texts (array_view items.now)) }
+{
+    let mut texts = Vec::new(alloc);
+    for item in items {
+        texts.push(json_text(alloc, item)?)?;
+    }
+    Ok(texts)
+}
+
+#[cycle(json)]
+fn member_texts(alloc: Global, members: &Table) -> Result<Vec<Vec<u8>>, AllocError>
+    ensures { IfOk result (λ texts. map (λ p. p.items) texts.items ≡ member_texts (table_view members.now)) }
+{
+    let mut texts = Vec::new(alloc);
+    for (key, member) in members.iter() {
+        let value = json_text(alloc, member)?;
+        texts.push(json_member(alloc, key.as_bytes(), value.as_slice())?)?;
+    }
+    Ok(texts)
+}
+
+// The members of the table, if there is one.
+pub(crate) fn table_members(
+    alloc: Global,
+    value: Option<&Value>,
+) -> Result<Vec<Vec<u8>>, AllocError>
+    ensures { IfOk result (λ texts. map (λ p. p.items) texts.items ≡ table_members (option_map (λ v. view v.now) value.entry)) }
+{
+    match table(value) {
+        Some(members) => member_texts(alloc, members),
+        None => Ok(Vec::new(alloc)),
+    }
+}
