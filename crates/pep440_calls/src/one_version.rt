@@ -82,22 +82,6 @@ pub(crate) fn compile_string<'a>(
     Ok(buffer.compile(alloc, text)?)
 }
 
-// The compiled form of a version: of a compiled one as it lies in the bytes, of a string in the buffer.
-#[inline(always)]
-pub(crate) fn compile<'a>(
-    alloc: Global,
-    buffer: &'a mut FormBuffer,
-    bytes: &'a [u8],
-) -> Result<&'a [u8], Fault>
-    ensures found { HoldsOrFaults (RejectsBytes bytes.now) ⊥ ⊥ (λ form. IsCompiled bytes.now form.now) result }
-    ensures memory { NeedsNoMemory bytes.now → IfErr result (λ f. f ≢ OutOfMemory) }
-{
-    if has_version_format(bytes) {
-        return find_form(bytes);
-    }
-    compile_string(alloc, buffer, bytes)
-}
-
 /// Writes the sort key of the version: `memcmp` orders keys as their versions (PEP 440, "Summary of permitted
 /// suffixes and relative ordering"). Allocates nothing for a compiled version, or for a string in a normal spelling.
 pub fn write_sort_key(alloc: Global, text: &[u8], out: &mut [u8], written: &mut usize) -> u8

@@ -7,8 +7,8 @@ ghost use Rattle.pep440_calls.specs.declared.fault.Fault.TheVariants.{OutOfMemor
 
 use crate::buffer::OK;
 use crate::fault::Fault;
-use crate::one_version::compile;
-use pep440_compiled::FormBuffer;
+use crate::one_version::{compile_string, find_form};
+use pep440_compiled::{FormBuffer, has_version_format};
 use std::alloc::Global;
 use std::cmp::Ordering;
 
@@ -39,7 +39,8 @@ fn order_number(order: Ordering) -> i8
     }
 }
 
-// The compiled form of a version. A call of its own, since two copies would make each program that compares larger.
+// The compiled form of a version: of a compiled one as it lies in the bytes, of a string in the buffer. A call of its own, since two copies
+// would make each program that compares larger.
 #[inline(never)]
 fn make_form<'a>(
     alloc: Global,
@@ -49,7 +50,10 @@ fn make_form<'a>(
     ensures found { HoldsOrFaults (RejectsBytes bytes.now) ⊥ ⊥ (λ form. IsCompiled bytes.now form.now) result }
     ensures memory { NeedsNoMemory bytes.now → IfErr result (λ f. f ≢ OutOfMemory) }
 {
-    compile(alloc, buffer, bytes)
+    if has_version_format(bytes) {
+        return find_form(bytes);
+    }
+    compile_string(alloc, buffer, bytes)
 }
 
 // How versions compare by their compiled forms, of which strings have none yet.
