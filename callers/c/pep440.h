@@ -395,11 +395,11 @@ uint8_t pep440_release_range_bounds(const uint8_t *list, size_t length, uint8_t 
 
    Bytes are never read beyond their length, whether they are compiled, cut, changed or chosen by an
    attacker. pep440_compare of two compiled versions, pep440_contains and pep440_requests_prereleases
-   of a compiled list, and pep440_allows and the calls on sets of formats 6 and 7 read them as they lie: of bytes that begin
-   as a compiled form and are none they write any result, or return the status of an invalid one. The
-   first three allocate nothing for compiled versions, nor for most strings; pep440_compare of strings
-   allocates nothing for most, either. All other calls reject such bytes. So give bytes of unknown
-   origin to pep440_normalize or pep440_normalize_list once. */
+   of a compiled list, and pep440_allows and the calls on sets of formats 6 and 7 read them as they
+   lie: of bytes that begin as a compiled form and are none they write any result, or return the
+   status of an invalid one. The first four allocate nothing then, nor for a version that is a string
+   in a normal spelling, of which pep440_compare also takes two. All other calls reject such bytes. So
+   give bytes of unknown origin to pep440_normalize or pep440_normalize_list once. */
 
 /* How many bytes suffice, by the length of a string: for the normal form of a version, for its sort
    key, and for its compiled form. */

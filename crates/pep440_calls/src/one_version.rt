@@ -30,7 +30,7 @@ fn normalize(alloc: Global, bytes: &[u8]) -> Result<String, Fault>
     Ok(version.to_string(alloc)?)
 }
 
-/// Writes the compiled form of the version.
+/// Writes the compiled form of the version. Allocates nothing for a compiled version, or for a string in a normal spelling.
 pub fn write_compiled(alloc: Global, text: &[u8], out: &mut [u8], written: &mut usize) -> u8
     ensures found { WritesBytes (RejectsBytes text.now) ⊥ ⊥ (IsCompiled text.now) out.old out.new written.old written.new result }
     ensures memory { NeedsNoMemory text.now → result ≢ 3 }
