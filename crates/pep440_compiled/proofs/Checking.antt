@@ -1,5 +1,5 @@
 -- What loops over the bytes of a version have tested.
-use Rattle.std.proofs.Common.{◌≡◌, ◌∙◌, ℕ, zero, suc, ◌+◌, ◌<◌, lit<, refl, sym, ap, subst, arith, inl, inr, Bool, true, List, [], ◌∷◌, ◌++◌, length, nat_lt, replicate, ◌-◌, ◌≤◌, All, append_assoc, drop, get_or, map}
+use Rattle.std.proofs.Common.{◌≡◌, ◌∙◌, ℕ, zero, suc, ◌+◌, ◌<◌, lit<, refl, sym, ap, subst, arith, inl, inr, Bool, false, true, List, [], ◌∷◌, ◌++◌, length, nat_lt, replicate, ◌-◌, ◌≤◌, All, append_assoc, drop, get_or, map}
 use Rattle.std.proofs.lemmas.Bool.{cases_eq, lt-ltb, ltb-true}
 use Rattle.std.proofs.lemmas.List.{length-append, length-replicate, append-nil, get_or-map, length-drop, length-map, replicate_more}
 use Rattle.std.proofs.lemmas.List.Elements.{All-from_recursion}
@@ -9,7 +9,7 @@ use Rattle.pep440_compiled.proofs.Prefixes.{IsTrimmed, none_needed, padded, some
 use Rattle.pep440_compiled.proofs.Zeros.{number_more, trim_again, trim_pad, trim_padded, zero_more, zeros_padded}
 use Rattle.pep440_compiled.specs.KeyParts.{ending_zeros, suffix_bytes}
 use Rattle.pep440_keys.specs.SortKeys.{needed_bytes, number_bytes, segment_bytes, key_bytes, local_bytes, rank_bytes}
-use Rattle.pep440_version.specs.Record.{Fits, LocalSegmentValue, SegmentFits, Record, from_parts}
+use Rattle.pep440_version.specs.Record.{Fits, LocalSegmentValue, SegmentFits, Record, Text, from_parts}
 use Rattle.pep440_version.specs.RoundTrip.{SegmentRoundTrips, IsParsed, is_lower}
 use Rattle.pep440_version.specs.Key.Trim.{trim}
 use Rattle.std.proofs.lemmas.Bool.Decides.{nat_tests}
@@ -17,7 +17,8 @@ use Rattle.std.proofs.lemmas.Str.{IsUtf8-from_ascii}
 use Rattle.std.proofs.lemmas.Str.Ascii.{IsAscii-from_all}
 use Rattle.std.specs.Str.{IsUtf8}
 use Rattle.pep440_compiled.specs.Version.{compiled_bytes, zero_bytes}
-use Rattle.pep440_version.proofs.Reading.Prefixes.{both_first, both_second}
+use Rattle.pep440_version.proofs.Reading.Prefixes.{both_first, both_second, same_front}
+use Rattle.pep440_version.specs.Grammar.{starts}
 use Rattle.pep440_version.specs.Key.{dev_rank, key, post_rank, stage_rank}
 use Rattle.pep440_version.specs.Segments.{segment}
 use Rattle.pep440_version.specs.declared.segment.LocalSegment.{LocalSegment}
@@ -186,6 +187,11 @@ all_ascii (b ∷ t) h = (lower_ascii b (both_first (is_lower b) (list_all is_low
 
 pub lower_utf8 : (t : List ℕ) → list_all is_lower t ≡ true → IsUtf8 t
 lower_utf8 t h = IsUtf8-from_ascii t (IsAscii-from_all t (All-from_recursion (λ b. b < 128) t (all_ascii t h)))
+
+-- the string of a segment is its lower-case letters and digits, after which a 0 follows
+pub text_split : (bytes lower after text rest : List ℕ) → bytes ≡ lower ++ after → list_all is_lower lower ≡ true → starts is_lower after ≡ false → SegmentRoundTrips (Text text) → bytes ≡ text ++ 0 ∷ rest
+    → (lower ≡ text) × (after ≡ 0 ∷ rest)
+text_split bytes lower after text rest joined all ended again e = same_front is_lower lower after text (0 ∷ rest) all ended again.1 refl (sym joined ∙ e)
 
 -- ---- whole sort keys
 

@@ -5,12 +5,13 @@ ghost use Rattle.pep440_compiled.specs.KeyParts.{ending_zeros, suffix_bytes};
 ghost use Rattle.pep440_compiled.specs.Version.{DenotesVersion};
 ghost use Rattle.pep440_keys.specs.SortKeys.{key_bytes, local_bytes, needed_bytes, number_bytes, segment_bytes};
 ghost use Rattle.pep440_rs.specs.Matching.{any_prerelease};
-ghost use Rattle.pep440_version.specs.Record.{Fits, LocalSegmentValue, Record, SegmentFits};
+ghost use Rattle.pep440_version.specs.Record.{Fits, LocalSegmentValue, Record, SegmentFits, Text};
 ghost use Rattle.pep440_version.specs.RoundTrip.{IsParsed, SegmentRoundTrips};
 ghost use Rattle.pep440_version.specs.Key.Trim.{trim};
 
-use crate::decode::{read_suffix, split_text};
-use crate::parsed::is_normal_text;
+use crate::decode::read_suffix;
+use crate::parsed::is_normal_lower;
+use crate::stack_form::split_lower;
 use crate::views::{strip_final_suffix, view_version};
 use pep440_version::Prerelease;
 
@@ -45,7 +46,7 @@ fn is_number(bytes: &[u8]) -> bool
 
 // What follows a number of so many bytes.
 #[inline(always)]
-fn check_number(count: u8, bytes: &[u8]) -> Option<&[u8]>
+fn check_counted(count: u8, bytes: &[u8]) -> Option<&[u8]>
     ensures found { (n : ℕ) (rest : List ℕ) → count ≡ length (needed_bytes n) → bytes.now ≡ needed_bytes n ++ rest
         → MatchOption result ⊥ (λ r. r.now ≡ rest) }
     ensures exact { IfSome result (λ r. (n : ℕ) × Fits n × (count ≡ length (needed_bytes n)) × (bytes.now ≡ needed_bytes n ++ r.now)) }
@@ -56,6 +57,21 @@ fn check_number(count: u8, bytes: &[u8]) -> Option<&[u8]>
         return None;
     }
     Some(rest)
+}
+
+// As above. Most numbers have one byte or none, and a count that the compiler knows takes fewer instructions.
+#[inline(always)]
+fn check_number(count: u8, bytes: &[u8]) -> Option<&[u8]>
+    ensures found { (n : ℕ) (rest : List ℕ) → count ≡ length (needed_bytes n) → bytes.now ≡ needed_bytes n ++ rest
+        → MatchOption result ⊥ (λ r. r.now ≡ rest) }
+    ensures exact { IfSome result (λ r. (n : ℕ) × Fits n × (count ≡ length (needed_bytes n)) × (bytes.now ≡ needed_bytes n ++ r.now)) }
+    ensures shorter { IfSome result (λ r. length r.now ≤ length bytes.now) }
+{
+    match count {
+        0 => check_counted(0, bytes),
+        1 => check_counted(1, bytes),
+        _ => check_counted(count, bytes),
+    }
 }
 
 // What follows an epoch.
@@ -108,8 +124,12 @@ fn check_segment(first: u8, bytes: &[u8]) -> Option<&[u8]>
         let rest = check_number(first - 2, bytes)?;
         return Some(rest);
     }
-    let (text, rest) = split_text(bytes)?;
-    if !is_normal_text(text) {
+    let (text, after) = split_lower(bytes);
+    let (end, rest) = after.split_first()?;
+    if *end != 0 {
+        return None;
+    }
+    if !is_normal_lower(text) {
         return None;
     }
     Some(rest)

@@ -180,7 +180,7 @@ fn read_release(
 }
 
 // Up to the first 0, and what follows it.
-pub(crate) fn split_text(bytes: &[u8]) -> Option<(&[u8], &[u8])>
+fn split_text(bytes: &[u8]) -> Option<(&[u8], &[u8])>
     ensures found { (text rest : List ℕ) → All (λ b. 0 < b) text → bytes.now ≡ text ++ 0 ∷ rest
         → MatchOption result ⊥ (λ p. (p.0.now ≡ text) × (p.1.now ≡ rest)) }
     ensures exact { IfSome result (λ p. bytes.now ≡ p.0.now ++ 0 ∷ p.1.now) }

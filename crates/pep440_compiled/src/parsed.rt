@@ -31,14 +31,12 @@ fn is_numeral(text: &str) -> bool
     is_digits(text.as_bytes()) && (text.is_empty() || text.parse::<u64>().is_ok())
 }
 
-// Whether the bytes are a string of a local part as parsing gives it. Those that have a letter need no other look.
+// Whether lower-case letters and digits are a string of a local part as parsing gives it. Those that have a letter need no other look.
 #[tactic(auto, using(crate::proofs::Checking::lower_utf8))]
-pub(crate) fn is_normal_text(text: &[u8]) -> bool
+pub(crate) fn is_normal_lower(text: &[u8]) -> bool
+    requires { list_all is_lower text.now ≡ true }
     ensures { (result ≡ true) ↔ SegmentRoundTrips (Text text.now) }
 {
-    if !is_lower(text) {
-        return false;
-    }
     if !is_digits(text) {
         return true;
     }

@@ -31,7 +31,7 @@ fn count_lower(text: &[u8]) -> usize
 
 // The leading lower-case letters and digits, and the rest.
 #[inline(always)]
-fn split_lower(text: &[u8]) -> (&[u8], &[u8])
+pub(crate) fn split_lower(text: &[u8]) -> (&[u8], &[u8])
     ensures lower { list_all is_lower result.0.now ≡ true }
     ensures joined { text.now ≡ result.0.now ++ result.1.now }
     ensures ended { starts is_lower result.1.now ≡ false }

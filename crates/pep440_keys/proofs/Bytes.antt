@@ -5,7 +5,7 @@ use Rattle.std.proofs.Math.Arith.{mod-mul}
 use Rattle.std.proofs.Math.Dec.{eqb-suc-zero}
 use Rattle.std.proofs.Math.Nat.{div-one, div-eq_of_lt, mod-one, mod-lt, mod-eq_of_lt, one-le-pow, pow-succ', zero-lt-suc}
 use Rattle.std.specs.Cmp.Lexicographic.{slice_cmp}
-use Rattle.std.specs.Int.{byte_at, bytes_high_first, to_be_bytes, w64}
+use Rattle.std.specs.Int.{byte_at, bytes_high_first, to_be_bytes, w16, w32, w64}
 use Rattle.std.specs.List.{flat_map}
 use Rattle.std.specs.Ordering.{nat_cmp, ordering_then}
 use Rattle.std.specs.declared.cmp.Ordering.{Ordering}
@@ -124,6 +124,35 @@ zero_bytes base n e = (λ i. (base + length ((ap needed_bytes e ∙ none_needed)
 
 pub one_byte : (base n : ℕ) → 0 < n → n < 256 → number_bytes base n ≡ (base + 1) ∷ n ∷ []
 one_byte base n some small = (λ i. (base + length (one_needed n some small i)) ∷ one_needed n some small i)
+
+-- ---- numbers of two bytes, and of four
+
+-- a byte that is zero, as those above a number are
+dropped : (k n : ℕ) → n < 256 ^ k → trim_leading_zeros (bytes_high_first (suc k) n) ≡ trim_leading_zeros (bytes_high_first k n)
+dropped k n small =
+    let none : byte_at k n ≡ 0 = byte_is k n ∙ ap (λ m. m % 256) (div-eq_of_lt small) in
+    ap (λ b. trim_leading_zeros (b ∷ bytes_high_first k n)) none
+
+led : (b : ℕ) (rest : List ℕ) → 0 < b → trim_leading_zeros (b ∷ rest) ≡ b ∷ rest
+led zero rest some = absurd (omega (arith, some))
+led (suc b) rest some = unpadded_suc b rest
+
+four_left : (n : ℕ) → n < 4294967296 → needed_bytes n ≡ trim_leading_zeros (bytes_high_first 4 n)
+unfolding needed_bytes
+four_left n small = dropped 7 n (omega (arith, small)) ∙ dropped 6 n (omega (arith, small)) ∙ dropped 5 n (omega (arith, small)) ∙ dropped 4 n (omega (arith, small))
+
+two_needed : (n : ℕ) → 256 ≤ n → n < 65536 → needed_bytes n ≡ to_be_bytes w16 n
+two_needed n some small =
+    four_left n (omega (arith, small)) ∙ dropped 3 n (omega (arith, small)) ∙ dropped 2 n (omega (arith, small)) ∙ led (byte_at 1 n) (bytes_high_first 1 n) (omega (arith, byte_is 1 n, some, small))
+
+four_needed : (n : ℕ) → 16777216 ≤ n → n < 4294967296 → needed_bytes n ≡ to_be_bytes w32 n
+four_needed n some small = four_left n small ∙ led (byte_at 3 n) (bytes_high_first 3 n) (omega (arith, byte_is 3 n, some, small))
+
+pub two_bytes : (base n : ℕ) → 256 ≤ n → n < 65536 → number_bytes base n ≡ (base + 2) ∷ to_be_bytes w16 n
+two_bytes base n some small = (λ i. (base + length (two_needed n some small i)) ∷ two_needed n some small i)
+
+pub four_bytes : (base n : ℕ) → 16777216 ≤ n → n < 4294967296 → number_bytes base n ≡ (base + 4) ∷ to_be_bytes w32 n
+four_bytes base n some small = (λ i. (base + length (four_needed n some small i)) ∷ four_needed n some small i)
 
 -- ---- a release alone
 

@@ -18,7 +18,7 @@ fn skip_leading_zeros(bytes: &[u8]) -> &[u8]
     &[]
 }
 
-// Appends a number of any size; its length byte is added to this base.
+// Appends a number of any size; its length byte is added to this base. One of two bytes, as a year, and one of four, as a date, is one piece.
 #[inline(never)]
 fn push_any_number<K: KeySink>(key: &mut K, base: u8, number: u64) -> Result<(), AllocError>
     requires { base ≤ 80 }
@@ -26,10 +26,22 @@ fn push_any_number<K: KeySink>(key: &mut K, base: u8, number: u64) -> Result<(),
     ensures fits { (more : ℕ) → K.has_capacity key.old (length (number_bytes base number) + more)
         → IsOk result × K.has_capacity key.new more }
 {
-    let padded = number.to_be_bytes();
-    let bytes = skip_leading_zeros(&padded);
-    key.append(&[base + bytes.len() as u8])?;
-    key.append(bytes)
+    match number {
+        0x100..=0xffff => {
+            let bytes = (number as u16).to_be_bytes();
+            key.append(&[base + 2, bytes[0], bytes[1]])
+        }
+        0x100_0000..=0xffff_ffff => {
+            let bytes = (number as u32).to_be_bytes();
+            key.append(&[base + 4, bytes[0], bytes[1], bytes[2], bytes[3]])
+        }
+        _ => {
+            let padded = number.to_be_bytes();
+            let bytes = skip_leading_zeros(&padded);
+            key.append(&[base + bytes.len() as u8])?;
+            key.append(bytes)
+        }
+    }
 }
 
 // Appends the number; its length byte is added to this base. A number of one byte, as most are, is one piece of two.
