@@ -243,14 +243,20 @@ found_beside kind x y = []
 
 -- ---- the hash of a project in its lock
 
--- the key of the hash in the table `metadata`
+-- the path of the table that has the hash
+abbrev pub hash_table : HashRule → List ℕ
+hash_table rule.PdmPylock = codes "tool.pdm."
+hash_table by = codes "metadata."
+
+-- its key
 abbrev pub hash_key : HashRule → List ℕ
 hash_key rule.Pdm = codes "content_hash"
+hash_key rule.PdmPylock = codes "hashes"
 hash_key by = codes "content-hash"
 
 -- the line of the hash in the lock
 abbrev pub hash_line : File → HashRule → FileLine
-hash_line lock by = record { file = lock.name; number = number_or_one (key_line lock.text (key_path (codes "metadata.") (hash_key by))); text = hash_key by; comment = [] }
+hash_line lock by = record { file = lock.name; number = number_or_one (key_line lock.text (key_path (hash_table by) (hash_key by))); text = hash_key by; comment = [] }
 
 -- that the lock is out of date
 abbrev pub stale_finding : File → HashRule → Finding

@@ -231,10 +231,15 @@ pdm_hash metadata =
     then hash_by rule.Pdm (of_algorithm (option_and_then (split_at_byte 58) (text_in (inside (codes "content_hash") metadata))))
     else None
 
+-- in `pylock.toml`, of PDM's table (PDM: `pdm.project.lockfile.pylock`)
+abbrev pub pylock_hash : Option Data → Option ContentHash
+pylock_hash pdm = if is_none (inside (codes "lock_inputs") pdm) then hash_by rule.PdmPylock (text_in (inside (codes "sha256") (inside (codes "hashes") pdm))) else None
+
 -- the hash of its project that a lock of this kind with this text has, if it is known what is hashed
 abbrev pub lock_hash : LockKind → List ℕ → Members → Option ContentHash
 lock_hash lock_kind.Poetry text document = poetry_hash text (get_member (codes "metadata") document)
 lock_hash lock_kind.Pdm text document = pdm_hash (get_member (codes "metadata") document)
+lock_hash lock_kind.Pylock text document = pylock_hash (pdm_table_of document)
 lock_hash kind text document = None
 
 -- ---- a project beside it
@@ -245,6 +250,7 @@ hashed_texts rule.PoetryTables t = groups_text t ∷ (project_text t ∷ (poetry
 hashed_texts rule.PoetryProject t = groups_text t ∷ (project_text t ∷ [])
 hashed_texts rule.PoetryGroups t = groups_text t ∷ []
 hashed_texts rule.Pdm t = pdm_text t ∷ []
+hashed_texts rule.PdmPylock t = pdm_text t ∷ []
 
 -- SHA-256 in hexadecimal digits
 unfoldable pub hash_of : List ℕ → List ℕ

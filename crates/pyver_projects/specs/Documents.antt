@@ -1,15 +1,15 @@
 -- The kinds of documents, by their paths and by words, and what a parsed one has to check: the strings of `pyproject.toml`, and the versions of a lock.
 use Rattle.std.specs.Prelude.{Bool, false, List, None, Option, Some, [], bytes_eq, codes, count_by, get_or, if◌then◌else◌, is_none, is_some, length, map, nat_eq, nat_lt, not, option_and_then, option_map, option_to_list, ℕ, ◌&&◌, ◌++◌, ◌+◌, ◌==◌, ◌||◌, ◌∷◌}
 use Rattle.std.specs.List.{ends_with, flat_map, list_any, starts_with}
-use Rattle.std.specs.Option.{option_map_or, option_or}
+use Rattle.std.specs.Option.{option_map_or, option_or, unwrap_or}
 use Rattle.pep440_pick.specs.Names.{is_name, is_name_byte, normal}
 use Rattle.pep440_rs.specs.Blanks.{opens}
 use Rattle.pep440_version.specs.Reading.{lead}
-use Rattle.toml.specs.Data.{Data, Members, as_str, as_table, get, get_member}
+use Rattle.toml.specs.Data.{Data, Members, as_array, as_str, as_table, get, get_member}
 use Rattle.pyver_projects.specs.ContentHashes.{lock_hash}
 use Rattle.pyver_projects.specs.LockedFiles.{array_faults, files_from, last_section, counted_names, has_markers, locked_python, package_condition, package_faults, package_name_in, document_faults, member_packages}
-use Rattle.pyver_projects.specs.PackageRequirements.{poetry_list, requirement_text, requirements_from}
-use Rattle.pyver_projects.specs.ProjectStrings.{Build, Dependencies, Entry, Extra, Group, Include, Invalid, LockContents, LockFault, LockParts, LockedPackage, PackageCondition, ProjectString, Python, Section, Unread, Version, header_lines, entries, inside, is_array_or_none, is_table_or_none, key_path, listed, text_in}
+use Rattle.pyver_projects.specs.PackageRequirements.{both_markers, marked_text, platform_marker, poetry_list, python_marker, requirement_text, requirements_from}
+use Rattle.pyver_projects.specs.ProjectStrings.{Build, Dependencies, Entry, Extra, Group, Include, Invalid, LockContents, LockFault, LockParts, LockedPackage, PackageCondition, ProjectString, Python, Section, Unread, Version, header_lines, entries, inside, is_array_or_none, is_table_or_none, is_text_or_none, key_path, listed, text_in}
 use Rattle.pyver_findings.specs.NamedFiles.{folder}
 use Rattle.pyver_findings.specs.declared.cause.Cause.{Cause}
 use Rattle.pyver_findings.specs.declared.cause.Cause.TheVariants as cause
@@ -147,17 +147,26 @@ build_sources document = array_sources (codes "build-system.") (codes "requires"
 
 -- ---- tables of tools
 
--- what the entry of Poetry asks only under a condition
-abbrev pub is_conditional : Data → Bool
-is_conditional d = is_some (get (codes "markers") d) || (is_some (get (codes "python") d) || is_some (get (codes "platform") d))
+-- the conditions of a table, if it has some, are strings
+abbrev pub has_conditions : Data → Bool
+has_conditions d = is_text_or_none (get (codes "markers") d) && (is_text_or_none (get (codes "python") d) && is_text_or_none (get (codes "platform") d))
 
 -- the list of a table, or `*`
 abbrev pub table_list : Data → Option (List ℕ)
-table_list d = if is_conditional d then None else Some (option_map_or (λ list. list) (text_in (get (codes "version") d)) (codes "*"))
+table_list d = if has_conditions d then Some (option_map_or (λ list. list) (text_in (get (codes "version") d)) (codes "*")) else None
 
--- the list of an entry: a string, or a table that has no condition
+-- the list of an entry: a string, or a table
 abbrev pub entry_list : Data → Option (List ℕ)
 entry_list d = option_or (as_str d) (option_and_then (λ (members : Members). table_list d) (as_table d))
+
+-- the condition of a table, or none
+abbrev pub condition : List ℕ → Data → List ℕ
+condition key d = unwrap_or (text_in (get key d)) []
+
+-- the conditions of an entry as one marker, where `python` has a list of Poetry ("`python` restricted dependencies", "Using environment markers")
+abbrev pub entry_marker : Data → List ℕ
+entry_marker d = both_markers (condition (codes "markers") d)
+    (both_markers (python_marker (poetry_list (condition (codes "python") d))) (platform_marker (condition (codes "platform") d)))
 
 -- the name and the list are those of a package
 abbrev pub is_package_name : List ℕ → Bool
@@ -167,14 +176,21 @@ is_package_name name = is_name name && not (bytes_eq name (codes "python"))
 abbrev pub unread : Cause → List ProjectString
 unread c = record { section = Unread c; text = [] } ∷ []
 
--- the entry of this name with this list, as a requirement of PEP 508
-abbrev pub entry_source : List ℕ → List ℕ → Option (List ℕ) → List ProjectString
-entry_source table name None = unread cause.OtherSyntax
-entry_source table name (Some list) = record { section = Entry table name; text = requirement_text name (poetry_list list) } ∷ []
+-- the entry of this name with this list and this marker, as a requirement of PEP 508
+abbrev pub listed_source : List ℕ → List ℕ → List ℕ → Option (List ℕ) → List ProjectString
+listed_source table name marker None = unread cause.OtherSyntax
+listed_source table name marker (Some list) = record { section = Entry table name; text = marked_text (requirement_text name (poetry_list list)) marker } ∷ []
 
--- what an entry of Poetry's table with this path asks for, if it does always
+abbrev pub entry_source : List ℕ → List ℕ → Data → List ProjectString
+entry_source table name d = listed_source table name (entry_marker d) (entry_list d)
+
+-- what an array of entries asks for, or another value, which is one ("Multiple constraints dependencies")
+abbrev pub each_source : List ℕ → List ℕ → Data → List ProjectString
+each_source table name d = if is_some (as_array d) then flat_map (entry_source table name) (listed (Some d)) else entry_source table name d
+
+-- what an entry of Poetry's table with this path asks for
 unfoldable pub entry_sources : List ℕ → List ℕ × Data → List ProjectString
-entry_sources table e = if is_package_name e.0 then entry_source table e.0 (entry_list e.1) else []
+entry_sources table e = if is_package_name e.0 then each_source table e.0 e.1 else []
 
 -- the entries of the table
 abbrev pub poetry_table : List ℕ → Option Data → List ProjectString

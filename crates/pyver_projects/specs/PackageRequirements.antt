@@ -1,6 +1,6 @@
 -- What locked packages require of one another.
-use Rattle.std.specs.Prelude.{ℕ, ◌&&◌, List, [], ◌∷◌, ◌++◌, Bool, false, true, Option, Some, None, bytes_eq, codes, if◌then◌else◌, is_none, nat_eq, nat_lt, not, option_map}
-use Rattle.std.specs.List.{flat_map, list_any, starts_with}
+use Rattle.std.specs.Prelude.{ℕ, ◌&&◌, List, [], ◌∷◌, ◌++◌, Bool, false, true, Option, Some, None, bytes_eq, codes, count_by, if◌then◌else◌, is_none, map, nat_eq, nat_lt, not, option_map, ◌==◌, ◌||◌}
+use Rattle.std.specs.List.{flat_map, list_all, list_any, slice_split, starts_with}
 use Rattle.std.specs.Option.{option_map_or, unwrap_or}
 use Rattle.pep440_pick.specs.Names.{is_name, is_name_byte}
 use Rattle.pep440_pick.specs.RequirementGrammar.{has_byte}
@@ -9,6 +9,8 @@ use Rattle.pep440_rs.specs.Blanks.{opens}
 use Rattle.pep440_version.specs.Changes.ChangeWords.{after}
 use Rattle.pep440_version.specs.Grammar.{starts}
 use Rattle.pep440_version.specs.Reading.{lead, past}
+use Rattle.pyver_requirements.specs.MarkerTerms.{joined_terms}
+use Rattle.pyver_requirements.specs.MarkerTokens.{is_operator_byte}
 use Rattle.toml.specs.Data.{Data, as_str, get}
 use Rattle.pyver_projects.specs.KnownEnvironments.{holds_everywhere}
 use Rattle.pyver_projects.specs.ProjectStrings.{LockParts, LockedRequirement, entries, inside, listed, text_in}
@@ -86,6 +88,63 @@ tilde_list list = if starts_with nat_eq list (codes "~=") then list else option_
 -- ("Dependency specification" of Poetry). What has no such list stays, and is none
 abbrev pub poetry_list : List ℕ → List ℕ
 poetry_list list = option_map_or (list_keeping caret_numbers) (after (codes "^") list) (tilde_list list)
+
+-- ---- conditions of Poetry's entries, as markers
+
+-- a byte of a version, of `.*` or of the name of a platform
+abbrev pub is_value_byte : ℕ → Bool
+is_value_byte b = is_name_byte b || b == 42
+
+-- the string in quotes. What is no version and no platform has none, and makes no marker
+abbrev pub quoted_value : List ℕ → List ℕ
+quoted_value text = if starts is_value_byte text && list_all is_value_byte text then codes "\"" ++ (text ++ codes "\"") else text
+
+-- what follows the blank that the string begins with, or all
+abbrev pub past_blank : List ℕ → List ℕ
+past_blank text = unwrap_or (after (codes " ") text) text
+
+-- the variable, compared with what the operator of a specifier leads to
+abbrev pub specifier_comparison : List ℕ → List ℕ → List ℕ
+specifier_comparison variable specifier = variable ++ (codes " " ++ (lead is_operator_byte specifier ++ (codes " " ++ quoted_value (past_blank (past is_operator_byte specifier)))))
+
+-- the version is each Python that begins with its two numbers, unless it has a third or `.*`
+abbrev pub is_python_pair : List ℕ → Bool
+is_python_pair specifier = starts_with nat_eq specifier (codes "==") && (nat_lt (count_by (λ b. b == 46) specifier) 2 && not (has_byte 42 specifier))
+
+abbrev pub python_variable : List ℕ → List ℕ
+python_variable specifier = if is_python_pair specifier then codes "python_version" else codes "python_full_version"
+
+-- the Python is one that the specifier contains
+abbrev pub python_comparison : List ℕ → List ℕ
+python_comparison specifier = specifier_comparison (python_variable (past_blank specifier)) (past_blank specifier)
+
+-- the Python is one that the list contains, if it excludes any
+abbrev pub python_marker : List ℕ → List ℕ
+python_marker [] = []
+python_marker (b ∷ list) = joined_terms (codes " and ") (map python_comparison (slice_split (λ x. x == 44) (b ∷ list)))
+
+-- a platform by itself is this one
+abbrev pub platform_specifier : List ℕ → List ℕ
+platform_specifier platform = if starts is_operator_byte platform then platform else codes "==" ++ platform
+
+abbrev pub platform_comparison : List ℕ → List ℕ
+platform_comparison [] = []
+platform_comparison (b ∷ platform) = specifier_comparison (codes "sys_platform") (platform_specifier (b ∷ platform))
+
+-- the platform is this one, if that is not `*`
+abbrev pub platform_marker : List ℕ → List ℕ
+platform_marker platform = platform_comparison (plain_list platform)
+
+-- both markers hold, where none always does
+abbrev pub both_markers : List ℕ → List ℕ → List ℕ
+both_markers [] other = other
+both_markers (b ∷ marker) [] = b ∷ marker
+both_markers (b ∷ marker) (c ∷ other) = codes "(" ++ ((b ∷ marker) ++ (codes ") and (" ++ ((c ∷ other) ++ codes ")")))
+
+-- the requirement under the marker, if there is one
+abbrev pub marked_text : List ℕ → List ℕ → List ℕ
+marked_text requirement [] = requirement
+marked_text requirement (b ∷ marker) = requirement ++ (codes "; " ++ (b ∷ marker))
 
 -- ----
 

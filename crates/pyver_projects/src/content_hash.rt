@@ -3,8 +3,8 @@ ghost use Rattle.std.specs.Prelude.{◌≡◌, ◌++◌, ◌∷◌, [], IfOk, co
 ghost use Rattle.std.specs.List.{list_all, list_any};
 ghost use Rattle.pyver_findings.specs.NamedFiles.{folder};
 ghost use Rattle.pyver_findings.specs.Views.{file_line_of, file_of, finding_of};
-ghost use Rattle.pyver_projects.specs.Comparing.{hash_key, hash_line, in_one_folder, stale_beside, stale_by, stale_finding, stale_in_pair};
-ghost use Rattle.pyver_projects.specs.ContentHashes.{are_plain_groups, groups_text, hash_by, has_plain_groups, hash_of, hashed_texts, is_before_groups, is_known_text, is_one_empty, is_plain_group, is_plain_project, is_stale, is_version_of_pdm, json_member, object_text, json_text, lock_hash, may_have, member_or, object_member, of_algorithm, pdm_hash, pdm_members, pdm_table_of, pdm_text, poetry_hash, poetry_member, poetry_members, poetry_table_of, poetry_text, project_members, project_text, rule_of_poetry, table_members, text_beside, text_of_pdm, value_member};
+ghost use Rattle.pyver_projects.specs.Comparing.{hash_key, hash_line, hash_table, in_one_folder, stale_beside, stale_by, stale_finding, stale_in_pair};
+ghost use Rattle.pyver_projects.specs.ContentHashes.{are_plain_groups, groups_text, hash_by, has_plain_groups, hash_of, hashed_texts, is_before_groups, is_known_text, is_one_empty, is_plain_group, is_plain_project, is_stale, is_version_of_pdm, json_member, object_text, json_text, lock_hash, may_have, member_or, object_member, of_algorithm, pdm_hash, pdm_members, pdm_table_of, pdm_text, poetry_hash, poetry_member, poetry_members, poetry_table_of, poetry_text, project_members, project_text, pylock_hash, rule_of_poetry, table_members, text_beside, text_of_pdm, value_member};
 ghost use Rattle.pyver_projects.specs.ProjectStrings.{inside, key_line, key_path, members_list, number_or_one};
 ghost use Rattle.pep440_pick.specs.RequirementReading.{split_at_byte};
 ghost use Rattle.pyver_projects.specs.ProjectViews.{content_hash_of, document_of, document_reading_of, read_pair};
@@ -455,6 +455,17 @@ fn pdm_hash(alloc: Global, metadata: Option<&Value>) -> Result<Option<ContentHas
     hash_by(alloc, HashRule::Pdm, value)
 }
 
+// The hash in PDM's table of `pylock.toml`.
+fn pylock_hash(alloc: Global, pdm: Option<&Value>) -> Result<Option<ContentHash>, AllocError>
+    ensures { IfOk result (λ hash. option_map content_hash_of hash ≡ pylock_hash (option_map (λ v. view v.now) pdm.entry)) }
+{
+    if inside(pdm, "lock_inputs").is_some() {
+        return Ok(None);
+    }
+    let value = text(inside(inside(pdm, "hashes"), "sha256"));
+    hash_by(alloc, HashRule::PdmPylock, value)
+}
+
 // The hash of its project that a lock of this kind with this text has.
 pub(crate) fn lock_hash(
     alloc: Global,
@@ -468,6 +479,7 @@ pub(crate) fn lock_hash(
     match kind {
         LockKind::Poetry => poetry_hash(alloc, text, metadata),
         LockKind::Pdm => pdm_hash(alloc, metadata),
+        LockKind::Pylock => pylock_hash(alloc, pdm_table_of(document)),
         _ => Ok(None),
     }
 }
@@ -504,7 +516,7 @@ fn may_have_any(alloc: Global, hash: &ContentHash, document: &Table) -> Result<b
     ensures { IfOk result (λ b. b ≡ list_any (may_have hash.now.value.items) (hashed_texts hash.now.rule (table_view document.now))) }
 {
     let value = hash.value.as_slice();
-    if matches!(hash.rule, HashRule::Pdm) {
+    if matches!(hash.rule, HashRule::Pdm | HashRule::PdmPylock) {
         return may_have(alloc, value, pdm_text(alloc, document)?.as_slice());
     }
     if may_have(alloc, value, groups_text(alloc, document)?.as_slice())? {
@@ -535,7 +547,18 @@ fn hash_key(rule: HashRule) -> &'static str
 {
     match rule {
         HashRule::Pdm => "content_hash",
+        HashRule::PdmPylock => "hashes",
         _ => "content-hash",
+    }
+}
+
+// The path of the table that has the hash.
+fn hash_table(rule: HashRule) -> &'static [u8]
+    ensures { result.now ≡ hash_table rule }
+{
+    match rule {
+        HashRule::PdmPylock => b"tool.pdm.",
+        _ => b"metadata.",
     }
 }
 
@@ -550,9 +573,9 @@ fn key_line(alloc: Global, text: &[u8], path: &[u8]) -> Result<Option<usize>, Al
 
 // The number of the line of the hash in the lock with this text.
 fn hash_number(alloc: Global, text: &[u8], rule: HashRule) -> Result<u64, AllocError>
-    ensures { IfOk result (λ number. number ≡ number_or_one (key_line text.now (key_path (codes "metadata.") (hash_key rule)))) }
+    ensures { IfOk result (λ number. number ≡ number_or_one (key_line text.now (key_path (hash_table rule) (hash_key rule)))) }
 {
-    let path = key_path(alloc, b"metadata.", hash_key(rule).as_bytes())?;
+    let path = key_path(alloc, hash_table(rule), hash_key(rule).as_bytes())?;
     match key_line(alloc, text, path.as_slice())? {
         Some(number) => Ok(number as u64),
         None => Ok(1),

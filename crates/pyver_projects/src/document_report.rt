@@ -289,8 +289,8 @@ fn read_documents<'a>(
 /// in which the lock leaves out all packages that it may take, unless that is one of them, setuptools, distribute, pip or wheel, and the locked
 /// versions of its name, if it contains none.
 /// Then what is wrong in each project beside each lock in its folder, or in the nearest above that has one of its kind, and beside each
-/// lock for which that is no project: in one folder whether `metadata.content-hash` of `poetry.lock`, or `metadata.content_hash` of `pdm.lock`, is the hash
-/// of the project, on the line of that key; for each requirement, in order, whether the lock lacks a package of its name, or such an environment,
+/// lock for which that is no project: in one folder whether `metadata.content-hash` of `poetry.lock`, `metadata.content_hash` of `pdm.lock`, or
+/// `tool.pdm.hashes` of `pylock.toml`, is the hash of the project, on the line of that key; for each requirement, in order, whether the lock lacks a package of its name, or such an environment,
 /// and the lines of the locked versions of its name with the line of the requirement, if it contains none. Then the requirements of each project that hold
 /// together and have no version in common, as `pyver_findings` reports them, each once: `project.dependencies`; these with each extra; each group with
 /// all that it includes, and with these if there is a table `tool.uv` or `tool.poetry`; and what the build requires. Those with markers are reported in an

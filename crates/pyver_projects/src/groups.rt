@@ -329,17 +329,27 @@ fn place_groups<'a>(
     Ok(places)
 }
 
+// The group stands before the one that it includes.
+fn stands_before(places: &HashMap<&[u8], usize>, inclusion: &Inclusion) -> bool
+    ensures { result ≡ stands_before (rank_of places.now) (inclusion_of inclusion.now) }
+{
+    rank_of(places, inclusion.group.as_slice()) < rank_of(places, inclusion.included.as_slice())
+}
+
+fn all_stand_before(places: &HashMap<&[u8], usize>, inclusions: &[Inclusion]) -> bool
+    ensures { result ≡ list_all (λ i. stands_before (rank_of places.now) (inclusion_of i)) inclusions.now }
+{
+    inclusions
+        .iter()
+        .all(|inclusion| stands_before(places, inclusion))
+}
+
 // Each group stands before all that it includes.
+#[tactic(auto, using(crate::proofs::Walks::all_viewed))]
 fn is_ordered(places: &HashMap<&[u8], usize>, inclusions: &[Inclusion]) -> bool
     ensures { result ≡ list_all (stands_before (rank_of places.now)) (map inclusion_of inclusions.now) }
 {
-    for inclusion in inclusions {
-        let place = rank_of(places, inclusion.group.as_slice());
-        if place >= rank_of(places, inclusion.included.as_slice()) {
-            return false;
-        }
-    }
-    true
+    all_stand_before(places, inclusions)
 }
 
 impl<'a> GroupOrder<'a> {

@@ -19,6 +19,7 @@ mod locked_reading;
 mod package_requirements;
 mod pipfile_lock;
 mod place;
+mod poetry_marker;
 mod project;
 mod table;
 mod together;

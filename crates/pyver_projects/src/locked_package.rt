@@ -80,6 +80,8 @@ pub(crate) enum HashRule {
     PoetryGroups,
     // What PDM does.
     Pdm,
+    // The same, for `pylock.toml`.
+    PdmPylock,
 }
 
 // The hash of its project that a lock has.

@@ -49,7 +49,7 @@ fn push_requirement(
 // ---- Poetry's lists of specifiers
 
 // The list, where `*` excludes no version.
-fn plain_list(list: &str) -> &str
+pub(crate) fn plain_list(list: &str) -> &str
     ensures { result.now ≡ plain_list list.now }
 {
     if list == "*" { "" } else { list }
@@ -308,7 +308,7 @@ fn count_name_bytes(text: &[u8]) -> usize
     text.iter().take_while(|byte| is_name_byte(**byte)).count()
 }
 
-fn is_name_byte(byte: u8) -> bool
+pub(crate) fn is_name_byte(byte: u8) -> bool
     ensures { result ≡ is_name_byte byte }
 {
     byte.is_ascii_alphanumeric() || matches!(byte, b'-' | b'_' | b'.')

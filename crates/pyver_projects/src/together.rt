@@ -50,15 +50,17 @@ fn same_part(one: &Section, other: &Section) -> bool
     }
 }
 
+fn any_same_part(parts: &[Section], part: &Section) -> bool
+    ensures { result ≡ list_any (λ other. same_part (section_of part.now) (section_of other)) parts.now }
+{
+    parts.iter().any(|other| same_part(part, other))
+}
+
+#[tactic(auto, using(pyver_findings::proofs::Steps::any_viewed))]
 fn has_part(parts: &[Section], part: &Section) -> bool
     ensures { result ≡ list_any (same_part (section_of part.now)) (map section_of parts.now) }
 {
-    for other in parts {
-        if same_part(part, other) {
-            return true;
-        }
-    }
-    false
+    any_same_part(parts, part)
 }
 
 // The parts of the strings, each once.
@@ -240,15 +242,17 @@ fn same_finding(one: &Finding, other: &Finding) -> bool
     }
 }
 
+fn any_same_finding(findings: &[Finding], finding: &Finding) -> bool
+    ensures { result ≡ list_any (λ other. same_finding (finding_of finding.now) (finding_of other)) findings.now }
+{
+    findings.iter().any(|other| same_finding(finding, other))
+}
+
+#[tactic(auto, using(pyver_findings::proofs::Steps::any_viewed))]
 fn has_finding(findings: &[Finding], finding: &Finding) -> bool
     ensures { result ≡ list_any (same_finding (finding_of finding.now)) (map finding_of findings.now) }
 {
-    for other in findings {
-        if same_finding(finding, other) {
-            return true;
-        }
-    }
-    false
+    any_same_finding(findings, finding)
 }
 
 // The findings, each once.

@@ -1,10 +1,10 @@
 //! What tables of tools in `pyproject.toml` ask for, and what they override.
-ghost use Rattle.std.specs.Prelude.{◌≡◌, ◌++◌, ◌∷◌, [], IfOk, Some, codes, map, option_map, string_bytes};
+ghost use Rattle.std.specs.Prelude.{◌≡◌, ◌++◌, [], IfOk, Some, codes, map, option_map, string_bytes};
 ghost use Rattle.std.specs.List.{flat_map, list_any};
 ghost use Rattle.pep440_rs.specs.Blanks.{opens};
 ghost use Rattle.pep440_pick.specs.Names.{normal};
-ghost use Rattle.pyver_projects.specs.Documents.{added_sources, array_sources, entry_list, entry_names, entry_source, entry_sources, group_path, is_conditional, is_package_name, is_editable, leading_name, overridden_names, poetry_sources, poetry_table, table_list, tool_group, tool_groups, tool_sources, unread, unread_fields, unread_table, unread_tables, dev_sources};
-ghost use Rattle.pyver_projects.specs.PackageRequirements.{poetry_list, requirement_text};
+ghost use Rattle.pyver_projects.specs.Documents.{added_sources, array_sources, entry_list, entry_names, each_source, entry_source, entry_sources, group_path, has_conditions, is_package_name, is_editable, leading_name, listed_source, overridden_names, poetry_sources, poetry_table, table_list, tool_group, tool_groups, tool_sources, unread, unread_fields, unread_table, unread_tables, dev_sources};
+ghost use Rattle.pyver_projects.specs.PackageRequirements.{marked_text, poetry_list, requirement_text};
 ghost use Rattle.pyver_projects.specs.ProjectStrings.{Entry, Group, entries, key_path, listed, members_list};
 ghost use Rattle.pyver_projects.specs.ProjectViews.{project_string_of, section_of};
 ghost use Rattle.pyver_projects.specs.declared.tool_tables.GroupTool.TheVariants as of_tool;
@@ -14,8 +14,9 @@ ghost use Rattle.toml.specs.View.{table_view, view};
 use crate::groups::table_names;
 use crate::package_requirements::{poetry_list, requirement_text, split_name};
 use crate::place::key_path;
+use crate::poetry_marker::entry_marker;
 use crate::project::{ProjectString, Section, push_array, push_string};
-use crate::table::{inside, items, table, text, top};
+use crate::table::{inside, is_text_or_none, items, table, text, top};
 use pep440_pick::is_name;
 use pyver_findings::{Cause, normalize_name};
 use std::alloc::{AllocError, Global};
@@ -23,20 +24,20 @@ use toml::{Table, Value};
 
 // ---- Poetry
 
-// The entry asks only under a condition.
-fn is_conditional(entry: &Value) -> bool
-    ensures { result ≡ is_conditional (view entry.now) }
+// The conditions of a table, if it has some, are strings.
+fn has_conditions(entry: &Value) -> bool
+    ensures { result ≡ has_conditions (view entry.now) }
 {
-    entry.get("markers").is_some()
-        || entry.get("python").is_some()
-        || entry.get("platform").is_some()
+    is_text_or_none(entry.get("markers"))
+        && is_text_or_none(entry.get("python"))
+        && is_text_or_none(entry.get("platform"))
 }
 
-// The list of a table, or `*`, unless it has a condition.
+// The list of a table, or `*`.
 fn table_list(entry: &Value) -> Option<&str>
     ensures { option_map (λ t. t.now) result ≡ table_list (view entry.now) }
 {
-    if is_conditional(entry) {
+    if !has_conditions(entry) {
         return None;
     }
     match text(entry.get("version")) {
@@ -45,7 +46,7 @@ fn table_list(entry: &Value) -> Option<&str>
     }
 }
 
-// The list of an entry: a string, or a table that has no condition.
+// The list of an entry: a string, or a table.
 fn entry_list(entry: &Value) -> Option<&str>
     ensures { option_map (λ t. t.now) result ≡ entry_list (view entry.now) }
 {
@@ -82,40 +83,105 @@ fn push_unread(
     push_string(alloc, sources, Section::Unread(cause), "")
 }
 
-// Adds the entry of this name with this list, or that it is not read.
-fn push_entry_list(
+// The requirement under the marker, if there is one.
+fn marked_text(requirement: String, marker: &str) -> Result<String, AllocError>
+    ensures { IfOk result (λ text. string_bytes text ≡ marked_text (string_bytes requirement) marker.now) }
+{
+    let mut text = requirement;
+    if !marker.is_empty() {
+        text.push_str("; ")?;
+        text.push_str(marker)?;
+    }
+    Ok(text)
+}
+
+// Adds the entry of this name with this list and this marker, or that it is not read.
+fn push_listed(
     alloc: Global,
     sources: &mut Vec<ProjectString>,
     table: &[u8],
     name: &str,
+    marker: &str,
     list: Option<&str>,
 ) -> Result<(), AllocError>
-    ensures { IfOk result (λ _. map project_string_of sources.new.items ≡ map project_string_of sources.old.items ++ entry_source table.now name.now (option_map (λ t. t.now) list.entry)) }
+    ensures { IfOk result (λ _. map project_string_of sources.new.items ≡ map project_string_of sources.old.items ++ listed_source table.now name.now marker.now (option_map (λ t. t.now) list.entry)) }
 {
     let Some(list) = list else {
         return push_unread(alloc, sources, Cause::OtherSyntax);
     };
     let list = poetry_list(alloc, list)?;
     let text = requirement_text(alloc, name, list.as_str())?;
+    let text = marked_text(text, marker)?;
     let section = entry_section(alloc, table, name)?;
     push_string(alloc, sources, section, text.as_str())
 }
 
-// Adds what the entry asks for, if it does always.
-#[tactic(auto, unfolding(crate::specs::Documents::entry_sources))]
 fn push_entry(
     alloc: Global,
     sources: &mut Vec<ProjectString>,
     table: &[u8],
-    name: &String,
+    name: &str,
     entry: &Value,
 ) -> Result<(), AllocError>
-    ensures { IfOk result (λ _. map project_string_of sources.new.items ≡ map project_string_of sources.old.items ++ entry_sources table.now (string_bytes name.now, view entry.now)) }
+    ensures { IfOk result (λ _. map project_string_of sources.new.items ≡ map project_string_of sources.old.items ++ entry_source table.now name.now (view entry.now)) }
+{
+    let marker = entry_marker(alloc, entry)?;
+    push_listed(
+        alloc,
+        sources,
+        table,
+        name,
+        marker.as_str(),
+        entry_list(entry),
+    )
+}
+
+fn push_items(
+    alloc: Global,
+    sources: &mut Vec<ProjectString>,
+    table: &[u8],
+    name: &str,
+    found: &[Value],
+) -> Result<(), AllocError>
+    ensures { IfOk result (λ _. map project_string_of sources.new.items ≡ map project_string_of sources.old.items ++ flat_map (entry_source table.now name.now) (map view found.now)) }
+{
+    for entry in found {
+        push_entry(alloc, sources, table, name, entry)?;
+    }
+    Ok(())
+}
+
+// Adds what an array of entries asks for, or another value, which is one.
+fn push_each(
+    alloc: Global,
+    sources: &mut Vec<ProjectString>,
+    table: &[u8],
+    name: &str,
+    value: &Value,
+) -> Result<(), AllocError>
+    ensures { IfOk result (λ _. map project_string_of sources.new.items ≡ map project_string_of sources.old.items ++ each_source table.now name.now (view value.now)) }
+{
+    if value.as_array().is_some() {
+        return push_items(alloc, sources, table, name, items(Some(value)));
+    }
+    push_entry(alloc, sources, table, name, value)
+}
+
+// Adds what the entry asks for.
+#[tactic(auto, unfolding(crate::specs::Documents::entry_sources))]
+fn push_named(
+    alloc: Global,
+    sources: &mut Vec<ProjectString>,
+    table: &[u8],
+    name: &String,
+    value: &Value,
+) -> Result<(), AllocError>
+    ensures { IfOk result (λ _. map project_string_of sources.new.items ≡ map project_string_of sources.old.items ++ entry_sources table.now (string_bytes name.now, view value.now)) }
 {
     if !is_package_name(name.as_str()) {
         return Ok(());
     }
-    push_entry_list(alloc, sources, table, name.as_str(), entry_list(entry))
+    push_each(alloc, sources, table, name.as_str(), value)
 }
 
 fn push_entries(
@@ -127,7 +193,7 @@ fn push_entries(
     ensures { IfOk result (λ _. map project_string_of sources.new.items ≡ map project_string_of sources.old.items ++ flat_map (entry_sources path.now) (members_list (table_view found.now))) }
 {
     for (name, entry) in found.iter() {
-        push_entry(alloc, sources, path, name, entry)?;
+        push_named(alloc, sources, path, name, entry)?;
     }
     Ok(())
 }
