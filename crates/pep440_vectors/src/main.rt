@@ -1,7 +1,6 @@
 //! Test cases of both programs: words, standard input, and what each prints with which status; `stdin` beside `src/` has them.
 #![tactic(auto)]
 
-mod held_files;
 mod pyver_runs;
 mod tool_streams;
 

@@ -7,6 +7,7 @@ pub mod Conflicts
 pub mod MarkedConflicts
 pub mod Hashes
 pub mod Reports
+pub mod Exports
 pub mod Views
 pub mod ReportTexts
 pub mod ReportObjects

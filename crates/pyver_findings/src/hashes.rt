@@ -31,7 +31,7 @@ fn is_pip_option(kind: LineKind<'_>) -> bool
     matches!(kind, LineKind::PipOption)
 }
 
-fn has_hash(line: &FileLine) -> bool
+pub(crate) fn has_hash(line: &FileLine) -> bool
     ensures { result ≡ has_hash (file_line_of line.now) }
 {
     let text = line.text.as_slice();

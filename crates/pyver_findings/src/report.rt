@@ -39,9 +39,9 @@ const EVERYWHERE: Domain = Domain {
 
 // What the lines so far are.
 #[derive(Drop)]
-struct Readings {
+pub(crate) struct Readings {
     invalid: Vec<Finding>,
-    demands: Vec<Demand>,
+    pub(crate) demands: Vec<Demand>,
     left_out: Vec<Cause>,
 }
 
@@ -64,7 +64,7 @@ impl Readings {
     }
 }
 
-fn parse_lines(alloc: Global, lines: &[FileLine]) -> Result<Readings, AllocError>
+pub(crate) fn parse_lines(alloc: Global, lines: &[FileLine]) -> Result<Readings, AllocError>
     ensures { IfOk result (KeepsReadings (map file_line_of lines.now)) }
 {
     let mut readings = Readings {

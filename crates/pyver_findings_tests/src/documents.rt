@@ -1,8 +1,8 @@
 //! What is found in documents.
-use pyver_findings::{Conflict, FileLine, Finding, SourceFile};
+use pyver_findings::{Conflict, FileLine, Finding, SourceFile, is_export, parse_demands};
 use pyver_projects::{
-    Document, DocumentKind, LockKind, find_document_problems, is_document_path, kind_of_path,
-    kind_of_word,
+    Document, DocumentKind, LockKind, find_document_problems, find_export_problems,
+    is_document_path, kind_of_path, kind_of_word,
 };
 use std::alloc::Global;
 use std::str;
@@ -33,6 +33,13 @@ pub fn print_named_kind(alloc: Global, word: &str) -> Result<String, CaseError> 
     print_kind(alloc, kind_of_word(word))
 }
 
+fn source_file(alloc: Global, name: &str, text: &str) -> Result<SourceFile, CaseError> {
+    Ok(SourceFile {
+        name: Vec::from_slice(alloc, name.as_bytes())?,
+        text: Vec::from_slice(alloc, text.as_bytes())?,
+    })
+}
+
 // The document with this name, by its kind, and text. It is to be named as documents are.
 fn document(alloc: Global, name: &str, text: &str) -> Result<Document, CaseError> {
     let kind = match kind_of_path(name.as_bytes()) {
@@ -40,19 +47,15 @@ fn document(alloc: Global, name: &str, text: &str) -> Result<Document, CaseError
         None if is_document_path(name.as_bytes()) => DocumentKind::Lock(LockKind::Unknown),
         None => return Err(CaseError::Unreadable),
     };
-    let file = SourceFile {
-        name: Vec::from_slice(alloc, name.as_bytes())?,
-        text: Vec::from_slice(alloc, text.as_bytes())?,
-    };
+    let file = source_file(alloc, name, text)?;
     Ok(Document { kind, file })
 }
 
 fn documents(alloc: Global, files: &[String]) -> Result<Vec<Document>, CaseError> {
     let mut documents = Vec::new(alloc);
-    let mut rest = files;
-    while let [name, text, later @ ..] = rest {
-        documents.push(document(alloc, name.as_str(), text.as_str())?)?;
-        rest = later;
+    for index in 0..files.len() / 2 {
+        let (name, text) = (files[2 * index].as_str(), files[2 * index + 1].as_str());
+        documents.push(document(alloc, name, text)?)?;
     }
     Ok(documents)
 }
@@ -107,6 +110,40 @@ pub fn print_document_report(alloc: Global, files: &[String]) -> Result<String, 
     }
     let (lines, files, left_out) = (report.lines, report.files, report.left_out.len());
     write!(printed, "{lines} {files} {left_out}\n")?;
+    Ok(printed)
+}
+
+/// Whether a tool made the requirements file, and the names that its lines ask for.
+pub fn print_export(alloc: Global, name: &str, given: &str) -> Result<String, CaseError> {
+    let file = source_file(alloc, name, given)?;
+    let word = if is_export(alloc, &file)? {
+        "yes"
+    } else {
+        "no"
+    };
+    let mut printed = String::from_str(alloc, word)?;
+    for demand in &parse_demands(alloc, &file)? {
+        write!(printed, " {}", text(demand.name.as_slice())?)?;
+    }
+    Ok(printed)
+}
+
+/// What is found in requirements files beside documents, each given by its name and its text: for each finding the column and the reason, or a word,
+/// and then its lines.
+pub fn print_export_report(alloc: Global, given: &[String]) -> Result<String, CaseError> {
+    let (mut files, mut documents) = (Vec::new(alloc), Vec::new(alloc));
+    for index in 0..given.len() / 2 {
+        let (name, text) = (given[2 * index].as_str(), given[2 * index + 1].as_str());
+        match kind_of_path(name.as_bytes()) {
+            Some(_) => documents.push(document(alloc, name, text)?)?,
+            None => files.push(source_file(alloc, name, text)?)?,
+        }
+    }
+    let report = find_export_problems(alloc, files.as_slice(), documents.as_slice())?;
+    let mut printed = String::new(alloc);
+    for finding in &report.findings {
+        push_finding(&mut printed, finding)?;
+    }
     Ok(printed)
 }
 

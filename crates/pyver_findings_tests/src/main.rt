@@ -3,20 +3,16 @@
 #![tactic(auto)]
 
 mod documents;
-mod lines;
 mod reports;
 
 use documents::{
     print_document_kind, print_document_path, print_document_report, print_environments,
-    print_named_kind,
-};
-use lines::{
-    print_kind, print_lines, print_marker, print_normal, print_parts, print_pip_parts,
-    print_requirement, print_specifiers,
+    print_export, print_export_report, print_named_kind,
 };
 use reports::{
-    Form, print_each, print_findings, print_named_files, print_report, print_report_of,
-    print_spans, print_string,
+    Form, print_each, print_findings, print_kind, print_lines, print_marker, print_named_files,
+    print_normal, print_parts, print_pip_parts, print_report, print_report_of, print_requirement,
+    print_spans, print_specifiers, print_string,
 };
 use std::alloc::Global;
 use std::io;
@@ -42,6 +38,8 @@ impl Calls for FindingsCalls {
     fn answer(&self, alloc: Global, call: &str, arguments: &[String]) -> Result<String, CaseError> {
         match (call, arguments) {
             ("documents", files) => print_document_report(alloc, files),
+            ("exports", files) => print_export_report(alloc, files),
+            ("export", [name, text]) => print_export(alloc, name.as_str(), text.as_str()),
             ("environments", files) => print_environments(alloc, files),
             ("document-kind", [path]) => print_document_kind(alloc, path.as_str()),
             ("document-path", [path]) => {

@@ -17,6 +17,7 @@ use Rattle.pyver_findings.specs.LineMeanings.{Asks, LineMeaning}
 use Rattle.pyver_findings.specs.Reports.{Report, demands_in, empty_report, invalid_in}
 use Rattle.toml.specs.Data.{Members}
 use Rattle.pyver_projects.proofs.LockedPackages.{some_named, met_everywhere, not_excluded}
+use Rattle.pyver_projects.proofs.Once.{entered, one_string, required}
 use Rattle.pyver_projects.proofs.Holding.{asks_always, findings_of, each_flat, sections_same, sound_part, sound_string}
 use Rattle.pyver_projects.proofs.Walks.{beside_it, beside_pair, left_nil, nil_at, right_nil, zip_each, all_flat, zip_once}
 use Rattle.std.proofs.lemmas.Bool.{true≢false}
@@ -24,10 +25,10 @@ use Rattle.std.proofs.lemmas.Grind.{flat_map-append}
 use Rattle.std.proofs.lemmas.List.Folds.{list_any-append, list_any_at}
 use Rattle.std.proofs.lemmas.List.Elements.{All-contains_itself, All-head, All-tail, All-cons, All-contains, All-filter, All-nil, All-weaker}
 use Rattle.pep440_pick.specs.Names.{normal}
-use Rattle.pyver_projects.specs.Comparing.{FindsOfReading, absent, beside_all, compared, compared_demand, documents_report, excluded, excluded_in, found_beside, found_in_pair, invalid_package, is_beside, in_one_folder, is_excused, is_installer, is_locked, is_project_reading, lacking, leaves_out, missing, names_read, overrides_read, own_report, partly_locked, stale_beside, stale_by, stale_finding, stale_in_pair, taken_packages, unlocked, unmet, unmet_demand, with_found, with_own_reports}
+use Rattle.pyver_projects.specs.Comparing.{FindsOfReading, absent, beside_all, compared, compared_demand, differing, documents_report, excluded, excluded_in, found_beside, found_in_pair, invalid_package, is_beside, in_one_folder, is_excused, is_installer, is_locked, is_plain_for_uv, is_project_reading, lacking, leaves_out, missing, names_read, overrides_read, own_report, partly_locked, stale_beside, stale_by, stale_finding, stale_in_pair, taken_packages, unlocked, unmet, unmet_demand, with_found, with_own_reports}
 use Rattle.pyver_projects.specs.Documents.{has_group_tool, overridden_names, project_names, sources}
 use Rattle.pyver_projects.specs.Meanings.{groups, Inclusion, inclusions, Document, DocumentReading, IsDocumentReading, IsFileReading, IsBroken, IsLock, IsLockReading, IsProject, IsRequirementReading, IsStringReading, LockedReading, StringReading, fault_meaning, file_meaning, is_of_version, reference_marker, requirement_line, string_line, IsSoundString}
-use Rattle.pyver_projects.specs.ProjectLaws.{AllAlone, AllContained, AllFresh, AllMet, AllOfVersion, AllPresent, HasContents, HasProject, HasTable, IsPart, NoFindingImpliesContained, NoFindingImpliesSatisfiable}
+use Rattle.pyver_projects.specs.ProjectLaws.{AllAlone, AllContained, AllEntered, AllFresh, AllMet, AllOfVersion, AllPresent, AllRequired, AreTogether, HasContents, HasLock, HasProject, HasTable, IsPart, NoFindingImpliesContained, NoFindingImpliesSatisfiable}
 use Rattle.pyver_projects.specs.ProjectStrings.{ContentHash, LockContents, LockFault, LockParts, LockedFile, LockedRequirement, Section, Build, Dependencies, Extra, Group}
 use Rattle.pyver_projects.specs.declared.document_kind.DocumentKind.{DocumentKind}
 use Rattle.pyver_projects.specs.declared.document_kind.DocumentKind.TheVariants.{Lock, Project}
@@ -38,7 +39,6 @@ use Rattle.pyver_projects.specs.ContentHashes.{hash_of, hashed_texts, is_known_t
 use Rattle.pyver_findings.proofs.Found.{Some_is}
 use Rattle.pyver_findings.specs.FindingLaws.{IsAmong, IsAmongIn}
 use Rattle.pyver_findings.specs.Conflicts.{first_mentions, has_same_marker, has_same_name, have_none, unmarked}
-use Rattle.pyver_projects.proofs.Once.{one_string}
 use Rattle.pyver_projects.specs.Together.{FindsOfPart, FindsOfParts, all_demands, demand_in_part, has_group, holds_in, is_marked, part_demands, parts, project_domain, same_finding, same_part, section_part, sections, with_new}
 use Rattle.pyver_findings.proofs.SmallestLists.{Allows, more_none, none_allowed}
 use Rattle.pyver_findings.proofs.MarkedConflicts.{contains_told, found_nothing, of_marker_of, of_name_of, set_shared, tells_right}
@@ -93,7 +93,7 @@ all_contained documents zs h found file lock kind l s p n v (t, ((k, inside, at)
     let (x, (a, in_x, is_x), rx) = beside_pair IsDocumentReading documents zs project k inside at h in
     let (y, (b, in_y, is_y), ry) = beside_pair IsDocumentReading documents zs locked m below there h in
     let (xs, g, is_project) = project_read file t x table rx in
-    let (ys, ms, fs, q, required, files, is_lock) = lock_read lock kind l y other ry in
+    let (ys, ms, es, fs, q, required, entered, files, is_lock) = lock_read lock kind l y other ry in
     let nothing : found_beside (Lock kind) x y ≡ [] =
     right_nil (stale_in_pair (project, x) (locked, y)) (found_beside (Lock kind) x y)
     (counted (is_beside documents project locked) (stale_in_pair (project, x) (locked, y) ++ found_beside (Lock kind) x y) beside
@@ -129,22 +129,49 @@ not_stale : (lock : File) (hash : ContentHash) (b : Bool) → (if not b then sta
 not_stale lock hash true e = refl
 not_stale lock hash false e = cc e
 
+-- nothing is found in a project beside the lock in its folder
+module _ (documents : List Document) (zs : List DocumentReading) (h : AllZip IsDocumentReading documents zs) (found : flat_map (beside_all documents (zip documents zs)) (zip documents zs) ≡ []) (file lock : File) (kind : LockKind) (l : LockContents) (t : Members) where
+  abbrev Nothing : Type 0
+  Nothing = (xs : List StringReading) × (es : List LineMeaning) × AllZip (IsStringReading (groups t) file) (sources t) xs × AllZip (IsRequirementReading lock.name) l.entries es
+      × (stale_by lock t l.parts.hash ++ (if is_plain_for_uv t then differing (project_names t) xs es else []) ≡ [])
+
+  nothing_stale : HasProject documents file t → HasLock documents kind lock l → is_beside documents (record { kind = Project; file = file }) (record { kind = Lock kind; file = lock }) ≡ true → folder file.name ≡ folder lock.name → Nothing
+  nothing_stale ((k, inside, at), table) ((m, below, there), other) beside near =
+      let project : Document = record { kind = Project; file = file } in
+      let locked : Document = record { kind = Lock kind; file = lock } in
+      let pairs = zip documents zs in
+      let (x, (a, in_x, is_x), rx) = beside_pair IsDocumentReading documents zs project k inside at h in
+      let (y, (b, in_y, is_y), ry) = beside_pair IsDocumentReading documents zs locked m below there h in
+      let (xs, g, is_project) = project_read file t x table rx in
+      let (ys, ms, es, fs, q, required, entered, files, is_lock) = lock_read lock kind l y other ry in
+      let nothing : stale_in_pair (project, x) (locked, y) ≡ [] =
+      left_nil (stale_in_pair (project, x) (locked, y)) (found_beside (Lock kind) x y)
+      (counted (is_beside documents project locked) (stale_in_pair (project, x) (locked, y) ++ found_beside (Lock kind) x y) beside
+      (nil_at (found_in_pair documents (project, x)) pairs (locked, y) b in_y is_y (nil_at (beside_all documents pairs) pairs (project, x) a in_x is_x found))) in
+      let here : stale_beside lock x y ≡ [] = counted (in_one_folder project locked) (stale_beside lock x y) ((bytes_eq-Decides (folder file.name) (folder lock.name)).1 near) nothing in
+      (xs, es, g, entered, (λ e. stale_beside lock (sym is_project e) (sym is_lock e)) ∙ here)
+
+  nothing_differs : AreTogether documents file t lock kind l → is_beside documents (record { kind = Project; file = file }) (record { kind = Lock kind; file = lock }) ≡ true
+      → (xs : List StringReading) × (es : List LineMeaning) × AllZip (IsStringReading (groups t) file) (sources t) xs × AllZip (IsRequirementReading lock.name) l.entries es × (differing (project_names t) xs es ≡ [])
+  nothing_differs are beside =
+      let (xs, es, g, entered, nothing) = nothing_stale are.has are.known beside are.beside in
+      (xs, es, g, entered, counted (is_plain_for_uv t) (differing (project_names t) xs es) are.plain (right_nil (stale_by lock t l.parts.hash) (if is_plain_for_uv t then differing (project_names t) xs es else []) nothing))
+
 all_fresh : (documents : List Document) (zs : List DocumentReading) → AllZip IsDocumentReading documents zs → flat_map (beside_all documents (zip documents zs)) (zip documents zs) ≡ [] → AllFresh documents
-all_fresh documents zs h found file lock kind l t hash ((k, inside, at), table) ((m, below, there), other) beside near written =
-    let project : Document = record { kind = Project; file = file } in
-    let locked : Document = record { kind = Lock kind; file = lock } in
-    let pairs = zip documents zs in
-    let (x, (a, in_x, is_x), rx) = beside_pair IsDocumentReading documents zs project k inside at h in
-    let (y, (b, in_y, is_y), ry) = beside_pair IsDocumentReading documents zs locked m below there h in
-    let (xs, g, is_project) = project_read file t x table rx in
-    let (ys, ms, fs, q, required, files, is_lock) = lock_read lock kind l y other ry in
-    let nothing : stale_in_pair (project, x) (locked, y) ≡ [] =
-    left_nil (stale_in_pair (project, x) (locked, y)) (found_beside (Lock kind) x y)
-    (counted (is_beside documents project locked) (stale_in_pair (project, x) (locked, y) ++ found_beside (Lock kind) x y) beside
-    (nil_at (found_in_pair documents (project, x)) pairs (locked, y) b in_y is_y (nil_at (beside_all documents pairs) pairs (project, x) a in_x is_x found))) in
-    let here : stale_beside lock x y ≡ [] = counted (in_one_folder project locked) (stale_beside lock x y) ((bytes_eq-Decides (folder file.name) (folder lock.name)).1 near) nothing in
-    let fresh : stale_by lock t l.parts.hash ≡ [] = (λ e. stale_beside lock (sym is_project e) (sym is_lock e)) ∙ here in
+all_fresh documents zs h found file lock kind l t hash has known beside near written =
+    let (xs, es, g, entered, nothing) = nothing_stale documents zs h found file lock kind l t has known beside near in
+    let fresh : stale_by lock t l.parts.hash ≡ [] = left_nil (stale_by lock t l.parts.hash) (if is_plain_for_uv t then differing (project_names t) xs es else []) nothing in
     some_hash hash.value (hashed_texts hash.rule t) (not_stale lock hash (list_any (may_have hash.value) (hashed_texts hash.rule t)) (ap (stale_by lock t) (sym written) ∙ fresh))
+
+all_entered : (documents : List Document) (zs : List DocumentReading) → AllZip IsDocumentReading documents zs → flat_map (beside_all documents (zip documents zs)) (zip documents zs) ≡ [] → AllEntered documents
+all_entered documents zs h found file lock kind l t s n are beside some within counts requires other =
+    let (xs, es, g, entries, nothing) = nothing_differs documents zs h found file lock kind l t are beside in
+    entered (groups t) file lock (project_names t) (sources t) l.entries xs g es entries nothing s n within some counts requires other
+
+all_required : (documents : List Document) (zs : List DocumentReading) → AllZip IsDocumentReading documents zs → flat_map (beside_all documents (zip documents zs)) (zip documents zs) ≡ [] → AllRequired documents
+all_required documents zs h found file lock kind l t q list are beside within read plain other =
+    let (xs, es, g, entries, nothing) = nothing_differs documents zs h found file lock kind l t are beside in
+    required (groups t) file lock (project_names t) (sources t) l.entries xs g es entries nothing q list within read plain other
 
 -- a requirement asks for its list
 asks_for : (file : List ℕ) (q : LockedRequirement) (list : List Spec) (m : LineMeaning) → DerivesList q.list list → IsRequirementReading file q m → m ≡ Asks (line_demand (requirement_line file q) (reference_marker q.is_reference) (record { name = q.name; extras = []; specifiers = list }))
@@ -153,7 +180,7 @@ asks_for file q list m d (inl (other, e, is)) =
 asks_for file q list m d (inr (f, r, is)) = absurd (not_both_list q.list list f d r)
 
 -- none of the documents that were read names this
-module _ (documents : List Document) (name : List ℕ) (named : DocumentReading → List (List ℕ)) (of_lock : (parts : LockParts) (ys : List LockedReading) (ms fs : List LineMeaning) → named (IsLock parts ys ms fs) ≡ []) (of_broken : (f : Finding) → named (IsBroken f) ≡ [])
+module _ (documents : List Document) (name : List ℕ) (named : DocumentReading → List (List ℕ)) (of_lock : (parts : LockParts) (ys : List LockedReading) (ms es fs : List LineMeaning) → named (IsLock parts ys ms es fs) ≡ []) (of_broken : (f : Finding) → named (IsBroken f) ≡ [])
     (others : (other : File) (u : Members) (xs : List StringReading) → HasProject documents other u → list_any (bytes_eq name) (named (IsProject u (has_group_tool u) (project_names u) (overridden_names u) xs)) ≡ false) where
   abbrev OtherNames : DocumentReading → Type 0
   OtherNames x = list_any (bytes_eq name) (named x) ≡ false
@@ -168,7 +195,7 @@ module _ (documents : List Document) (name : List ℕ) (named : DocumentReading 
   not_named kind file x known (inl (none, (position, is))) = told_so x _ is (broken_so _)
   not_named Project file x known (inr (text, inl (t, e, (xs, h, is)))) = told_so x _ is (others file t xs (known, (text, e)))
   not_named Project file x known (inr (text, inr (none, (position, reason, is)))) = told_so x _ is (broken_so _)
-  not_named (Lock kind) file x known (inr (text, inl (l, e, (ys, ms, fs, g, h, k, is)))) = told_so x _ is (ap (list_any (bytes_eq name)) (of_lock l.parts ys ms _))
+  not_named (Lock kind) file x known (inr (text, inl (l, e, (ys, ms, es, fs, g, h, entered, k, is)))) = told_so x _ is (ap (list_any (bytes_eq name)) (of_lock l.parts ys ms es _))
   not_named (Lock kind) file x known (inr (text, inr (none, (position, reason, is)))) = told_so x _ is (broken_so _)
 
   none_named_so : (zs : List DocumentReading) → All OtherNames zs → list_any (bytes_eq name) (flat_map named zs) ≡ false
@@ -183,7 +210,7 @@ module _ (documents : List Document) (name : List ℕ) (named : DocumentReading 
 -- no project overrides this name
 not_overridden : (documents : List Document) (name : List ℕ) (zs : List DocumentReading) → AllZip IsDocumentReading documents zs
     → ((other : File) (u : Members) → HasProject documents other u → list_any (bytes_eq name) (overridden_names u) ≡ false) → (is_excused zs name).overrides ≡ false
-not_overridden documents name zs h others = nowhere_named documents name overrides_read (λ parts ys ms fs. refl) (λ f. refl) (λ other u xs known. others other u known) zs h
+not_overridden documents name zs h others = nowhere_named documents name overrides_read (λ parts ys ms es fs. refl) (λ f. refl) (λ other u xs known. others other u known) zs h
 
 -- there is a project, and none of this name, which is no installer
 not_excused : (documents : List Document) (name : List ℕ) (zs : List DocumentReading) → AllZip IsDocumentReading documents zs
@@ -192,13 +219,13 @@ not_excused documents name zs h others file t ((k, inside, at), table) unlike =
     let (x, (j, in_x, is_x), r) = beside_it IsDocumentReading documents zs (record { kind = Project; file = file }) k inside at h in
     let (xs, g, is) = project_read file t x table r in
     let there : list_any is_project_reading zs ≡ true = list_any_at is_project_reading zs j x in_x (ap is_project_reading (is_x ∙ is)) in
-    let named : list_any (bytes_eq name) (flat_map names_read zs) ≡ false = nowhere_named documents name names_read (λ parts ys ms fs. refl) (λ f. refl) (λ other u xs known. others other u known) zs h in
+    let named : list_any (bytes_eq name) (flat_map names_read zs) ≡ false = nowhere_named documents name names_read (λ parts ys ms es fs. refl) (λ f. refl) (λ other u xs known. others other u known) zs h in
     λ i. unlike i || (not (there i) || named i)
 
 all_met : (documents : List Document) (zs : List DocumentReading) → AllZip IsDocumentReading documents zs → flat_map (λ x. (own_report (is_excused zs) x).findings) zs ≡ [] → AllMet documents
 all_met documents zs h own lock kind l q p list v ((m, below, there), other) (i, within, here) (j, under, this) d kept locks =
     let (y, (b, in_y, is_y), ry) = beside_it IsDocumentReading documents zs (record { kind = Lock kind; file = lock }) m below there h in
-    let (ys, ms, fs, packages, requirements, files, is_lock) = lock_read lock kind l y other ry in
+    let (ys, ms, es, fs, packages, requirements, entered, files, is_lock) = lock_read lock kind l y other ry in
     let faults = fs ++ map (fault_meaning lock.name) l.faults in
     let nothing : flat_map invalid_package ys ++ (flat_map invalid_in faults ++ flat_map (unmet (is_excused zs) l.parts ys) ms) ≡ [] = ap (λ (e : DocumentReading). (own_report (is_excused zs) e).findings) (sym is_lock) ∙ nil_at (λ x. (own_report (is_excused zs) x).findings) zs y b in_y is_y own in
     let (z, (c, in_z, is_z), rz) = beside_it (IsRequirementReading lock.name) l.requirements ms q i within here requirements in
@@ -213,7 +240,7 @@ all_met documents zs h own lock kind l q p list v ((m, below, there), other) (i,
 all_present : (documents : List Document) (zs : List DocumentReading) → AllZip IsDocumentReading documents zs → flat_map (λ x. (own_report (is_excused zs) x).findings) zs ≡ [] → AllPresent documents
 all_present documents zs h own lock file kind l t q list ((m, below, there), other) (i, within, here) d project others unlike =
     let (y, (b, in_y, is_y), ry) = beside_it IsDocumentReading documents zs (record { kind = Lock kind; file = lock }) m below there h in
-    let (ys, ms, fs, packages, requirements, files, is_lock) = lock_read lock kind l y other ry in
+    let (ys, ms, es, fs, packages, requirements, entered, files, is_lock) = lock_read lock kind l y other ry in
     let faults = fs ++ map (fault_meaning lock.name) l.faults in
     let nothing : flat_map invalid_package ys ++ (flat_map invalid_in faults ++ flat_map (unmet (is_excused zs) l.parts ys) ms) ≡ [] = ap (λ (e : DocumentReading). (own_report (is_excused zs) e).findings) (sym is_lock) ∙ nil_at (λ x. (own_report (is_excused zs) x).findings) zs y b in_y is_y own in
     let (z, (c, in_z, is_z), rz) = beside_it (IsRequirementReading lock.name) l.requirements ms q i within here requirements in
@@ -251,7 +278,7 @@ same_as_package file f m r q false d e (inl (s, p, g, h, is)) none same =
 all_of_version : (documents : List Document) (zs : List DocumentReading) → AllZip IsDocumentReading documents zs → flat_map (λ x. (own_report (is_excused zs) x).findings) zs ≡ [] → AllOfVersion documents
 all_of_version documents zs h own lock kind l f r q ((m, below, there), other) (i, within, here) d e =
     let (y, (b, in_y, is_y), ry) = beside_it IsDocumentReading documents zs (record { kind = Lock kind; file = lock }) m below there h in
-    let (ys, ms, fs, packages, requirements, files, is_lock) = lock_read lock kind l y other ry in
+    let (ys, ms, es, fs, packages, requirements, entered, files, is_lock) = lock_read lock kind l y other ry in
     let faults = fs ++ map (fault_meaning lock.name) l.faults in
     let nothing : flat_map invalid_package ys ++ (flat_map invalid_in faults ++ flat_map (unmet (is_excused zs) l.parts ys) ms) ≡ [] = ap (λ (e : DocumentReading). (own_report (is_excused zs) e).findings) (sym is_lock) ∙ nil_at (λ x. (own_report (is_excused zs) x).findings) zs y b in_y is_y own in
     let (z, (c, in_z, is_z), rz) = beside_it (IsFileReading lock.name) l.files fs f i within here files in
@@ -266,7 +293,7 @@ no_fault file (f ∷ fs) none = cc none
 all_alone : (documents : List Document) (zs : List DocumentReading) → AllZip IsDocumentReading documents zs → flat_map (λ x. (own_report (is_excused zs) x).findings) zs ≡ [] → AllAlone documents
 all_alone documents zs h own lock kind l ((m, below, there), other) =
     let (y, (b, in_y, is_y), ry) = beside_it IsDocumentReading documents zs (record { kind = Lock kind; file = lock }) m below there h in
-    let (ys, ms, fs, packages, requirements, files, is_lock) = lock_read lock kind l y other ry in
+    let (ys, ms, es, fs, packages, requirements, entered, files, is_lock) = lock_read lock kind l y other ry in
     let faults = fs ++ map (fault_meaning lock.name) l.faults in
     let nothing : flat_map invalid_package ys ++ (flat_map invalid_in faults ++ flat_map (unmet (is_excused zs) l.parts ys) ms) ≡ [] = ap (λ (e : DocumentReading). (own_report (is_excused zs) e).findings) (sym is_lock) ∙ nil_at (λ x. (own_report (is_excused zs) x).findings) zs y b in_y is_y own in
     no_fault lock.name l.faults (back_nil fs (map (fault_meaning lock.name) l.faults) (left_nil (flat_map invalid_in faults) (flat_map (unmet (is_excused zs) l.parts ys) ms) (right_nil (flat_map invalid_package ys) (flat_map invalid_in faults ++ flat_map (unmet (is_excused zs) l.parts ys) ms) nothing)))
@@ -276,7 +303,8 @@ no_finding_means_contained documents r (zs, h, fs, cs, finds, is) none =
     let compared = flat_map (beside_all documents (zip documents zs)) (zip documents zs) in
     let found : (with_own_reports (is_excused zs) empty_report zs).findings ++ compared ≡ [] = left_nil ((with_own_reports (is_excused zs) empty_report zs).findings ++ compared) fs (sym (ap (λ (e : Report). e.findings) is) ∙ none) in
     let own : flat_map (λ x. (own_report (is_excused zs) x).findings) zs ≡ [] = sym (findings_of documents (is_excused zs) empty_report zs) ∙ left_nil (with_own_reports (is_excused zs) empty_report zs).findings compared found in
-    (all_contained documents zs h (right_nil (with_own_reports (is_excused zs) empty_report zs).findings compared found), (all_met documents zs h own, (all_present documents zs h own, (all_of_version documents zs h own, (all_alone documents zs h own, all_fresh documents zs h (right_nil (with_own_reports (is_excused zs) empty_report zs).findings compared found))))))
+    let beside : compared ≡ [] = right_nil (with_own_reports (is_excused zs) empty_report zs).findings compared found in
+    (all_contained documents zs h beside, (all_met documents zs h own, (all_present documents zs h own, (all_of_version documents zs h own, (all_alone documents zs h own, (all_fresh documents zs h beside, (all_entered documents zs h beside, all_required documents zs h beside)))))))
 
 -- parts that are the same are equal
 same_is : (a b : Section) → same_part a b ≡ true → a ≡ b

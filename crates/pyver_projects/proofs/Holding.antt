@@ -23,11 +23,12 @@ use Rattle.pyver_projects.proofs.Walks.{all_flat, left_false, pairs_each, right_
 use Rattle.pyver_findings.specs.NamedFiles.{folder}
 use Rattle.std.proofs.lemmas.Slice.Eq.{bytes_eq-Decides}
 use Rattle.pyver_projects.specs.ContentHashes.{hash_of, hashed_texts, is_known_text, is_stale, may_have}
-use Rattle.pyver_projects.specs.Comparing.{Excuse, FindsOfReading, absent, beside_all, compared, compared_demand, documents_report, excluded, excluded_in, found_beside, found_in_pair, has_name, invalid_package, invalid_string, is_beside, is_excused, is_installer, is_locked, is_needed, in_one_folder, lacking, leaves_out, own_report, partly_locked, stale_beside, stale_by, stale_finding, stale_in_pair, taken_packages, unlocked, unmet, unmet_demand, with_own_reports}
+use Rattle.pyver_projects.specs.Comparing.{Excuse, FindsOfReading, absent, beside_all, compared, compared_demand, differing, documents_report, excluded, excluded_in, found_beside, found_in_pair, has_name, invalid_package, invalid_string, is_beside, is_excused, is_installer, is_locked, is_needed, is_plain_for_uv, in_one_folder, lacking, leaves_out, own_report, partly_locked, stale_beside, stale_by, stale_finding, stale_in_pair, taken_packages, unlocked, unmet, unmet_demand, with_own_reports}
 use Rattle.pyver_projects.specs.Documents.{has_group_tool, locked, overridden_names, project_names, sources}
 use Rattle.pyver_projects.specs.Meanings.{Groups, Inclusion, groups, inclusions, no_group, Document, DocumentReading, IsBroken, IsBrokenReading, IsDocumentReading, IsFileReading, IsLock, IsLockedReading, IsProject, IsRequirementReading, IsSectionMeaning, IsSoundDocument, IsSoundString, IsStringReading, IsVersionReading, LockedReading, StringReading, fault_meaning, file_meaning, is_of_version, left_out_if_none, package_line, reference_marker, requirement_line, string_line, position_line}
+use Rattle.pyver_projects.proofs.Once.{AsksFor, differing_right, of_section}
 use Rattle.pyver_projects.proofs.LockedPackages.{IsLackHere, IsOutsideHere, excluded_right, none_named, partly_right}
-use Rattle.pyver_projects.specs.ProjectLaws.{AlwaysAsks, DocumentFindingsHold, HasLock, HasOtherHash, HasPackage, HasProject, IsDocumentFinding, IsReadable, IsReadableAs, IsRightPart, line_in_part, part_lines}
+use Rattle.pyver_projects.specs.ProjectLaws.{AlwaysAsks, AreTogether, DocumentFindingsHold, HasLock, HasOtherHash, HasPackage, HasProject, IsDocumentFinding, IsReadable, IsReadableAs, IsRightPart, line_in_part, part_lines}
 use Rattle.pyver_projects.specs.ProjectStrings.{Build, ContentHash, Dependencies, Entry, Extra, Group, Include, Invalid, LockContents, LockFault, LockParts, LockedFile, LockedPackage, LockedRequirement, ProjectString, Python, Section, Unread, Version, last_bytes}
 use Rattle.pyver_projects.specs.declared.document_kind.DocumentKind.{DocumentKind}
 use Rattle.pyver_projects.specs.declared.document_kind.DocumentKind.TheVariants.{Lock, Project}
@@ -40,74 +41,6 @@ use Rattle.pyver_findings.proofs.Complete.{one_parts}
 use Rattle.pyver_requirements.specs.MarkerReading.{marker as read_marker}
 use Rattle.pyver_requirements.specs.MarkerSteps.{Misfit}
 use Rattle.pyver_findings.specs.declared.cause.Cause.TheVariants as cause
-
--- the line asks for this
-pub record AsksFor (line : FileLine) (p : LineParts) (a : Demand) : Type 0 where
-  pub needed : Needed
-  pub text : IsPlain p.requirement
-  pub derives : DerivesRequirement p.requirement needed
-  pub url : p.url ≡ None
-  pub marker : Option (List ℕ)
-  pub always : marker ≡ None → p.marker ≡ None
-  pub has : HasMarker p marker
-  pub is : a ≡ line_demand line marker needed
-
-module _ (line : FileLine) (p : LineParts) (a : Demand) where
-  no_list : (b : Bool) (reason : List ℕ) (column : ℕ) → Asks a ≡ (if b then LeftOut cause.Url else IsNone (NoRequirement line reason column)) → ⊥
-  no_list true reason column e = cc e
-  no_list false reason column e = cc e
-
-  module _ (n : Needed) (text : IsPlain p.requirement) (d : DerivesRequirement p.requirement n) where
-    by_url : (m : Option (List ℕ)) → (m ≡ None → p.marker ≡ None) → HasMarker p m → (url : Option (List ℕ)) → p.url ≡ url → Asks a ≡ with_url line p n m url → AsksFor line p a
-    by_url m always has None is e = let same : a ≡ line_demand line m n = cc e in record { needed = n; text = text; derives = d; url = is; marker = m; always = always; has = has; is = same }
-    by_url m always has (Some []) is e = cc e
-    by_url m always has (Some (b ∷ url)) is e = absurd (no_list (has_right_url (b ∷ url) n) _ _ e)
-
-    by_read : (r : Result (List ℕ) Misfit) → option_map read_marker p.marker ≡ Some r → Asks a ≡ under_marker line p n r → AsksFor line p a
-    by_read (Ok m) read e = by_url (Some m) (λ none. cc none) read p.url refl e
-    by_read (Err f) read e = cc e
-
-    by_its_marker : (m : Option (List ℕ)) → p.marker ≡ m → Asks a ≡ with_marker line p n m → AsksFor line p a
-    by_its_marker None is e = by_url None (λ _. is) (ap (option_map read_marker) is) p.url refl e
-    by_its_marker (Some written) is e = by_read (read_marker written) (ap (option_map read_marker) is) e
-
-  of_parts : IsPartsMeaning line p (Asks a) → AsksFor line p a
-  of_parts (inl (none, e)) = cc e
-  of_parts (inr (text, inl (n, d, e))) = by_its_marker n text d p.marker refl e
-  of_parts (inr (text, inr (f, r, e))) = cc e
-
--- the name of an included group asks for nothing
-no_include : (a : Demand) (line : FileLine) (b c : Bool) (one other : List ℕ) → Asks a ≡ (if b then (if c then no_group line one else AsksNothing) else no_group line other) → ⊥
-no_include a line true true one other e = cc e
-no_include a line true false one other e = cc e
-no_include a line false c one other e = cc e
-
--- nor does a list
-never_asks : (a : Demand) (f : Finding) (b : Bool) → Asks a ≡ (if b then IsNone f else AsksNothing) → ⊥
-never_asks a f true e = cc e
-never_asks a f false e = cc e
-
--- what is left out if it is none asks for what it asked
-of_entry : (line : FileLine) (a : Demand) (m : LineMeaning) → IsPartsMeaning line (line_parts line.text) m → Asks a ≡ left_out_if_none m → AsksFor line (line_parts line.text) a
-of_entry line a (Asks b) is e = of_parts line (line_parts line.text) a (subst (λ (c : LineMeaning). IsPartsMeaning line (line_parts line.text) c) (sym e) is)
-of_entry line a (IsNone f) is e = cc e
-of_entry line a (LeftOut c) is e = cc e
-of_entry line a AsksNothing is e = cc e
-
--- what a string asks for
-pub of_section : (all : Groups) (line : FileLine) (text : List ℕ) (a : Demand) (section : Section) → IsSectionMeaning all section line text (Asks a) → AsksFor line (line_parts line.text) a
-of_section all line text a Python (inl (list, d, e)) = absurd (never_asks a _ _ e)
-of_section all line text a Python (inr (f, r, e)) = cc e
-of_section all line text a Version (inl (v, d, e)) = cc e
-of_section all line text a Version (inr (f, r, e)) = cc e
-of_section all line text a Dependencies is = of_parts line (line_parts line.text) a is
-of_section all line text a (Extra name) is = of_parts line (line_parts line.text) a is
-of_section all line text a (Group name) is = of_parts line (line_parts line.text) a is
-of_section all line text a (Include group included) is = absurd (no_include a line _ _ _ _ is)
-of_section all line text a (Invalid table reason) is = cc is
-of_section all line text a (Entry table name) (m, is, e) = of_entry line a m is e
-of_section all line text a (Unread c) is = cc is
-of_section all line text a Build is = of_parts line (line_parts line.text) a is
 
 module _ (line : FileLine) (n : Needed) (plain : IsPlain (line_parts line.text).requirement) (d : DerivesRequirement (line_parts line.text).requirement n) (marker : (line_parts line.text).marker ≡ None) (url : (line_parts line.text).url ≡ None) where
   means : IsPartsMeaning line (line_parts line.text) (Asks (line_demand line None n))
@@ -381,7 +314,7 @@ module _ (documents : List Document) where
       subst (λ (y : DocumentReading). All Right (own_report excused y).findings) (sym is)
       (all_flat Right invalid_string xs
       (zip_each (IsStringReading (groups t) file) (Contains (sources t)) (λ z. All Right (invalid_string z)) (λ s z at r. of_string file t s z.meaning (known, (text, e)) at r.1) (sources t) xs (All-contains_itself (sources t)) h))
-  of_document excused (Lock kind) file x known (inr (text, inl (l, e, (ys, ms, fs, g, h, k, is)))) =
+  of_document excused (Lock kind) file x known (inr (text, inl (l, e, (ys, ms, es, fs, g, h, entered, k, is)))) =
       let faults = fs ++ map (fault_meaning file.name) l.faults in
       subst (λ (y : DocumentReading). All Right (own_report excused y).findings) (sym is)
       (All-append Right (flat_map invalid_package ys) (flat_map invalid_in faults ++ flat_map (unmet excused l.parts ys) ms)
@@ -502,9 +435,9 @@ module _ (documents : List Document) where
   nothing_beside Project t together names overridden xs f = All-nil Right
   nothing_beside (Lock kind) t together names overridden xs f = All-nil Right
 
-  nothing_of_lock : (kind : DocumentKind) (parts : LockParts) (ys : List LockedReading) (ms fs : List LineMeaning) (y : DocumentReading) → All Right (found_beside kind (IsLock parts ys ms fs) y)
-  nothing_of_lock Project parts ys ms fs y = All-nil Right
-  nothing_of_lock (Lock kind) parts ys ms fs y = All-nil Right
+  nothing_of_lock : (kind : DocumentKind) (parts : LockParts) (ys : List LockedReading) (ms es fs : List LineMeaning) (y : DocumentReading) → All Right (found_beside kind (IsLock parts ys ms es fs) y)
+  nothing_of_lock Project parts ys ms es fs y = All-nil Right
+  nothing_of_lock (Lock kind) parts ys ms es fs y = All-nil Right
 
   broken_right : (kind : DocumentKind) (file : File) (x y : DocumentReading) → IsBrokenReading file x → All Right (found_beside kind x y)
   broken_right kind file x y (position, reason, is) = subst (λ (z : DocumentReading). All Right (found_beside kind z y)) (sym is) (nothing_broken kind (NoRequirement (position_line file position) reason (last_bytes (take position file.text))) y)
@@ -520,7 +453,7 @@ module _ (documents : List Document) where
     beside_project Project other y at (inr (text, inr (none, broken))) = beside_broken Project other y broken
     beside_project (Lock kind) other y at (inr (text, inr (none, broken))) = beside_broken (Lock kind) other y broken
     beside_project Project other y at (inr (text, inl (u, e, (zs, h, is)))) = subst (λ (z : DocumentReading). All Right (found_beside Project (IsProject t (has_group_tool t) (project_names t) (overridden_names t) xs) z)) (sym is) (All-nil Right)
-    beside_project (Lock kind) other y at (inr (text, inl (u, e, (ys, ms, fs, h, required, files, is)))) =
+    beside_project (Lock kind) other y at (inr (text, inl (u, e, (ys, ms, es, fs, h, required, entered, files, is)))) =
         subst (λ (z : DocumentReading). All Right (found_beside (Lock kind) (IsProject t (has_group_tool t) (project_names t) (overridden_names t) xs) z)) (sym is) (pair_right file other kind t u known (at, (text, e)) xs ys g h)
 
   beside_right : (kind : DocumentKind) (file : File) (other : Document) (x y : DocumentReading) → Contains documents (record { kind = kind; file = file }) → Contains documents other → IsDocumentReading (record { kind = kind; file = file }) x
@@ -528,7 +461,7 @@ module _ (documents : List Document) where
   beside_right kind file other x y known at (inl (none, (position, told))) r = broken_right other.kind file x y (position, _, told)
   beside_right Project file other x y known at (inr (text, inr (none, broken))) r = broken_right other.kind file x y broken
   beside_right (Lock kind) file other x y known at (inr (text, inr (none, broken))) r = broken_right other.kind file x y broken
-  beside_right (Lock kind) file other x y known at (inr (text, inl (t, e, (ys, ms, fs, g, h, k, is)))) r = subst (λ (z : DocumentReading). All Right (found_beside other.kind z y)) (sym is) (nothing_of_lock other.kind t.parts ys ms (fs ++ map (fault_meaning file.name) t.faults) y)
+  beside_right (Lock kind) file other x y known at (inr (text, inl (t, e, (ys, ms, es, fs, g, h, entered, k, is)))) r = subst (λ (z : DocumentReading). All Right (found_beside other.kind z y)) (sym is) (nothing_of_lock other.kind t.parts ys ms es (fs ++ map (fault_meaning file.name) t.faults) y)
   beside_right Project file other x y known at (inr (text, inl (t, e, (xs, h, is)))) r =
       subst (λ (z : DocumentReading). All Right (found_beside other.kind z y)) (sym is) (beside_project file t (known, (text, e)) xs h other.kind other.file y at r)
 
@@ -552,7 +485,7 @@ module _ (documents : List Document) where
 
   module _ (file lock : File) (kind : LockKind) (t : Members) (l : LockContents) (known : HasProject documents file t) (has : HasLock documents kind lock l) (near : folder file.name ≡ folder lock.name) where
     stale_hash : (hash : ContentHash) → l.parts.hash ≡ Some hash → (b : Bool) → is_stale hash t ≡ b → All Right (if b then stale_finding lock hash.rule ∷ [] else [])
-    stale_hash hash written true is = All-cons Right (stale_finding lock hash.rule) [] (inr (inr (inr (inr (inr (inr (inr (inr (inr (inr (inr (inr (record {
+    stale_hash hash written true is = All-cons Right (stale_finding lock hash.rule) [] (inr (inr (inr (inr (inr (inr (inr (inr (inr (inr (inr (inr (inl (record {
       file = file;
       table = t;
       lock = lock;
@@ -565,14 +498,24 @@ module _ (documents : List Document) where
       written = written;
       none = other_hashes hash.value (hashed_texts hash.rule t) (none_passes (list_any (may_have hash.value) (hashed_texts hash.rule t)) is);
       is = refl;
-    }))))))))))))) (All-nil Right)
+    })))))))))))))) (All-nil Right)
     stale_hash hash written false is = All-nil Right
 
     stale_right : (hash : Option ContentHash) → l.parts.hash ≡ hash → All Right (stale_by lock t hash)
     stale_right None written = All-nil Right
     stale_right (Some hash) written = stale_hash hash written (is_stale hash t) refl
 
-  module _ (file : File) (t : Members) (known : HasProject documents file t) (xs : List StringReading) where
+  module _ (file lock : File) (kind : LockKind) (t : Members) (l : LockContents) (known : HasProject documents file t) (has : HasLock documents kind lock l) (near : folder file.name ≡ folder lock.name) (xs : List StringReading) (g : AllZip (IsStringReading (groups t) file) (sources t) xs) (es : List LineMeaning) (h : AllZip (IsRequirementReading lock.name) l.entries es) where
+    differences : (b : Bool) → is_plain_for_uv t ≡ b → All Right (if b then differing (project_names t) xs es else [])
+    differences true plain =
+        let are : AreTogether documents file t lock kind l = record { has = known; known = has; beside = near; plain = plain } in
+        differing_right Right (groups t) file lock (project_names t) (sources t) l.entries
+        (λ s n within counts requires none. inr (inr (inr (inr (inr (inr (inr (inr (inr (inr (inr (inr (inr (inl (record { file = file; table = t; string = s; needed = n; lock = lock; kind = kind; contents = l; are = are; within = within; counts = counts; requires = requires; none = none; is = refl })))))))))))))))
+        (λ q within none. inr (inr (inr (inr (inr (inr (inr (inr (inr (inr (inr (inr (inr (inr (record { file = file; table = t; lock = lock; kind = kind; contents = l; requirement = q; are = are; within = within; none = none; is = refl })))))))))))))))
+        xs es g h
+    differences false plain = All-nil Right
+
+  module _ (file : File) (t : Members) (known : HasProject documents file t) (xs : List StringReading) (g : AllZip (IsStringReading (groups t) file) (sources t) xs) where
     abbrev IsRightBeside : File → DocumentReading → Type 0
     IsRightBeside lock y = All Right (stale_beside lock (IsProject t (has_group_tool t) (project_names t) (overridden_names t) xs) y)
 
@@ -584,7 +527,10 @@ module _ (documents : List Document) where
     project_fresh Project lock y near at (inr (text, inr (none, broken))) = fresh_broken lock y broken
     project_fresh (Lock kind) lock y near at (inr (text, inr (none, broken))) = fresh_broken lock y broken
     project_fresh Project lock y near at (inr (text, inl (u, e, (zs, h, is)))) = subst (IsRightBeside lock) (sym is) (All-nil Right)
-    project_fresh (Lock kind) lock y near at (inr (text, inl (u, e, (ys, ms, fs, h, required, files, is)))) = subst (IsRightBeside lock) (sym is) (stale_right file lock kind t u known (at, (text, e)) near u.parts.hash refl)
+    project_fresh (Lock kind) lock y near at (inr (text, inl (u, e, (ys, ms, es, fs, h, required, entered, files, is)))) =
+        subst (IsRightBeside lock) (sym is)
+        (All-append Right (stale_by lock t u.parts.hash) (if is_plain_for_uv t then differing (project_names t) xs es else []) (stale_right file lock kind t u known (at, (text, e)) near u.parts.hash refl)
+        (differences file lock kind t u known (at, (text, e)) near xs g es entered (is_plain_for_uv t) refl))
 
   broken_fresh : (lock file : File) (x y : DocumentReading) → IsBrokenReading file x → All Right (stale_beside lock x y)
   broken_fresh lock file x y (position, reason, is) = subst (λ (z : DocumentReading). All Right (stale_beside lock z y)) (sym is) (All-nil Right)
@@ -594,9 +540,9 @@ module _ (documents : List Document) where
   fresh_right kind file other x y near known at (inl (none, (position, told))) r = broken_fresh other.file file x y (position, _, told)
   fresh_right Project file other x y near known at (inr (text, inr (none, broken))) r = broken_fresh other.file file x y broken
   fresh_right (Lock kind) file other x y near known at (inr (text, inr (none, broken))) r = broken_fresh other.file file x y broken
-  fresh_right (Lock kind) file other x y near known at (inr (text, inl (t, e, (ys, ms, fs, g, h, k, is)))) r = subst (λ (z : DocumentReading). All Right (stale_beside other.file z y)) (sym is) (All-nil Right)
+  fresh_right (Lock kind) file other x y near known at (inr (text, inl (t, e, (ys, ms, es, fs, g, h, entered, k, is)))) r = subst (λ (z : DocumentReading). All Right (stale_beside other.file z y)) (sym is) (All-nil Right)
   fresh_right Project file other x y near known at (inr (text, inl (t, e, (xs, h, is)))) r =
-      subst (λ (z : DocumentReading). All Right (stale_beside other.file z y)) (sym is) (project_fresh file t (known, (text, e)) xs other.kind other.file y near at r)
+      subst (λ (z : DocumentReading). All Right (stale_beside other.file z y)) (sym is) (project_fresh file t (known, (text, e)) xs h other.kind other.file y near at r)
 
   near_right : (d e : Document) (x y : DocumentReading) → Contains documents d → Contains documents e → IsDocumentReading d x → IsDocumentReading e y → (b : Bool) → in_one_folder d e ≡ b → All Right (if b then stale_beside e.file x y else [])
   near_right d e x y known at r s true near = fresh_right d.kind d.file e x y ((bytes_eq-Decides (folder d.file.name) (folder e.file.name)).0 near) known at r s
@@ -642,7 +588,7 @@ module _ (documents : List Document) where
   reading_conflicts kind file x known (inl (none, (position, told))) fs cs finds = broken_conflicts file x (position, _, told) fs cs finds
   reading_conflicts Project file x known (inr (text, inr (none, broken))) fs cs finds = broken_conflicts file x broken fs cs finds
   reading_conflicts (Lock kind) file x known (inr (text, inr (none, broken))) fs cs finds = broken_conflicts file x broken fs cs finds
-  reading_conflicts (Lock kind) file x known (inr (text, inl (t, e, (ys, ms, files, g, h, k, is)))) fs cs finds = none_found fs (subst (λ (z : DocumentReading). FindsOfReading z fs cs) is finds).0
+  reading_conflicts (Lock kind) file x known (inr (text, inl (t, e, (ys, ms, es, files, g, h, entered, k, is)))) fs cs finds = none_found fs (subst (λ (z : DocumentReading). FindsOfReading z fs cs) is finds).0
   reading_conflicts Project file x known (inr (text, inl (t, e, (xs, h, is)))) fs cs finds =
       conflicts_hold (IsDocumentFinding documents) file t
       (λ part f right. inr (inr (inr (inr (inr (inl (record { file = file; table = t; part = part; has = (known, (text, e)); right = right }))))))) xs h fs cs (subst (λ (z : DocumentReading). FindsOfReading z fs cs) is finds)
@@ -664,7 +610,7 @@ sound_document (Lock kind) file x (inr (text, inr (none, broken))) = sound_broke
 sound_document Project file x (inr (text, inl (t, e, (xs, h, is)))) =
     subst (λ (y : DocumentReading). IsSoundDocument y) (sym is)
     (zip_each (IsStringReading (groups t) file) (Contains (sources t)) IsSoundString (λ s z known r. sound_string (groups t) file s z r) (sources t) xs (All-contains_itself (sources t)) h)
-sound_document (Lock kind) file x (inr (text, inl (l, e, (ys, ms, fs, g, h, k, is)))) = subst (λ (y : DocumentReading). IsSoundDocument y) (sym is) tt
+sound_document (Lock kind) file x (inr (text, inl (l, e, (ys, ms, es, fs, g, h, entered, k, is)))) = subst (λ (y : DocumentReading). IsSoundDocument y) (sym is) tt
 
 pub sound_documents : (documents : List Document) (xs : List DocumentReading) → AllZip IsDocumentReading documents xs → All IsSoundDocument xs
 sound_documents documents xs h = zip_each IsDocumentReading (Contains documents) IsSoundDocument (λ d x known r. sound_document d.kind d.file x r) documents xs (All-contains_itself documents) h

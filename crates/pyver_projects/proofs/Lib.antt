@@ -3,3 +3,4 @@ pub mod LockedPackages
 pub mod Holding
 pub mod Agreeing
 pub mod Once
+pub mod ExportsFound

@@ -51,6 +51,11 @@ pub right_false : (a b : Bool) → (a || b) ≡ false → b ≡ false
 right_false true b e = absurd (true≢false e)
 right_false false b e = e
 
+-- all are so of what is seen of them
+pub all_viewed : {X Y : Type 0} (p : Y → Bool) (view : X → Y) (xs : List X) → list_all p (map view xs) ≡ list_all (λ x. p (view x)) xs
+all_viewed p view [] = refl
+all_viewed p view (x ∷ xs) = ap (λ b. p (view x) && b) (all_viewed p view xs)
+
 -- an element has another beside it
 pub beside_it : {X Y : Type 0} (R : X → Y → Type 0) (xs : List X) (ys : List Y) (x : X) (k : ℕ) → k < length xs → get_or xs k x ≡ x → AllZip R xs ys → (y : Y) × Contains ys y × R x y
 beside_it R [] ys x k inside at h = absurd (omega (arith, inside))
@@ -637,8 +642,3 @@ not_included place is right group name known before =
 -- what is seen of two lists that were joined
 pub joined_views : {X Y : Type 0} (view : X → Y) (old more new : List X) → new ≡ old ++ more → map view new ≡ map view old ++ map view more
 joined_views view old more new is = ap (map view) is ∙ map-append view old more
-
--- what holds of all that is seen of values holds of all of these
-pub all_viewed : {X Y : Type 0} (p : Y → Bool) (view : X → Y) (xs : List X) → list_all p (map view xs) ≡ list_all (λ x. p (view x)) xs
-all_viewed p view [] = refl
-all_viewed p view (x ∷ xs) = ap (λ b. p (view x) && b) (all_viewed p view xs)

@@ -1,8 +1,9 @@
 -- What is found in documents: in each by itself, and in each project beside each lock.
 use Rattle.std.specs.Prelude.{ℕ, ◌≡◌, ◌||◌, ◌&&◌, List, [], ◌∷◌, ◌++◌, Bool, true, false, Option, Some, None, bytes_eq, codes, is_none, is_some, length, nat_lt, not, if◌then◌else◌}
 use Rattle.std.specs.List.{AllZip, filter, find, flat_map, list_all, list_any, zip}
+use Rattle.std.specs.Ordering.{eq_by_cmp}
 use Rattle.pep440_rs.specs.LiteralMatching.{list_matches_literally}
-use Rattle.pep440_rs.specs.Specifiers.{Spec}
+use Rattle.pep440_rs.specs.Specifiers.{Spec, spec_cmp}
 use Rattle.pep440_version.specs.Record.{Record}
 use Rattle.pyver_findings.specs.Demands.{Demand}
 use Rattle.pyver_findings.specs.FileLines.{Conflicting, File, FileLine, Finding, NoRequirement}
@@ -13,14 +14,14 @@ use Rattle.pyver_findings.specs.declared.cause.Cause.{Cause}
 use Rattle.pyver_findings.specs.declared.finding.Conflict.TheVariants.{PinOutside}
 use Rattle.pyver_projects.specs.KnownEnvironments.{environment_name, is_left_out_in, known_environments}
 use Rattle.pyver_projects.specs.Meanings.{Document, DocumentReading, IsBroken, IsDocumentReading, IsLock, IsProject, LockedReading, StringReading}
-use Rattle.pyver_projects.specs.ProjectStrings.{ContentHash, Dependencies, Entry, Extra, Group, LockParts, Section, key_line, key_path, number_or_one}
+use Rattle.pyver_projects.specs.ProjectStrings.{ContentHash, Dependencies, Entry, Extra, Group, LockParts, Section, inside, key_line, key_path, listed, number_or_one, text_in}
 use Rattle.pyver_projects.specs.ContentHashes.{is_stale}
 use Rattle.pyver_projects.specs.declared.locked_package.HashRule.{HashRule}
 use Rattle.pyver_projects.specs.declared.locked_package.HashRule.TheVariants as rule
-use Rattle.toml.specs.Data.{Members}
+use Rattle.toml.specs.Data.{Data, Members, as_str, get_member}
 use Rattle.pyver_projects.specs.Together.{FindsOfParts}
 use Rattle.pyver_findings.specs.NamedFiles.{folder}
-use Rattle.pyver_projects.specs.Documents.{is_listed_part, lies_above}
+use Rattle.pyver_projects.specs.Documents.{has_tool, is_listed_part, lies_above}
 use Rattle.pyver_projects.specs.declared.document_kind.DocumentKind.{DocumentKind}
 use Rattle.pyver_projects.specs.declared.document_kind.DocumentKind.TheVariants.{Lock, Project}
 use Rattle.pyver_projects.specs.declared.document_kind.LockKind.{LockKind}
@@ -116,19 +117,19 @@ is_installer name = bytes_eq name (codes "setuptools") || (bytes_eq name (codes 
 
 abbrev pub is_project_reading : DocumentReading → Bool
 is_project_reading (IsProject t together names overridden xs) = true
-is_project_reading (IsLock parts ys ms fs) = false
+is_project_reading (IsLock parts ys ms es fs) = false
 is_project_reading (IsBroken f) = false
 
 -- the names of a project
 abbrev pub names_read : DocumentReading → List (List ℕ)
 names_read (IsProject t together names overridden xs) = names
-names_read (IsLock parts ys ms fs) = []
+names_read (IsLock parts ys ms es fs) = []
 names_read (IsBroken f) = []
 
 -- the names that a project overrides
 abbrev pub overrides_read : DocumentReading → List (List ℕ)
 overrides_read (IsProject t together names overridden xs) = overridden
-overrides_read (IsLock parts ys ms fs) = []
+overrides_read (IsLock parts ys ms es fs) = []
 overrides_read (IsBroken f) = []
 
 -- what is not asked of a lock though a package requires it: that it has a package of the name; or anything
@@ -160,7 +161,7 @@ module _ (excused : List ℕ → Excuse) where
   -- the report of a document by itself: the strings or the packages count as lines
   abbrev pub own_report : DocumentReading → Report
   own_report (IsProject t together names overridden xs) = record { findings = flat_map invalid_string xs; ignored = []; lines = length xs; files = 1; left_out = flat_map left_out_string xs }
-  own_report (IsLock parts ys ms fs) = record { findings = flat_map invalid_package ys ++ (flat_map invalid_in fs ++ flat_map (unmet parts ys) ms); ignored = []; lines = length ys; files = 1; left_out = flat_map left_out_in ms }
+  own_report (IsLock parts ys ms es fs) = record { findings = flat_map invalid_package ys ++ (flat_map invalid_in fs ++ flat_map (unmet parts ys) ms); ignored = []; lines = length ys; files = 1; left_out = flat_map left_out_in ms }
   own_report (IsBroken f) = record { findings = f ∷ []; ignored = []; lines = 0; files = 1; left_out = [] }
 
   -- a report, and after it those of documents
@@ -238,7 +239,7 @@ module _ (kind : LockKind) (parts : LockParts) (names : List (List ℕ)) where
 
 -- the first document beside the second, of this kind, if that is a project and this a lock
 abbrev pub found_beside : DocumentKind → DocumentReading → DocumentReading → List Finding
-found_beside (Lock kind) (IsProject t together names overridden xs) (IsLock parts ys ms fs) = flat_map (compared kind parts names overridden ys) xs
+found_beside (Lock kind) (IsProject t together names overridden xs) (IsLock parts ys ms es fs) = flat_map (compared kind parts names overridden ys) xs
 found_beside kind x y = []
 
 -- ---- the hash of a project in its lock
@@ -267,9 +268,80 @@ abbrev pub stale_by : File → Members → Option ContentHash → List Finding
 stale_by lock t None = []
 stale_by lock t (Some hash) = if is_stale hash t then stale_finding lock hash.rule ∷ [] else []
 
--- the first document, if it is a project, does not have the hash of the second, if this is a lock, in this file
+-- ---- what `uv.lock` says that the project in its folder requires
+
+-- the specifiers have one operator, and versions that are equal
+abbrev pub same_specifier : Spec → Spec → Bool
+same_specifier s q = eq_by_cmp spec_cmp s q
+
+-- each specifier of the first list is one of the second
+abbrev pub has_each : List Spec → List Spec → Bool
+has_each list other = list_all (λ (s : Spec). list_any (same_specifier s) other) list
+
+-- the lists are the same, whatever the order
+abbrev pub same_list : List Spec → List Spec → Bool
+same_list list other = has_each list other && has_each other list
+
+-- the second, in the lock, is for the first, of the project: it has the name, and the list unless it has a source of its own. Markers are not compared
+abbrev pub is_same_requirement : Demand → Demand → Bool
+is_same_requirement a e = bytes_eq a.name e.name && (is_some e.marker || same_list a.specifiers e.specifiers)
+
+abbrev pub is_in_lock : Demand → LineMeaning → Bool
+is_in_lock a m = list_any (is_same_requirement a) (demands_in m)
+
+-- what a string of a project asks for that its lock is to have
+abbrev pub locked_demands : StringReading → List Demand
+locked_demands x = if is_locked x.section then demands_in x.meaning else []
+
+abbrev pub is_in_project : Demand → StringReading → Bool
+is_in_project e x = list_any (λ (a : Demand). is_same_requirement a e) (locked_demands x)
+
+-- a requirement that is not there, for this reason
+abbrev pub unmatched : List ℕ → Demand → Finding
+unmatched reason a = NoRequirement a.line reason 0
+
+abbrev pub unentered_reason : List ℕ
+unentered_reason = codes "the lock is out of date: it does not have this requirement"
+
+abbrev pub unrequired_reason : List ℕ
+unrequired_reason = codes "the lock is out of date: the project does not have this requirement"
+
+module _ (names : List (List ℕ)) where
+  -- a requirement of a project with these names, which may ask for extras of its own, beside these in the lock
+  abbrev pub unentered : List LineMeaning → Demand → List Finding
+  unentered es a = if list_any (bytes_eq a.name) names then [] else (if list_any (is_in_lock a) es then [] else unmatched unentered_reason a ∷ [])
+
+  abbrev pub unentered_in : List LineMeaning → StringReading → List Finding
+  unentered_in es x = flat_map (unentered es) (locked_demands x)
+
+  -- a requirement in its lock beside these strings. One with a source of its own may be for a URL
+  abbrev pub unrequired : List StringReading → Demand → List Finding
+  unrequired xs e = if list_any (bytes_eq e.name) names || is_some e.marker then [] else (if list_any (is_in_project e) xs then [] else unmatched unrequired_reason e ∷ [])
+
+  abbrev pub unrequired_in : List StringReading → LineMeaning → List Finding
+  unrequired_in xs m = flat_map (unrequired xs) (demands_in m)
+
+-- its dependencies or its extras are not in the table (PEP 621, "dynamic")
+abbrev pub is_dynamic : Option (List ℕ) → Bool
+is_dynamic None = false
+is_dynamic (Some field) = bytes_eq field (codes "dependencies") || bytes_eq field (codes "optional-dependencies")
+
+abbrev pub has_dynamic : Option Data → Bool
+has_dynamic project = list_any (λ (d : Data). is_dynamic (as_str d)) (listed (inside (codes "dynamic") project))
+
+-- these tables have all that uv reads of what the project requires, and nothing that it does not read
+abbrev pub is_plain_for_uv : Members → Bool
+is_plain_for_uv t = is_some (text_in (inside (codes "name") (get_member (codes "project") t))) && (not (has_dynamic (get_member (codes "project") t))
+    && (not (has_tool (codes "poetry") t) && (not (has_tool (codes "rye") t) && not (has_tool (codes "pdm") t))))
+
+-- the requirements of a project with these names that its lock does not have, where that has some, and those that the project does not have
+abbrev pub differing : List (List ℕ) → List StringReading → List LineMeaning → List Finding
+differing names xs [] = []
+differing names xs (m ∷ ms) = flat_map (unentered_in names (m ∷ ms)) xs ++ flat_map (unrequired_in names xs) (m ∷ ms)
+
+-- the first document, if it is a project, does not have the hash of the second, if this is a lock, in this file, or other requirements
 abbrev pub stale_beside : File → DocumentReading → DocumentReading → List Finding
-stale_beside lock (IsProject t together names overridden xs) (IsLock parts ys ms fs) = stale_by lock t parts.hash
+stale_beside lock (IsProject t together names overridden xs) (IsLock parts ys ms es fs) = stale_by lock t parts.hash ++ (if is_plain_for_uv t then differing names xs es else [])
 stale_beside lock x y = []
 
 -- ---- which lock is compared with which project
@@ -336,7 +408,7 @@ documents_report documents xs = with_findings (with_own_reports (is_excused xs) 
 -- of a project the requirements that hold together and have no version in common
 abbrev pub FindsOfReading : DocumentReading → List Finding → List Cause → Type 0
 FindsOfReading (IsProject t together names overridden xs) fs cs = FindsOfParts together xs fs cs
-FindsOfReading (IsLock parts ys ms files) fs cs = FindsNothing fs cs
+FindsOfReading (IsLock parts ys ms es files) fs cs = FindsNothing fs cs
 FindsOfReading (IsBroken f) fs cs = FindsNothing fs cs
 
 -- a report with more findings and causes

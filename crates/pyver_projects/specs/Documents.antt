@@ -8,8 +8,8 @@ use Rattle.pep440_version.specs.Reading.{lead}
 use Rattle.toml.specs.Data.{Data, Members, as_array, as_str, as_table, get, get_member}
 use Rattle.pyver_projects.specs.ContentHashes.{lock_hash}
 use Rattle.pyver_projects.specs.LockedFiles.{array_faults, files_from, last_section, counted_names, has_markers, locked_python, package_condition, package_faults, package_name_in, document_faults, member_packages}
-use Rattle.pyver_projects.specs.PackageRequirements.{both_markers, marked_text, platform_marker, poetry_list, python_marker, requirement_text, requirements_from}
-use Rattle.pyver_projects.specs.ProjectStrings.{Build, Dependencies, Entry, Extra, Group, Include, Invalid, LockContents, LockFault, LockParts, LockedPackage, PackageCondition, ProjectString, Python, Section, Unread, Version, header_lines, entries, inside, is_array_or_none, is_table_or_none, is_text_or_none, key_path, listed, text_in}
+use Rattle.pyver_projects.specs.PackageRequirements.{entries_from, poetry_list, requirement_text, requirements_from, both_markers, marked_text, platform_marker, python_marker}
+use Rattle.pyver_projects.specs.ProjectStrings.{Build, Dependencies, Entry, Extra, Group, Include, Invalid, LockContents, LockFault, LockParts, LockedPackage, PackageCondition, ProjectString, Python, Section, Unread, Version, header_lines, entries, inside, is_array_or_none, is_table_or_none, key_path, listed, text_in, is_text_or_none}
 use Rattle.pyver_findings.specs.NamedFiles.{folder}
 use Rattle.pyver_findings.specs.declared.cause.Cause.{Cause}
 use Rattle.pyver_findings.specs.declared.cause.Cause.TheVariants as cause
@@ -362,6 +362,7 @@ table_contents kind parts found marked python names tables = record {
   parts = parts;
   packages = flat_map (package_from python) tables;
   requirements = flat_map (requirements_from kind parts) tables;
+  entries = flat_map (entries_from kind) tables;
   files = flat_map files_from tables;
   faults = found ++ flat_map (package_faults kind marked names) tables;
 }
@@ -420,7 +421,7 @@ toml_contents kind key header text = option_map (contents kind header text key) 
 
 -- what `Pipfile.lock` with this text has: only packages
 abbrev pub pipfile_contents : List ℕ → JsonData → LockContents
-pipfile_contents text document = record { parts = record { names = []; extras = []; groups = []; environments = []; hash = None }; packages = member_packages text document; requirements = []; files = []; faults = document_faults text document }
+pipfile_contents text document = record { parts = record { names = []; extras = []; groups = []; environments = []; hash = None }; packages = member_packages text document; requirements = []; entries = []; files = []; faults = document_faults text document }
 
 -- what a lock with this text has, if it is TOML, or JSON, of a known format
 abbrev pub locked : LockKind → List ℕ → Option LockContents

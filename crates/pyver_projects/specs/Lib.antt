@@ -9,3 +9,4 @@ pub mod ProjectViews
 pub mod Together
 pub mod Comparing
 pub mod ProjectLaws
+pub mod ExportComparing

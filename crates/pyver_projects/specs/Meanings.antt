@@ -234,10 +234,10 @@ pub record Document : Type 0 where
   pub file : File
 
 -- a document that was read: of a project whether its groups hold together with its dependencies, its names, those that it overrides, and its strings; the parts and packages of a lock,
--- what they require, and what is wrong with their files and beside one another; or why it was not read
+-- what they require and what the lock says that its project requires, and what is wrong with their files and beside one another; or why it was not read
 pub data DocumentReading : Type 0 where
   IsProject : Members → Bool → (names overridden : List (List ℕ)) → List StringReading → DocumentReading
-  IsLock : (parts : LockParts) → List LockedReading → (requirements faults : List LineMeaning) → DocumentReading
+  IsLock : (parts : LockParts) → List LockedReading → (requirements entries faults : List LineMeaning) → DocumentReading
   IsBroken : Finding → DocumentReading
 
 -- what a project with this table is
@@ -246,8 +246,8 @@ IsProjectReading file t x = (xs : List StringReading) × AllZip (IsStringReading
 
 -- what a lock is that has this
 abbrev pub IsLockReading : List ℕ → LockContents → DocumentReading → Type 0
-IsLockReading file l x = (ys : List LockedReading) × (ms fs : List LineMeaning) × AllZip (IsLockedReading file) l.packages ys × AllZip (IsRequirementReading file) l.requirements ms
-    × AllZip (IsFileReading file) l.files fs × (x ≡ IsLock l.parts ys ms (fs ++ map (fault_meaning file) l.faults))
+IsLockReading file l x = (ys : List LockedReading) × (ms es fs : List LineMeaning) × AllZip (IsLockedReading file) l.packages ys × AllZip (IsRequirementReading file) l.requirements ms
+    × AllZip (IsRequirementReading file) l.entries es × AllZip (IsFileReading file) l.files fs × (x ≡ IsLock l.parts ys ms es (fs ++ map (fault_meaning file) l.faults))
 
 -- the line of a position in the file
 abbrev pub position_line : File → ℕ → FileLine
@@ -283,5 +283,5 @@ IsSoundString x = All IsSound (demands_in x.meaning)
 -- and the lists of a project
 abbrev pub IsSoundDocument : DocumentReading → Type 0
 IsSoundDocument (IsProject t together names overridden xs) = All IsSoundString xs
-IsSoundDocument (IsLock parts ys ms fs) = ⊤
+IsSoundDocument (IsLock parts ys ms es fs) = ⊤
 IsSoundDocument (IsBroken f) = ⊤

@@ -1,6 +1,6 @@
 -- What locked packages require of one another.
-use Rattle.std.specs.Prelude.{ℕ, ◌&&◌, List, [], ◌∷◌, ◌++◌, Bool, false, true, Option, Some, None, bytes_eq, codes, count_by, if◌then◌else◌, is_none, map, nat_eq, nat_lt, not, option_map, ◌==◌, ◌||◌}
-use Rattle.std.specs.List.{flat_map, list_all, list_any, slice_split, starts_with}
+use Rattle.std.specs.Prelude.{ℕ, ◌&&◌, ◌||◌, List, [], ◌∷◌, ◌++◌, Bool, false, true, Option, Some, None, bytes_eq, codes, if◌then◌else◌, is_none, is_some, nat_eq, nat_lt, not, option_map, count_by, map, ◌==◌}
+use Rattle.std.specs.List.{flat_map, list_any, starts_with, list_all, slice_split}
 use Rattle.std.specs.Option.{option_map_or, unwrap_or}
 use Rattle.pep440_pick.specs.Names.{is_name, is_name_byte}
 use Rattle.pep440_pick.specs.RequirementGrammar.{has_byte}
@@ -15,7 +15,7 @@ use Rattle.toml.specs.Data.{Data, as_str, get}
 use Rattle.pyver_projects.specs.KnownEnvironments.{holds_everywhere}
 use Rattle.pyver_projects.specs.ProjectStrings.{LockParts, LockedRequirement, entries, inside, listed, text_in}
 use Rattle.pyver_projects.specs.declared.document_kind.LockKind.{LockKind}
-use Rattle.pyver_projects.specs.declared.document_kind.LockKind.TheVariants.{Pylock}
+use Rattle.pyver_projects.specs.declared.document_kind.LockKind.TheVariants.{Pylock, Uv}
 
 -- the name and the version of a package
 abbrev pub package_text : List ℕ → Option (List ℕ) → List ℕ
@@ -240,3 +240,47 @@ requirements_by kind line (Some name) d = table_requirements line (package_text 
 -- the requirements of the package on this line, if it is locked for each environment
 abbrev pub requirements_from : LockKind → LockParts → ℕ × Data → List LockedRequirement
 requirements_from kind parts e = if is_unconditional parts e.1 then requirements_by kind e.0 (text_in (get (codes "name") e.1)) e.1 else []
+
+-- ---- what uv writes that the project in the folder of its lock requires: each requirement of its dependencies and extras, and of each group with what
+-- that includes (uv, "Project structure", "The lockfile")
+
+-- the requirement is for a project in a folder, as one of the workspace
+abbrev pub has_folder : Data → Bool
+has_folder d = is_some (get (codes "directory") d) || (is_some (get (codes "editable") d) || (is_some (get (codes "virtual") d) || is_some (get (codes "workspace") d)))
+
+-- the requirement is not for versions of an index (uv, "Dependency sources")
+abbrev pub has_own_source : Data → Bool
+has_own_source d = is_some (get (codes "git") d) || (is_some (get (codes "url") d) || (is_some (get (codes "path") d) || has_folder d))
+
+module _ (line : ℕ) (requirer : List ℕ) where
+  abbrev pub named_entry : Data → Option (List ℕ) → List LockedRequirement
+  named_entry d None = []
+  named_entry d (Some name) = record { line = line; requirer = requirer; name = name; list = unwrap_or (text_in (get (codes "specifier") d)) []; is_reference = has_own_source d } ∷ []
+
+  -- an item, if it has a name. Of one with a source of its own uv compares no list
+  abbrev pub entry : Data → List LockedRequirement
+  entry d = named_entry d (text_in (get (codes "name") d))
+
+  -- those of a group
+  abbrev pub group_entries : List ℕ × Data → List LockedRequirement
+  group_entries e = flat_map entry (listed (Some e.1))
+
+  -- those in this table `metadata` of a package
+  abbrev pub metadata_entries : Option Data → List LockedRequirement
+  metadata_entries metadata = flat_map entry (listed (inside (codes "requires-dist") metadata)) ++ flat_map group_entries (entries (inside (codes "requires-dev") metadata))
+
+abbrev pub is_dot : Option (List ℕ) → Bool
+is_dot path = option_map_or (bytes_eq (codes ".")) path false
+
+-- the package is the project in the folder of the lock
+abbrev pub is_own_package : Data → Bool
+is_own_package d = is_dot (text_in (inside (codes "editable") (get (codes "source") d))) || is_dot (text_in (inside (codes "virtual") (get (codes "source") d)))
+
+abbrev pub entries_by : ℕ → Option (List ℕ) → Data → List LockedRequirement
+entries_by line None d = []
+entries_by line (Some name) d = metadata_entries line (package_text name (text_in (get (codes "version") d))) (get (codes "metadata") d)
+
+-- what the package on this line of a lock of this kind requires, if it is that project
+abbrev pub entries_from : LockKind → ℕ × Data → List LockedRequirement
+entries_from Uv e = if is_own_package e.1 then entries_by e.0 (text_in (get (codes "name") e.1)) e.1 else []
+entries_from kind e = []

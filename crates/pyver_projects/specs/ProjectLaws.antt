@@ -1,6 +1,6 @@
 -- What holds of reports of documents: each finding is right; where there is none, each requirement contains a locked version of its
 -- name; there is one report.
-use Rattle.std.specs.Prelude.{◌≡◌, ◌≢◌, ◌⊎◌, ℕ, ◌+◌, List, [], ◌∷◌, Bool, false, true, IsTrue, if◌then◌else◌, None, Some, bytes_eq, codes, length}
+use Rattle.std.specs.Prelude.{◌≡◌, ◌≢◌, ◌⊎◌, ◌&&◌, ◌||◌, ℕ, ◌+◌, List, [], ◌∷◌, Bool, false, true, IsTrue, if◌then◌else◌, None, Option, Some, bytes_eq, codes, length, nat_lt}
 use Rattle.std.specs.List.{All, AllZip, Contains, filter, flat_map, list_any}
 use Rattle.std.specs.Str.{IsUtf8}
 use Rattle.pep440_pick.specs.Names.{normal, same_name}
@@ -15,7 +15,7 @@ use Rattle.pep440_version.specs.Rejections.{Rejection, Rejects}
 use Rattle.pyver_findings.specs.Conflicts.{has_same_name, unmarked}
 use Rattle.pyver_findings.specs.Demands.{Demand}
 use Rattle.pyver_findings.specs.FileLines.{Conflicting, File, FileLine, Finding, NoRequirement}
-use Rattle.pyver_findings.specs.FindingLaws.{AreAlike, HaveNone, IsOneIn, IsRightConflict, IsUndecided}
+use Rattle.pyver_findings.specs.FindingLaws.{AreAlike, HasMarker, HaveNone, IsOneIn, IsRightConflict, IsUndecided}
 use Rattle.pyver_findings.specs.LineMeanings.{IsNone, IsPlain}
 use Rattle.pyver_findings.specs.Reports.{Report}
 use Rattle.pyver_findings.specs.declared.finding.Conflict.TheVariants.{PinOutside}
@@ -26,7 +26,7 @@ use Rattle.pyver_requirements.specs.LineParts.{line_parts}
 use Rattle.pyver_requirements.specs.MarkerGrammar.{DenotesMarker, Marker}
 use Rattle.toml.specs.Data.{Members}
 use Rattle.toml.specs.Parse.{parse_document}
-use Rattle.pyver_projects.specs.Comparing.{IsDocumentsReport, is_beside, is_installer, is_locked, is_needed, lack_in, leaves_out, stale_finding}
+use Rattle.pyver_projects.specs.Comparing.{IsDocumentsReport, is_beside, is_installer, is_locked, is_needed, is_plain_for_uv, lack_in, leaves_out, same_list, stale_finding, unentered_reason, unrequired_reason}
 use Rattle.pyver_findings.specs.NamedFiles.{folder}
 use Rattle.pyver_projects.specs.ContentHashes.{hash_of, hashed_texts, is_known_text}
 use Rattle.pyver_projects.specs.Documents.{has_group_tool, locked, overridden_names, project_names, sources}
@@ -302,10 +302,58 @@ pub record IsStale (documents : List Document) (f : Finding) : Type 0 where
   pub none : All (HasOtherHash hash.value) (hashed_texts hash.rule table)
   pub is : f ≡ stale_finding lock hash.rule
 
+-- the string is this requirement, always or under a marker, and has no URL
+abbrev pub Requires : ProjectString → Needed → Type 0
+Requires s n = IsPlain (line_parts s.text).requirement × DerivesRequirement (line_parts s.text).requirement n × ((m : Option (List ℕ)) × HasMarker (line_parts s.text) m) × ((line_parts s.text).url ≡ None)
+
+-- what a lock says that its project requires is this requirement: it has the name, and the list unless it has a source of its own
+abbrev pub IsEntryFor : Needed → LockedRequirement → Type 0
+IsEntryFor n q = (list : List Spec) × DerivesList q.list list × IsTrue (same_name n.name q.name && (q.is_reference || same_list n.specifiers list))
+
+-- a project and the lock in its folder, which says what the project requires
+pub record AreTogether (documents : List Document) (file : File) (t : Members) (lock : File) (kind : LockKind) (l : LockContents) : Type 0 where
+  pub has : HasProject documents file t
+  pub known : HasLock documents kind lock l
+  pub beside : folder file.name ≡ folder lock.name
+  pub plain : is_plain_for_uv t ≡ true
+
+-- the lock says that its project requires something, and not this requirement of it
+pub record IsUnentered (documents : List Document) (f : Finding) : Type 0 where
+  pub file : File
+  pub table : Members
+  pub string : ProjectString
+  pub needed : Needed
+  pub lock : File
+  pub kind : LockKind
+  pub contents : LockContents
+  pub are : AreTogether documents file table lock kind contents
+  pub within : Contains (sources table) string
+  pub counts : is_locked string.section ≡ true
+  pub requires : Requires string needed
+  pub none : All (λ q. ¬ IsEntryFor needed q) contents.entries
+  pub is : f ≡ NoRequirement (string_line file string) unentered_reason 0
+
+-- the string is no requirement that the lock says its project has
+abbrev pub IsOtherString : LockedRequirement → ProjectString → Type 0
+IsOtherString q s = is_locked s.section ≡ true → (n : Needed) → Requires s n → ¬ IsEntryFor n q
+
+-- the lock says that its project has a requirement that it does not have
+pub record IsUnrequired (documents : List Document) (f : Finding) : Type 0 where
+  pub file : File
+  pub table : Members
+  pub lock : File
+  pub kind : LockKind
+  pub contents : LockContents
+  pub requirement : LockedRequirement
+  pub are : AreTogether documents file table lock kind contents
+  pub within : Contains contents.entries requirement
+  pub none : All (IsOtherString requirement) (sources table)
+  pub is : f ≡ NoRequirement (requirement_line lock.name requirement) unrequired_reason 0
+
 -- the finding is right
 abbrev pub IsDocumentFinding : List Document → Finding → Type 0
 IsDocumentFinding documents f = IsInvalidString documents f
-    ⊎ (IsInvalidPackage documents f ⊎ (IsUnread documents f ⊎ (IsMissing documents f ⊎ (IsExcluded documents f ⊎ (IsConflict documents f ⊎ (IsUnmet documents f ⊎ (IsAbsent documents f ⊎ (IsOtherFile documents f ⊎ (IsLockFault documents f ⊎ (IsPartlyMissing documents f ⊎ (IsPartlyAbsent documents f ⊎ IsStale documents f)))))))))))
+    ⊎ (IsInvalidPackage documents f ⊎ (IsUnread documents f ⊎ (IsMissing documents f ⊎ (IsExcluded documents f ⊎ (IsConflict documents f ⊎ (IsUnmet documents f ⊎ (IsAbsent documents f ⊎ (IsOtherFile documents f ⊎ (IsLockFault documents f ⊎ (IsPartlyMissing documents f ⊎ (IsPartlyAbsent documents f ⊎ (IsStale documents f ⊎ (IsUnentered documents f ⊎ IsUnrequired documents f)))))))))))))
 
 -- each finding is right
 abbrev pub DocumentFindingsHold : Type 0
@@ -358,9 +406,22 @@ AllFresh documents = (file lock : File) (kind : LockKind) (l : LockContents) (t 
     → IsTrue (is_beside documents (record { kind = Project; file = file }) (record { kind = Lock kind; file = lock })) → folder file.name ≡ folder lock.name → l.parts.hash ≡ Some hash
     → (text : List ℕ) × Contains (hashed_texts hash.rule t) text × (IsTrue (is_known_text text) → hash.value ≡ hash_of text)
 
+-- each requirement of a project of another name is one that the lock in its folder says it has, where that says some
+abbrev pub AllEntered : List Document → Type 0
+AllEntered documents = (file lock : File) (kind : LockKind) (l : LockContents) (t : Members) (s : ProjectString) (n : Needed) → AreTogether documents file t lock kind l
+    → IsTrue (is_beside documents (record { kind = Project; file = file }) (record { kind = Lock kind; file = lock })) → nat_lt 0 (length l.entries) ≡ true
+    → Contains (sources t) s → is_locked s.section ≡ true → Requires s n → IsOtherProject n.name t → (q : LockedRequirement) × Contains l.entries q × IsEntryFor n q
+
+-- and each that it says the project has, without a source of its own, is one of the project
+abbrev pub AllRequired : List Document → Type 0
+AllRequired documents = (file lock : File) (kind : LockKind) (l : LockContents) (t : Members) (q : LockedRequirement) (list : List Spec) → AreTogether documents file t lock kind l
+    → IsTrue (is_beside documents (record { kind = Project; file = file }) (record { kind = Lock kind; file = lock }))
+    → Contains l.entries q → DerivesList q.list list → q.is_reference ≡ false → IsOtherProject q.name t
+    → (s : ProjectString) × (n : Needed) × Contains (sources t) s × (is_locked s.section ≡ true) × Requires s n × IsEntryFor n q
+
 -- where nothing is found, they do
 abbrev pub NoFindingImpliesContained : Type 0
-NoFindingImpliesContained = (documents : List Document) (r : Report) → IsDocumentsReport documents r → r.findings ≡ [] → AllContained documents × (AllMet documents × (AllPresent documents × (AllOfVersion documents × (AllAlone documents × AllFresh documents))))
+NoFindingImpliesContained = (documents : List Document) (r : Report) → IsDocumentsReport documents r → r.findings ≡ [] → AllContained documents × (AllMet documents × (AllPresent documents × (AllOfVersion documents × (AllAlone documents × (AllFresh documents × (AllEntered documents × AllRequired documents))))))
 
 -- the lines are the requirements of a part of a project, which is installed in the environments of the domain
 pub record IsPart (documents : List Document) (d : Domain) (lines : List Demand) : Type 0 where

@@ -130,11 +130,12 @@ pub record LockParts : Type 0 where
   pub environments : List (List ℕ)
   pub hash : Option ContentHash
 
--- what is read of a lock
+-- what is read of a lock: `entries` are what it says that the project in its folder requires
 pub record LockContents : Type 0 where
   pub parts : LockParts
   pub packages : List LockedPackage
   pub requirements : List LockedRequirement
+  pub entries : List LockedRequirement
   pub files : List LockedFile
   pub faults : List LockFault
 

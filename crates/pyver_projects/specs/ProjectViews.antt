@@ -84,7 +84,7 @@ abbrev pub parts_of : PartsValue → LockParts
 parts_of p = record { names = map (λ n. n.items) p.names.items; extras = map (λ n. n.items) p.extras.items; groups = map (λ n. n.items) p.groups.items; environments = map (λ t. t.items) p.environments.items; hash = option_map content_hash_of p.hash }
 
 abbrev pub contents_of : ContentsValue → LockContents
-contents_of l = record { parts = parts_of l.parts; packages = map locked_of l.packages.items; requirements = map requirement_of l.requirements.items; files = map locked_file_of l.files.items; faults = map fault_of l.faults.items }
+contents_of l = record { parts = parts_of l.parts; packages = map locked_of l.packages.items; requirements = map requirement_of l.requirements.items; entries = map requirement_of l.entries.items; files = map locked_file_of l.files.items; faults = map fault_of l.faults.items }
 
 abbrev pub string_reading_of : StringReadingValue → StringReading
 string_reading_of x = record { section = section_of x.section; meaning = line_meaning_of x.meaning; python = x.python }
@@ -97,7 +97,7 @@ document_of d = record { kind = d.kind; file = file_of d.file }
 
 abbrev pub document_reading_of : DocumentReadingValue → DocumentReading
 document_reading_of (reading.Project p) = IsProject (table_view p.table) p.together (option_to_list (option_map (λ n. n.items) p.name)) (map (λ n. n.items) p.overridden.items) (map string_reading_of p.strings.items)
-document_reading_of (reading.Lock l) = IsLock (parts_of l.parts) (map locked_reading_of l.packages.items) (map line_meaning_of l.requirements.items) (map line_meaning_of l.faults.items)
+document_reading_of (reading.Lock l) = IsLock (parts_of l.parts) (map locked_reading_of l.packages.items) (map line_meaning_of l.requirements.items) (map line_meaning_of l.entries.items) (map line_meaning_of l.faults.items)
 document_reading_of (reading.Broken f) = IsBroken (finding_of f)
 
 -- what a document was read as

@@ -12,6 +12,7 @@ ghost use Rattle.toml.specs.View.{table_view, view};
 
 use crate::document_kind::{Document, LockKind, folder};
 use crate::document_reading::{DocumentReading, ReadDocument};
+use crate::entries::push_differences;
 use crate::json_text::{json_member, json_text, object_text, table_members};
 use crate::locked_package::{ContentHash, HashRule, split_at_byte};
 use crate::place::{document_keys, key_path, number_keys};
@@ -629,7 +630,8 @@ fn push_stale_beside(
     let DocumentReading::Lock(read) = other else {
         return Ok(());
     };
-    push_stale(alloc, findings, lock, &project.table, &read.parts.hash)
+    push_stale(alloc, findings, lock, &project.table, &read.parts.hash)?;
+    push_differences(alloc, findings, project, read.entries.as_slice())
 }
 
 // Both are in one folder.

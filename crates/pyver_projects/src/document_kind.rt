@@ -3,6 +3,7 @@ ghost use Rattle.std.specs.List.{list_any};
 ghost use Rattle.std.specs.Prelude.{◌≡◌, ◌==◌, count_by, map};
 ghost use Rattle.pyver_findings.specs.NamedFiles.{folder};
 ghost use Rattle.pyver_projects.specs.Comparing.{is_below, is_beside, is_nearer, is_project, same_kind, same_lock_kind};
+ghost use Rattle.pyver_projects.specs.ExportComparing.{counts_for, project_at};
 ghost use Rattle.pyver_projects.specs.ProjectViews.{document_of};
 ghost use Rattle.pyver_projects.specs.Documents.{ends_path, lies_above, is_document_path, is_named_pylock, kind_of_path, kind_of_word};
 ghost use Rattle.pyver_projects.specs.LockedFiles.{has_slash, last_section};
@@ -86,12 +87,12 @@ impl Document {
         self.is_project() && lies_above(lock.path(), self.path())
     }
 
-    // It is a lock of the same kind in a folder nearer to the project than that of the other lock.
-    fn is_nearer(&self, project: &Document, lock: &Document) -> bool
-        ensures { result ≡ is_nearer (document_of project.now) (document_of lock.now) (document_of self.now) }
+    // It is a lock of the same kind in a folder nearer to the file with this path than that of the other lock.
+    fn is_nearer(&self, path: &[u8], lock: &Document) -> bool
+        ensures { result ≡ is_nearer (project_at path.now) (document_of lock.now) (document_of self.now) }
     {
         same_kind(lock.kind, self.kind)
-            && lies_above(self.path(), project.path())
+            && lies_above(self.path(), path)
             && folder(lock.path()).len() < folder(self.path()).len()
     }
 }
@@ -103,13 +104,13 @@ fn has_below(documents: &[Document], lock: &Document) -> bool
     documents.iter().any(|document| document.is_below(lock))
 }
 
-// Some document is a lock of the same kind in a folder nearer to the project.
-fn has_nearer(documents: &[Document], project: &Document, lock: &Document) -> bool
-    ensures { result ≡ list_any (λ d. is_nearer (document_of project.now) (document_of lock.now) (document_of d)) documents.now }
+// Some document is a lock of the same kind in a folder nearer to the file with this path.
+fn has_nearer(documents: &[Document], path: &[u8], lock: &Document) -> bool
+    ensures { result ≡ list_any (λ d. is_nearer (project_at path.now) (document_of lock.now) (document_of d)) documents.now }
 {
     documents
         .iter()
-        .any(|document| document.is_nearer(project, lock))
+        .any(|document| document.is_nearer(path, lock))
 }
 
 // The lock counts for the project, of these documents.
@@ -120,7 +121,15 @@ pub(crate) fn is_beside(documents: &[Document], project: &Document, lock: &Docum
     if !has_below(documents, lock) {
         return true;
     }
-    lies_above(lock.path(), project.path()) && !has_nearer(documents, project, lock)
+    lies_above(lock.path(), project.path()) && !has_nearer(documents, project.path(), lock)
+}
+
+// The lock counts for the export with this path, of these documents.
+#[tactic(auto, using(pyver_findings::proofs::Steps::any_viewed))]
+pub(crate) fn counts_for(documents: &[Document], path: &[u8], lock: &Document) -> bool
+    ensures { result ≡ counts_for (map document_of documents.now) path.now (document_of lock.now) }
+{
+    lies_above(lock.path(), path) && !has_nearer(documents, path, lock)
 }
 
 // The path is this name, or ends with it after a `/`.

@@ -58,6 +58,8 @@ pub(crate) struct LockReading {
     pub(crate) packages: Vec<LockedReading>,
     // What the packages require of one another.
     pub(crate) requirements: Vec<LineMeaning>,
+    // What the lock says that the project in its folder requires.
+    pub(crate) entries: Vec<LineMeaning>,
     // What is wrong with their files, and with them beside one another.
     pub(crate) faults: Vec<LineMeaning>,
 }
@@ -115,12 +117,14 @@ fn read_lock(
 {
     let packages = read_packages(alloc, name, contents.packages.as_slice())?;
     let requirements = read_requirements(alloc, name, contents.requirements.as_slice())?;
+    let entries = read_requirements(alloc, name, contents.entries.as_slice())?;
     let mut faults = read_files(alloc, name, contents.files.as_slice())?;
     push_faults(alloc, &mut faults, name, contents.faults.as_slice())?;
     Ok(DocumentReading::Lock(LockReading {
         parts: contents.parts,
         packages,
         requirements,
+        entries,
         faults,
     }))
 }

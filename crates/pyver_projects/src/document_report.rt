@@ -138,6 +138,7 @@ fn report_lock(
         parts,
         packages,
         requirements,
+        entries: _entries,
         faults,
     } = lock;
     let requirements = requirements.as_slice();
@@ -260,7 +261,7 @@ fn push_all_conflicts(
     Ok(())
 }
 
-fn read_documents<'a>(
+pub(crate) fn read_documents<'a>(
     alloc: Global,
     documents: &'a [Document],
 ) -> Result<Vec<ReadDocument<'a>>, AllocError>
@@ -290,7 +291,9 @@ fn read_documents<'a>(
 /// versions of its name, if it contains none.
 /// Then what is wrong in each project beside each lock in its folder, or in the nearest above that has one of its kind, and beside each
 /// lock for which that is no project: in one folder whether `metadata.content-hash` of `poetry.lock`, `metadata.content_hash` of `pdm.lock`, or
-/// `tool.pdm.hashes` of `pylock.toml`, is the hash of the project, on the line of that key; for each requirement, in order, whether the lock lacks a package of its name, or such an environment,
+/// `tool.pdm.hashes` of `pylock.toml`, is the hash of the project, on the line of that key; in one folder, where `uv.lock` says what that project requires, for
+/// each requirement of the project of dependencies, extras and groups whether the lock has one with its name and list, and for each of the lock, on the line of
+/// its package, whether the project has; for each requirement, in order, whether the lock lacks a package of its name, or such an environment,
 /// and the lines of the locked versions of its name with the line of the requirement, if it contains none. Then the requirements of each project that hold
 /// together and have no version in common, as `pyver_findings` reports them, each once: `project.dependencies`; these with each extra; each group with
 /// all that it includes, and with these if there is a table `tool.uv` or `tool.poetry`; and what the build requires. Those with markers are reported in an

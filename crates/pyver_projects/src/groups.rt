@@ -100,7 +100,7 @@ pub(crate) fn group_names(alloc: Global, document: &Table) -> Result<Vec<Vec<u8>
     }
 }
 
-fn has_tool(name: &str, document: &Table) -> bool
+pub(crate) fn has_tool(name: &str, document: &Table) -> bool
     ensures { result ≡ has_tool name.now (table_view document.now) }
 {
     inside(top(document, "tool"), name).is_some()
@@ -329,14 +329,14 @@ fn place_groups<'a>(
     Ok(places)
 }
 
-// The group stands before the one that it includes.
 fn stands_before(places: &HashMap<&[u8], usize>, inclusion: &Inclusion) -> bool
     ensures { result ≡ stands_before (rank_of places.now) (inclusion_of inclusion.now) }
 {
-    rank_of(places, inclusion.group.as_slice()) < rank_of(places, inclusion.included.as_slice())
+    let place = rank_of(places, inclusion.group.as_slice());
+    place < rank_of(places, inclusion.included.as_slice())
 }
 
-fn all_stand_before(places: &HashMap<&[u8], usize>, inclusions: &[Inclusion]) -> bool
+fn all_before(places: &HashMap<&[u8], usize>, inclusions: &[Inclusion]) -> bool
     ensures { result ≡ list_all (λ i. stands_before (rank_of places.now) (inclusion_of i)) inclusions.now }
 {
     inclusions
@@ -349,7 +349,7 @@ fn all_stand_before(places: &HashMap<&[u8], usize>, inclusions: &[Inclusion]) ->
 fn is_ordered(places: &HashMap<&[u8], usize>, inclusions: &[Inclusion]) -> bool
     ensures { result ≡ list_all (stands_before (rank_of places.now)) (map inclusion_of inclusions.now) }
 {
-    all_stand_before(places, inclusions)
+    all_before(places, inclusions)
 }
 
 impl<'a> GroupOrder<'a> {

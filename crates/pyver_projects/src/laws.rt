@@ -1,10 +1,12 @@
 //! What holds of reports of documents, as the contract of a function that does nothing.
+ghost use Rattle.pyver_projects.specs.ExportComparing.{ExportFindingsHold, ExportReportsOnce, NoFindingImpliesPinned};
 ghost use Rattle.pyver_projects.specs.ProjectLaws.{DocumentReportsOnce, DocumentFindingsHold, NoFindingImpliesContained, NoFindingImpliesSatisfiable};
 
 /// What is reported by itself is a string of a project that is not what it is to be there, a group that is invalid, a package whose version
 /// is none or is not that in the name of one of its files, a package whose name and marker another has, too, or a dependency on two, if the
 /// format has one, a document that is not TOML, or JSON, in UTF-8, or a requirement whose name no package of some lock has, or which in some
-/// environment no package meets that the lock does not leave out, or a lock that has another hash than what is hashed of the project in its folder.
+/// environment no package meets that the lock does not leave out, or a lock that has another hash than what is hashed of the project in its folder,
+/// or a requirement of a project that the lock in its folder does not have, or one that this has for the project, which does not have it.
 /// Lines that are
 /// reported together belong to a requirement, of a project or of a package in the same lock, and to packages of its name, none of whose
 /// versions it contains, or to requirements of a project that hold together, have no version in common, and have one without any one of them.
@@ -19,6 +21,8 @@ pub fn findings_hold()
 /// Each file of a locked package from an index, in whose name a version is read, has one that `==` with the package's version matches.
 /// No package has the name and the marker of another, if the format has one, and no dependency of `uv.lock` is on two.
 /// Each lock with a hash has that of what is hashed of the project in its folder, unless this is not known.
+/// Where `uv.lock` names requirements of the project in its folder, each requirement of the project is among them, by name and list, and each of them is one of the project,
+/// unless it has a source of its own, the project has no name, or its dependencies or extras are dynamic or in tables of other tools.
 ///
 /// The requirements of a project that hold together, of one name and without a marker, have a version
 /// in common: its dependencies, with what Poetry's tables ask for; these with an extra; a group with all that it includes, and with these if there is a table `tool.uv` or
@@ -28,7 +32,16 @@ pub fn no_finding_means_agreement()
     ensures satisfiable { NoFindingImpliesSatisfiable }
 {}
 
-/// Documents that are TOML, or JSON, in UTF-8 have at most one report in which nothing is undecided.
+/// What is found of an export is a line that pins a name which no package of the lock has that `uv export` made it of; or it is reported with the lines of
+/// the packages of its name in a lock that counts for it, and contains the version of none. Where nothing is found, each line that pins a name contains one of
+/// them, in each lock that counts and has some.
+pub fn exports_are_compared()
+    ensures found { ExportFindingsHold }
+    ensures pinned { NoFindingImpliesPinned }
+{}
+
+/// Documents that are TOML, or JSON, in UTF-8 have at most one report in which nothing is undecided, and exports beside them one.
 pub fn reports_once()
-    ensures { DocumentReportsOnce }
+    ensures documents { DocumentReportsOnce }
+    ensures exports { ExportReportsOnce }
 {}

@@ -1,12 +1,15 @@
 //! What is wrong in a project's documents: `pyproject.toml` and its locks.
 //!
-//! In reading order: `DocumentKind`, `kind_of_path` and `kind_of_word`; `Document` and `find_document_problems`; and `laws`.
+//! In reading order: `DocumentKind`, `kind_of_path` and `kind_of_word`; `Document`, `find_document_problems` and
+//! `find_export_problems`; and `laws`.
 #![tactic(auto)]
 
 mod content_hash;
 mod document_kind;
 mod document_reading;
 mod document_report;
+mod entries;
+mod export_comparison;
 mod groups;
 mod json_text;
 mod known_environment;
@@ -30,3 +33,4 @@ pub use document_kind::{
     Document, DocumentKind, LockKind, is_document_path, kind_of_path, kind_of_word,
 };
 pub use document_report::find_document_problems;
+pub use export_comparison::find_export_problems;

@@ -165,7 +165,7 @@ fn leaves_out(kind: LockKind, parts: &[Vec<u8>], section: &Section) -> bool
     (is_entry(section) || names_groups(kind, parts)) && !is_needed(kind, parts, section)
 }
 
-fn is_locked(section: &Section) -> bool
+pub(crate) fn is_locked(section: &Section) -> bool
     ensures { result ≡ is_locked (section_of section.now) }
 {
     matches!(
@@ -261,7 +261,7 @@ fn push_excluded(
 }
 
 // Adds the requirement beside the packages of its name, if its list contains the version of none.
-fn push_all_excluded(
+pub(crate) fn push_all_excluded(
     alloc: Global,
     findings: &mut Vec<Finding>,
     demand: &Demand,
@@ -288,7 +288,7 @@ fn has_package(demand: &Demand, packages: &PackageIndex<'_>) -> bool
 }
 
 // Adds that no package has the name of the requirement, if none has.
-fn push_absent(
+pub(crate) fn push_absent(
     alloc: Global,
     findings: &mut Vec<Finding>,
     packages: &PackageIndex<'_>,
@@ -555,7 +555,7 @@ pub(crate) fn push_unmet_requirements(
 
 #[tactic(auto, using(crate::proofs::Walks::or_none))]
 // Whether the project has this name.
-fn is_project_name(project: &Option<Vec<u8>>, name: &[u8]) -> bool
+pub(crate) fn is_project_name(project: &Option<Vec<u8>>, name: &[u8]) -> bool
     ensures { result ≡ list_any (bytes_eq name.now) (option_to_list (option_map (λ n. n.items) project.now)) }
 {
     match project {

@@ -112,6 +112,8 @@ pub(crate) struct LockContents {
     pub(crate) parts: LockParts,
     pub(crate) packages: Vec<LockedPackage>,
     pub(crate) requirements: Vec<LockedRequirement>,
+    // What it says that the project in its folder requires.
+    pub(crate) entries: Vec<LockedRequirement>,
     pub(crate) files: Vec<LockedFile>,
     pub(crate) faults: Vec<LockFault>,
 }

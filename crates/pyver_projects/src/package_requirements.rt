@@ -292,7 +292,7 @@ fn push_named(
     }
 }
 
-fn text_or_empty(text: Option<&str>) -> &str
+pub(crate) fn text_or_empty(text: Option<&str>) -> &str
     ensures { result.now ≡ unwrap_or (option_map (λ t. t.now) text.entry) [] }
 {
     match text {

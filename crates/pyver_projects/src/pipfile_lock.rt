@@ -292,6 +292,7 @@ pub(crate) fn pipfile_contents(
         },
         packages,
         requirements: Vec::new(alloc),
+        entries: Vec::new(alloc),
         files: Vec::new(alloc),
         faults: document_faults(alloc, lines, document)?,
     })

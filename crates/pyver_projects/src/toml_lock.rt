@@ -7,6 +7,7 @@ ghost use Rattle.pyver_projects.specs.LockedFiles.{array_faults};
 ghost use Rattle.toml.specs.View.{table_view, view};
 
 use crate::document_kind::LockKind;
+use crate::entries::push_own_entries;
 use crate::groups::NameIndex;
 use crate::lock_faults::{
     CountedNames, counted_names, has_markers, lock_parts, locked_python, package_condition,
@@ -82,12 +83,14 @@ fn read_tables(
 {
     let mut packages = Vec::new(alloc);
     let mut requirements = Vec::new(alloc);
+    let mut entries = Vec::new(alloc);
     let mut files = Vec::new(alloc);
     let mut faults = faults;
     for (index, item) in tables.iter().enumerate() {
         let line = line_or_one(lines, index);
         push_item(alloc, &mut packages, &counted.python, line, item)?;
         push_requirements(alloc, &mut requirements, counted.kind, &parts, line, item)?;
+        push_own_entries(alloc, &mut entries, counted.kind, line, item)?;
         push_locked_files(alloc, &mut files, line, item)?;
         push_package_faults(alloc, &mut faults, counted, line, item)?;
     }
@@ -95,6 +98,7 @@ fn read_tables(
         parts,
         packages,
         requirements,
+        entries,
         files,
         faults,
     })

@@ -369,10 +369,6 @@ items_from f xs i x inside is = ap (map f) (drop_more xs i x inside) ∙ ap (λ 
 pub no_items : {X Y : Type 0} (f : X → Y) (xs : List X) (i : ℕ) → length xs ≤ i → [] ≡ map f (drop i xs)
 no_items f xs i end = sym (ap (map f) (drop_all i xs end))
 
--- none of the documents is a lock, and these are the searches of all
-pub searches_all : (documents : List Document) (found : List (List (List ℕ))) → list_any is_lock documents ≡ false → found ≡ flat_map searches_for documents → found ≡ lock_searches documents
-searches_all documents found none is = subst (λ b. found ≡ (if b then [] else flat_map searches_for documents)) (sym none) is
-
 module _ {R : Type 0} (kind : FileKind) (files : List ℕ → KnownFile) (paths : List ℕ → Option (List ℕ)) (remaining : R → Option (List ℕ)) where
   -- what comes of the names that are left comes of all
   abbrev pub SeekContinues : List (List ℕ) → List (List ℕ) → FilesRead → R → Type 0

@@ -1,5 +1,5 @@
--- The files that `check` reads: those that the words name, those that the lines of requirements files name, and the locks of projects, step by step.
-use Rattle.std.specs.Prelude.{Bool, List, None, Option, Some, [], bytes_eq, codes, drop, false, if◌then◌else◌, length, map, nat_eq, not, string_bytes, suc, take, true, zero, ℕ, ◌&&◌, ◌++◌, ◌+◌, ◌<◌, ◌||◌, ◌∷◌, ◌≡◌, ◌≤◌, ◌⊎◌}
+-- The files that `check` reads: those that the words name, those that the lines of requirements files name, and locks, step by step.
+use Rattle.std.specs.Prelude.{Bool, List, None, Option, Some, [], bytes_eq, codes, drop, false, if◌then◌else◌, length, map, nat_eq, not, string_bytes, suc, take, true, zero, ℕ, ◌&&◌, ◌++◌, ◌+◌, ◌<◌, ◌==◌, ◌||◌, ◌∷◌, ◌≡◌, ◌≤◌, ◌⊎◌}
 use Rattle.std.specs.List.{ends_with, flat_map, list_any, starts_with}
 use Rattle.std.specs.Str.{IsUtf8}
 use Rattle.pyver_commands.specs.Sources.SourceTexts.{FailsInText}
@@ -8,6 +8,7 @@ use Rattle.pyver_tool.specs.declared.options.FileKind.{FileKind}
 use Rattle.pyver_commands.specs.declared.sources.open_failure.OpenFailure.{OpenFailure}
 use Rattle.pyver_commands.specs.declared.sources.stream.RunFailure.{RunFailure}
 use Rattle.pyver_commands.specs.declared.sources.stream.RunFailure.TheVariants as run_failure
+use Rattle.pyver_findings.specs.Exports.{is_export}
 use Rattle.pyver_findings.specs.FileLines.{File}
 use Rattle.pyver_findings.specs.NamedFiles.{NamedFile, named_files}
 use Rattle.pyver_projects.specs.Comparing.{is_project}
@@ -65,7 +66,7 @@ FailsOpening file name why = ((¬ IsUtf8 name) × (why ≡ failure.Other)) ⊎ (
 abbrev pub file_with : List ℕ → List ℕ → File
 file_with name text = record { name = name; text = text }
 
--- ---- where the locks of projects are sought
+-- ---- where locks are sought
 
 -- the numbers below this one, the greatest first
 abbrev pub below : ℕ → List ℕ
@@ -97,13 +98,19 @@ searches_for d = if is_project d.kind && not (is_input d.file.name) then path_se
 abbrev pub is_lock : Document → Bool
 is_lock d = not (is_project d.kind)
 
--- the searches for the locks of these documents, of which none is a lock
-abbrev pub lock_searches : List Document → List (List (List ℕ))
-lock_searches documents = if list_any is_lock documents then [] else flat_map searches_for documents
+-- those for the locks of a requirements file: it is an export, and not standard input
+abbrev pub export_searches : File → List (List (List ℕ))
+export_searches f = if is_export f && not (is_input f.name) then path_searches f.name else []
 
--- they are made, or none
-abbrev pub searches_if : Bool → List Document → List (List (List ℕ))
-searches_if seeks documents = if seeks then lock_searches documents else []
+-- the searches for the locks of these documents, of which none is a lock; or, where there is no document, of these files
+abbrev pub lock_searches : List File → List Document → List (List (List ℕ))
+lock_searches files documents =
+    if length documents == 0 then flat_map export_searches files
+    else (if list_any is_lock documents then [] else flat_map searches_for documents)
+
+-- they are made, or none, after these files
+abbrev pub searches_if : Bool → FilesRead → List (List (List ℕ))
+searches_if seeks named = if seeks then lock_searches named.requirements named.documents else []
 
 -- ---- what is read
 
@@ -171,15 +178,15 @@ module _ {R : Type 0} (kind : FileKind) (files : List ℕ → KnownFile) (paths 
   FailsInSearches (names ∷ searches) a reader reader' why = FailsInSearch names reader reader' why
       ⊎ ((c : FilesRead) × (middle : R) × SeeksFirst names a c reader middle × FailsInSearches searches c middle reader' why)
 
-  -- of the files that the words name, and those that their lines name, each was read in turn; then the locks of projects, if they are sought
+  -- of the files that the words name, and those that their lines name, each was read in turn; then locks, if they are sought
   abbrev pub ReadsFiles : Bool → List (List ℕ) → R → R → FilesRead → Type 0
-  ReadsFiles seeks words reader reader' read = (named : FilesRead) × (middle : R) × ReadsNames (map word_file words) reader middle named × SeeksInTurn (searches_if seeks named.documents) named read middle reader'
+  ReadsFiles seeks words reader reader' read = (named : FilesRead) × (middle : R) × ReadsNames (map word_file words) reader middle named × SeeksInTurn (searches_if seeks named) named read middle reader'
 
   -- reading stopped so in one of them, or an allocation failed between
   abbrev pub FailsInFiles : Bool → List (List ℕ) → R → R → RunFailure → Type 0
   FailsInFiles seeks words reader reader' why = FailsInNames (map word_file words) reader reader' why
       ⊎ ((named : FilesRead) × (middle : R) × ReadsNames (map word_file words) reader middle named
-      × (((why ≡ run_failure.OutOfMemory) × (reader' ≡ middle)) ⊎ FailsInSearches (searches_if seeks named.documents) named middle reader' why))
+      × (((why ≡ run_failure.OutOfMemory) × (reader' ≡ middle)) ⊎ FailsInSearches (searches_if seeks named) named middle reader' why))
 
 abbrev pub search_of : LockSearch → List (List ℕ)
 search_of search = map (λ name. name.items) search.names.items

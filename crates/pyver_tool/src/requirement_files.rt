@@ -1,4 +1,4 @@
-//! The files that `check` reads: those that the words name, those that the lines of requirements files name, and the locks of projects.
+//! The files that `check` reads: those that the words name, those that the lines of requirements files name, and locks.
 ghost use Rattle.std.specs.Prelude.{◌≡◌, ◌⊎◌, ◌∷◌, ◌++◌, [], IfErr, IfOk, map, string_bytes};
 ghost use Rattle.pyver_tool.specs.RequirementFiles.{FailsInFiles, FailsInNames, FailsInSearch, FailsInSearches, GainsFile, GainsUnopened, HasReads, IsSourcePath, ReadsFiles, ReadsNames, ReadsStep, SeeksFirst, SeeksInTurn, SeeksName, StepsOrFailsOpening, file_with, has_path, lock_searches, names_of_files, none_read, read_of, search_of, word_file};
 ghost use Rattle.pyver_commands.specs.Sources.{is_input, source_names};
@@ -296,7 +296,7 @@ impl RequirementFiles {
         Ok(())
     }
 
-    // Reads the locks of the projects that were read, if no lock was.
+    // Reads the locks of the projects that were read, or of the exports, if no document was.
     fn seek_locks<F: Files, R: Read>(
         &mut self,
         alloc: Global,
@@ -305,13 +305,17 @@ impl RequirementFiles {
         input: &mut R,
     ) -> Result<(), RunFailure>
         requires { HasReads self.old }
-        ensures read { IfOk result (λ _. SeeksInTurn kind (F.known files.old) (F.path files.old) R.remaining (lock_searches (read_of self.old).documents) (read_of self.old) (read_of self.new) input.old input.new) }
+        ensures read { IfOk result (λ _. SeeksInTurn kind (F.known files.old) (F.path files.old) R.remaining (lock_searches (read_of self.old).requirements (read_of self.old).documents) (read_of self.old) (read_of self.new) input.old input.new) }
         ensures stopped { IfErr result (λ why. ((why ≡ RunFailure.OutOfMemory) × (input.new ≡ input.old))
-            ⊎ FailsInSearches kind (F.known files.old) (F.path files.old) R.remaining (lock_searches (read_of self.old).documents) (read_of self.old) input.old input.new why) }
+            ⊎ FailsInSearches kind (F.known files.old) (F.path files.old) R.remaining (lock_searches (read_of self.old).requirements (read_of self.old).documents) (read_of self.old) input.old input.new why) }
         ensures kept { F.known files.new ≡ F.known files.old }
         ensures kept_paths { F.path files.new ≡ F.path files.old }
     {
-        let searches = list_searches(alloc, self.documents.as_slice())?;
+        let searches = list_searches(
+            alloc,
+            self.requirements.as_slice(),
+            self.documents.as_slice(),
+        )?;
         for search in &searches {
             self.seek_first(alloc, kind, search, files, input)?;
         }
@@ -319,7 +323,7 @@ impl RequirementFiles {
     }
 }
 
-// Reads the files that the words name, then those that their lines name, and then locks of projects, if they are sought, each once.
+// Reads the files that the words name, then those that their lines name, and then locks, if they are sought, each once.
 pub(crate) fn read_files<F: Files, R: Read>(
     alloc: Global,
     kind: FileKind,

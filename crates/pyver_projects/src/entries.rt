@@ -1,0 +1,478 @@
+//! What `uv.lock` says that the project in its folder requires, and that project beside it.
+ghost use Rattle.std.specs.Prelude.{◌≡◌, ◌∷◌, ◌++◌, [], IfOk, if◌then◌else◌, map, option_map, option_to_list};
+ghost use Rattle.std.specs.List.{flat_map, list_any};
+ghost use Rattle.pyver_findings.specs.Views.{demand_of, finding_of, line_meaning_of};
+ghost use Rattle.pyver_projects.specs.Comparing.{differing, has_dynamic, has_each, is_dynamic, is_in_lock, is_in_project, is_plain_for_uv, is_same_requirement, locked_demands, same_list, same_specifier, unentered, unentered_in, unmatched, unrequired, unrequired_in};
+ghost use Rattle.pyver_projects.specs.PackageRequirements.{entries_from, entry, group_entries, has_folder, has_own_source, is_dot, is_own_package, metadata_entries};
+ghost use Rattle.pyver_projects.specs.ProjectStrings.{entries, listed, members_list};
+ghost use Rattle.pyver_projects.specs.ProjectViews.{requirement_of, string_reading_of};
+ghost use Rattle.pyver_projects.specs.declared.document_kind.LockKind.TheVariants.{Uv};
+ghost use Rattle.toml.specs.Data.{as_str};
+ghost use Rattle.toml.specs.View.{table_view, view};
+
+use crate::document_kind::LockKind;
+use crate::document_reading::{ProjectReading, StringReading};
+use crate::groups::has_tool;
+use crate::lock_comparison::{is_locked, is_project_name};
+use crate::locked_package::{LockedRequirement, package_text};
+use crate::package_requirements::text_or_empty;
+use crate::table::{inside, items, table, text, top};
+use pep440_rs::VersionSpecifier;
+use pyver_findings::{Demand, Finding, LineMeaning};
+use std::alloc::{AllocError, Global};
+use toml::{Table, Value};
+
+// ---- what the lock says
+
+// The requirement is for a project in a folder.
+fn has_folder(item: &Value) -> bool
+    ensures { result ≡ has_folder (view item.now) }
+{
+    item.get("directory").is_some()
+        || item.get("editable").is_some()
+        || item.get("virtual").is_some()
+        || item.get("workspace").is_some()
+}
+
+// The requirement is for something else than versions of an index.
+fn has_own_source(item: &Value) -> bool
+    ensures { result ≡ has_own_source (view item.now) }
+{
+    item.get("git").is_some()
+        || item.get("url").is_some()
+        || item.get("path").is_some()
+        || has_folder(item)
+}
+
+// Adds the item, if it has a name.
+fn push_entry(
+    alloc: Global,
+    found: &mut Vec<LockedRequirement>,
+    line: u64,
+    requirer: &[u8],
+    item: &Value,
+) -> Result<(), AllocError>
+    ensures { IfOk result (λ _. map requirement_of found.new.items ≡ map requirement_of found.old.items ++ entry line requirer.now (view item.now)) }
+{
+    let Some(name) = text(item.get("name")) else {
+        return Ok(());
+    };
+    let list = text_or_empty(text(item.get("specifier")));
+    found.push(LockedRequirement {
+        line,
+        requirer: Vec::from_slice(alloc, requirer)?,
+        name: String::from_str(alloc, name)?,
+        list: String::from_str(alloc, list)?,
+        is_reference: has_own_source(item),
+    })?;
+    Ok(())
+}
+
+fn push_entries(
+    alloc: Global,
+    found: &mut Vec<LockedRequirement>,
+    line: u64,
+    requirer: &[u8],
+    list: &[Value],
+) -> Result<(), AllocError>
+    ensures { IfOk result (λ _. map requirement_of found.new.items ≡ map requirement_of found.old.items ++ flat_map (entry line requirer.now) (map view list.now)) }
+{
+    for item in list {
+        push_entry(alloc, found, line, requirer, item)?;
+    }
+    Ok(())
+}
+
+// Adds those of each group of the table.
+fn push_group_entries(
+    alloc: Global,
+    found: &mut Vec<LockedRequirement>,
+    line: u64,
+    requirer: &[u8],
+    groups: &Table,
+) -> Result<(), AllocError>
+    ensures { IfOk result (λ _. map requirement_of found.new.items ≡ map requirement_of found.old.items ++ flat_map (group_entries line requirer.now) (members_list (table_view groups.now))) }
+{
+    for (_, group) in groups.iter() {
+        push_entries(alloc, found, line, requirer, items(Some(group)))?;
+    }
+    Ok(())
+}
+
+// Adds those of each group, if there is a table of groups.
+fn push_all_groups(
+    alloc: Global,
+    found: &mut Vec<LockedRequirement>,
+    line: u64,
+    requirer: &[u8],
+    groups: Option<&Value>,
+) -> Result<(), AllocError>
+    ensures { IfOk result (λ _. map requirement_of found.new.items ≡ map requirement_of found.old.items ++ flat_map (group_entries line requirer.now) (entries (option_map (λ v. view v.now) groups.entry))) }
+{
+    match table(groups) {
+        Some(groups) => push_group_entries(alloc, found, line, requirer, groups),
+        None => Ok(()),
+    }
+}
+
+fn push_metadata(
+    alloc: Global,
+    found: &mut Vec<LockedRequirement>,
+    line: u64,
+    requirer: &[u8],
+    metadata: Option<&Value>,
+) -> Result<(), AllocError>
+    ensures { IfOk result (λ _. map requirement_of found.new.items ≡ map requirement_of found.old.items ++ metadata_entries line requirer.now (option_map (λ v. view v.now) metadata.entry)) }
+{
+    let list = items(inside(metadata, "requires-dist"));
+    push_entries(alloc, found, line, requirer, list)?;
+    push_all_groups(
+        alloc,
+        found,
+        line,
+        requirer,
+        inside(metadata, "requires-dev"),
+    )
+}
+
+fn is_dot(path: Option<&str>) -> bool
+    ensures { result ≡ is_dot (option_map (λ t. t.now) path.entry) }
+{
+    match path {
+        Some(path) => path == ".",
+        None => false,
+    }
+}
+
+// The package is the project in the folder of the lock.
+fn is_own_package(item: &Value) -> bool
+    ensures { result ≡ is_own_package (view item.now) }
+{
+    let source = item.get("source");
+    is_dot(text(inside(source, "editable"))) || is_dot(text(inside(source, "virtual")))
+}
+
+fn push_entries_of(
+    alloc: Global,
+    found: &mut Vec<LockedRequirement>,
+    line: u64,
+    item: &Value,
+) -> Result<(), AllocError>
+    ensures { IfOk result (λ _. map requirement_of found.new.items ≡ map requirement_of found.old.items ++ entries_from Uv (line, view item.now)) }
+{
+    if !is_own_package(item) {
+        return Ok(());
+    }
+    let Some(name) = text(item.get("name")) else {
+        return Ok(());
+    };
+    let requirer = package_text(alloc, name, text(item.get("version")))?;
+    push_metadata(
+        alloc,
+        found,
+        line,
+        requirer.as_slice(),
+        item.get("metadata"),
+    )
+}
+
+// Adds what the package on this line requires, if it is the project in the folder of the lock, and this is of uv.
+pub(crate) fn push_own_entries(
+    alloc: Global,
+    found: &mut Vec<LockedRequirement>,
+    kind: LockKind,
+    line: u64,
+    item: &Value,
+) -> Result<(), AllocError>
+    ensures { IfOk result (λ _. map requirement_of found.new.items ≡ map requirement_of found.old.items ++ entries_from kind (line, view item.now)) }
+{
+    match kind {
+        LockKind::Uv => push_entries_of(alloc, found, line, item),
+        _ => Ok(()),
+    }
+}
+
+// ---- a project beside it
+
+fn has_specifier(list: &[VersionSpecifier], specifier: &VersionSpecifier) -> bool
+    ensures { result ≡ list_any (same_specifier specifier.now) list.now }
+{
+    list.iter().any(|other| specifier == other)
+}
+
+// Each specifier of the first list is one of the second.
+fn has_each(list: &[VersionSpecifier], other: &[VersionSpecifier]) -> bool
+    ensures { result ≡ has_each list.now other.now }
+{
+    list.iter().all(|specifier| has_specifier(other, specifier))
+}
+
+fn same_list(list: &[VersionSpecifier], other: &[VersionSpecifier]) -> bool
+    ensures { result ≡ same_list list.now other.now }
+{
+    has_each(list, other) && has_each(other, list)
+}
+
+// The second, in the lock, is for the first, of the project.
+fn is_same_requirement(demand: &Demand, entry: &Demand) -> bool
+    ensures { result ≡ is_same_requirement (demand_of demand.now) (demand_of entry.now) }
+{
+    demand.name.as_slice() == entry.name.as_slice()
+        && (entry.marker.is_some()
+            || same_list(demand.specifiers.as_slice(), entry.specifiers.as_slice()))
+}
+
+fn is_in_lock(demand: &Demand, entry: &LineMeaning) -> bool
+    ensures { result ≡ is_in_lock (demand_of demand.now) (line_meaning_of entry.now) }
+{
+    match entry {
+        LineMeaning::Asks(entry) => is_same_requirement(demand, entry),
+        _ => false,
+    }
+}
+
+fn any_in_lock(demand: &Demand, entries: &[LineMeaning]) -> bool
+    ensures { result ≡ list_any (λ m. is_in_lock (demand_of demand.now) (line_meaning_of m)) entries.now }
+{
+    entries.iter().any(|entry| is_in_lock(demand, entry))
+}
+
+// The lock has the requirement.
+#[tactic(auto, using(pyver_findings::proofs::Steps::any_viewed))]
+fn is_entered(demand: &Demand, entries: &[LineMeaning]) -> bool
+    ensures { result ≡ list_any (is_in_lock (demand_of demand.now)) (map line_meaning_of entries.now) }
+{
+    any_in_lock(demand, entries)
+}
+
+// What the string asks for that its lock is to have.
+fn locked_demand(string: &StringReading) -> Option<&Demand>
+    ensures { option_to_list (option_map (λ a. demand_of a.now) result) ≡ locked_demands (string_reading_of string.now) }
+{
+    if !is_locked(&string.section) {
+        return None;
+    }
+    match &string.meaning {
+        LineMeaning::Asks(demand) => Some(demand),
+        _ => None,
+    }
+}
+
+fn is_in_project(entry: &Demand, string: &StringReading) -> bool
+    ensures { result ≡ is_in_project (demand_of entry.now) (string_reading_of string.now) }
+{
+    match locked_demand(string) {
+        Some(demand) => is_same_requirement(demand, entry),
+        None => false,
+    }
+}
+
+fn any_in_project(entry: &Demand, strings: &[StringReading]) -> bool
+    ensures { result ≡ list_any (λ x. is_in_project (demand_of entry.now) (string_reading_of x)) strings.now }
+{
+    strings.iter().any(|string| is_in_project(entry, string))
+}
+
+// The project has the requirement.
+#[tactic(auto, using(pyver_findings::proofs::Steps::any_viewed))]
+fn is_required(entry: &Demand, strings: &[StringReading]) -> bool
+    ensures { result ≡ list_any (is_in_project (demand_of entry.now)) (map string_reading_of strings.now) }
+{
+    any_in_project(entry, strings)
+}
+
+// Adds that the requirement is not there, for this reason.
+fn push_unmatched(
+    alloc: Global,
+    findings: &mut Vec<Finding>,
+    reason: &str,
+    demand: &Demand,
+) -> Result<(), AllocError>
+    ensures { IfOk result (λ _. map finding_of findings.new.items ≡ map finding_of findings.old.items ++ unmatched reason.now (demand_of demand.now) ∷ []) }
+{
+    let reason = String::from_str(alloc, reason)?;
+    findings.push(Finding::NoRequirement(demand.line.clone()?, reason, 0))?;
+    Ok(())
+}
+
+// Adds the requirement of the project, if its lock does not have it.
+fn push_unentered(
+    alloc: Global,
+    findings: &mut Vec<Finding>,
+    project: &Option<Vec<u8>>,
+    entries: &[LineMeaning],
+    demand: &Demand,
+) -> Result<(), AllocError>
+    ensures { IfOk result (λ _. map finding_of findings.new.items ≡ map finding_of findings.old.items ++ unentered (option_to_list (option_map (λ n. n.items) project.now)) (map line_meaning_of entries.now) (demand_of demand.now)) }
+{
+    if is_project_name(project, demand.name.as_slice()) {
+        return Ok(());
+    }
+    if is_entered(demand, entries) {
+        return Ok(());
+    }
+    let reason = "the lock is out of date: it does not have this requirement";
+    push_unmatched(alloc, findings, reason, demand)
+}
+
+fn push_unentered_in(
+    alloc: Global,
+    findings: &mut Vec<Finding>,
+    project: &Option<Vec<u8>>,
+    entries: &[LineMeaning],
+    string: &StringReading,
+) -> Result<(), AllocError>
+    ensures { IfOk result (λ _. map finding_of findings.new.items ≡ map finding_of findings.old.items ++ unentered_in (option_to_list (option_map (λ n. n.items) project.now)) (map line_meaning_of entries.now) (string_reading_of string.now)) }
+{
+    if !is_locked(&string.section) {
+        return Ok(());
+    }
+    match &string.meaning {
+        LineMeaning::Asks(demand) => push_unentered(alloc, findings, project, entries, demand),
+        _ => Ok(()),
+    }
+}
+
+fn push_all_unentered(
+    alloc: Global,
+    findings: &mut Vec<Finding>,
+    project: &Option<Vec<u8>>,
+    entries: &[LineMeaning],
+    strings: &[StringReading],
+) -> Result<(), AllocError>
+    ensures { IfOk result (λ _. map finding_of findings.new.items ≡ map finding_of findings.old.items ++ flat_map (unentered_in (option_to_list (option_map (λ n. n.items) project.now)) (map line_meaning_of entries.now)) (map string_reading_of strings.now)) }
+{
+    for string in strings {
+        push_unentered_in(alloc, findings, project, entries, string)?;
+    }
+    Ok(())
+}
+
+// Adds the requirement in the lock, if its project does not have it.
+fn push_unrequired(
+    alloc: Global,
+    findings: &mut Vec<Finding>,
+    project: &Option<Vec<u8>>,
+    strings: &[StringReading],
+    entry: &Demand,
+) -> Result<(), AllocError>
+    ensures { IfOk result (λ _. map finding_of findings.new.items ≡ map finding_of findings.old.items ++ unrequired (option_to_list (option_map (λ n. n.items) project.now)) (map string_reading_of strings.now) (demand_of entry.now)) }
+{
+    if is_project_name(project, entry.name.as_slice()) || entry.marker.is_some() {
+        return Ok(());
+    }
+    if is_required(entry, strings) {
+        return Ok(());
+    }
+    let reason = "the lock is out of date: the project does not have this requirement";
+    push_unmatched(alloc, findings, reason, entry)
+}
+
+fn push_unrequired_in(
+    alloc: Global,
+    findings: &mut Vec<Finding>,
+    project: &Option<Vec<u8>>,
+    strings: &[StringReading],
+    entry: &LineMeaning,
+) -> Result<(), AllocError>
+    ensures { IfOk result (λ _. map finding_of findings.new.items ≡ map finding_of findings.old.items ++ unrequired_in (option_to_list (option_map (λ n. n.items) project.now)) (map string_reading_of strings.now) (line_meaning_of entry.now)) }
+{
+    match entry {
+        LineMeaning::Asks(entry) => push_unrequired(alloc, findings, project, strings, entry),
+        _ => Ok(()),
+    }
+}
+
+fn push_all_unrequired(
+    alloc: Global,
+    findings: &mut Vec<Finding>,
+    project: &Option<Vec<u8>>,
+    strings: &[StringReading],
+    entries: &[LineMeaning],
+) -> Result<(), AllocError>
+    ensures { IfOk result (λ _. map finding_of findings.new.items ≡ map finding_of findings.old.items ++ flat_map (unrequired_in (option_to_list (option_map (λ n. n.items) project.now)) (map string_reading_of strings.now)) (map line_meaning_of entries.now)) }
+{
+    for entry in entries {
+        push_unrequired_in(alloc, findings, project, strings, entry)?;
+    }
+    Ok(())
+}
+
+// The field is that of dependencies or of extras.
+fn is_dynamic(field: Option<&str>) -> bool
+    ensures { result ≡ is_dynamic (option_map (λ t. t.now) field.entry) }
+{
+    match field {
+        Some(field) => matches!(field, "dependencies" | "optional-dependencies"),
+        None => false,
+    }
+}
+
+fn is_dynamic_item(item: &Value) -> bool
+    ensures { result ≡ is_dynamic (as_str (view item.now)) }
+{
+    is_dynamic(item.as_str())
+}
+
+fn any_dynamic(fields: &[Value]) -> bool
+    ensures { result ≡ list_any (λ v. is_dynamic (as_str (view v))) fields.now }
+{
+    fields.iter().any(|field| is_dynamic_item(field))
+}
+
+#[tactic(auto, using(pyver_findings::proofs::Steps::any_viewed))]
+fn has_dynamic(project: Option<&Value>) -> bool
+    ensures { result ≡ has_dynamic (option_map (λ v. view v.now) project.entry) }
+{
+    any_dynamic(items(inside(project, "dynamic")))
+}
+
+// The tables have all that uv reads of what the project requires, and nothing that it does not read.
+fn is_plain_for_uv(document: &Table) -> bool
+    ensures { result ≡ is_plain_for_uv (table_view document.now) }
+{
+    let project = top(document, "project");
+    text(inside(project, "name")).is_some()
+        && !has_dynamic(project)
+        && !has_tool("poetry", document)
+        && !has_tool("rye", document)
+        && !has_tool("pdm", document)
+}
+
+// Adds in what the project with this name differs from its lock, where that has some requirements of it.
+pub(crate) fn push_differing(
+    alloc: Global,
+    findings: &mut Vec<Finding>,
+    project: &Option<Vec<u8>>,
+    strings: &[StringReading],
+    entries: &[LineMeaning],
+) -> Result<(), AllocError>
+    ensures { IfOk result (λ _. map finding_of findings.new.items ≡ map finding_of findings.old.items ++ differing (option_to_list (option_map (λ n. n.items) project.now)) (map string_reading_of strings.now) (map line_meaning_of entries.now)) }
+{
+    if entries.is_empty() {
+        return Ok(());
+    }
+    push_all_unentered(alloc, findings, project, entries, strings)?;
+    push_all_unrequired(alloc, findings, project, strings, entries)
+}
+
+// Adds it, if the tables of the project have all that uv reads.
+pub(crate) fn push_differences(
+    alloc: Global,
+    findings: &mut Vec<Finding>,
+    project: &ProjectReading,
+    entries: &[LineMeaning],
+) -> Result<(), AllocError>
+    ensures { IfOk result (λ _. map finding_of findings.new.items ≡ map finding_of findings.old.items ++ (if is_plain_for_uv (table_view project.now.table) then differing (option_to_list (option_map (λ n. n.items) project.now.name)) (map string_reading_of project.now.strings.items) (map line_meaning_of entries.now) else [])) }
+{
+    if !is_plain_for_uv(&project.table) {
+        return Ok(());
+    }
+    push_differing(
+        alloc,
+        findings,
+        &project.name,
+        project.strings.as_slice(),
+        entries,
+    )
+}
