@@ -3,32 +3,28 @@
 #![tactic(auto)]
 
 mod compiled_lists;
-mod compiled_sets;
 mod compiled_versions;
-mod given;
 mod ranges;
-mod sort_keys;
 mod written_bytes;
 mod written_numbers;
 mod written_strings;
 
 use compiled_lists::{
-    compile_list_of, compile_unchecked, contains_bytes, denotes_list, list_contains, requests,
+    compile_list_of, compile_unchecked, contains_bytes, denotes_list, keys_of_set, list_contains,
+    requests, set_complement, set_has, set_has_soon, set_intersection, set_subset, set_union,
 };
-use compiled_sets::{
-    keys_of_set, set_complement, set_has, set_has_soon, set_intersection, set_subset, set_union,
+use compiled_versions::{
+    are_rising, compile, compile_local, compile_string, compile_string_bytes, denotes, is_outside,
+    key, range_intervals, segment_interval,
 };
-use compiled_versions::{compile, compile_local, compile_string, compile_string_bytes, denotes};
-use given::given_arguments;
 use ranges::{
     between, between_versions, complement, contains, intersection, of_number, of_version, segments,
     without,
 };
-use sort_keys::{are_rising, is_outside, key, range_intervals, segment_interval};
 use std::alloc::Global;
 use std::io;
 use testing::{Calls, CaseError, run_cases};
-use written_bytes::print_written;
+use written_bytes::{given_arguments, print_written};
 use written_numbers::print_call;
 use written_strings::print_joined;
 

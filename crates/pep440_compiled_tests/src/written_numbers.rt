@@ -1,5 +1,5 @@
 //! The calls that write numbers.
-use crate::given::print_failure;
+use crate::written_bytes::print_failure;
 use pep440_calls::{
     Parts, write_allow_flag, write_compiled, write_compiled_list, write_marks, write_match,
     write_newest, write_order, write_parts, write_positions, write_prerelease_flag,

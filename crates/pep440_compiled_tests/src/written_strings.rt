@@ -1,5 +1,5 @@
 //! The calls that write strings one after the other, and the end of each.
-use crate::given::{print_failure, push_given};
+use crate::written_bytes::{print_failure, push_given};
 use pep440_calls::{
     write_boundaries, write_forms, write_members, write_range_bounds, write_release_range_bounds,
     write_sort_keys,

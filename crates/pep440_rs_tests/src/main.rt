@@ -2,25 +2,18 @@
 //! no other; `stdin` beside `src/` says what each call prints.
 #![tactic(auto)]
 
-mod bounds;
-mod errors;
 mod matching;
-mod operators;
-mod order;
 mod parsers;
-mod parts;
 mod printing;
 mod ranges;
-mod requirements;
-mod sets;
-mod specifier_calls;
-mod version_calls;
+mod specifiers;
+mod versions;
 
-use specifier_calls::answer_of_specifiers;
+use specifiers::answer_of_specifiers;
 use std::alloc::Global;
 use std::io;
 use testing::{Calls, CaseError, run_cases};
-use version_calls::answer_of_versions;
+use versions::answer_of_versions;
 
 struct LibraryCalls;
 

@@ -1,5 +1,5 @@
 //! The fields of a line, with their escapes: `\n`, `\r`, `\t`, `\\`, `\e` for nothing, and `\u{a0}` for the character of that number.
-use crate::error::CaseError;
+use crate::run::CaseError;
 use std::alloc::Global;
 
 // The character of a leading `{a0}`, and the rest.

@@ -1,9 +1,31 @@
-//! Runs the cases of standard input.
+//! Runs the cases of standard input; why a case has no result.
 use crate::case_fields::split_fields;
-use crate::error::CaseError;
 use crate::sizes::{case_of_size, failing_size};
-use std::alloc::Global;
+use std::alloc::{AllocError, AllocFailed, Global};
 use std::io;
+
+/// Why a case has no result.
+#[derive(Clone, Copy, Debug, PartialEq, Eq)]
+pub enum CaseError {
+    /// There is no such call with so many arguments, or it takes no such argument.
+    Unreadable,
+    /// Two results of the case differ.
+    Disagreement,
+    /// Out of memory; the case may hold or not.
+    OutOfMemory,
+}
+
+impl From<AllocError> for CaseError {
+    fn from(_: AllocError) -> CaseError {
+        CaseError::OutOfMemory
+    }
+}
+
+impl<T: Drop> From<AllocFailed<T>> for CaseError {
+    fn from(_: AllocFailed<T>) -> CaseError {
+        CaseError::OutOfMemory
+    }
+}
 
 /// The calls that cases name.
 pub trait Calls {

@@ -1,7 +1,6 @@
 //! The sizes at which calls are run, and strings of such a size.
 use crate::case_fields::split_fields;
-use crate::error::CaseError;
-use crate::run::Calls;
+use crate::run::{Calls, CaseError};
 use std::alloc::{AllocError, Global};
 
 const POWERS: [usize; 10] = [128, 256, 512, 1024, 2048, 4096, 8192, 16384, 32768, 65536];

@@ -1,15 +1,22 @@
-//! The types as a generic caller sees them, only through its bounds; and kinds and errors, which are equal exactly if their values are,
-//! wherever their strings lie in memory.
-ghost use Rattle.std.specs.Prelude.{◌≡◌, ◌↔◌, IsTrue, true};
+//! The types as a generic caller sees them, only through its bounds; kinds and errors, which are equal exactly if their values are,
+//! wherever their strings lie in memory; and what a caller can prove of ranges and of a loop over their segments.
+ghost use Rattle.pep440_ranges.specs.Clones.{IsCloneSame};
+ghost use Rattle.pep440_ranges.specs.RangeSegments.{contains};
 ghost use Rattle.pep440_version.specs.Errors.{kind_of, pattern_kind_of, pattern_rejection_of, rejection_of};
+ghost use Rattle.std.specs.Ordering.{nat_cmp};
+ghost use Rattle.std.specs.Prelude.{◌≡◌, ◌↔◌, IsTrue, true, ℕ, length, not, IfOk};
 
+use pep440_ranges::Ranges;
 use pep440_version::{
     ErrorKind, LocalSegment, PatternErrorKind, Prerelease, PrereleaseKind, Version,
     VersionParseError, VersionPatternParseError,
 };
+use std::alloc::{AllocError, Global};
 use std::cmp::Ordering;
 use std::collections::BTreeMap;
 use std::hash::{BuildHasher, BuildHasherDefault, FoldHasher, Hash, Hasher};
+use std::ops::Bound;
+use std::ops::Bound::{Excluded, Unbounded};
 use std::test::Fail;
 
 fn greater<'a, T: Ord>(a: &'a T, b: &'a T) -> &'a T {
@@ -125,5 +132,72 @@ fn same_digits_in_two_places(rt: HostRuntime) -> Result<(), Fail> {
     let one = VersionPatternParseError::from(one);
     let other = VersionPatternParseError::from(other);
     assert!(rt; pattern_errors_equal(&one, &other));
+    Ok(())
+}
+
+// The segments, collected by a loop.
+fn collect_segments(
+    alloc: Global,
+    range: &Ranges<u64>,
+) -> Result<Vec<(Bound<u64>, Bound<u64>)>, AllocError>
+    ensures { IfOk result (λ v. v.items ≡ range.now) }
+{
+    let mut found = Vec::new(alloc);
+    for (start, end) in range.iter() {
+        found.push((*start, *end))?;
+    }
+    Ok(found)
+}
+
+// How many segments there are, by the iterator's own call.
+fn count_segments<V: Ord + Clone>(range: &Ranges<V>) -> usize
+    ensures { result ≡ length range.now }
+{
+    range.iter().count()
+}
+
+// What the range contains, at a type whose clone is known to be the same value.
+fn complement_twice(alloc: Global, range: &Ranges<u64>) -> Result<Ranges<u64>, AllocError>
+    ensures { IfOk result (λ r. (v : ℕ) → contains nat_cmp r v ≡ not (not (contains nat_cmp range.now v))) }
+{
+    range.complement(alloc)?.complement(alloc)
+}
+
+// What the range does not contain, at each type whose clone is always the same value.
+fn complement_any<V: Ord + Clone>(alloc: Global, range: &Ranges<V>) -> Result<Ranges<V>, AllocError>
+    requires { (x : V) → IsCloneSame V.is_clone x }
+    ensures { IfOk result (λ r. (v : V) → contains V.cmp r v ≡ not (contains V.cmp range.now v)) }
+{
+    range.complement(alloc)
+}
+
+#[test]
+fn sweep_empty_ranges_take_none(rt: HostRuntime) {
+    let range: Ranges<u64> = Ranges::empty(rt.alloc());
+    assert!(rt; range.is_empty(), "empty");
+}
+
+// All numbers but 3.
+fn hole(alloc: Global) -> Result<Ranges<u64>, AllocError> {
+    Ranges::singleton(alloc, 3)?.complement(alloc)
+}
+
+#[test]
+fn walks_the_segments(rt: HostRuntime) -> Result<(), Fail> {
+    let hole = hole(rt.alloc())?;
+    let segments = collect_segments(rt.alloc(), &hole)?;
+    let wanted = [(Unbounded, Excluded(3)), (Excluded(3), Unbounded)];
+    assert!(rt; segments.as_slice() == wanted.as_slice(), "segments");
+    assert!(rt; count_segments(&hole) == 2, "count");
+    Ok(())
+}
+
+#[test]
+fn complements(rt: HostRuntime) -> Result<(), Fail> {
+    let hole = hole(rt.alloc())?;
+    let same = complement_twice(rt.alloc(), &hole)?;
+    assert!(rt; same.contains(&2) && !same.contains(&3), "the same");
+    let alone = complement_any(rt.alloc(), &hole)?;
+    assert!(rt; !alone.contains(&2) && alone.contains(&3), "3 alone");
     Ok(())
 }

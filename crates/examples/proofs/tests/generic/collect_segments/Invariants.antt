@@ -1,5 +1,5 @@
 use Rattle.std.proofs.Common.{◌≡◌, ◌++◌}
-use Rattle.examples.proofs.tests.ranges.collect_segments.Given as goal
+use Rattle.examples.proofs.tests.generic.collect_segments.Given as goal
 
 -- what was found, and the segments that are left, are all segments
 abbrev pub invariant-loop-start : goal.invariant-loop-start
