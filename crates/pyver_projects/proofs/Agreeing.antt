@@ -1,35 +1,39 @@
 -- Where nothing is found, each requirement contains a locked version of its name, and requirements that hold together have a version in common: all of
 -- them, and so those of each part.
-use Rattle.std.proofs.Common.{◌≡◌, ◌∙◌, ℕ, arith, suc, zero, List, [], ◌++◌, Bool, true, false, Some, None, refl, sym, ap, subst, inl, inr, if◌then◌else◌, bytes_eq, map, not, ◌∷◌, ◌||◌, Option, cond, is_none, is_some, length, nat_lt}
+use Rattle.std.proofs.Common.{◌≡◌, ◌&&◌, ◌∙◌, ℕ, arith, suc, zero, List, [], ◌++◌, Bool, true, false, Some, None, refl, sym, ap, subst, inl, inr, if◌then◌else◌, bytes_eq, map, not, ◌∷◌, ◌||◌, Option, cond, is_none, is_some, length, nat_lt}
 use Rattle.std.specs.Prelude.{⊤}
-use Rattle.std.specs.List.{All, AllZip, Contains, flat_map, list_any, zip, filter}
+use Rattle.std.specs.List.{All, AllZip, Contains, find, flat_map, list_any, zip, filter}
 use Rattle.pep440_pick.specs.RequirementGrammar.{Needed}
 use Rattle.pep440_rs.proofs.Reading.OneMeaning.{not_both_list, one_list}
+use Rattle.pep440_ranges.specs.RangeSegments.{contains}
+use Rattle.pep440_rs.specs.Bounds.{Segments}
 use Rattle.pep440_rs.specs.Lists.ListGrammar.{DerivesList}
 use Rattle.pep440_rs.specs.Specifiers.{Spec}
 use Rattle.pep440_version.proofs.Reading.Agreement.{one_record}
 use Rattle.pep440_version.proofs.Rejections.ExactlyOne.{not_both}
 use Rattle.pep440_version.specs.Grammar.{Derives}
+use Rattle.pep440_version.specs.Key.{record_cmp}
 use Rattle.pep440_version.specs.Record.{Record}
 use Rattle.pyver_findings.specs.Demands.{Demand, line_demand, IsSound}
 use Rattle.pyver_findings.specs.FileLines.{File, Finding}
 use Rattle.pyver_findings.specs.LineMeanings.{Asks, LineMeaning}
 use Rattle.pyver_findings.specs.Reports.{Report, demands_in, empty_report, invalid_in}
 use Rattle.toml.specs.Data.{Members}
-use Rattle.pyver_projects.proofs.LockedPackages.{some_named, met_everywhere, not_excluded}
-use Rattle.pyver_projects.proofs.Once.{entered, one_string, required}
-use Rattle.pyver_projects.proofs.Holding.{asks_always, findings_of, each_flat, sections_same, sound_part, sound_string}
+use Rattle.pyver_projects.proofs.LockedPackages.{some_named, met_everywhere, none_so, not_excluded}
+use Rattle.pyver_projects.proofs.Once.{entered, one_locked_set, one_string, required}
+use Rattle.pyver_projects.proofs.Holding.{asks_always, findings_of, each_flat, of_part_so, sections_same, sound_part, sound_string}
 use Rattle.pyver_projects.proofs.Walks.{beside_it, beside_pair, left_nil, nil_at, right_nil, zip_each, all_flat, zip_once}
 use Rattle.std.proofs.lemmas.Bool.{true≢false}
 use Rattle.std.proofs.lemmas.Grind.{flat_map-append}
 use Rattle.std.proofs.lemmas.List.Folds.{list_any-append, list_any_at}
 use Rattle.std.proofs.lemmas.List.Elements.{All-contains_itself, All-head, All-tail, All-cons, All-contains, All-filter, All-nil, All-weaker}
 use Rattle.pep440_pick.specs.Names.{normal}
-use Rattle.pyver_projects.specs.Comparing.{FindsOfReading, absent, beside_all, compared, compared_demand, differing, documents_report, excluded, excluded_in, found_beside, found_in_pair, invalid_package, is_beside, in_one_folder, is_excused, is_installer, is_locked, is_plain_for_uv, is_project_reading, lacking, leaves_out, missing, names_read, overrides_read, own_report, partly_locked, stale_beside, stale_by, stale_finding, stale_in_pair, taken_packages, unlocked, unmet, unmet_demand, with_found, with_own_reports}
+use Rattle.pyver_projects.specs.Comparing.{FindsOfReading, absent, beside_all, compared, compared_demand, differing, documents_report, excluded, Excuse, excluded_in, first_difference, found_beside, found_in_pair, invalid_package, is_beside, is_in_one, in_one_folder, is_excused, is_installer, is_locked, is_overridden, is_plain_for_uv, is_project_reading, lacking, leaves_out, missing, names_read, overrides_read, own_report, partly_locked, python_difference, python_minors, stale_beside, stale_by, stale_finding, stale_in_pair, taken_packages, unlocked, unmet, unmet_demand, with_found, with_own_reports}
 use Rattle.pyver_projects.specs.Documents.{has_group_tool, overridden_names, project_names, sources}
-use Rattle.pyver_projects.specs.Meanings.{groups, Inclusion, inclusions, Document, DocumentReading, IsDocumentReading, IsFileReading, IsBroken, IsLock, IsLockReading, IsProject, IsRequirementReading, IsStringReading, LockedReading, StringReading, fault_meaning, file_meaning, is_of_version, reference_marker, requirement_line, string_line, IsSoundString}
-use Rattle.pyver_projects.specs.ProjectLaws.{AllAlone, AllContained, AllEntered, AllFresh, AllMet, AllOfVersion, AllPresent, AllRequired, AreTogether, HasContents, HasLock, HasProject, HasTable, IsPart, NoFindingImpliesContained, NoFindingImpliesSatisfiable}
-use Rattle.pyver_projects.specs.ProjectStrings.{ContentHash, LockContents, LockFault, LockParts, LockedFile, LockedRequirement, Section, Build, Dependencies, Extra, Group}
+use Rattle.pyver_projects.specs.Meanings.{groups, AreLockedPythons, Inclusion, inclusions, Document, DocumentReading, IsDocumentReading, IsFileReading, IsBroken, IsLock, IsLockReading, IsProject, IsRequirementReading, IsStringReading, LockedReading, StringReading, fault_meaning, file_meaning, is_of_version, reference_marker, requirement_line, string_line, IsSoundString}
+use Rattle.pyver_projects.specs.ProjectLaws.{AllAlone, AllContained, AllEntered, AllFresh, AllMet, AllOfOnePython, AllOfVersion, AllPresent, AllRequired, AreTogether, HasContents, HasLock, HasProject, HasTable, IsPart, replaces, NoFindingImpliesContained, NoFindingImpliesSatisfiable}
+use Rattle.pyver_projects.specs.ProjectStrings.{ContentHash, ProjectString, LockContents, LockFault, LockParts, LockedFile, LockedRequirement, Section, Build, Dependencies, Environment, Extra, Group}
+use Rattle.pyver_projects.specs.KnownEnvironments.{python_record}
 use Rattle.pyver_projects.specs.declared.document_kind.DocumentKind.{DocumentKind}
 use Rattle.pyver_projects.specs.declared.document_kind.DocumentKind.TheVariants.{Lock, Project}
 use Rattle.pyver_projects.specs.declared.document_kind.LockKind.{LockKind}
@@ -39,7 +43,7 @@ use Rattle.pyver_projects.specs.ContentHashes.{hash_of, hashed_texts, is_known_t
 use Rattle.pyver_findings.proofs.Found.{Some_is}
 use Rattle.pyver_findings.specs.FindingLaws.{IsAmong, IsAmongIn}
 use Rattle.pyver_findings.specs.Conflicts.{first_mentions, has_same_marker, has_same_name, have_none, unmarked}
-use Rattle.pyver_projects.specs.Together.{FindsOfPart, FindsOfParts, all_demands, demand_in_part, has_group, holds_in, is_marked, part_demands, parts, project_domain, same_finding, same_part, section_part, sections, with_new}
+use Rattle.pyver_projects.specs.Together.{FindsOfPart, FindsOfParts, all_demands, demand_in_part, has_group, is_marked, is_standard, part_demands, parts, project_domain, project_python, same_finding, same_part, section_part, sections, with_new}
 use Rattle.pyver_findings.proofs.SmallestLists.{Allows, more_none, none_allowed}
 use Rattle.pyver_findings.proofs.MarkedConflicts.{contains_told, found_nothing, of_marker_of, of_name_of, set_shared, tells_right}
 use Rattle.pyver_findings.specs.MarkedConflicts.{FindsByUnmarked, FindsOfEach, FindsOfFirsts, FindsOfName, FindsOfNames, few_first_lines, first_lines}
@@ -70,12 +74,12 @@ lock_read file kind l x (text, e) (inr (again, inl (m, f, is))) =
     subst (λ (c : LockContents). IsLockReading file.name c x) equal is
 
 -- nothing is found of a string, which always asks for this
-not_compared : (kind : LockKind) (parts : LockParts) (names overridden : List (List ℕ)) (ys : List LockedReading) (a : Demand) (section : Section) (x : StringReading) → x.section ≡ section → x.meaning ≡ Asks a → is_locked section ≡ true → compared kind parts names overridden ys x ≡ [] → compared_demand kind parts names overridden ys section a ≡ []
-not_compared kind parts names overridden ys a section x same is counts e =
-    let here : (if is_locked section then flat_map (compared_demand kind parts names overridden ys section) (demands_in (Asks a)) else []) ≡ [] =
-    (λ j. if is_locked (sym same j) then flat_map (compared_demand kind parts names overridden ys (sym same j)) (demands_in (sym is j)) else []) ∙ e in
-    let counted : flat_map (compared_demand kind parts names overridden ys section) (demands_in (Asks a)) ≡ [] = ap (λ (b : Bool). if b then flat_map (compared_demand kind parts names overridden ys section) (demands_in (Asks a)) else []) (sym counts) ∙ here in
-    left_nil (compared_demand kind parts names overridden ys section a) [] counted
+not_compared : (kind : LockKind) (parts : LockParts) (names : List (List ℕ)) (excused : List ℕ → Excuse) (near : Bool) (ys : List LockedReading) (a : Demand) (section : Section) (x : StringReading) → x.section ≡ section → x.meaning ≡ Asks a → is_locked near section ≡ true → compared kind parts names excused near ys x ≡ [] → compared_demand kind parts names excused near ys section a ≡ []
+not_compared kind parts names excused near ys a section x same is counts e =
+    let here : (if is_locked near section then flat_map (compared_demand kind parts names excused near ys section) (demands_in (Asks a)) else []) ≡ [] =
+    (λ j. if is_locked near (sym same j) then flat_map (compared_demand kind parts names excused near ys (sym same j)) (demands_in (sym is j)) else []) ∙ e in
+    let counted : flat_map (compared_demand kind parts names excused near ys section) (demands_in (Asks a)) ≡ [] = ap (λ (b : Bool). if b then flat_map (compared_demand kind parts names excused near ys section) (demands_in (Asks a)) else []) (sym counts) ∙ here in
+    left_nil (compared_demand kind parts names excused near ys section a) [] counted
 
 counted : (b : Bool) (found : List Finding) → b ≡ true → (if b then found else []) ≡ [] → found ≡ []
 counted true found is none = none
@@ -84,29 +88,6 @@ counted false found is none = cc is
 not_lacking : (b : Bool) (fs : List Finding) → b ≡ false → (if b then [] else fs) ≡ [] → fs ≡ []
 not_lacking true fs unlike e = absurd (true≢false unlike)
 not_lacking false fs unlike e = e
-
-all_contained : (documents : List Document) (zs : List DocumentReading) → AllZip IsDocumentReading documents zs → flat_map (beside_all documents (zip documents zs)) (zip documents zs) ≡ [] → AllContained documents
-all_contained documents zs h found file lock kind l s p n v (t, ((k, inside, at), table), (i, within, here)) ((m, below, there), other) (j, under, this) beside counts has_it asks kept locks =
-    let project : Document = record { kind = Project; file = file } in
-    let locked : Document = record { kind = Lock kind; file = lock } in
-    let pairs = zip documents zs in
-    let (x, (a, in_x, is_x), rx) = beside_pair IsDocumentReading documents zs project k inside at h in
-    let (y, (b, in_y, is_y), ry) = beside_pair IsDocumentReading documents zs locked m below there h in
-    let (xs, g, is_project) = project_read file t x table rx in
-    let (ys, ms, es, fs, q, required, entered, files, is_lock) = lock_read lock kind l y other ry in
-    let nothing : found_beside (Lock kind) x y ≡ [] =
-    right_nil (stale_in_pair (project, x) (locked, y)) (found_beside (Lock kind) x y)
-    (counted (is_beside documents project locked) (stale_in_pair (project, x) (locked, y) ++ found_beside (Lock kind) x y) beside
-    (nil_at (found_in_pair documents (project, x)) pairs (locked, y) b in_y is_y (nil_at (beside_all documents pairs) pairs (project, x) a in_x is_x found))) in
-    let compares : flat_map (compared kind l.parts (project_names t) (overridden_names t) ys) xs ≡ [] = (λ e. found_beside (Lock kind) (sym is_project e) (sym is_lock e)) ∙ nothing in
-    let (z, (c, in_z, is_z), rz) = beside_it (IsStringReading (groups t) file) (sources t) xs s i within here g in
-    let meaning = asks_always (string_line file s) n asks.0 asks.1 asks.2 asks.3 (groups t) s.text s.section z.meaning counts rz.1 in
-    let asked = line_demand (string_line file s) None n in
-    let both : missing kind l.parts (project_names t) ys s.section asked ++ excluded_in kind l.parts (project_names t) ys s.section asked ≡ [] =
-    not_lacking (list_any (bytes_eq asked.name) (overridden_names t)) (missing kind l.parts (project_names t) ys s.section asked ++ excluded_in kind l.parts (project_names t) ys s.section asked) (kept t ((k, inside, at), table))
-    (not_compared kind l.parts (project_names t) (overridden_names t) ys asked s.section z rz.0 meaning counts (nil_at (compared kind l.parts (project_names t) (overridden_names t) ys) xs z c in_z is_z compares)) in
-    not_excluded lock.name l.packages (string_line file s) n ys q p j under this v locks
-    (not_lacking (leaves_out kind l.parts.names s.section) (excluded asked ys) has_it (right_nil (missing kind l.parts (project_names t) ys s.section asked) (excluded_in kind l.parts (project_names t) ys s.section asked) both))
 
 -- what has the hash, if it is known
 abbrev SomeHash : List ℕ → List (List ℕ) → Type 0
@@ -130,10 +111,11 @@ not_stale lock hash true e = refl
 not_stale lock hash false e = cc e
 
 -- nothing is found in a project beside the lock in its folder
-module _ (documents : List Document) (zs : List DocumentReading) (h : AllZip IsDocumentReading documents zs) (found : flat_map (beside_all documents (zip documents zs)) (zip documents zs) ≡ []) (file lock : File) (kind : LockKind) (l : LockContents) (t : Members) where
+module _ (documents : List Document) (zs : List DocumentReading) (h : AllZip IsDocumentReading documents zs) (found : flat_map (beside_all (is_excused zs) documents (zip documents zs)) (zip documents zs) ≡ []) (file lock : File) (kind : LockKind) (l : LockContents) (t : Members) where
   abbrev Nothing : Type 0
   Nothing = (xs : List StringReading) × (es : List LineMeaning) × AllZip (IsStringReading (groups t) file) (sources t) xs × AllZip (IsRequirementReading lock.name) l.entries es
-      × (stale_by lock t l.parts.hash ++ (if is_plain_for_uv t then differing (project_names t) xs es else []) ≡ [])
+      × (python : Option Segments) × AreLockedPythons l.parts.python python
+      × (stale_by lock t l.parts.hash ++ (python_difference lock (project_python xs) python ++ (if is_plain_for_uv t then differing (project_names t) xs es else [])) ≡ [])
 
   nothing_stale : HasProject documents file t → HasLock documents kind lock l → is_beside documents (record { kind = Project; file = file }) (record { kind = Lock kind; file = lock }) ≡ true → folder file.name ≡ folder lock.name → Nothing
   nothing_stale ((k, inside, at), table) ((m, below, there), other) beside near =
@@ -143,32 +125,58 @@ module _ (documents : List Document) (zs : List DocumentReading) (h : AllZip IsD
       let (x, (a, in_x, is_x), rx) = beside_pair IsDocumentReading documents zs project k inside at h in
       let (y, (b, in_y, is_y), ry) = beside_pair IsDocumentReading documents zs locked m below there h in
       let (xs, g, is_project) = project_read file t x table rx in
-      let (ys, ms, es, fs, q, required, entered, files, is_lock) = lock_read lock kind l y other ry in
+      let (python, pythons, ys, ms, es, fs, q, required, entered, files, is_lock) = lock_read lock kind l y other ry in
       let nothing : stale_in_pair (project, x) (locked, y) ≡ [] =
-      left_nil (stale_in_pair (project, x) (locked, y)) (found_beside (Lock kind) x y)
-      (counted (is_beside documents project locked) (stale_in_pair (project, x) (locked, y) ++ found_beside (Lock kind) x y) beside
-      (nil_at (found_in_pair documents (project, x)) pairs (locked, y) b in_y is_y (nil_at (beside_all documents pairs) pairs (project, x) a in_x is_x found))) in
+      left_nil (stale_in_pair (project, x) (locked, y)) (found_beside (is_excused zs) (in_one_folder project locked) (Lock kind) x y)
+      (counted (is_beside documents project locked) (stale_in_pair (project, x) (locked, y) ++ found_beside (is_excused zs) (in_one_folder project locked) (Lock kind) x y) beside
+      (nil_at (found_in_pair (is_excused zs) documents (project, x)) pairs (locked, y) b in_y is_y (nil_at (beside_all (is_excused zs) documents pairs) pairs (project, x) a in_x is_x found))) in
       let here : stale_beside lock x y ≡ [] = counted (in_one_folder project locked) (stale_beside lock x y) ((bytes_eq-Decides (folder file.name) (folder lock.name)).1 near) nothing in
-      (xs, es, g, entered, (λ e. stale_beside lock (sym is_project e) (sym is_lock e)) ∙ here)
+      (xs, es, g, entered, python, pythons, (λ e. stale_beside lock (sym is_project e) (sym is_lock e)) ∙ here)
 
   nothing_differs : AreTogether documents file t lock kind l → is_beside documents (record { kind = Project; file = file }) (record { kind = Lock kind; file = lock }) ≡ true
       → (xs : List StringReading) × (es : List LineMeaning) × AllZip (IsStringReading (groups t) file) (sources t) xs × AllZip (IsRequirementReading lock.name) l.entries es × (differing (project_names t) xs es ≡ [])
   nothing_differs are beside =
-      let (xs, es, g, entered, nothing) = nothing_stale are.has are.known beside are.beside in
-      (xs, es, g, entered, counted (is_plain_for_uv t) (differing (project_names t) xs es) are.plain (right_nil (stale_by lock t l.parts.hash) (if is_plain_for_uv t then differing (project_names t) xs es else []) nothing))
+      let (xs, es, g, entered, python, pythons, nothing) = nothing_stale are.has are.known beside are.beside in
+      let requirements = if is_plain_for_uv t then differing (project_names t) xs es else [] in
+      let later : python_difference lock (project_python xs) python ++ requirements ≡ [] = right_nil (stale_by lock t l.parts.hash) (python_difference lock (project_python xs) python ++ requirements) nothing in
+      (xs, es, g, entered, counted (is_plain_for_uv t) (differing (project_names t) xs es) are.plain (right_nil (python_difference lock (project_python xs) python) requirements later))
 
-all_fresh : (documents : List Document) (zs : List DocumentReading) → AllZip IsDocumentReading documents zs → flat_map (beside_all documents (zip documents zs)) (zip documents zs) ≡ [] → AllFresh documents
+all_fresh : (documents : List Document) (zs : List DocumentReading) → AllZip IsDocumentReading documents zs → flat_map (beside_all (is_excused zs) documents (zip documents zs)) (zip documents zs) ≡ [] → AllFresh documents
 all_fresh documents zs h found file lock kind l t hash has known beside near written =
-    let (xs, es, g, entered, nothing) = nothing_stale documents zs h found file lock kind l t has known beside near in
-    let fresh : stale_by lock t l.parts.hash ≡ [] = left_nil (stale_by lock t l.parts.hash) (if is_plain_for_uv t then differing (project_names t) xs es else []) nothing in
+    let (xs, es, g, entered, python, pythons, nothing) = nothing_stale documents zs h found file lock kind l t has known beside near in
+    let fresh : stale_by lock t l.parts.hash ≡ [] = left_nil (stale_by lock t l.parts.hash) (python_difference lock (project_python xs) python ++ (if is_plain_for_uv t then differing (project_names t) xs es else [])) nothing in
     some_hash hash.value (hashed_texts hash.rule t) (not_stale lock hash (list_any (may_have hash.value) (hashed_texts hash.rule t)) (ap (stale_by lock t) (sym written) ∙ fresh))
 
-all_entered : (documents : List Document) (zs : List DocumentReading) → AllZip IsDocumentReading documents zs → flat_map (beside_all documents (zip documents zs)) (zip documents zs) ≡ [] → AllEntered documents
+-- where none differs, both are the same
+none_differs : (a b : Bool) → (if a then not b else b) ≡ false → a ≡ b
+none_differs true true e = refl
+none_differs true false e = absurd (true≢false e)
+none_differs false true e = absurd (true≢false e)
+none_differs false false e = refl
+
+first_nil : (lock : File) (found : Option ℕ) → first_difference lock found ≡ [] → found ≡ None
+first_nil lock None e = refl
+first_nil lock (Some k) e = cc e
+
+all_of_one_python : (documents : List Document) (zs : List DocumentReading) → AllZip IsDocumentReading documents zs → flat_map (beside_all (is_excused zs) documents (zip documents zs)) (zip documents zs) ≡ [] → AllOfOnePython documents
+all_of_one_python documents zs h found file lock kind l t own locked k has known beside near have within =
+    let (xs, es, g, entered, python, pythons, nothing) = nothing_stale documents zs h found file lock kind l t has known beside near in
+    let requirements = if is_plain_for_uv t then differing (project_names t) xs es else [] in
+    let none : python_difference lock (project_python xs) python ≡ [] =
+    left_nil (python_difference lock (project_python xs) python) requirements (right_nil (stale_by lock t l.parts.hash) (python_difference lock (project_python xs) python ++ requirements) nothing) in
+    let one : xs ≡ have.readings = zip_once (IsStringReading (groups t) file) (Contains (sources t)) (λ s v w known n o. one_string (groups t) file s v w n o) (sources t) xs have.readings (All-contains_itself (sources t)) g have.read in
+    let of_project : project_python xs ≡ Some own = ap project_python one ∙ have.project in
+    let of_lock : python ≡ Some locked = one_locked_set l.parts.python python (Some locked) pythons have.lock in
+    let same : first_difference lock (find (is_in_one own locked) python_minors) ≡ [] = (λ i. python_difference lock (sym of_project i) (sym of_lock i)) ∙ none in
+    none_differs (contains record_cmp own (python_record k)) (contains record_cmp locked (python_record k))
+    (none_so (is_in_one own locked) python_minors k within (first_nil lock (find (is_in_one own locked) python_minors) same))
+
+all_entered : (documents : List Document) (zs : List DocumentReading) → AllZip IsDocumentReading documents zs → flat_map (beside_all (is_excused zs) documents (zip documents zs)) (zip documents zs) ≡ [] → AllEntered documents
 all_entered documents zs h found file lock kind l t s n are beside some within counts requires other =
     let (xs, es, g, entries, nothing) = nothing_differs documents zs h found file lock kind l t are beside in
     entered (groups t) file lock (project_names t) (sources t) l.entries xs g es entries nothing s n within some counts requires other
 
-all_required : (documents : List Document) (zs : List DocumentReading) → AllZip IsDocumentReading documents zs → flat_map (beside_all documents (zip documents zs)) (zip documents zs) ≡ [] → AllRequired documents
+all_required : (documents : List Document) (zs : List DocumentReading) → AllZip IsDocumentReading documents zs → flat_map (beside_all (is_excused zs) documents (zip documents zs)) (zip documents zs) ≡ [] → AllRequired documents
 all_required documents zs h found file lock kind l t q list are beside within read plain other =
     let (xs, es, g, entries, nothing) = nothing_differs documents zs h found file lock kind l t are beside in
     required (groups t) file lock (project_names t) (sources t) l.entries xs g es entries nothing q list within read plain other
@@ -180,7 +188,7 @@ asks_for file q list m d (inl (other, e, is)) =
 asks_for file q list m d (inr (f, r, is)) = absurd (not_both_list q.list list f d r)
 
 -- none of the documents that were read names this
-module _ (documents : List Document) (name : List ℕ) (named : DocumentReading → List (List ℕ)) (of_lock : (parts : LockParts) (ys : List LockedReading) (ms es fs : List LineMeaning) → named (IsLock parts ys ms es fs) ≡ []) (of_broken : (f : Finding) → named (IsBroken f) ≡ [])
+module _ (documents : List Document) (name : List ℕ) (named : DocumentReading → List (List ℕ)) (of_lock : (parts : LockParts) (python : Option Segments) (ys : List LockedReading) (ms es fs : List LineMeaning) → named (IsLock parts python ys ms es fs) ≡ []) (of_broken : (f : Finding) → named (IsBroken f) ≡ [])
     (others : (other : File) (u : Members) (xs : List StringReading) → HasProject documents other u → list_any (bytes_eq name) (named (IsProject u (has_group_tool u) (project_names u) (overridden_names u) xs)) ≡ false) where
   abbrev OtherNames : DocumentReading → Type 0
   OtherNames x = list_any (bytes_eq name) (named x) ≡ false
@@ -195,7 +203,7 @@ module _ (documents : List Document) (name : List ℕ) (named : DocumentReading 
   not_named kind file x known (inl (none, (position, is))) = told_so x _ is (broken_so _)
   not_named Project file x known (inr (text, inl (t, e, (xs, h, is)))) = told_so x _ is (others file t xs (known, (text, e)))
   not_named Project file x known (inr (text, inr (none, (position, reason, is)))) = told_so x _ is (broken_so _)
-  not_named (Lock kind) file x known (inr (text, inl (l, e, (ys, ms, es, fs, g, h, entered, k, is)))) = told_so x _ is (ap (list_any (bytes_eq name)) (of_lock l.parts ys ms es _))
+  not_named (Lock kind) file x known (inr (text, inl (l, e, (python, pythons, ys, ms, es, fs, g, h, entered, k, is)))) = told_so x _ is (ap (list_any (bytes_eq name)) (of_lock l.parts python ys ms es _))
   not_named (Lock kind) file x known (inr (text, inr (none, (position, reason, is)))) = told_so x _ is (broken_so _)
 
   none_named_so : (zs : List DocumentReading) → All OtherNames zs → list_any (bytes_eq name) (flat_map named zs) ≡ false
@@ -210,7 +218,38 @@ module _ (documents : List Document) (name : List ℕ) (named : DocumentReading 
 -- no project overrides this name
 not_overridden : (documents : List Document) (name : List ℕ) (zs : List DocumentReading) → AllZip IsDocumentReading documents zs
     → ((other : File) (u : Members) → HasProject documents other u → list_any (bytes_eq name) (overridden_names u) ≡ false) → (is_excused zs name).overrides ≡ false
-not_overridden documents name zs h others = nowhere_named documents name overrides_read (λ parts ys ms es fs. refl) (λ f. refl) (λ other u xs known. others other u known) zs h
+not_overridden documents name zs h others = nowhere_named documents name overrides_read (λ parts python ys ms es fs. refl) (λ f. refl) (λ other u xs known. others other u known) zs h
+
+-- no project replaces what the string requires
+not_replaced : (documents : List Document) (s : ProjectString) (n : Needed) (zs : List DocumentReading) → AllZip IsDocumentReading documents zs
+    → ((other : File) (u : Members) → HasProject documents other u → replaces s n.name u ≡ false) → (b : Bool) → is_standard s.section ≡ b → (b && (is_excused zs (normal n.name)).overrides) ≡ false
+not_replaced documents s n zs h others true is =
+    not_overridden documents (normal n.name) zs h (λ other u known. ap (λ b. b && list_any (bytes_eq (normal n.name)) (overridden_names u)) (sym is) ∙ others other u known)
+not_replaced documents s n zs h others false is = refl
+
+all_contained : (documents : List Document) (zs : List DocumentReading) → AllZip IsDocumentReading documents zs → flat_map (beside_all (is_excused zs) documents (zip documents zs)) (zip documents zs) ≡ [] → AllContained documents
+all_contained documents zs h found file lock kind l s p n v (t, ((k, inside, at), table), (i, within, here)) ((m, below, there), other) (j, under, this) beside counts has_it asks kept locks =
+    let project : Document = record { kind = Project; file = file } in
+    let locked : Document = record { kind = Lock kind; file = lock } in
+    let pairs = zip documents zs in
+    let near = in_one_folder project locked in
+    let (x, (a, in_x, is_x), rx) = beside_pair IsDocumentReading documents zs project k inside at h in
+    let (y, (b, in_y, is_y), ry) = beside_pair IsDocumentReading documents zs locked m below there h in
+    let (xs, g, is_project) = project_read file t x table rx in
+    let (python, pythons, ys, ms, es, fs, q, required, entered, files, is_lock) = lock_read lock kind l y other ry in
+    let nothing : found_beside (is_excused zs) near (Lock kind) x y ≡ [] =
+    right_nil (stale_in_pair (project, x) (locked, y)) (found_beside (is_excused zs) near (Lock kind) x y)
+    (counted (is_beside documents project locked) (stale_in_pair (project, x) (locked, y) ++ found_beside (is_excused zs) near (Lock kind) x y) beside
+    (nil_at (found_in_pair (is_excused zs) documents (project, x)) pairs (locked, y) b in_y is_y (nil_at (beside_all (is_excused zs) documents pairs) pairs (project, x) a in_x is_x found))) in
+    let compares : flat_map (compared kind l.parts (project_names t) (is_excused zs) near ys) xs ≡ [] = (λ e. found_beside (is_excused zs) near (Lock kind) (sym is_project e) (sym is_lock e)) ∙ nothing in
+    let (z, (c, in_z, is_z), rz) = beside_it (IsStringReading (groups t) file) (sources t) xs s i within here g in
+    let meaning = asks_always (string_line file s) n asks.0 asks.1 asks.2 asks.3 (groups t) s.text near s.section z.meaning counts rz.1 in
+    let asked = line_demand (string_line file s) None n in
+    let both : missing kind l.parts (project_names t) ys s.section asked ++ excluded_in kind l.parts (project_names t) ys s.section asked ≡ [] =
+    not_lacking (is_overridden (is_excused zs) s.section asked.name) (missing kind l.parts (project_names t) ys s.section asked ++ excluded_in kind l.parts (project_names t) ys s.section asked) (not_replaced documents s n zs h kept (is_standard s.section) refl)
+    (not_compared kind l.parts (project_names t) (is_excused zs) near ys asked s.section z rz.0 meaning counts (nil_at (compared kind l.parts (project_names t) (is_excused zs) near ys) xs z c in_z is_z compares)) in
+    not_excluded lock.name l.packages (string_line file s) n ys q p j under this v locks
+    (not_lacking (leaves_out kind l.parts.names s.section) (excluded asked ys) has_it (right_nil (missing kind l.parts (project_names t) ys s.section asked) (excluded_in kind l.parts (project_names t) ys s.section asked) both))
 
 -- there is a project, and none of this name, which is no installer
 not_excused : (documents : List Document) (name : List ℕ) (zs : List DocumentReading) → AllZip IsDocumentReading documents zs
@@ -219,13 +258,13 @@ not_excused documents name zs h others file t ((k, inside, at), table) unlike =
     let (x, (j, in_x, is_x), r) = beside_it IsDocumentReading documents zs (record { kind = Project; file = file }) k inside at h in
     let (xs, g, is) = project_read file t x table r in
     let there : list_any is_project_reading zs ≡ true = list_any_at is_project_reading zs j x in_x (ap is_project_reading (is_x ∙ is)) in
-    let named : list_any (bytes_eq name) (flat_map names_read zs) ≡ false = nowhere_named documents name names_read (λ parts ys ms es fs. refl) (λ f. refl) (λ other u xs known. others other u known) zs h in
+    let named : list_any (bytes_eq name) (flat_map names_read zs) ≡ false = nowhere_named documents name names_read (λ parts python ys ms es fs. refl) (λ f. refl) (λ other u xs known. others other u known) zs h in
     λ i. unlike i || (not (there i) || named i)
 
 all_met : (documents : List Document) (zs : List DocumentReading) → AllZip IsDocumentReading documents zs → flat_map (λ x. (own_report (is_excused zs) x).findings) zs ≡ [] → AllMet documents
 all_met documents zs h own lock kind l q p list v ((m, below, there), other) (i, within, here) (j, under, this) d kept locks =
     let (y, (b, in_y, is_y), ry) = beside_it IsDocumentReading documents zs (record { kind = Lock kind; file = lock }) m below there h in
-    let (ys, ms, es, fs, packages, requirements, entered, files, is_lock) = lock_read lock kind l y other ry in
+    let (python, pythons, ys, ms, es, fs, packages, requirements, entered, files, is_lock) = lock_read lock kind l y other ry in
     let faults = fs ++ map (fault_meaning lock.name) l.faults in
     let nothing : flat_map invalid_package ys ++ (flat_map invalid_in faults ++ flat_map (unmet (is_excused zs) l.parts ys) ms) ≡ [] = ap (λ (e : DocumentReading). (own_report (is_excused zs) e).findings) (sym is_lock) ∙ nil_at (λ x. (own_report (is_excused zs) x).findings) zs y b in_y is_y own in
     let (z, (c, in_z, is_z), rz) = beside_it (IsRequirementReading lock.name) l.requirements ms q i within here requirements in
@@ -240,7 +279,7 @@ all_met documents zs h own lock kind l q p list v ((m, below, there), other) (i,
 all_present : (documents : List Document) (zs : List DocumentReading) → AllZip IsDocumentReading documents zs → flat_map (λ x. (own_report (is_excused zs) x).findings) zs ≡ [] → AllPresent documents
 all_present documents zs h own lock file kind l t q list ((m, below, there), other) (i, within, here) d project others unlike =
     let (y, (b, in_y, is_y), ry) = beside_it IsDocumentReading documents zs (record { kind = Lock kind; file = lock }) m below there h in
-    let (ys, ms, es, fs, packages, requirements, entered, files, is_lock) = lock_read lock kind l y other ry in
+    let (python, pythons, ys, ms, es, fs, packages, requirements, entered, files, is_lock) = lock_read lock kind l y other ry in
     let faults = fs ++ map (fault_meaning lock.name) l.faults in
     let nothing : flat_map invalid_package ys ++ (flat_map invalid_in faults ++ flat_map (unmet (is_excused zs) l.parts ys) ms) ≡ [] = ap (λ (e : DocumentReading). (own_report (is_excused zs) e).findings) (sym is_lock) ∙ nil_at (λ x. (own_report (is_excused zs) x).findings) zs y b in_y is_y own in
     let (z, (c, in_z, is_z), rz) = beside_it (IsRequirementReading lock.name) l.requirements ms q i within here requirements in
@@ -278,7 +317,7 @@ same_as_package file f m r q false d e (inl (s, p, g, h, is)) none same =
 all_of_version : (documents : List Document) (zs : List DocumentReading) → AllZip IsDocumentReading documents zs → flat_map (λ x. (own_report (is_excused zs) x).findings) zs ≡ [] → AllOfVersion documents
 all_of_version documents zs h own lock kind l f r q ((m, below, there), other) (i, within, here) d e =
     let (y, (b, in_y, is_y), ry) = beside_it IsDocumentReading documents zs (record { kind = Lock kind; file = lock }) m below there h in
-    let (ys, ms, es, fs, packages, requirements, entered, files, is_lock) = lock_read lock kind l y other ry in
+    let (python, pythons, ys, ms, es, fs, packages, requirements, entered, files, is_lock) = lock_read lock kind l y other ry in
     let faults = fs ++ map (fault_meaning lock.name) l.faults in
     let nothing : flat_map invalid_package ys ++ (flat_map invalid_in faults ++ flat_map (unmet (is_excused zs) l.parts ys) ms) ≡ [] = ap (λ (e : DocumentReading). (own_report (is_excused zs) e).findings) (sym is_lock) ∙ nil_at (λ x. (own_report (is_excused zs) x).findings) zs y b in_y is_y own in
     let (z, (c, in_z, is_z), rz) = beside_it (IsFileReading lock.name) l.files fs f i within here files in
@@ -293,24 +332,25 @@ no_fault file (f ∷ fs) none = cc none
 all_alone : (documents : List Document) (zs : List DocumentReading) → AllZip IsDocumentReading documents zs → flat_map (λ x. (own_report (is_excused zs) x).findings) zs ≡ [] → AllAlone documents
 all_alone documents zs h own lock kind l ((m, below, there), other) =
     let (y, (b, in_y, is_y), ry) = beside_it IsDocumentReading documents zs (record { kind = Lock kind; file = lock }) m below there h in
-    let (ys, ms, es, fs, packages, requirements, entered, files, is_lock) = lock_read lock kind l y other ry in
+    let (python, pythons, ys, ms, es, fs, packages, requirements, entered, files, is_lock) = lock_read lock kind l y other ry in
     let faults = fs ++ map (fault_meaning lock.name) l.faults in
     let nothing : flat_map invalid_package ys ++ (flat_map invalid_in faults ++ flat_map (unmet (is_excused zs) l.parts ys) ms) ≡ [] = ap (λ (e : DocumentReading). (own_report (is_excused zs) e).findings) (sym is_lock) ∙ nil_at (λ x. (own_report (is_excused zs) x).findings) zs y b in_y is_y own in
     no_fault lock.name l.faults (back_nil fs (map (fault_meaning lock.name) l.faults) (left_nil (flat_map invalid_in faults) (flat_map (unmet (is_excused zs) l.parts ys) ms) (right_nil (flat_map invalid_package ys) (flat_map invalid_in faults ++ flat_map (unmet (is_excused zs) l.parts ys) ms) nothing)))
 
 pub no_finding_means_contained : NoFindingImpliesContained
 no_finding_means_contained documents r (zs, h, fs, cs, finds, is) none =
-    let compared = flat_map (beside_all documents (zip documents zs)) (zip documents zs) in
+    let compared = flat_map (beside_all (is_excused zs) documents (zip documents zs)) (zip documents zs) in
     let found : (with_own_reports (is_excused zs) empty_report zs).findings ++ compared ≡ [] = left_nil ((with_own_reports (is_excused zs) empty_report zs).findings ++ compared) fs (sym (ap (λ (e : Report). e.findings) is) ∙ none) in
     let own : flat_map (λ x. (own_report (is_excused zs) x).findings) zs ≡ [] = sym (findings_of documents (is_excused zs) empty_report zs) ∙ left_nil (with_own_reports (is_excused zs) empty_report zs).findings compared found in
     let beside : compared ≡ [] = right_nil (with_own_reports (is_excused zs) empty_report zs).findings compared found in
-    (all_contained documents zs h beside, (all_met documents zs h own, (all_present documents zs h own, (all_of_version documents zs h own, (all_alone documents zs h own, (all_fresh documents zs h beside, (all_entered documents zs h beside, all_required documents zs h beside)))))))
+    (all_contained documents zs h beside, (all_met documents zs h own, (all_present documents zs h own, (all_of_version documents zs h own, (all_alone documents zs h own, (all_fresh documents zs h beside, (all_entered documents zs h beside, (all_required documents zs h beside, all_of_one_python documents zs h beside))))))))
 
 -- parts that are the same are equal
 same_is : (a b : Section) → same_part a b ≡ true → a ≡ b
 same_is Dependencies Dependencies e = refl
 same_is (Extra a) (Extra b) e = ap Extra ((bytes_eq-Decides a b).0 e)
 same_is (Group a) (Group b) e = ap Group ((bytes_eq-Decides a b).0 e)
+same_is (Environment a) (Environment b) e = ap Environment ((bytes_eq-Decides a b).0 e)
 same_is Build Build e = refl
 same_is a b e = cc e
 
@@ -398,22 +438,22 @@ module _ (R : List Finding → List Cause → Type 0) (spreads : Spreads R) (onc
   sound_lines : All IsSound lines
   sound_lines =
       subst (All IsSound) (sym p.are)
-      (sound_part together (groups p.table).inclusions part p.readings
+      (sound_part together (overridden_names p.table) (groups p.table).inclusions part p.readings
       (zip_each (IsStringReading (groups p.table) p.file) (Contains (sources p.table)) IsSoundString (λ s v known n. sound_string (groups p.table) p.file s v n) (sources p.table) p.readings (All-contains_itself (sources p.table)) p.read))
 
-  found_part : (fs : List Finding) (cs : List Cause) → FindsOfPart together p.readings part fs cs → R fs cs
+  found_part : (fs : List Finding) (cs : List Cause) → FindsOfPart together (overridden_names p.table) p.readings part fs cs → R fs cs
   found_part fs cs finds =
       let same : inclusions (sections p.readings) ≡ (groups p.table).inclusions = ap inclusions (sections_same (groups p.table) p.file (sources p.table) p.readings p.read) in
       found sound_lines fs cs
       (subst (λ (b : Domain). FindsOfNames b lines fs cs) (sym p.bounds)
-      (subst (λ l. FindsOfNames (project_domain p.readings) l fs cs) (ap (λ is. part_demands together is part p.readings) same ∙ sym p.are) finds))
+      (subst (λ l. FindsOfNames (project_domain p.readings) l fs cs) (ap (λ is. part_demands together (overridden_names p.table) is part p.readings) same ∙ sym p.are) finds))
 
-  found_parts : (fs : List Finding) (cs : List Cause) → FindsOfParts together p.readings fs cs → R fs cs
+  found_parts : (fs : List Finding) (cs : List Cause) → FindsOfParts together (overridden_names p.table) p.readings fs cs → R fs cs
   found_parts fs cs (all, finds, is) =
       let (i, within, at) = p.within in
       let (z, (j, in_z, is_z), rz) = beside_it (IsStringReading (groups p.table) p.file) (sources p.table) p.readings p.string i within at p.read in
       subst (λ l. R l cs) (sym is)
-      (once all cs (each_in R spreads (FindsOfPart together p.readings) part found_part (parts p.readings) (part_in part [] p.readings z (ap section_part rz.0) (in_list z p.readings j in_z is_z)) all cs finds))
+      (once all cs (each_in R spreads (FindsOfPart together (overridden_names p.table) p.readings) part found_part (parts p.readings) (part_in part [] p.readings z (ap section_part rz.0) (in_list z p.readings j in_z is_z)) all cs finds))
 
   reached : (fs : List Finding) (cs : List Cause) → FindsOfEach FindsOfReading zs fs cs → R fs cs
   reached =
@@ -422,7 +462,7 @@ module _ (R : List Finding → List Cause → Type 0) (spreads : Spreads R) (onc
       let (ys, q, is_project) = project_read p.file p.table x table rx in
       let one : ys ≡ p.readings = zip_once (IsStringReading (groups p.table) p.file) (Contains (sources p.table)) (λ s v w known n o. one_string (groups p.table) p.file s v w n o) (sources p.table) ys p.readings (All-contains_itself (sources p.table)) q p.read in
       each_in R spreads FindsOfReading x
-      (λ fs cs finds. found_parts fs cs (subst (λ l. FindsOfParts together l fs cs) one (subst (λ (y : DocumentReading). FindsOfReading y fs cs) is_project finds))) zs (in_list x zs c in_x is_x)
+      (λ fs cs finds. found_parts fs cs (subst (λ l. FindsOfParts together (overridden_names p.table) l fs cs) one (subst (λ (y : DocumentReading). FindsOfReading y fs cs) is_project finds))) zs (in_list x zs c in_x is_x)
 
 none_reported : (documents : List Document) (zs : List DocumentReading) (r : Report) (fs : List Finding) (cs : List Cause) → r ≡ with_found (documents_report documents zs) fs cs → r.findings ≡ [] → fs ≡ []
 none_reported documents zs r fs cs is none = right_nil (documents_report documents zs).findings fs (sym (ap (λ (e : Report). e.findings) is) ∙ none)
@@ -569,28 +609,24 @@ module _ (d : Domain) (all part : List Demand) (sound : All IsSound all) (bare :
 
 -- ---- parts of a project
 
-in_part_by : (all demands : List Demand) (b : Bool) → All (Contains all) demands → All (Contains all) (if b then demands else [])
-in_part_by all demands true k = k
-in_part_by all demands false k = All-nil (Contains all)
-
 -- the requirements of a part are some of all
-pub part_known : (together : Bool) (is : List Inclusion) (part : Section) (xs : List StringReading) → All (Contains (all_demands xs)) (part_demands together is part xs)
-part_known together is part xs =
+pub part_known : (together : Bool) (overridden : List (List ℕ)) (is : List Inclusion) (part : Section) (xs : List StringReading) → All (Contains (all_demands xs)) (part_demands together overridden is part xs)
+part_known together overridden is part xs =
     let all = all_demands xs in
-    all_flat (Contains all) (demand_in_part together (has_group is part) part) xs
-    (All-weaker (λ x. All (Contains all) (demands_in x.meaning)) (λ x. All (Contains all) (demand_in_part together (has_group is part) part x))
-    (λ x k. in_part_by all (demands_in x.meaning) (holds_in together (has_group is part) part x.section) k) xs
+    all_flat (Contains all) (demand_in_part together overridden (has_group is part) part) xs
+    (All-weaker (λ x. All (Contains all) (demands_in x.meaning)) (λ x. All (Contains all) (demand_in_part together overridden (has_group is part) part x))
+    (λ x k. of_part_so (Contains all) together overridden (has_group is part) part x k) xs
     (each_flat (Contains all) (λ (x : StringReading). demands_in x.meaning) xs (All-contains_itself all)))
 
 -- nothing is found of any part, where nothing is found of all requirements, and none has a marker
-pub nothing_in_parts : (together : Bool) (xs : List StringReading) → list_any is_marked (all_demands xs) ≡ false → All IsSound (all_demands xs) → (cs : List Cause) → FindsOfNames (project_domain xs) (all_demands xs) [] cs → FindsOfParts together xs [] []
-nothing_in_parts together xs bare sound cs none =
+pub nothing_in_parts : (together : Bool) (overridden : List (List ℕ)) (xs : List StringReading) → list_any is_marked (all_demands xs) ≡ false → All IsSound (all_demands xs) → (cs : List Cause) → FindsOfNames (project_domain xs) (all_demands xs) [] cs → FindsOfParts together overridden xs [] []
+nothing_in_parts together overridden xs bare sound cs none =
     let all = all_demands xs in
     let is = inclusions (sections xs) in (
       [],
-      nothing_each (FindsOfPart together xs) (parts xs)
-          (everywhere (λ part. FindsOfPart together xs part [] [])
-          (λ part. nothing_in_part (project_domain xs) all (part_demands together is part xs) sound (all_unmarked all bare) (part_known together is part xs) cs none) (parts xs)),
+      nothing_each (FindsOfPart together overridden xs) (parts xs)
+          (everywhere (λ part. FindsOfPart together overridden xs part [] [])
+          (λ part. nothing_in_part (project_domain xs) all (part_demands together overridden is part xs) sound (all_unmarked all bare) (part_known together overridden is part xs) cs none) (parts xs)),
       refl,
     )
 
@@ -607,6 +643,6 @@ sound_all xs k = all_flat IsSound (λ (x : StringReading). demands_in x.meaning)
 
 -- ---- findings, each once
 
-pub parts_found : (together : Bool) (xs : List StringReading) (pairs once : List FindingValue) (before after : List Cause) → map finding_of once ≡ with_new same_finding [] (map finding_of pairs) → AddsFound (FindsOfEach (FindsOfPart together xs) (parts xs)) [] pairs before after
-    → AddsFound (FindsOfParts together xs) [] once before after
-parts_found together xs pairs once before after is (fs, cs, finds, adds, also) = (with_new same_finding [] fs, cs, (fs, finds, refl), is ∙ ap (with_new same_finding []) adds, also)
+pub parts_found : (together : Bool) (overridden : List (List ℕ)) (xs : List StringReading) (pairs once : List FindingValue) (before after : List Cause) → map finding_of once ≡ with_new same_finding [] (map finding_of pairs) → AddsFound (FindsOfEach (FindsOfPart together overridden xs) (parts xs)) [] pairs before after
+    → AddsFound (FindsOfParts together overridden xs) [] once before after
+parts_found together overridden xs pairs once before after is (fs, cs, finds, adds, also) = (with_new same_finding [] fs, cs, (fs, finds, refl), is ∙ ap (with_new same_finding []) adds, also)

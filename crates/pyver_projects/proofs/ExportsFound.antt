@@ -6,7 +6,6 @@ use Rattle.std.proofs.lemmas.List.Elements.{All-append, All-cons, All-contains, 
 use Rattle.std.specs.List.{All, AllZip, Contains, filter, flat_map, list_any, zip}
 use Rattle.pep440_pick.specs.Names.{normal, same_name}
 use Rattle.pep440_pick.specs.RequirementGrammar.{DerivesRequirement, Needed}
-use Rattle.pep440_rs.specs.Specifiers.{Spec}
 use Rattle.pep440_version.specs.Record.{Record}
 use Rattle.pyver_findings.proofs.Complete.{meanings_once, of_lines}
 use Rattle.pyver_findings.proofs.Holding.{IsAsked, all_asked}
@@ -14,22 +13,20 @@ use Rattle.pyver_findings.proofs.Steps.{rest_at}
 use Rattle.pyver_findings.specs.Demands.{Demand, is_pinned, line_demand}
 use Rattle.pyver_findings.specs.Exports.{is_export}
 use Rattle.pyver_findings.specs.FileLines.{File, FileLine, Finding, NoRequirement, file_lines}
-use Rattle.pyver_findings.specs.FindingLaws.{HasMarker, IsRequirementLine}
+use Rattle.pyver_findings.specs.FindingLaws.{HasMarker}
 use Rattle.pyver_findings.specs.LineMeanings.{Asks, IsKindMeaning, IsMeaning, LineMeaning, requirement_meaning, with_marker, with_url, under_marker}
 use Rattle.pyver_findings.specs.Reports.{Report, demands_in, empty_report}
-use Rattle.pyver_requirements.specs.LineKinds.{LineKind, Requirement, line_kind}
+use Rattle.pyver_requirements.specs.LineKinds.{LineKind}
 use Rattle.pyver_requirements.specs.LineParts.{pip_parts}
 use Rattle.pyver_requirements.specs.MarkerReading.{marker}
 use Rattle.pyver_requirements.specs.MarkerSteps.{Misfit}
-use Rattle.toml.specs.Data.{Members}
 use Rattle.pyver_projects.proofs.Holding.{each_flat}
 use Rattle.pyver_projects.proofs.LockedPackages.{IsOutsideHere, excluded_right, none_named, not_excluded, some_named}
 use Rattle.pyver_projects.proofs.Once.{one_document}
 use Rattle.pyver_projects.proofs.Walks.{all_flat, beside_it, beside_pair, left_nil, nil_at, pairs_each, right_nil, zip_once}
-use Rattle.pyver_projects.specs.Comparing.{absent, excluded, has_name, with_findings}
-use Rattle.pyver_projects.specs.ExportComparing.{AllPinned, AreExports, Export, ExportFindingsHold, ExportReportsOnce, FindsOfExports, HasDemands, HasExportLine, HasLockFor, IsExportsReport, IsOtherPin, IsPin, IsUnlockedPin, NoFindingImpliesPinned, counts_for, found_in_export, found_of_export, is_made_of, pin_beside, pins_beside}
-use Rattle.pyver_projects.specs.Meanings.{Document, DocumentReading, IsDocumentReading, IsLock, IsLockedReading, LockedReading}
-use Rattle.pyver_projects.specs.ProjectLaws.{HasLock, IsReadable, LocksVersion, SomeContained}
+use Rattle.pyver_projects.specs.Comparing.{absent, excluded, has_name, with_findings, AreExports, Export, FindsOfExports, HasDemands, counts_for, found_in_export, found_of_export, is_made_of, pin_beside, pins_beside}
+use Rattle.pyver_projects.specs.Meanings.{Document, DocumentReading, IsDocumentReading, IsLockedReading, LockedReading}
+use Rattle.pyver_projects.specs.ProjectLaws.{HasLock, IsReadable, LocksVersion, SomeContained, ExportFindingsHold, ExportReportsOnce, HasLockFor, IsOtherPin, IsPin, IsUnlockedPin, NoFindingImpliesPinned}
 use Rattle.pyver_projects.specs.ProjectStrings.{LockContents, LockedPackage}
 use Rattle.pyver_projects.specs.declared.document_kind.DocumentKind.{DocumentKind}
 use Rattle.pyver_projects.specs.declared.document_kind.DocumentKind.TheVariants.{Lock, Project}
@@ -111,7 +108,7 @@ module _ (files : List File) (documents : List Document) where
     beside_right Project other x at counts (inr (text, inr (none, (position, reason, is)))) = subst (λ (y : DocumentReading). All Right (pins_beside e Project y)) (sym is) (All-nil Right)
     beside_right (Lock kind) other x at counts (inr (text, inr (none, (position, reason, is)))) = subst (λ (y : DocumentReading). All Right (pins_beside e (Lock kind) y)) (sym is) (All-nil Right)
     beside_right Project other x at counts (inr (text, inl (t, parsed, (xs, h, is)))) = subst (λ (y : DocumentReading). All Right (pins_beside e Project y)) (sym is) (All-nil Right)
-    beside_right (Lock kind) other x at counts (inr (text, inl (u, parsed, (ys, ms, es, fs, h, required, entered, found, is)))) =
+    beside_right (Lock kind) other x at counts (inr (text, inl (u, parsed, (python, pythons, ys, ms, es, fs, h, required, entered, found, is)))) =
         subst (λ (y : DocumentReading). All Right (pins_beside e (Lock kind) y)) (sym is)
         (all_flat Right (pin_beside (is_made_of (Lock kind) e.file) ys) e.demands
         (All-weaker (IsAsked pip_parts (file_lines e.file)) (λ a. All Right (pin_beside (is_made_of (Lock kind) e.file) ys a))
@@ -221,7 +218,7 @@ module _ (documents : List Document) (e : Export) (has : HasDemands e) where
       × (is_made_of (Lock kind) e.file ≡ true → (p : LockedPackage) × Contains l.packages p × (same_name n.name p.name ≡ true))
   of_lock lock kind l line n x at pin_of (inside, (text, parsed)) (inl (bad, told)) none = absurd (bad text)
   of_lock lock kind l line n x at pin_of (inside, (text, parsed)) (inr (again, inr (unread, broken))) none = let same : None ≡ Some l = sym unread ∙ parsed in cc same
-  of_lock lock kind l line n x at pin_of (inside, (text, parsed)) (inr (again, inl (u, other, (ys, ms, es, fs, h, required, entered, found, is)))) none =
+  of_lock lock kind l line n x at pin_of (inside, (text, parsed)) (inr (again, inl (u, other, (python, pythons, ys, ms, es, fs, h, required, entered, found, is)))) none =
       let equal : Some u ≡ Some l = sym other ∙ parsed in
       let contents : u ≡ l = cc equal in
       let k : AllZip (IsLockedReading lock.name) l.packages ys = subst (λ (c : LockContents). AllZip (IsLockedReading lock.name) c.packages ys) contents h in

@@ -1,46 +1,48 @@
 -- Each finding of a report of documents is right, as are requirements of a project that have no version in common; documents that were read have
 -- lists that strings can give; and requirements that count always.
-use Rattle.std.proofs.Common.{Bool, Err, List, None, Ok, Option, Result, Some, [], ap, bytes_eq, codes, false, if◌then◌else◌, inl, inr, is_none, length, map, not, option_map, refl, subst, sym, true, ℕ, ◌++◌, ◌+◌, ◌∙◌, ◌∷◌, ◌≡◌, ◌||◌, take}
+use Rattle.std.proofs.Common.{Bool, List, None, Option, Some, [], ap, bytes_eq, codes, false, if◌then◌else◌, inl, inr, is_none, length, map, not, refl, subst, sym, true, ℕ, ◌++◌, ◌+◌, ◌∙◌, ◌∷◌, ◌≡◌, ◌||◌, take}
 use Rattle.std.proofs.lemmas.Bool.{true≢false}
 use Rattle.std.proofs.lemmas.List.{append-nil, append_assoc}
-use Rattle.std.proofs.lemmas.List.Elements.{All-append, All-cons, All-contains_itself, All-head, All-map, All-nil, All-tail, All-weaker}
-use Rattle.std.specs.List.{All, AllZip, Contains, flat_map, list_any, zip}
+use Rattle.std.proofs.lemmas.List.Elements.{All-append, All-cons, All-contains_itself, All-filter, All-head, All-map, All-nil, All-tail, All-weaker}
+use Rattle.std.specs.List.{All, AllZip, Contains, filter, find, flat_map, list_any, zip}
 use Rattle.std.specs.Str.{IsUtf8}
 use Rattle.pep440_pick.specs.Names.{same_name}
 use Rattle.pep440_pick.specs.RequirementGrammar.{DerivesRequirement, Needed}
+use Rattle.pep440_ranges.specs.RangeSegments.{contains}
+use Rattle.pep440_rs.specs.Bounds.{Segments}
 use Rattle.pep440_rs.specs.Lists.ListGrammar.{DerivesList}
 use Rattle.pep440_rs.specs.Specifiers.{Spec}
 use Rattle.pep440_version.specs.ErrorTexts.{rejection_text}
+use Rattle.pep440_version.specs.Key.{record_cmp}
 use Rattle.pyver_findings.specs.Demands.{Demand, IsSound, line_demand}
 use Rattle.pyver_findings.specs.FileLines.{File, FileLine, Finding, NoRequirement}
-use Rattle.pyver_findings.specs.LineMeanings.{Asks, AsksNothing, IsNone, IsPartsMeaning, IsPlain, LeftOut, LineMeaning, has_right_url, requirement_meaning, under_marker, with_marker, with_url}
+use Rattle.pyver_findings.specs.LineMeanings.{Asks, AsksNothing, IsNone, IsPartsMeaning, IsPlain, LeftOut, LineMeaning, requirement_meaning, with_marker, with_url}
 use Rattle.pyver_findings.specs.Reports.{Report, demands_in, empty_report, invalid_in, joined_report}
-use Rattle.pyver_requirements.specs.LineParts.{LineParts, line_parts}
+use Rattle.pyver_requirements.specs.LineParts.{line_parts}
 use Rattle.toml.specs.Data.{Members}
 use Rattle.toml.specs.Parse.{parse_document}
-use Rattle.pyver_projects.specs.Together.{FindsOfPart, FindsOfParts, demand_in_part, has_group, holds_in, part_demands, parts, project_domain, same_finding, sections, with_new}
+use Rattle.pyver_projects.specs.Together.{FindsOfPart, FindsOfParts, demand_in_part, has_group, holds_in, is_replaced, part_demands, parts, project_domain, project_python, same_finding, sections, with_new}
 use Rattle.pyver_projects.proofs.Walks.{all_flat, left_false, pairs_each, right_false, zip_each}
 use Rattle.pyver_findings.specs.NamedFiles.{folder}
 use Rattle.std.proofs.lemmas.Slice.Eq.{bytes_eq-Decides}
 use Rattle.pyver_projects.specs.ContentHashes.{hash_of, hashed_texts, is_known_text, is_stale, may_have}
-use Rattle.pyver_projects.specs.Comparing.{Excuse, FindsOfReading, absent, beside_all, compared, compared_demand, differing, documents_report, excluded, excluded_in, found_beside, found_in_pair, has_name, invalid_package, invalid_string, is_beside, is_excused, is_installer, is_locked, is_needed, is_plain_for_uv, in_one_folder, lacking, leaves_out, own_report, partly_locked, stale_beside, stale_by, stale_finding, stale_in_pair, taken_packages, unlocked, unmet, unmet_demand, with_own_reports}
+use Rattle.pyver_projects.specs.Comparing.{Excuse, FindsOfReading, absent, beside_all, compared, compared_demand, differing, documents_report, excluded, excluded_in, first_difference, found_beside, found_in_pair, has_name, invalid_package, invalid_string, is_beside, is_excused, is_in_one, is_installer, is_locked, is_needed, is_overridden, is_plain_for_uv, in_one_folder, lacking, leaves_out, own_report, partly_locked, python_difference, python_finding, python_minors, stale_beside, stale_by, stale_finding, stale_in_pair, taken_packages, unlocked, unmet, unmet_demand, with_own_reports}
 use Rattle.pyver_projects.specs.Documents.{has_group_tool, locked, overridden_names, project_names, sources}
-use Rattle.pyver_projects.specs.Meanings.{Groups, Inclusion, groups, inclusions, no_group, Document, DocumentReading, IsBroken, IsBrokenReading, IsDocumentReading, IsFileReading, IsLock, IsLockedReading, IsProject, IsRequirementReading, IsSectionMeaning, IsSoundDocument, IsSoundString, IsStringReading, IsVersionReading, LockedReading, StringReading, fault_meaning, file_meaning, is_of_version, left_out_if_none, package_line, reference_marker, requirement_line, string_line, position_line}
+use Rattle.pyver_projects.specs.Meanings.{AreLockedPythons, Groups, Inclusion, groups, inclusions, Document, DocumentReading, IsBroken, IsBrokenReading, IsDocumentReading, IsFileReading, IsLock, IsLockedReading, IsProject, IsRequirementReading, IsSectionMeaning, IsSoundDocument, IsSoundString, IsStringReading, IsVersionReading, LockedReading, StringReading, fault_meaning, file_meaning, is_of_version, left_out_if_none, package_line, reference_marker, requirement_line, string_line, position_line}
 use Rattle.pyver_projects.proofs.Once.{AsksFor, differing_right, of_section}
-use Rattle.pyver_projects.proofs.LockedPackages.{IsLackHere, IsOutsideHere, excluded_right, none_named, partly_right}
+use Rattle.pyver_projects.proofs.LockedPackages.{IsLackHere, IsOutsideHere, excluded_right, found_so, none_named, partly_right}
 use Rattle.pyver_projects.specs.ProjectLaws.{AlwaysAsks, AreTogether, DocumentFindingsHold, HasLock, HasOtherHash, HasPackage, HasProject, IsDocumentFinding, IsReadable, IsReadableAs, IsRightPart, line_in_part, part_lines}
-use Rattle.pyver_projects.specs.ProjectStrings.{Build, ContentHash, Dependencies, Entry, Extra, Group, Include, Invalid, LockContents, LockFault, LockParts, LockedFile, LockedPackage, LockedRequirement, ProjectString, Python, Section, Unread, Version, last_bytes}
+use Rattle.pyver_projects.specs.ProjectStrings.{Build, Constraint, ContentHash, Dependencies, Entry, Environment, Extra, Group, Include, Invalid, LockContents, LockFault, LockParts, LockedFile, LockedPackage, LockedRequirement, ProjectString, Python, Section, Unread, Version, last_bytes}
+use Rattle.pyver_projects.specs.KnownEnvironments.{python_record}
 use Rattle.pyver_projects.specs.declared.document_kind.DocumentKind.{DocumentKind}
 use Rattle.pyver_projects.specs.declared.document_kind.DocumentKind.TheVariants.{Lock, Project}
 use Rattle.pyver_projects.specs.declared.document_kind.LockKind.{LockKind}
+use Rattle.pyver_projects.specs.declared.project.EntryTool.TheVariants as of_entries
 use Rattle.pyver_findings.proofs.Holding.{IsAsked, derived_sound, found_each, names_right}
-use Rattle.pyver_findings.specs.FindingLaws.{HasMarker, IsRightConflict}
+use Rattle.pyver_findings.specs.FindingLaws.{IsRightConflict}
 use Rattle.pyver_findings.specs.declared.cause.Cause.{Cause}
 use Rattle.pyver_findings.specs.MarkedConflicts.{FindsOfEach}
 use Rattle.pyver_findings.proofs.Complete.{one_parts}
-use Rattle.pyver_requirements.specs.MarkerReading.{marker as read_marker}
-use Rattle.pyver_requirements.specs.MarkerSteps.{Misfit}
-use Rattle.pyver_findings.specs.declared.cause.Cause.TheVariants as cause
 
 module _ (line : FileLine) (n : Needed) (plain : IsPlain (line_parts line.text).requirement) (d : DerivesRequirement (line_parts line.text).requirement n) (marker : (line_parts line.text).marker ≡ None) (url : (line_parts line.text).url ≡ None) where
   means : IsPartsMeaning line (line_parts line.text) (Asks (line_demand line None n))
@@ -53,17 +55,20 @@ module _ (line : FileLine) (n : Needed) (plain : IsPlain (line_parts line.text).
   of_its_requirement x is = one_parts line (line_parts line.text) x (Asks (line_demand line None n)) is means
 
   -- a requirement without a marker and a URL asks for it
-  pub asks_always : (all : Groups) (text : List ℕ) (section : Section) (x : LineMeaning) → is_locked section ≡ true → IsSectionMeaning all section line text x → x ≡ Asks (line_demand line None n)
-  asks_always all text Dependencies x counts is = of_its_requirement x is
-  asks_always all text (Extra name) x counts is = of_its_requirement x is
-  asks_always all text (Group name) x counts is = of_its_requirement x is
-  asks_always all text (Include group included) x counts is = cc counts
-  asks_always all text (Invalid table reason) x counts is = cc counts
-  asks_always all text (Entry table name) x counts (m, is, e) = e ∙ ap left_out_if_none (of_its_requirement m is)
-  asks_always all text (Unread c) x counts is = cc counts
-  asks_always all text Build x counts is = cc counts
-  asks_always all text Python x counts is = cc counts
-  asks_always all text Version x counts is = cc counts
+  pub asks_always : (all : Groups) (text : List ℕ) (near : Bool) (section : Section) (x : LineMeaning) → is_locked near section ≡ true → IsSectionMeaning all section line text x → x ≡ Asks (line_demand line None n)
+  asks_always all text near Dependencies x counts is = of_its_requirement x is
+  asks_always all text near (Extra name) x counts is = of_its_requirement x is
+  asks_always all text near (Group name) x counts is = of_its_requirement x is
+  asks_always all text near (Include group included) x counts is = cc counts
+  asks_always all text near (Invalid table reason) x counts is = cc counts
+  asks_always all text near Constraint x counts is = of_its_requirement x is
+  asks_always all text near (Environment table) x counts is = cc counts
+  asks_always all text near (Entry of_entries.Poetry table name) x counts (m, is, e) = e ∙ ap left_out_if_none (of_its_requirement m is)
+  asks_always all text near (Entry of_entries.Pipenv table name) x counts is = of_its_requirement x is
+  asks_always all text near (Unread c) x counts is = cc counts
+  asks_always all text near Build x counts is = cc counts
+  asks_always all text near Python x counts is = cc counts
+  asks_always all text near Version x counts is = cc counts
 
 -- ---- requirements that hold together
 
@@ -84,15 +89,25 @@ sound_string all file s x (same, is, python) =
     All-weaker (IsAsked line_parts (line ∷ [])) IsSound (λ a asks. derived_sound line_parts a asks.1) (demands_in x.meaning)
     (asked_of all (line ∷ []) line s.text s.section x.meaning (All-head (Contains (line ∷ [])) line [] (All-contains_itself (line ∷ []))) is)
 
-sound_by : (b : Bool) (x : StringReading) → IsSoundString x → All IsSound (if b then demands_in x.meaning else [])
-sound_by true x k = k
-sound_by false x k = All-nil IsSound
+-- what holds of requirements holds of those of them that count
+kept_by : (P : Demand → Type 0) (b : Bool) (p : Demand → Bool) (lines : List Demand) → All P (if b then lines else []) → All P (if b then filter p lines else [])
+kept_by P true p lines k = All-filter p P lines k
+kept_by P false p lines k = All-nil P
+
+some_by : (P : Demand → Type 0) (b : Bool) (lines : List Demand) → All P lines → All P (if b then lines else [])
+some_by P true lines k = k
+some_by P false lines k = All-nil P
+
+-- and of those of a string that hold in a part
+pub of_part_so : (P : Demand → Type 0) (together : Bool) (overridden : List (List ℕ)) (has : List ℕ → Bool) (part : Section) (x : StringReading) → All P (demands_in x.meaning) → All P (demand_in_part together overridden has part x)
+of_part_so P together overridden has part x k =
+    kept_by P (holds_in together has part x.section) (λ (a : Demand). not (is_replaced overridden x.section a.name)) (demands_in x.meaning) (some_by P (holds_in together has part x.section) (demands_in x.meaning) k)
 
 -- the lists of a part are sound
-pub sound_part : (together : Bool) (is : List Inclusion) (part : Section) (xs : List StringReading) → All IsSoundString xs → All IsSound (part_demands together is part xs)
-sound_part together is part xs k =
-    all_flat IsSound (demand_in_part together (has_group is part) part) xs
-    (All-weaker IsSoundString (λ x. All IsSound (demand_in_part together (has_group is part) part x)) (λ x sound. sound_by (holds_in together (has_group is part) part x.section) x sound) xs k)
+pub sound_part : (together : Bool) (overridden : List (List ℕ)) (is : List Inclusion) (part : Section) (xs : List StringReading) → All IsSoundString xs → All IsSound (part_demands together overridden is part xs)
+sound_part together overridden is part xs k =
+    all_flat IsSound (demand_in_part together overridden (has_group is part) part) xs
+    (All-weaker IsSoundString (λ x. All IsSound (demand_in_part together overridden (has_group is part) part x)) (λ x sound. of_part_so IsSound together overridden (has_group is part) part x sound) xs k)
 
 module _ {X : Type 0} (P : X → Type 0) where
   -- what holds of everything holds of all
@@ -126,7 +141,7 @@ sections_same all file (s ∷ ss) (x ∷ xs) (r, h) = let rest = sections_same a
 
 -- ---- a part
 
-module _ (all : Groups) (file : File) (together : Bool) (has : List ℕ → Bool) (part : Section) (read : List FileLine) where
+module _ (all : Groups) (file : File) (together : Bool) (overridden : List (List ℕ)) (has : List ℕ → Bool) (part : Section) (read : List FileLine) where
   -- the line of the string is known, if that holds in the part
   abbrev pub IsKnown : ProjectString → Type 0
   IsKnown s = All (Contains read) (line_in_part together has part file s)
@@ -135,13 +150,14 @@ module _ (all : Groups) (file : File) (together : Bool) (has : List ℕ → Bool
   of_part_string s x true e known (same, is, python) = asked_of all read (string_line file s) s.text s.section x.meaning (of_one (Contains read) (holds_in together has part s.section) (string_line file s) e known) is
   of_part_string s x false e known r = All-nil (IsAsked line_parts read)
 
-  one_string : (s : ProjectString) (x : StringReading) → IsKnown s → IsStringReading all file s x → All (IsAsked line_parts read) (demand_in_part together has part x)
+  one_string : (s : ProjectString) (x : StringReading) → IsKnown s → IsStringReading all file s x → All (IsAsked line_parts read) (demand_in_part together overridden has part x)
   one_string s x known r =
-      subst (λ (section : Section). All (IsAsked line_parts read) (if holds_in together has part section then demands_in x.meaning else [])) (sym r.0)
-      (of_part_string s x (holds_in together has part s.section) refl known r)
+      kept_by (IsAsked line_parts read) (holds_in together has part x.section) (λ (a : Demand). not (is_replaced overridden x.section a.name)) (demands_in x.meaning)
+      (subst (λ (section : Section). All (IsAsked line_parts read) (if holds_in together has part section then demands_in x.meaning else [])) (sym r.0)
+      (of_part_string s x (holds_in together has part s.section) refl known r))
 
-  in_part : (ss : List ProjectString) (xs : List StringReading) → All IsKnown ss → AllZip (IsStringReading all file) ss xs → All (IsAsked line_parts read) (flat_map (demand_in_part together has part) xs)
-  in_part ss xs known h = all_flat (IsAsked line_parts read) (demand_in_part together has part) xs (zip_each (IsStringReading all file) IsKnown (λ x. All (IsAsked line_parts read) (demand_in_part together has part x)) one_string ss xs known h)
+  in_part : (ss : List ProjectString) (xs : List StringReading) → All IsKnown ss → AllZip (IsStringReading all file) ss xs → All (IsAsked line_parts read) (flat_map (demand_in_part together overridden has part) xs)
+  in_part ss xs known h = all_flat (IsAsked line_parts read) (demand_in_part together overridden has part) xs (zip_each (IsStringReading all file) IsKnown (λ x. All (IsAsked line_parts read) (demand_in_part together overridden has part x)) one_string ss xs known h)
 
 module _ (P : Finding → Type 0) where
   by_new : (b : Bool) (found : List Finding) (f : Finding) → All P found → P f → All P (if b then found else found ++ f ∷ [])
@@ -155,19 +171,19 @@ module _ (P : Finding → Type 0) where
 
 -- what is found of requirements that hold together
 module _ (P : Finding → Type 0) (file : File) (t : Members) (so : (part : Section) (f : Finding) → IsRightPart file t (part_lines file t part) f → P f) where
-  part_holds : (xs : List StringReading) → AllZip (IsStringReading (groups t) file) (sources t) xs → (part : Section) (fs : List Finding) (cs : List Cause) → FindsOfPart (has_group_tool t) xs part fs cs → All P fs
+  part_holds : (xs : List StringReading) → AllZip (IsStringReading (groups t) file) (sources t) xs → (part : Section) (fs : List Finding) (cs : List Cause) → FindsOfPart (has_group_tool t) (overridden_names t) xs part fs cs → All P fs
   part_holds xs h part fs cs finds =
       let read = part_lines file t part in
       let known = each_flat (Contains read) (line_in_part (has_group_tool t) (has_group (groups t).inclusions part) part file) (sources t) (All-contains_itself read) in
-      let asks = in_part (groups t) file (has_group_tool t) (has_group (groups t).inclusions part) part read (sources t) xs known h in
+      let asks = in_part (groups t) file (has_group_tool t) (overridden_names t) (has_group (groups t).inclusions part) part read (sources t) xs known h in
       let same : inclusions (sections xs) ≡ (groups t).inclusions = ap inclusions (sections_same (groups t) file (sources t) xs h) in
       let domain = project_domain xs in
       All-weaker (IsRightConflict line_parts domain read) P (λ f right. so part f (domain, (xs, h, refl), right)) fs
-      (names_right line_parts read domain (part_demands (has_group_tool t) (inclusions (sections xs)) part xs) (subst (λ (is : List Inclusion). All (IsAsked line_parts read) (part_demands (has_group_tool t) is part xs)) (sym same) asks) fs cs finds)
+      (names_right line_parts read domain (part_demands (has_group_tool t) (overridden_names t) (inclusions (sections xs)) part xs) (subst (λ (is : List Inclusion). All (IsAsked line_parts read) (part_demands (has_group_tool t) (overridden_names t) is part xs)) (sym same) asks) fs cs finds)
 
-  pub conflicts_hold : (xs : List StringReading) → AllZip (IsStringReading (groups t) file) (sources t) xs → (fs : List Finding) (cs : List Cause) → FindsOfParts (has_group_tool t) xs fs cs → All P fs
+  pub conflicts_hold : (xs : List StringReading) → AllZip (IsStringReading (groups t) file) (sources t) xs → (fs : List Finding) (cs : List Cause) → FindsOfParts (has_group_tool t) (overridden_names t) xs fs cs → All P fs
   conflicts_hold xs h fs cs (found, finds, is) =
-      subst (All P) (sym is) (with_new_all P [] found (All-nil P) (found_each P (FindsOfPart (has_group_tool t) xs) (λ part gs ds one. part_holds xs h part gs ds one) (parts xs) found cs finds))
+      subst (All P) (sym is) (with_new_all P [] found (All-nil P) (found_each P (FindsOfPart (has_group_tool t) (overridden_names t) xs) (λ part gs ds one. part_holds xs h part gs ds one) (parts xs) found cs finds))
 
 -- it holds of what is found of each element of a list
 known_each : {X : Type 0} (Q : Finding → Type 0) (P : X → List Finding → List Cause → Type 0) (xs : List X) → All (λ x. (fs : List Finding) (cs : List Cause) → P x fs cs → All Q fs) xs → (fs : List Finding) (cs : List Cause) → FindsOfEach P xs fs cs → All Q fs
@@ -314,7 +330,7 @@ module _ (documents : List Document) where
       subst (λ (y : DocumentReading). All Right (own_report excused y).findings) (sym is)
       (all_flat Right invalid_string xs
       (zip_each (IsStringReading (groups t) file) (Contains (sources t)) (λ z. All Right (invalid_string z)) (λ s z at r. of_string file t s z.meaning (known, (text, e)) at r.1) (sources t) xs (All-contains_itself (sources t)) h))
-  of_document excused (Lock kind) file x known (inr (text, inl (l, e, (ys, ms, es, fs, g, h, entered, k, is)))) =
+  of_document excused (Lock kind) file x known (inr (text, inl (l, e, (python, pythons, ys, ms, es, fs, g, h, entered, k, is)))) =
       let faults = fs ++ map (fault_meaning file.name) l.faults in
       subst (λ (y : DocumentReading). All Right (own_report excused y).findings) (sym is)
       (All-append Right (flat_map invalid_package ys) (flat_map invalid_in faults ++ flat_map (unmet excused l.parts ys) ms)
@@ -331,7 +347,7 @@ module _ (documents : List Document) where
 
   -- ---- a project beside a lock
 
-  module _ (file lock : File) (kind : LockKind) (t : Members) (u : LockContents) (known : HasProject documents file t) (other : HasLock documents kind lock u) where
+  module _ (excused : List ℕ → Excuse) (near : Bool) (file lock : File) (kind : LockKind) (t : Members) (u : LockContents) (known : HasProject documents file t) (other : HasLock documents kind lock u) where
     module _ (s : ProjectString) (at : Contains (sources t) s) where
       module _ (n : Needed) (asks : AlwaysAsks s n) where
         -- what the requirement asks for
@@ -393,77 +409,78 @@ module _ (documents : List Document) where
           unless true fs right = All-nil Right
           unless false fs right = right
 
-          always_right : All Right (compared_demand kind u.parts (project_names t) (overridden_names t) ys s.section asked)
+          always_right : All Right (compared_demand kind u.parts (project_names t) excused near ys s.section asked)
           always_right =
-              unless (list_any (bytes_eq asked.name) (overridden_names t)) _
+              unless (is_overridden excused s.section asked.name) _
               (All-append Right _ (excluded_in kind u.parts (project_names t) ys s.section asked) (unless (is_installer asked.name) _ (unless (list_any (bytes_eq asked.name) (project_names t)) _ (missing_right (is_needed kind u.parts.names s.section) refl)))
               (excluded_here (leaves_out kind u.parts.names s.section) refl))
 
       module _ (ys : List LockedReading) (h : AllZip (IsLockedReading lock.name) u.packages ys) where
-        by_marker : (a : Demand) (k : AsksFor (string_line file s) (line_parts s.text) a) (marker : Option (List ℕ)) → (marker ≡ None → (line_parts s.text).marker ≡ None) → All Right (compared_demand kind u.parts (project_names t) (overridden_names t) ys s.section (line_demand (string_line file s) marker k.needed))
+        by_marker : (a : Demand) (k : AsksFor (string_line file s) (line_parts s.text) a) (marker : Option (List ℕ)) → (marker ≡ None → (line_parts s.text).marker ≡ None) → All Right (compared_demand kind u.parts (project_names t) excused near ys s.section (line_demand (string_line file s) marker k.needed))
         by_marker a k None unmarked = always_right k.needed (k.text, k.derives, unmarked refl, k.url) ys h
         by_marker a k (Some m) unmarked = All-nil Right
 
-        of_asked : (a : Demand) → AsksFor (string_line file s) (line_parts s.text) a → All Right (compared_demand kind u.parts (project_names t) (overridden_names t) ys s.section a)
-        of_asked a k = subst (λ (b : Demand). All Right (compared_demand kind u.parts (project_names t) (overridden_names t) ys s.section b)) (sym k.is) (by_marker a k k.marker k.always)
+        of_asked : (a : Demand) → AsksFor (string_line file s) (line_parts s.text) a → All Right (compared_demand kind u.parts (project_names t) excused near ys s.section a)
+        of_asked a k = subst (λ (b : Demand). All Right (compared_demand kind u.parts (project_names t) excused near ys s.section b)) (sym k.is) (by_marker a k k.marker k.always)
 
-        of_meaning : (m : LineMeaning) → IsSectionMeaning (groups t) s.section (string_line file s) s.text m → All Right (flat_map (compared_demand kind u.parts (project_names t) (overridden_names t) ys s.section) (demands_in m))
-        of_meaning (Asks a) is = All-append Right (compared_demand kind u.parts (project_names t) (overridden_names t) ys s.section a) [] (of_asked a (of_section (groups t) (string_line file s) s.text a s.section is)) (All-nil Right)
+        of_meaning : (m : LineMeaning) → IsSectionMeaning (groups t) s.section (string_line file s) s.text m → All Right (flat_map (compared_demand kind u.parts (project_names t) excused near ys s.section) (demands_in m))
+        of_meaning (Asks a) is = All-append Right (compared_demand kind u.parts (project_names t) excused near ys s.section a) [] (of_asked a (of_section (groups t) (string_line file s) s.text a s.section is)) (All-nil Right)
         of_meaning (IsNone f) is = All-nil Right
         of_meaning (LeftOut c) is = All-nil Right
         of_meaning AsksNothing is = All-nil Right
 
-        by_section : (b : Bool) (m : LineMeaning) → IsSectionMeaning (groups t) s.section (string_line file s) s.text m → All Right (if b then flat_map (compared_demand kind u.parts (project_names t) (overridden_names t) ys s.section) (demands_in m) else [])
+        by_section : (b : Bool) (m : LineMeaning) → IsSectionMeaning (groups t) s.section (string_line file s) s.text m → All Right (if b then flat_map (compared_demand kind u.parts (project_names t) excused near ys s.section) (demands_in m) else [])
         by_section true m is = of_meaning m is
         by_section false m is = All-nil Right
 
-        compared_right : (x : StringReading) → IsStringReading (groups t) file s x → All Right (compared kind u.parts (project_names t) (overridden_names t) ys x)
+        compared_right : (x : StringReading) → IsStringReading (groups t) file s x → All Right (compared kind u.parts (project_names t) excused near ys x)
         compared_right x (same, is, python) =
-            subst (λ section. All Right (if is_locked section then flat_map (compared_demand kind u.parts (project_names t) (overridden_names t) ys section) (demands_in x.meaning) else [])) (sym same) (by_section (is_locked s.section) x.meaning is)
+            subst (λ section. All Right (if is_locked near section then flat_map (compared_demand kind u.parts (project_names t) excused near ys section) (demands_in x.meaning) else [])) (sym same) (by_section (is_locked near s.section) x.meaning is)
 
-    pub pair_right : (xs : List StringReading) (ys : List LockedReading) → AllZip (IsStringReading (groups t) file) (sources t) xs → AllZip (IsLockedReading lock.name) u.packages ys → All Right (flat_map (compared kind u.parts (project_names t) (overridden_names t) ys) xs)
+    pub pair_right : (xs : List StringReading) (ys : List LockedReading) → AllZip (IsStringReading (groups t) file) (sources t) xs → AllZip (IsLockedReading lock.name) u.packages ys → All Right (flat_map (compared kind u.parts (project_names t) excused near ys) xs)
     pair_right xs ys g h =
-        all_flat Right (compared kind u.parts (project_names t) (overridden_names t) ys) xs (zip_each (IsStringReading (groups t) file) (Contains (sources t)) (λ x. All Right (compared kind u.parts (project_names t) (overridden_names t) ys x)) (λ s x at r. compared_right s at ys h x r) (sources t) xs (All-contains_itself (sources t)) g)
+        all_flat Right (compared kind u.parts (project_names t) excused near ys) xs (zip_each (IsStringReading (groups t) file) (Contains (sources t)) (λ x. All Right (compared kind u.parts (project_names t) excused near ys x)) (λ s x at r. compared_right s at ys h x r) (sources t) xs (All-contains_itself (sources t)) g)
 
   -- ---- a document beside another
 
-  nothing_broken : (kind : DocumentKind) (f : Finding) (y : DocumentReading) → All Right (found_beside kind (IsBroken f) y)
-  nothing_broken Project f y = All-nil Right
-  nothing_broken (Lock kind) f y = All-nil Right
+  module _ (excused : List ℕ → Excuse) (near : Bool) where
+    nothing_broken : (kind : DocumentKind) (f : Finding) (y : DocumentReading) → All Right (found_beside excused near kind (IsBroken f) y)
+    nothing_broken Project f y = All-nil Right
+    nothing_broken (Lock kind) f y = All-nil Right
 
-  nothing_beside : (kind : DocumentKind) (t : Members) (together : Bool) (names overridden : List (List ℕ)) (xs : List StringReading) (f : Finding) → All Right (found_beside kind (IsProject t together names overridden xs) (IsBroken f))
-  nothing_beside Project t together names overridden xs f = All-nil Right
-  nothing_beside (Lock kind) t together names overridden xs f = All-nil Right
+    nothing_beside : (kind : DocumentKind) (t : Members) (together : Bool) (names overridden : List (List ℕ)) (xs : List StringReading) (f : Finding) → All Right (found_beside excused near kind (IsProject t together names overridden xs) (IsBroken f))
+    nothing_beside Project t together names overridden xs f = All-nil Right
+    nothing_beside (Lock kind) t together names overridden xs f = All-nil Right
 
-  nothing_of_lock : (kind : DocumentKind) (parts : LockParts) (ys : List LockedReading) (ms es fs : List LineMeaning) (y : DocumentReading) → All Right (found_beside kind (IsLock parts ys ms es fs) y)
-  nothing_of_lock Project parts ys ms es fs y = All-nil Right
-  nothing_of_lock (Lock kind) parts ys ms es fs y = All-nil Right
+    nothing_of_lock : (kind : DocumentKind) (parts : LockParts) (python : Option Segments) (ys : List LockedReading) (ms es fs : List LineMeaning) (y : DocumentReading) → All Right (found_beside excused near kind (IsLock parts python ys ms es fs) y)
+    nothing_of_lock Project parts python ys ms es fs y = All-nil Right
+    nothing_of_lock (Lock kind) parts python ys ms es fs y = All-nil Right
 
-  broken_right : (kind : DocumentKind) (file : File) (x y : DocumentReading) → IsBrokenReading file x → All Right (found_beside kind x y)
-  broken_right kind file x y (position, reason, is) = subst (λ (z : DocumentReading). All Right (found_beside kind z y)) (sym is) (nothing_broken kind (NoRequirement (position_line file position) reason (last_bytes (take position file.text))) y)
+    broken_right : (kind : DocumentKind) (file : File) (x y : DocumentReading) → IsBrokenReading file x → All Right (found_beside excused near kind x y)
+    broken_right kind file x y (position, reason, is) = subst (λ (z : DocumentReading). All Right (found_beside excused near kind z y)) (sym is) (nothing_broken kind (NoRequirement (position_line file position) reason (last_bytes (take position file.text))) y)
 
-  module _ (file : File) (t : Members) (known : HasProject documents file t) (xs : List StringReading) (g : AllZip (IsStringReading (groups t) file) (sources t) xs) where
-    beside_broken : (kind : DocumentKind) (other : File) (y : DocumentReading) → IsBrokenReading other y → All Right (found_beside kind (IsProject t (has_group_tool t) (project_names t) (overridden_names t) xs) y)
-    beside_broken kind other y (position, reason, is) =
-        subst (λ (z : DocumentReading). All Right (found_beside kind (IsProject t (has_group_tool t) (project_names t) (overridden_names t) xs) z)) (sym is) (nothing_beside kind t (has_group_tool t) (project_names t) (overridden_names t) xs (NoRequirement (position_line other position) reason (last_bytes (take position other.text))))
+    module _ (file : File) (t : Members) (known : HasProject documents file t) (xs : List StringReading) (g : AllZip (IsStringReading (groups t) file) (sources t) xs) where
+      beside_broken : (kind : DocumentKind) (other : File) (y : DocumentReading) → IsBrokenReading other y → All Right (found_beside excused near kind (IsProject t (has_group_tool t) (project_names t) (overridden_names t) xs) y)
+      beside_broken kind other y (position, reason, is) =
+          subst (λ (z : DocumentReading). All Right (found_beside excused near kind (IsProject t (has_group_tool t) (project_names t) (overridden_names t) xs) z)) (sym is) (nothing_beside kind t (has_group_tool t) (project_names t) (overridden_names t) xs (NoRequirement (position_line other position) reason (last_bytes (take position other.text))))
 
-    beside_project : (kind : DocumentKind) (other : File) (y : DocumentReading) → Contains documents (record { kind = kind; file = other }) → IsDocumentReading (record { kind = kind; file = other }) y
-        → All Right (found_beside kind (IsProject t (has_group_tool t) (project_names t) (overridden_names t) xs) y)
-    beside_project kind other y at (inl (none, (position, told))) = beside_broken kind other y (position, _, told)
-    beside_project Project other y at (inr (text, inr (none, broken))) = beside_broken Project other y broken
-    beside_project (Lock kind) other y at (inr (text, inr (none, broken))) = beside_broken (Lock kind) other y broken
-    beside_project Project other y at (inr (text, inl (u, e, (zs, h, is)))) = subst (λ (z : DocumentReading). All Right (found_beside Project (IsProject t (has_group_tool t) (project_names t) (overridden_names t) xs) z)) (sym is) (All-nil Right)
-    beside_project (Lock kind) other y at (inr (text, inl (u, e, (ys, ms, es, fs, h, required, entered, files, is)))) =
-        subst (λ (z : DocumentReading). All Right (found_beside (Lock kind) (IsProject t (has_group_tool t) (project_names t) (overridden_names t) xs) z)) (sym is) (pair_right file other kind t u known (at, (text, e)) xs ys g h)
+      beside_project : (kind : DocumentKind) (other : File) (y : DocumentReading) → Contains documents (record { kind = kind; file = other }) → IsDocumentReading (record { kind = kind; file = other }) y
+          → All Right (found_beside excused near kind (IsProject t (has_group_tool t) (project_names t) (overridden_names t) xs) y)
+      beside_project kind other y at (inl (none, (position, told))) = beside_broken kind other y (position, _, told)
+      beside_project Project other y at (inr (text, inr (none, broken))) = beside_broken Project other y broken
+      beside_project (Lock kind) other y at (inr (text, inr (none, broken))) = beside_broken (Lock kind) other y broken
+      beside_project Project other y at (inr (text, inl (u, e, (zs, h, is)))) = subst (λ (z : DocumentReading). All Right (found_beside excused near Project (IsProject t (has_group_tool t) (project_names t) (overridden_names t) xs) z)) (sym is) (All-nil Right)
+      beside_project (Lock kind) other y at (inr (text, inl (u, e, (python, pythons, ys, ms, es, fs, h, required, entered, files, is)))) =
+          subst (λ (z : DocumentReading). All Right (found_beside excused near (Lock kind) (IsProject t (has_group_tool t) (project_names t) (overridden_names t) xs) z)) (sym is) (pair_right excused near file other kind t u known (at, (text, e)) xs ys g h)
 
-  beside_right : (kind : DocumentKind) (file : File) (other : Document) (x y : DocumentReading) → Contains documents (record { kind = kind; file = file }) → Contains documents other → IsDocumentReading (record { kind = kind; file = file }) x
-      → IsDocumentReading other y → All Right (found_beside other.kind x y)
-  beside_right kind file other x y known at (inl (none, (position, told))) r = broken_right other.kind file x y (position, _, told)
-  beside_right Project file other x y known at (inr (text, inr (none, broken))) r = broken_right other.kind file x y broken
-  beside_right (Lock kind) file other x y known at (inr (text, inr (none, broken))) r = broken_right other.kind file x y broken
-  beside_right (Lock kind) file other x y known at (inr (text, inl (t, e, (ys, ms, es, fs, g, h, entered, k, is)))) r = subst (λ (z : DocumentReading). All Right (found_beside other.kind z y)) (sym is) (nothing_of_lock other.kind t.parts ys ms es (fs ++ map (fault_meaning file.name) t.faults) y)
-  beside_right Project file other x y known at (inr (text, inl (t, e, (xs, h, is)))) r =
-      subst (λ (z : DocumentReading). All Right (found_beside other.kind z y)) (sym is) (beside_project file t (known, (text, e)) xs h other.kind other.file y at r)
+    beside_right : (kind : DocumentKind) (file : File) (other : Document) (x y : DocumentReading) → Contains documents (record { kind = kind; file = file }) → Contains documents other → IsDocumentReading (record { kind = kind; file = file }) x
+        → IsDocumentReading other y → All Right (found_beside excused near other.kind x y)
+    beside_right kind file other x y known at (inl (none, (position, told))) r = broken_right other.kind file x y (position, _, told)
+    beside_right Project file other x y known at (inr (text, inr (none, broken))) r = broken_right other.kind file x y broken
+    beside_right (Lock kind) file other x y known at (inr (text, inr (none, broken))) r = broken_right other.kind file x y broken
+    beside_right (Lock kind) file other x y known at (inr (text, inl (t, e, (python, pythons, ys, ms, es, fs, g, h, entered, k, is)))) r = subst (λ (z : DocumentReading). All Right (found_beside excused near other.kind z y)) (sym is) (nothing_of_lock other.kind t.parts python ys ms es (fs ++ map (fault_meaning file.name) t.faults) y)
+    beside_right Project file other x y known at (inr (text, inl (t, e, (xs, h, is)))) r =
+        subst (λ (z : DocumentReading). All Right (found_beside excused near other.kind z y)) (sym is) (beside_project file t (known, (text, e)) xs h other.kind other.file y at r)
 
   -- ---- the hash of a project in a lock
 
@@ -505,13 +522,45 @@ module _ (documents : List Document) where
     stale_right None written = All-nil Right
     stale_right (Some hash) written = stale_hash hash written (is_stale hash t) refl
 
+  one_differs : (a b : Bool) → (if a then not b else b) ≡ true → a ≡ b → ⊥
+  one_differs true true e same = true≢false (sym e)
+  one_differs true false e same = true≢false same
+  one_differs false true e same = true≢false (sym same)
+  one_differs false false e same = true≢false (sym e)
+
+  -- the versions of Python of a project beside those of its lock
+  module _ (file lock : File) (kind : LockKind) (t : Members) (l : LockContents) (known : HasProject documents file t) (has : HasLock documents kind lock l) (near : folder file.name ≡ folder lock.name) (xs : List StringReading) (g : AllZip (IsStringReading (groups t) file) (sources t) xs) (python : Option Segments) (pythons : AreLockedPythons l.parts.python python) where
+    first_right : (own locked : Segments) → project_python xs ≡ Some own → python ≡ Some locked → (found : Option ℕ) → find (is_in_one own locked) python_minors ≡ found → All Right (first_difference lock found)
+    first_right own locked of_project of_lock None found = All-nil Right
+    first_right own locked of_project of_lock (Some k) found = All-cons Right (python_finding lock k) [] (inr (inr (inr (inr (inr (inr (inr (inr (inr (inr (inr (inr (inr (inr (inr (record {
+      file = file;
+      table = t;
+      lock = lock;
+      kind = kind;
+      contents = l;
+      minor = k;
+      own = own;
+      locked = locked;
+      has = known;
+      known = has;
+      beside = near;
+      have = record { readings = xs; read = g; project = of_project; lock = subst (AreLockedPythons l.parts.python) of_lock pythons };
+      differ = one_differs (contains record_cmp own (python_record k)) (contains record_cmp locked (python_record k)) (found_so (is_in_one own locked) python_minors k found);
+      is = refl;
+    })))))))))))))))) (All-nil Right)
+
+    difference_right : (own locked : Option Segments) → project_python xs ≡ own → python ≡ locked → All Right (python_difference lock own locked)
+    difference_right (Some own) (Some locked) of_project of_lock = first_right own locked of_project of_lock (find (is_in_one own locked) python_minors) refl
+    difference_right (Some own) None of_project of_lock = All-nil Right
+    difference_right None locked of_project of_lock = All-nil Right
+
   module _ (file lock : File) (kind : LockKind) (t : Members) (l : LockContents) (known : HasProject documents file t) (has : HasLock documents kind lock l) (near : folder file.name ≡ folder lock.name) (xs : List StringReading) (g : AllZip (IsStringReading (groups t) file) (sources t) xs) (es : List LineMeaning) (h : AllZip (IsRequirementReading lock.name) l.entries es) where
     differences : (b : Bool) → is_plain_for_uv t ≡ b → All Right (if b then differing (project_names t) xs es else [])
     differences true plain =
         let are : AreTogether documents file t lock kind l = record { has = known; known = has; beside = near; plain = plain } in
         differing_right Right (groups t) file lock (project_names t) (sources t) l.entries
         (λ s n within counts requires none. inr (inr (inr (inr (inr (inr (inr (inr (inr (inr (inr (inr (inr (inl (record { file = file; table = t; string = s; needed = n; lock = lock; kind = kind; contents = l; are = are; within = within; counts = counts; requires = requires; none = none; is = refl })))))))))))))))
-        (λ q within none. inr (inr (inr (inr (inr (inr (inr (inr (inr (inr (inr (inr (inr (inr (record { file = file; table = t; lock = lock; kind = kind; contents = l; requirement = q; are = are; within = within; none = none; is = refl })))))))))))))))
+        (λ q within none. inr (inr (inr (inr (inr (inr (inr (inr (inr (inr (inr (inr (inr (inr (inl (record { file = file; table = t; lock = lock; kind = kind; contents = l; requirement = q; are = are; within = within; none = none; is = refl }))))))))))))))))
         xs es g h
     differences false plain = All-nil Right
 
@@ -527,10 +576,12 @@ module _ (documents : List Document) where
     project_fresh Project lock y near at (inr (text, inr (none, broken))) = fresh_broken lock y broken
     project_fresh (Lock kind) lock y near at (inr (text, inr (none, broken))) = fresh_broken lock y broken
     project_fresh Project lock y near at (inr (text, inl (u, e, (zs, h, is)))) = subst (IsRightBeside lock) (sym is) (All-nil Right)
-    project_fresh (Lock kind) lock y near at (inr (text, inl (u, e, (ys, ms, es, fs, h, required, entered, files, is)))) =
+    project_fresh (Lock kind) lock y near at (inr (text, inl (u, e, (python, pythons, ys, ms, es, fs, h, required, entered, files, is)))) =
         subst (IsRightBeside lock) (sym is)
-        (All-append Right (stale_by lock t u.parts.hash) (if is_plain_for_uv t then differing (project_names t) xs es else []) (stale_right file lock kind t u known (at, (text, e)) near u.parts.hash refl)
-        (differences file lock kind t u known (at, (text, e)) near xs g es entered (is_plain_for_uv t) refl))
+        (All-append Right (stale_by lock t u.parts.hash) (python_difference lock (project_python xs) python ++ (if is_plain_for_uv t then differing (project_names t) xs es else [])) (stale_right file lock kind t u known (at, (text, e)) near u.parts.hash refl)
+        (All-append Right (python_difference lock (project_python xs) python) (if is_plain_for_uv t then differing (project_names t) xs es else [])
+        (difference_right file lock kind t u known (at, (text, e)) near xs g python pythons (project_python xs) python refl refl)
+        (differences file lock kind t u known (at, (text, e)) near xs g es entered (is_plain_for_uv t) refl)))
 
   broken_fresh : (lock file : File) (x y : DocumentReading) → IsBrokenReading file x → All Right (stale_beside lock x y)
   broken_fresh lock file x y (position, reason, is) = subst (λ (z : DocumentReading). All Right (stale_beside lock z y)) (sym is) (All-nil Right)
@@ -540,7 +591,7 @@ module _ (documents : List Document) where
   fresh_right kind file other x y near known at (inl (none, (position, told))) r = broken_fresh other.file file x y (position, _, told)
   fresh_right Project file other x y near known at (inr (text, inr (none, broken))) r = broken_fresh other.file file x y broken
   fresh_right (Lock kind) file other x y near known at (inr (text, inr (none, broken))) r = broken_fresh other.file file x y broken
-  fresh_right (Lock kind) file other x y near known at (inr (text, inl (t, e, (ys, ms, es, fs, g, h, entered, k, is)))) r = subst (λ (z : DocumentReading). All Right (stale_beside other.file z y)) (sym is) (All-nil Right)
+  fresh_right (Lock kind) file other x y near known at (inr (text, inl (t, e, (python, pythons, ys, ms, es, fs, g, h, entered, k, is)))) r = subst (λ (z : DocumentReading). All Right (stale_beside other.file z y)) (sym is) (All-nil Right)
   fresh_right Project file other x y near known at (inr (text, inl (t, e, (xs, h, is)))) r =
       subst (λ (z : DocumentReading). All Right (stale_beside other.file z y)) (sym is) (project_fresh file t (known, (text, e)) xs h other.kind other.file y near at r)
 
@@ -562,16 +613,16 @@ module _ (documents : List Document) where
   pub all_right : (xs : List DocumentReading) → AllZip IsDocumentReading documents xs → All Right (documents_report documents xs).findings
   all_right xs h =
       let pairs = zip documents xs in
-      All-append Right (with_own_reports (is_excused xs) empty_report xs).findings (flat_map (beside_all documents pairs) pairs)
+      All-append Right (with_own_reports (is_excused xs) empty_report xs).findings (flat_map (beside_all (is_excused xs) documents pairs) pairs)
       (subst (λ fs. All Right fs) (sym (findings_of (is_excused xs) empty_report xs))
       (all_flat Right (λ x. (own_report (is_excused xs) x).findings) xs
       (zip_each IsDocumentReading (Contains documents) (λ x. All Right (own_report (is_excused xs) x).findings) (λ d x known r. of_document (is_excused xs) d.kind d.file x known r) documents xs (All-contains_itself documents) h)))
-      (all_flat Right (beside_all documents pairs) pairs
-      (pairs_each IsDocumentReading (Contains documents) (λ a. All Right (beside_all documents pairs a))
-      (λ d x known r. all_flat Right (found_in_pair documents (d, x)) pairs
-      (pairs_each IsDocumentReading (Contains documents) (λ b. All Right (found_in_pair documents (d, x) b))
-      (λ e y at s. counted_right (is_beside documents d e) (stale_in_pair (d, x) (e, y) ++ found_beside e.kind x y)
-      (All-append Right (stale_in_pair (d, x) (e, y)) (found_beside e.kind x y) (near_right d e x y known at r s (in_one_folder d e) refl) (beside_right d.kind d.file e x y known at r s)))
+      (all_flat Right (beside_all (is_excused xs) documents pairs) pairs
+      (pairs_each IsDocumentReading (Contains documents) (λ a. All Right (beside_all (is_excused xs) documents pairs a))
+      (λ d x known r. all_flat Right (found_in_pair (is_excused xs) documents (d, x)) pairs
+      (pairs_each IsDocumentReading (Contains documents) (λ b. All Right (found_in_pair (is_excused xs) documents (d, x) b))
+      (λ e y at s. counted_right (is_beside documents d e) (stale_in_pair (d, x) (e, y) ++ found_beside (is_excused xs) (in_one_folder d e) e.kind x y)
+      (All-append Right (stale_in_pair (d, x) (e, y)) (found_beside (is_excused xs) (in_one_folder d e) e.kind x y) (near_right d e x y known at r s (in_one_folder d e) refl) (beside_right (is_excused xs) (in_one_folder d e) d.kind d.file e x y known at r s)))
       documents xs (All-contains_itself documents) h)) documents xs
       (All-contains_itself documents) h))
 
@@ -588,7 +639,7 @@ module _ (documents : List Document) where
   reading_conflicts kind file x known (inl (none, (position, told))) fs cs finds = broken_conflicts file x (position, _, told) fs cs finds
   reading_conflicts Project file x known (inr (text, inr (none, broken))) fs cs finds = broken_conflicts file x broken fs cs finds
   reading_conflicts (Lock kind) file x known (inr (text, inr (none, broken))) fs cs finds = broken_conflicts file x broken fs cs finds
-  reading_conflicts (Lock kind) file x known (inr (text, inl (t, e, (ys, ms, es, files, g, h, entered, k, is)))) fs cs finds = none_found fs (subst (λ (z : DocumentReading). FindsOfReading z fs cs) is finds).0
+  reading_conflicts (Lock kind) file x known (inr (text, inl (t, e, (python, pythons, ys, ms, es, files, g, h, entered, k, is)))) fs cs finds = none_found fs (subst (λ (z : DocumentReading). FindsOfReading z fs cs) is finds).0
   reading_conflicts Project file x known (inr (text, inl (t, e, (xs, h, is)))) fs cs finds =
       conflicts_hold (IsDocumentFinding documents) file t
       (λ part f right. inr (inr (inr (inr (inr (inl (record { file = file; table = t; part = part; has = (known, (text, e)); right = right }))))))) xs h fs cs (subst (λ (z : DocumentReading). FindsOfReading z fs cs) is finds)
@@ -610,7 +661,7 @@ sound_document (Lock kind) file x (inr (text, inr (none, broken))) = sound_broke
 sound_document Project file x (inr (text, inl (t, e, (xs, h, is)))) =
     subst (λ (y : DocumentReading). IsSoundDocument y) (sym is)
     (zip_each (IsStringReading (groups t) file) (Contains (sources t)) IsSoundString (λ s z known r. sound_string (groups t) file s z r) (sources t) xs (All-contains_itself (sources t)) h)
-sound_document (Lock kind) file x (inr (text, inl (l, e, (ys, ms, es, fs, g, h, entered, k, is)))) = subst (λ (y : DocumentReading). IsSoundDocument y) (sym is) tt
+sound_document (Lock kind) file x (inr (text, inl (l, e, (python, pythons, ys, ms, es, fs, g, h, entered, k, is)))) = subst (λ (y : DocumentReading). IsSoundDocument y) (sym is) tt
 
 pub sound_documents : (documents : List Document) (xs : List DocumentReading) → AllZip IsDocumentReading documents xs → All IsSoundDocument xs
 sound_documents documents xs h = zip_each IsDocumentReading (Contains documents) IsSoundDocument (λ d x known r. sound_document d.kind d.file x r) documents xs (All-contains_itself documents) h

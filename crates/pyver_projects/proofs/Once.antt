@@ -1,9 +1,9 @@
 -- Documents that are read have one report; and what a lock says that its project requires, beside that project: what is found is right, and where nothing is
 -- found each has the other's.
-use Rattle.std.proofs.Common.{Bool, ◌≡◌, ◌∙◌, ℕ, ◌+◌, List, [], ◌∷◌, ◌++◌, ◌||◌, Option, Some, None, false, if◌then◌else◌, length, map, refl, sym, ap, subst, true, inl, inr, Err, Ok, Result, bytes_eq, is_some, nat_lt, not, option_map, zero, arith, ◌&&◌}
+use Rattle.std.proofs.Common.{Bool, ◌≡◌, ◌∙◌, ℕ, ◌+◌, List, [], ◌∷◌, ◌++◌, ◌||◌, Option, Some, None, false, if◌then◌else◌, length, map, refl, sym, ap, subst, true, inl, inr, Err, Ok, Result, bytes_eq, is_some, nat_lt, option_map, ◌&&◌}
 use Rattle.std.proofs.lemmas.Bool.{true≢false}
 use Rattle.std.proofs.lemmas.List.{map-append}
-use Rattle.std.proofs.lemmas.List.Elements.{All-contains_itself, All-append, All-cons, All-head, All-nil, All-tail}
+use Rattle.std.proofs.lemmas.List.Elements.{All-contains_itself, All-append, All-cons, All-nil}
 use Rattle.std.specs.List.{Contains, list_any, All, AllZip, flat_map}
 use Rattle.pep440_pick.specs.Names.{normal, same_name}
 use Rattle.pep440_rs.proofs.Reading.OneMeaning.{not_both_list, one_list, one_list_refusal}
@@ -24,12 +24,12 @@ use Rattle.pyver_findings.specs.LineMeanings.{Asks, IsNone, LineMeaning, list_me
 use Rattle.pyver_requirements.specs.LineParts.{line_parts, LineParts}
 use Rattle.toml.specs.Data.{Members}
 use Rattle.pyver_projects.proofs.Walks.{zip_once, all_flat, beside_it, beside_some, left_false, left_nil, nil_at, right_false, right_nil, zip_each}
-use Rattle.pyver_projects.specs.Comparing.{FindsOfReading, documents_report, with_found, differing, is_in_lock, is_in_project, is_locked, is_same_requirement, locked_demands, same_list, unentered, unentered_in, unentered_reason, unmatched, unrequired, unrequired_in, unrequired_reason}
+use Rattle.pyver_projects.specs.Comparing.{FindsOfReading, documents_report, with_found, differing, is_in_lock, is_in_project, is_same_requirement, same_list, unentered, unentered_in, unentered_reason, unmatched, unrequired, unrequired_in, unrequired_reason}
 use Rattle.pyver_projects.specs.Documents.{has_group_tool, overridden_names, project_names, sources}
-use Rattle.pyver_projects.specs.Meanings.{Groups, groups, inclusions, ArePythons, left_out_if_none, DocumentReading, IsBroken, IsConditionReading, IsDocumentReading, IsFileReading, IsLock, IsLockReading, IsLockedReading, IsProject, IsProjectReading, IsRequirementReading, reference_marker, IsSectionMeaning, IsStringReading, IsVersionReading, LockedReading, StringReading, fault_meaning, file_meaning, is_of_version, package_line, requirement_line, string_line, list_versions, no_group}
+use Rattle.pyver_projects.specs.Meanings.{Groups, groups, inclusions, AreLockedPythons, ArePythons, AreVersions, IsFilledMeaning, left_out_if_none, DocumentReading, IsBroken, IsConditionReading, IsDocumentReading, IsFileReading, IsLock, IsLockReading, IsLockedReading, IsProject, IsProjectReading, IsRequirementReading, reference_marker, IsSectionMeaning, IsStringReading, IsVersionReading, LockedReading, StringReading, fault_meaning, file_meaning, is_of_version, package_line, requirement_line, string_line, list_versions, no_group}
 use Rattle.pyver_projects.specs.KnownEnvironments.{ReadCondition}
 use Rattle.pyver_projects.specs.ProjectLaws.{DocumentReportsOnce, IsReadable, IsReadableAs, IsEntryFor, IsOtherString, Requires}
-use Rattle.pyver_projects.specs.ProjectStrings.{Build, Dependencies, Entry, Extra, Group, Include, Invalid, LockContents, LockedFile, LockedPackage, LockedRequirement, PackageCondition, Section, Python, ProjectString, Unread, Version}
+use Rattle.pyver_projects.specs.ProjectStrings.{Build, Constraint, Dependencies, Entry, Environment, Extra, Group, Include, Invalid, LockContents, LockedFile, LockedPackage, LockedRequirement, PackageCondition, Section, Python, ProjectString, Unread, Version}
 use Rattle.pyver_projects.specs.declared.document_kind.DocumentKind.{DocumentKind}
 use Rattle.pyver_projects.specs.declared.document_kind.DocumentKind.TheVariants.{Lock, Project}
 use Rattle.pyver_findings.proofs.MarkedConflicts.{IsOnce, IsTold, each_once, each_told, names_once, names_tell, no_causes}
@@ -37,11 +37,18 @@ use Rattle.pyver_findings.specs.FindingLaws.{IsUndecided, without_environment, w
 use Rattle.pyver_findings.specs.MarkedConflicts.{FindsOfEach}
 use Rattle.pyver_findings.specs.Reports.{Report, demands_in}
 use Rattle.pyver_findings.specs.declared.cause.Cause.{Cause}
-use Rattle.pyver_projects.specs.Together.{FindsOfPart, part_demands, parts, project_domain, same_finding, sections, with_new}
+use Rattle.pyver_projects.specs.Together.{FindsOfPart, is_standard, part_demands, parts, project_domain, same_finding, sections, with_new}
 use Rattle.pep440_pick.specs.RequirementGrammar.{DerivesRequirement, Needed}
 use Rattle.pyver_requirements.specs.MarkerReading.{marker as read_marker}
 use Rattle.pyver_requirements.specs.MarkerSteps.{Misfit}
 use Rattle.pyver_findings.specs.declared.cause.Cause.TheVariants as cause
+use Rattle.pyver_projects.specs.declared.project.EntryTool.TheVariants as of_entries
+
+one_filled : (line : FileLine) (text : List ℕ) (x y : LineMeaning) → IsFilledMeaning line text x → IsFilledMeaning line text y → x ≡ y
+one_filled line text x y (inl (has, a)) (inl (also, b)) = a ∙ sym b
+one_filled line text x y (inl (has, a)) (inr (lacks, b)) = absurd (true≢false (sym has ∙ lacks))
+one_filled line text x y (inr (lacks, a)) (inl (has, b)) = absurd (true≢false (sym has ∙ lacks))
+one_filled line text x y (inr (lacks, a)) (inr (also, b)) = one_parts line (line_parts line.text) x y a b
 
 one_meaning : (all : Groups) (line : FileLine) (text : List ℕ) (section : Section) (x y : LineMeaning) → IsSectionMeaning all section line text x → IsSectionMeaning all section line text y → x ≡ y
 one_meaning all line text Dependencies x y a b = one_parts line (line_parts line.text) x y a b
@@ -49,8 +56,11 @@ one_meaning all line text (Extra name) x y a b = one_parts line (line_parts line
 one_meaning all line text (Group name) x y a b = one_parts line (line_parts line.text) x y a b
 one_meaning all line text (Include group included) x y a b = a ∙ sym b
 one_meaning all line text (Invalid table reason) x y a b = a ∙ sym b
-one_meaning all line text (Entry table name) x y (m, a, v) (n, b, w) = v ∙ ap left_out_if_none (one_parts line (line_parts line.text) m n a b) ∙ sym w
+one_meaning all line text (Entry of_entries.Poetry table name) x y (m, a, v) (n, b, w) = v ∙ ap left_out_if_none (one_parts line (line_parts line.text) m n a b) ∙ sym w
+one_meaning all line text (Entry of_entries.Pipenv table name) x y a b = one_parts line (line_parts line.text) x y a b
 one_meaning all line text (Unread c) x y a b = a ∙ sym b
+one_meaning all line text Constraint x y a b = one_parts line (line_parts line.text) x y a b
+one_meaning all line text (Environment table) x y a b = one_filled line text x y a b
 one_meaning all line text Build x y a b = one_parts line (line_parts line.text) x y a b
 one_meaning all line text Python x y (inl (l, d, a)) (inl (m, e, b)) = a ∙ ap (list_meaning line) (one_list text l m d e) ∙ sym b
 one_meaning all line text Python x y (inl (l, d, a)) (inr (f, r, b)) = absurd (not_both_list text l f d r)
@@ -61,19 +71,29 @@ one_meaning all line text Version x y (inl (l, d, a)) (inr (f, r, b)) = absurd (
 one_meaning all line text Version x y (inr (f, r, a)) (inl (l, d, b)) = absurd (not_both text l f d r)
 one_meaning all line text Version x y (inr (f, r, a)) (inr (g, s, b)) = a ∙ ap (λ (h : Rejection). IsNone (NoRequirement line (rejection_text h) 0)) (one_refusal text f g r s) ∙ sym b
 
+one_set : (text : List ℕ) (p q : Option Segments) → AreVersions text p → AreVersions text q → p ≡ q
+one_set text p q (inl (l, d, a)) (inl (m, e, b)) = a ∙ ap list_versions (one_list text l m d e) ∙ sym b
+one_set text p q (inl (l, d, a)) (inr (f, r, b)) = absurd (not_both_list text l f d r)
+one_set text p q (inr (f, r, a)) (inl (l, d, b)) = absurd (not_both_list text l f d r)
+one_set text p q (inr (f, r, a)) (inr (g, s, b)) = a ∙ sym b
+
+-- a lock is for one set of versions of Python
+pub one_locked_set : (text : Option (List ℕ)) (p q : Option Segments) → AreLockedPythons text p → AreLockedPythons text q → p ≡ q
+one_locked_set None p q a b = a ∙ sym b
+one_locked_set (Some text) p q a b = one_set text p q a b
+
 one_python : (section : Section) (text : List ℕ) (p q : Option Segments) → ArePythons section text p → ArePythons section text q → p ≡ q
-one_python Python text p q (inl (l, d, a)) (inl (m, e, b)) = a ∙ ap list_versions (one_list text l m d e) ∙ sym b
-one_python Python text p q (inl (l, d, a)) (inr (f, r, b)) = absurd (not_both_list text l f d r)
-one_python Python text p q (inr (f, r, a)) (inl (l, d, b)) = absurd (not_both_list text l f d r)
-one_python Python text p q (inr (f, r, a)) (inr (g, s, b)) = a ∙ sym b
+one_python Python text p q a b = one_set text p q a b
 one_python Version text p q a b = a ∙ sym b
 one_python Dependencies text p q a b = a ∙ sym b
 one_python (Extra name) text p q a b = a ∙ sym b
 one_python (Group name) text p q a b = a ∙ sym b
 one_python (Include group included) text p q a b = a ∙ sym b
 one_python (Invalid table reason) text p q a b = a ∙ sym b
-one_python (Entry table name) text p q a b = a ∙ sym b
+one_python (Entry tool table name) text p q a b = a ∙ sym b
 one_python (Unread c) text p q a b = a ∙ sym b
+one_python Constraint text p q a b = a ∙ sym b
+one_python (Environment table) text p q a b = a ∙ sym b
 one_python Build text p q a b = a ∙ sym b
 
 pub one_string : (all : Groups) (file : File) (s : ProjectString) (x y : StringReading) → IsStringReading all file s x → IsStringReading all file s y → x ≡ y
@@ -125,12 +145,13 @@ one_file file f x y (inr (inr (j, k), a)) (inl (r, q, d, e, b)) = absurd (not_bo
 one_file file f x y (inr (none, a)) (inr (other, b)) = a ∙ sym b
 
 one_lock : (file : List ℕ) (l : LockContents) (x y : DocumentReading) → IsLockReading file l x → IsLockReading file l y → x ≡ y
-one_lock file l x y (ys, ms, es, fs, g, h, n, i, a) (zs, ns, ds, gs, j, k, o, m, b) =
+one_lock file l x y (p, c, ys, ms, es, fs, g, h, n, i, a) (q, d, zs, ns, ds, gs, j, k, o, m, b) =
+    let pythons = one_locked_set l.parts.python p q c d in
     let packages = zip_once (IsLockedReading file) (Contains l.packages) (λ p v w known q r. one_package file p v w q r) l.packages ys zs (All-contains_itself l.packages) g j in
     let requirements = zip_once (IsRequirementReading file) (Contains l.requirements) (λ p v w known q r. one_requirement file p v w q r) l.requirements ms ns (All-contains_itself l.requirements) h k in
     let entries = zip_once (IsRequirementReading file) (Contains l.entries) (λ p v w known q r. one_requirement file p v w q r) l.entries es ds (All-contains_itself l.entries) n o in
     let files = zip_once (IsFileReading file) (Contains l.files) (λ p v w known q r. one_file file p v w q r) l.files fs gs (All-contains_itself l.files) i m in
-    a ∙ (λ n. IsLock l.parts (packages n) (requirements n) (entries n) (files n ++ map (fault_meaning file) l.faults)) ∙ sym b
+    a ∙ (λ n. IsLock l.parts (pythons n) (packages n) (requirements n) (entries n) (files n ++ map (fault_meaning file) l.faults)) ∙ sym b
 
 pub one_document : (kind : DocumentKind) (file : File) (x y : DocumentReading) → IsReadableAs kind file → IsDocumentReading (record { kind = kind; file = file }) x → IsDocumentReading (record { kind = kind; file = file }) y → x ≡ y
 one_document Project file x y (t, (text, e)) (inl (none, a)) b = absurd (none text)
@@ -152,12 +173,12 @@ one_document (Lock kind) file x y (ps, (text, e)) (inr (u, inl (ms, f, a))) (inr
 
 -- ---- requirements that have no version in common
 
-part_told : (together : Bool) (xs : List StringReading) (part : Section) (fs : List Finding) (cs : List Cause) → FindsOfPart together xs part fs cs → IsTold cs
-part_told together xs part fs cs finds = names_tell (project_domain xs) (part_demands together (inclusions (sections xs)) part xs) fs cs finds
+part_told : (together : Bool) (overridden : List (List ℕ)) (xs : List StringReading) (part : Section) (fs : List Finding) (cs : List Cause) → FindsOfPart together overridden xs part fs cs → IsTold cs
+part_told together overridden xs part fs cs finds = names_tell (project_domain xs) (part_demands together overridden (inclusions (sections xs)) part xs) fs cs finds
 
 reading_told : (x : DocumentReading) (fs : List Finding) (cs : List Cause) → FindsOfReading x fs cs → IsTold cs
-reading_told (IsProject t together names overridden xs) fs cs (found, finds, is) = each_told (FindsOfPart together xs) (part_told together xs) (parts xs) found cs finds
-reading_told (IsLock parts ys ms es files) fs cs (is, also) = inl also
+reading_told (IsProject t together names overridden xs) fs cs (found, finds, is) = each_told (FindsOfPart together overridden xs) (part_told together overridden xs) (parts xs) found cs finds
+reading_told (IsLock parts python ys ms es files) fs cs (is, also) = inl also
 reading_told (IsBroken f) fs cs (is, also) = inl also
 
 alike : (f g : Finding) → same_finding f g ≡ same_finding (without_environment f) (without_environment g)
@@ -186,9 +207,9 @@ new_alike found (f ∷ fs) =
 reading_once : (x : DocumentReading) → IsOnce (FindsOfReading x)
 reading_once (IsProject t together names overridden xs) fs gs (found, finds, is) (others, also, so) =
     ap (map without_environment) is ∙ new_alike [] found
-    ∙ ap (with_new same_finding []) (each_once (FindsOfPart together xs) (λ part. names_once (project_domain xs) (part_demands together (inclusions (sections xs)) part xs)) (parts xs) found others finds also)
+    ∙ ap (with_new same_finding []) (each_once (FindsOfPart together overridden xs) (λ part. names_once (project_domain xs) (part_demands together overridden (inclusions (sections xs)) part xs)) (parts xs) found others finds also)
     ∙ sym (new_alike [] others) ∙ ap (map without_environment) (sym so)
-reading_once (IsLock parts ys ms es files) fs gs (is, _) (so, _) = ap (map without_environment) (is ∙ sym so)
+reading_once (IsLock parts python ys ms es files) fs gs (is, _) (so, _) = ap (map without_environment) (is ∙ sym so)
 reading_once (IsBroken f) fs gs (is, _) (so, _) = ap (map without_environment) (is ∙ sym so)
 
 in_report : (a r : Report) (fs : List Finding) (cs : List Cause) → r ≡ with_found a fs cs → Contains (a.left_out ++ cs) cause.Undecided → IsUndecided r
@@ -267,6 +288,10 @@ of_entry line a (IsNone f) is e = cc e
 of_entry line a (LeftOut c) is e = cc e
 of_entry line a AsksNothing is e = cc e
 
+of_filled : (line : FileLine) (text : List ℕ) (a : Demand) → IsFilledMeaning line text (Asks a) → AsksFor line (line_parts line.text) a
+of_filled line text a (inl (has, is)) = cc is
+of_filled line text a (inr (lacks, is)) = of_parts line (line_parts line.text) a is
+
 -- what a string asks for
 pub of_section : (all : Groups) (line : FileLine) (text : List ℕ) (a : Demand) (section : Section) → IsSectionMeaning all section line text (Asks a) → AsksFor line (line_parts line.text) a
 of_section all line text a Python (inl (list, d, e)) = absurd (never_asks a _ _ e)
@@ -278,8 +303,11 @@ of_section all line text a (Extra name) is = of_parts line (line_parts line.text
 of_section all line text a (Group name) is = of_parts line (line_parts line.text) a is
 of_section all line text a (Include group included) is = absurd (no_include a line _ _ _ _ is)
 of_section all line text a (Invalid table reason) is = cc is
-of_section all line text a (Entry table name) (m, is, e) = of_entry line a m is e
+of_section all line text a (Entry of_entries.Poetry table name) (m, is, e) = of_entry line a m is e
+of_section all line text a (Entry of_entries.Pipenv table name) is = of_parts line (line_parts line.text) a is
 of_section all line text a (Unread c) is = cc is
+of_section all line text a Constraint is = of_parts line (line_parts line.text) a is
+of_section all line text a (Environment table) is = of_filled line text a is
 of_section all line text a Build is = of_parts line (line_parts line.text) a is
 
 module _ (line : FileLine) (n : Needed) (plain : IsPlain (line_parts line.text).requirement) (d : DerivesRequirement (line_parts line.text).requirement n) (url : (line_parts line.text).url ≡ None) (m : Option (List ℕ)) where
@@ -304,13 +332,15 @@ module _ (line : FileLine) (n : Needed) (plain : IsPlain (line_parts line.text).
   asks_by x has is = one_parts line (line_parts line.text) x asked is (means has)
 
   -- a requirement asks for it
-  asks : (all : Groups) (text : List ℕ) (section : Section) (x : LineMeaning) → HasMarker (line_parts line.text) m → is_locked section ≡ true → IsSectionMeaning all section line text x → x ≡ asked
+  asks : (all : Groups) (text : List ℕ) (section : Section) (x : LineMeaning) → HasMarker (line_parts line.text) m → is_standard section ≡ true → IsSectionMeaning all section line text x → x ≡ asked
   asks all text Dependencies x has counts is = asks_by x has is
   asks all text (Extra name) x has counts is = asks_by x has is
   asks all text (Group name) x has counts is = asks_by x has is
   asks all text (Include group included) x has counts is = cc counts
   asks all text (Invalid table reason) x has counts is = cc counts
-  asks all text (Entry table name) x has counts (k, is, e) = e ∙ ap left_out_if_none (asks_by k has is)
+  asks all text (Entry tool table name) x has counts is = cc counts
+  asks all text Constraint x has counts is = cc counts
+  asks all text (Environment table) x has counts is = cc counts
   asks all text (Unread c) x has counts is = cc counts
   asks all text Build x has counts is = cc counts
   asks all text Python x has counts is = cc counts
@@ -375,7 +405,7 @@ module _ (lock : List ℕ) (q : LockedRequirement) (list : List Spec) (read : De
   other_string s x (same, is, python) e counts n (plain, d, (m, has), url) (l, other, so) =
       let line = string_line file s in
       true≢false (sym so ∙ ap (is_of lock q n) (one_list q.list l list other read) ∙ sym (same_so lock q line m n list)
-      ∙ sym (in_project (is_locked x.section) x.meaning (line_demand line m n) (ap is_locked same ∙ counts) (asks line n plain d url m all s.text s.section x.meaning has counts is)) ∙ e)
+      ∙ sym (in_project (is_standard x.section) x.meaning (line_demand line m n) (ap is_standard same ∙ counts) (asks line n plain d url m all s.text s.section x.meaning has counts is)) ∙ e)
 
   other_strings : (ss : List ProjectString) (xs : List StringReading) → AllZip (IsStringReading all file) ss xs → list_any (is_in_project here) xs ≡ false → All (IsOtherString q) ss
   other_strings [] [] h e = All-nil (IsOtherString q)
@@ -387,9 +417,9 @@ module _ (lock : List ℕ) (q : LockedRequirement) (list : List Spec) (read : De
 
   -- a string asks for it
   abbrev pub IsSome : ProjectString → Type 0
-  IsSome s = (n : Needed) × (is_locked s.section ≡ true) × Requires s n × IsEntryFor n q
+  IsSome s = (n : Needed) × (is_standard s.section ≡ true) × Requires s n × IsEntryFor n q
 
-  some_by : (s : ProjectString) (b : Bool) (x : LineMeaning) → is_locked s.section ≡ b → IsSectionMeaning all s.section (string_line file s) s.text x → list_any (λ (c : Demand). is_same_requirement c here) (if b then demands_in x else []) ≡ true → IsSome s
+  some_by : (s : ProjectString) (b : Bool) (x : LineMeaning) → is_standard s.section ≡ b → IsSectionMeaning all s.section (string_line file s) s.text x → list_any (λ (c : Demand). is_same_requirement c here) (if b then demands_in x else []) ≡ true → IsSome s
   some_by s true (Asks a) counts is e =
       let line = string_line file s in
       let k : AsksFor line (line_parts line.text) a = of_section all line s.text a s.section is in
@@ -403,12 +433,12 @@ module _ (lock : List ℕ) (q : LockedRequirement) (list : List Spec) (read : De
 
   some_string : (s : ProjectString) (x : StringReading) → IsStringReading all file s x → is_in_project here x ≡ true → IsSome s
   some_string s x (same, is, python) e =
-      some_by s (is_locked s.section) x.meaning refl is (subst (λ section. list_any (λ (c : Demand). is_same_requirement c here) (if is_locked section then demands_in x.meaning else []) ≡ true) same e)
+      some_by s (is_standard s.section) x.meaning refl is (subst (λ section. list_any (λ (c : Demand). is_same_requirement c here) (if is_standard section then demands_in x.meaning else []) ≡ true) same e)
 
 -- ---- findings
 
 module _ (Right : Finding → Type 0) (all : Groups) (file lock : File) (names : List (List ℕ)) (ss : List ProjectString) (qs : List LockedRequirement) where
-  module _ (entered : (s : ProjectString) (n : Needed) → Contains ss s → is_locked s.section ≡ true → Requires s n → All (λ q. ¬ IsEntryFor n q) qs → Right (NoRequirement (string_line file s) unentered_reason 0)) (xs : List LineMeaning) (h : AllZip (IsRequirementReading lock.name) qs xs) (s : ProjectString) (known : Contains ss s) (counts : is_locked s.section ≡ true) where
+  module _ (entered : (s : ProjectString) (n : Needed) → Contains ss s → is_standard s.section ≡ true → Requires s n → All (λ q. ¬ IsEntryFor n q) qs → Right (NoRequirement (string_line file s) unentered_reason 0)) (xs : List LineMeaning) (h : AllZip (IsRequirementReading lock.name) qs xs) (s : ProjectString) (known : Contains ss s) (counts : is_standard s.section ≡ true) where
     of_needed : (m : Option (List ℕ)) (n : Needed) → Requires s n → (b c : Bool) → list_any (is_in_lock (line_demand (string_line file s) m n)) xs ≡ c → All Right (if b then [] else (if c then [] else unmatched unentered_reason (line_demand (string_line file s) m n) ∷ []))
     of_needed m n requires true c e = All-nil Right
     of_needed m n requires false true e = All-nil Right
@@ -426,14 +456,14 @@ module _ (Right : Finding → Type 0) (all : Groups) (file lock : File) (names :
     of_meaning (LeftOut c) is = All-nil Right
     of_meaning AsksNothing is = All-nil Right
 
-  module _ (entered : (s : ProjectString) (n : Needed) → Contains ss s → is_locked s.section ≡ true → Requires s n → All (λ q. ¬ IsEntryFor n q) qs → Right (NoRequirement (string_line file s) unentered_reason 0)) (xs : List LineMeaning) (h : AllZip (IsRequirementReading lock.name) qs xs) where
-    by_section : (s : ProjectString) (x : LineMeaning) (b : Bool) → Contains ss s → is_locked s.section ≡ b → IsSectionMeaning all s.section (string_line file s) s.text x → All Right (flat_map (unentered names xs) (if b then demands_in x else []))
+  module _ (entered : (s : ProjectString) (n : Needed) → Contains ss s → is_standard s.section ≡ true → Requires s n → All (λ q. ¬ IsEntryFor n q) qs → Right (NoRequirement (string_line file s) unentered_reason 0)) (xs : List LineMeaning) (h : AllZip (IsRequirementReading lock.name) qs xs) where
+    by_section : (s : ProjectString) (x : LineMeaning) (b : Bool) → Contains ss s → is_standard s.section ≡ b → IsSectionMeaning all s.section (string_line file s) s.text x → All Right (flat_map (unentered names xs) (if b then demands_in x else []))
     by_section s x true known counts is = of_meaning entered xs h s known counts x is
     by_section s x false known counts is = All-nil Right
 
     of_string : (s : ProjectString) (x : StringReading) → Contains ss s → IsStringReading all file s x → All Right (unentered_in names xs x)
     of_string s x known (same, is, python) =
-        subst (λ section. All Right (flat_map (unentered names xs) (if is_locked section then demands_in x.meaning else []))) (sym same) (by_section s x.meaning (is_locked s.section) known refl is)
+        subst (λ section. All Right (flat_map (unentered names xs) (if is_standard section then demands_in x.meaning else []))) (sym same) (by_section s x.meaning (is_standard s.section) known refl is)
 
   module _ (required : (q : LockedRequirement) → Contains qs q → All (IsOtherString q) ss → Right (NoRequirement (requirement_line lock.name q) unrequired_reason 0)) (zs : List StringReading) (g : AllZip (IsStringReading all file) ss zs) where
     of_list : (q : LockedRequirement) (list : List Spec) (b c : Bool) → Contains qs q → DerivesList q.list list → list_any (is_in_project (entry_demand lock.name q list)) zs ≡ c → All Right (if b then [] else (if c then [] else unmatched unrequired_reason (entry_demand lock.name q list) ∷ []))
@@ -448,7 +478,7 @@ module _ (Right : Finding → Type 0) (all : Groups) (file lock : File) (names :
         (of_list q list (list_any (bytes_eq (normal q.name)) names || is_some (reference_marker q.is_reference)) (list_any (is_in_project (entry_demand lock.name q list)) zs) known d refl) (All-nil Right))
     of_item q x known (inr (f, r, is)) = subst (λ (y : LineMeaning). All Right (unrequired_in names zs y)) (sym is) (All-nil Right)
 
-  module _ (entered : (s : ProjectString) (n : Needed) → Contains ss s → is_locked s.section ≡ true → Requires s n → All (λ q. ¬ IsEntryFor n q) qs → Right (NoRequirement (string_line file s) unentered_reason 0)) (required : (q : LockedRequirement) → Contains qs q → All (IsOtherString q) ss → Right (NoRequirement (requirement_line lock.name q) unrequired_reason 0)) where
+  module _ (entered : (s : ProjectString) (n : Needed) → Contains ss s → is_standard s.section ≡ true → Requires s n → All (λ q. ¬ IsEntryFor n q) qs → Right (NoRequirement (string_line file s) unentered_reason 0)) (required : (q : LockedRequirement) → Contains qs q → All (IsOtherString q) ss → Right (NoRequirement (requirement_line lock.name q) unrequired_reason 0)) where
     -- what is found is right
     pub differing_right : (zs : List StringReading) (xs : List LineMeaning) → AllZip (IsStringReading all file) ss zs → AllZip (IsRequirementReading lock.name) qs xs → All Right (differing names zs xs)
     differing_right zs [] g h = All-nil Right
@@ -479,13 +509,13 @@ module _ (all : Groups) (file lock : File) (names : List (List ℕ)) (ss : List 
 
   module _ (xs : List LineMeaning) (h : AllZip (IsRequirementReading lock.name) qs xs) (found : differing names zs xs ≡ []) where
     -- the requirement of a string is there
-    pub entered : (s : ProjectString) (n : Needed) → Contains ss s → nat_lt 0 (length qs) ≡ true → is_locked s.section ≡ true → Requires s n → list_any (bytes_eq (normal n.name)) names ≡ false → (q : LockedRequirement) × Contains qs q × IsEntryFor n q
+    pub entered : (s : ProjectString) (n : Needed) → Contains ss s → nat_lt 0 (length qs) ≡ true → is_standard s.section ≡ true → Requires s n → list_any (bytes_eq (normal n.name)) names ≡ false → (q : LockedRequirement) × Contains qs q × IsEntryFor n q
     entered s n (i, within, here) some counts (plain, d, (m, has), url) other =
         let line = string_line file s in
         let (z, (c, in_z, is_z), (same, is, python)) = beside_it (IsStringReading all file) ss zs s i within here g in
-        let nothing : flat_map (unentered names xs) (if is_locked z.section then demands_in z.meaning else []) ≡ [] = nil_at (unentered_in names xs) zs z c in_z is_z (some_there xs h found some) in
+        let nothing : flat_map (unentered names xs) (if is_standard z.section then demands_in z.meaning else []) ≡ [] = nil_at (unentered_in names xs) zs z c in_z is_z (some_there xs h found some) in
         let asked : z.meaning ≡ Asks (line_demand line m n) = asks line n plain d url m all s.text s.section z.meaning has counts is in
-        let locked : is_locked z.section ≡ true = ap is_locked same ∙ counts in
+        let locked : is_standard z.section ≡ true = ap is_standard same ∙ counts in
         let one : unentered names xs (line_demand line m n) ++ [] ≡ [] = (λ k. flat_map (unentered names xs) (if sym locked k then demands_in (sym asked k) else [])) ∙ nothing in
         let is_there = none_of_two (list_any (bytes_eq (normal n.name)) names) (list_any (is_in_lock (line_demand line m n)) xs) (unmatched unentered_reason (line_demand line m n)) other (left_nil (unentered names xs (line_demand line m n)) [] one) in
         let (q, x, known, r, passes) = beside_some (IsRequirementReading lock.name) (is_in_lock (line_demand line m n)) qs xs h is_there in
@@ -497,7 +527,7 @@ module _ (all : Groups) (file lock : File) (names : List (List ℕ)) (ss : List 
 
     -- what is there a string requires
     pub required : (q : LockedRequirement) (list : List Spec) → Contains qs q → DerivesList q.list list → q.is_reference ≡ false → list_any (bytes_eq (normal q.name)) names ≡ false
-        → (s : ProjectString) × (n : Needed) × Contains ss s × (is_locked s.section ≡ true) × Requires s n × IsEntryFor n q
+        → (s : ProjectString) × (n : Needed) × Contains ss s × (is_standard s.section ≡ true) × Requires s n × IsEntryFor n q
     required q list (i, within, at) d plain other =
         let (x, (c, in_x, is_x), r) = beside_it (IsRequirementReading lock.name) qs xs q i within at h in
         let nothing : unrequired_in names zs x ≡ [] = nil_at (unrequired_in names zs) xs x c in_x is_x (nothing_unrequired xs found) in

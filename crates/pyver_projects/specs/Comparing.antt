@@ -1,9 +1,12 @@
--- What is found in documents: in each by itself, and in each project beside each lock.
-use Rattle.std.specs.Prelude.{ℕ, ◌≡◌, ◌||◌, ◌&&◌, List, [], ◌∷◌, ◌++◌, Bool, true, false, Option, Some, None, bytes_eq, codes, is_none, is_some, length, nat_lt, not, if◌then◌else◌}
-use Rattle.std.specs.List.{AllZip, filter, find, flat_map, list_all, list_any, zip}
+-- What is found in documents: in each by itself, in each project beside each lock, and in each export of a lock beside locks.
+use Rattle.std.specs.Prelude.{ℕ, ◌≡◌, ◌||◌, ◌&&◌, List, [], ◌∷◌, ◌++◌, Bool, true, false, Option, Some, None, bytes_eq, codes, is_none, is_some, length, nat_lt, not, if◌then◌else◌, map}
+use Rattle.std.specs.List.{AllZip, filter, find, flat_map, list_all, list_any, zip, All}
 use Rattle.std.specs.Ordering.{eq_by_cmp}
+use Rattle.pep440_ranges.specs.RangeSegments.{contains}
+use Rattle.pep440_rs.specs.Bounds.{Segments}
 use Rattle.pep440_rs.specs.LiteralMatching.{list_matches_literally}
 use Rattle.pep440_rs.specs.Specifiers.{Spec, spec_cmp}
+use Rattle.pep440_version.specs.Key.{record_cmp}
 use Rattle.pep440_version.specs.Record.{Record}
 use Rattle.pyver_findings.specs.Demands.{Demand}
 use Rattle.pyver_findings.specs.FileLines.{Conflicting, File, FileLine, Finding, NoRequirement}
@@ -12,20 +15,25 @@ use Rattle.pyver_findings.specs.MarkedConflicts.{FindsNothing, FindsOfEach}
 use Rattle.pyver_findings.specs.Reports.{Report, demands_in, empty_report, invalid_in, joined_report, left_out_in}
 use Rattle.pyver_findings.specs.declared.cause.Cause.{Cause}
 use Rattle.pyver_findings.specs.declared.finding.Conflict.TheVariants.{PinOutside}
-use Rattle.pyver_projects.specs.KnownEnvironments.{environment_name, is_left_out_in, known_environments}
+use Rattle.pyver_findings.specs.Exports.{AreDemandsOf, is_export, is_of_uv_lock}
+use Rattle.pyver_findings.specs.Views.{demand_of, file_of}
+use Rattle.pyver_projects.specs.declared.export_comparison.Export.{Export as ExportValue}
+use Rattle.pyver_projects.specs.KnownEnvironments.{environment_name, is_left_out_in, known_environments, python_record, python_text}
 use Rattle.pyver_projects.specs.Meanings.{Document, DocumentReading, IsBroken, IsDocumentReading, IsLock, IsProject, LockedReading, StringReading}
-use Rattle.pyver_projects.specs.ProjectStrings.{ContentHash, Dependencies, Entry, Extra, Group, LockParts, Section, inside, key_line, key_path, listed, number_or_one, text_in}
+use Rattle.pyver_projects.specs.ProjectStrings.{Constraint, ContentHash, Dependencies, Entry, Extra, Group, LockParts, Section, inside, key_line, key_path, listed, number_or_one, text_in}
 use Rattle.pyver_projects.specs.ContentHashes.{is_stale}
 use Rattle.pyver_projects.specs.declared.locked_package.HashRule.{HashRule}
 use Rattle.pyver_projects.specs.declared.locked_package.HashRule.TheVariants as rule
 use Rattle.toml.specs.Data.{Data, Members, as_str, get_member}
-use Rattle.pyver_projects.specs.Together.{FindsOfParts}
+use Rattle.pyver_projects.specs.Together.{FindsOfParts, is_standard, project_python}
 use Rattle.pyver_findings.specs.NamedFiles.{folder}
 use Rattle.pyver_projects.specs.Documents.{has_tool, is_listed_part, lies_above}
 use Rattle.pyver_projects.specs.declared.document_kind.DocumentKind.{DocumentKind}
 use Rattle.pyver_projects.specs.declared.document_kind.DocumentKind.TheVariants.{Lock, Project}
 use Rattle.pyver_projects.specs.declared.document_kind.LockKind.{LockKind}
 use Rattle.pyver_projects.specs.declared.known_environment.KnownEnvironment.{KnownEnvironment}
+use Rattle.pyver_projects.specs.declared.project.EntryTool.{EntryTool}
+use Rattle.pyver_projects.specs.declared.project.EntryTool.TheVariants as of_entries
 use Rattle.pyver_projects.specs.declared.document_kind.LockKind.TheVariants.{Pdm, Pipfile, Poetry, Pylock, Unknown, Uv}
 
 -- ---- a document by itself
@@ -117,19 +125,19 @@ is_installer name = bytes_eq name (codes "setuptools") || (bytes_eq name (codes 
 
 abbrev pub is_project_reading : DocumentReading → Bool
 is_project_reading (IsProject t together names overridden xs) = true
-is_project_reading (IsLock parts ys ms es fs) = false
+is_project_reading (IsLock parts python ys ms es fs) = false
 is_project_reading (IsBroken f) = false
 
 -- the names of a project
 abbrev pub names_read : DocumentReading → List (List ℕ)
 names_read (IsProject t together names overridden xs) = names
-names_read (IsLock parts ys ms es fs) = []
+names_read (IsLock parts python ys ms es fs) = []
 names_read (IsBroken f) = []
 
 -- the names that a project overrides
 abbrev pub overrides_read : DocumentReading → List (List ℕ)
 overrides_read (IsProject t together names overridden xs) = overridden
-overrides_read (IsLock parts ys ms es fs) = []
+overrides_read (IsLock parts python ys ms es fs) = []
 overrides_read (IsBroken f) = []
 
 -- what is not asked of a lock though a package requires it: that it has a package of the name; or anything
@@ -161,7 +169,7 @@ module _ (excused : List ℕ → Excuse) where
   -- the report of a document by itself: the strings or the packages count as lines
   abbrev pub own_report : DocumentReading → Report
   own_report (IsProject t together names overridden xs) = record { findings = flat_map invalid_string xs; ignored = []; lines = length xs; files = 1; left_out = flat_map left_out_string xs }
-  own_report (IsLock parts ys ms es fs) = record { findings = flat_map invalid_package ys ++ (flat_map invalid_in fs ++ flat_map (unmet parts ys) ms); ignored = []; lines = length ys; files = 1; left_out = flat_map left_out_in ms }
+  own_report (IsLock parts python ys ms es fs) = record { findings = flat_map invalid_package ys ++ (flat_map invalid_in fs ++ flat_map (unmet parts ys) ms); ignored = []; lines = length ys; files = 1; left_out = flat_map left_out_in ms }
   own_report (IsBroken f) = record { findings = f ∷ []; ignored = []; lines = 0; files = 1; left_out = [] }
 
   -- a report, and after it those of documents
@@ -187,35 +195,44 @@ names_groups Pdm parts = nat_lt 0 (length parts)
 names_groups Pylock parts = nat_lt 0 (length parts)
 names_groups _ parts = false
 
--- the lock has what all tables of Poetry ask for
-abbrev pub is_of_poetry : LockKind → Bool
-is_of_poetry Poetry = true
-is_of_poetry _ = false
+-- the lock has what all such tables of the tool ask for
+abbrev pub locks_entries : EntryTool → LockKind → Bool
+locks_entries of_entries.Poetry Poetry = true
+locks_entries of_entries.Pipenv Pipfile = true
+locks_entries _ _ = false
 
 -- a lock with these groups has what this part of the project needs
 abbrev pub is_needed : LockKind → List (List ℕ) → Section → Bool
 is_needed kind parts Dependencies = not (names_groups kind parts) || is_listed_part parts (codes "default")
 is_needed kind parts (Extra name) = locks_extras kind || is_listed_part parts name
 is_needed kind parts (Group name) = locks_groups kind || is_listed_part parts name
-is_needed kind parts (Entry table name) = is_of_poetry kind
+is_needed kind parts (Entry tool table name) = locks_entries tool kind
 is_needed kind parts _ = false
 
--- another tool than Poetry does not read its tables
-abbrev pub is_entry : Section → Bool
-is_entry (Entry table name) = true
-is_entry _ = false
+-- the section is of a table of another tool than that of the lock: of Poetry, Pipenv or uv
+abbrev pub is_of_other_tool : LockKind → Section → Bool
+is_of_other_tool kind (Entry tool table name) = not (locks_entries tool kind)
+is_of_other_tool kind Constraint = not (locks_groups kind)
+is_of_other_tool kind _ = false
 
 -- the lock is for other parts of the project: it says which groups it has, and this is none of them
 abbrev pub leaves_out : LockKind → List (List ℕ) → Section → Bool
-leaves_out kind parts section = (is_entry section || names_groups kind parts) && not (is_needed kind parts section)
+leaves_out kind parts section = is_of_other_tool kind section || (names_groups kind parts && not (is_needed kind parts section))
 
--- a lock may have what the part needs, but not what builds the project
-abbrev pub is_locked : Section → Bool
-is_locked Dependencies = true
-is_locked (Extra name) = true
-is_locked (Group name) = true
-is_locked (Entry table name) = true
-is_locked _ = false
+-- a lock, in one folder with the project or not, may have what the part needs: but not what builds the project; uv has the constraints of no other
+-- project in its workspace, and Pipenv's lock lies beside its Pipfile
+abbrev pub is_locked : Bool → Section → Bool
+is_locked near Dependencies = true
+is_locked near (Extra name) = true
+is_locked near (Group name) = true
+is_locked near (Entry of_entries.Poetry table name) = true
+is_locked near (Entry of_entries.Pipenv table name) = near
+is_locked near Constraint = near
+is_locked near _ = false
+
+-- a project overrides the name, and so what tables of the standard require of it
+abbrev pub is_overridden : (List ℕ → Excuse) → Section → List ℕ → Bool
+is_overridden excused section name = is_standard section && (excused name).overrides
 
 module _ (kind : LockKind) (parts : LockParts) (names : List (List ℕ)) where
   -- a lock has the package, if it needs it; but not installers, nor the project itself, which by these names may ask for extras of its own
@@ -227,20 +244,20 @@ module _ (kind : LockKind) (parts : LockParts) (names : List (List ℕ)) where
   abbrev pub excluded_in : List LockedReading → Section → Demand → List Finding
   excluded_in ys section a = if leaves_out kind parts.names section then [] else excluded a ys
 
-  module _ (overridden : List (List ℕ)) where
-    -- a requirement beside the lock, which counts if it has no marker and the project does not override it
+  module _ (excused : List ℕ → Excuse) (near : Bool) where
+    -- a requirement beside the lock, which counts if it has no marker and no project overrides it
     abbrev pub compared_demand : List LockedReading → Section → Demand → List Finding
     compared_demand ys section a =
-        if is_none a.marker then (if list_any (bytes_eq a.name) overridden then [] else missing ys section a ++ excluded_in ys section a) else []
+        if is_none a.marker then (if is_overridden excused section a.name then [] else missing ys section a ++ excluded_in ys section a) else []
 
     -- a string beside the lock
     abbrev pub compared : List LockedReading → StringReading → List Finding
-    compared ys x = if is_locked x.section then flat_map (compared_demand ys x.section) (demands_in x.meaning) else []
+    compared ys x = if is_locked near x.section then flat_map (compared_demand ys x.section) (demands_in x.meaning) else []
 
--- the first document beside the second, of this kind, if that is a project and this a lock
-abbrev pub found_beside : DocumentKind → DocumentReading → DocumentReading → List Finding
-found_beside (Lock kind) (IsProject t together names overridden xs) (IsLock parts ys ms es fs) = flat_map (compared kind parts names overridden ys) xs
-found_beside kind x y = []
+-- the first document beside the second, of this kind, in one folder with it or not, if that is a project and this a lock
+abbrev pub found_beside : (List ℕ → Excuse) → Bool → DocumentKind → DocumentReading → DocumentReading → List Finding
+found_beside excused near (Lock kind) (IsProject t together names overridden xs) (IsLock parts python ys ms es fs) = flat_map (compared kind parts names excused near ys) xs
+found_beside excused near kind x y = []
 
 -- ---- the hash of a project in its lock
 
@@ -291,7 +308,7 @@ is_in_lock a m = list_any (is_same_requirement a) (demands_in m)
 
 -- what a string of a project asks for that its lock is to have
 abbrev pub locked_demands : StringReading → List Demand
-locked_demands x = if is_locked x.section then demands_in x.meaning else []
+locked_demands x = if is_standard x.section then demands_in x.meaning else []
 
 abbrev pub is_in_project : Demand → StringReading → Bool
 is_in_project e x = list_any (λ (a : Demand). is_same_requirement a e) (locked_demands x)
@@ -339,9 +356,38 @@ abbrev pub differing : List (List ℕ) → List StringReading → List LineMeani
 differing names xs [] = []
 differing names xs (m ∷ ms) = flat_map (unentered_in names (m ∷ ms)) xs ++ flat_map (unrequired_in names xs) (m ∷ ms)
 
--- the first document, if it is a project, does not have the hash of the second, if this is a lock, in this file, or other requirements
+-- ---- its versions of Python
+
+-- the second numbers of the versions of CPython 3 that are and may soon be
+abbrev pub python_minors : List ℕ
+python_minors = 0 ∷ (1 ∷ (2 ∷ (3 ∷ (4 ∷ (5 ∷ (6 ∷ (7 ∷ (8 ∷ (9 ∷ (10 ∷ (11 ∷ (12 ∷ (13 ∷ (14 ∷ (15 ∷ (16 ∷ (17 ∷ (18 ∷ (19 ∷ (20 ∷ []))))))))))))))))))))
+
+-- one of the sets has this Python, and the other does not
+abbrev pub is_in_one : Segments → Segments → ℕ → Bool
+is_in_one own locked minor = if contains record_cmp own (python_record minor) then not (contains record_cmp locked (python_record minor)) else contains record_cmp locked (python_record minor)
+
+-- the line of `requires-python` in the lock
+abbrev pub python_line : File → FileLine
+python_line lock = record { file = lock.name; number = number_or_one (key_line lock.text (codes "requires-python.")); text = codes "requires-python"; comment = [] }
+
+-- that the lock is out of date by this Python
+abbrev pub python_finding : File → ℕ → Finding
+python_finding lock minor = NoRequirement (python_line lock) (codes "the lock is out of date: it and its project differ on Python " ++ python_text minor) 0
+
+abbrev pub first_difference : File → Option ℕ → List Finding
+first_difference lock None = []
+first_difference lock (Some minor) = python_finding lock minor ∷ []
+
+-- the first Python that one of these has, of a project and of what its lock says, if both have a set
+abbrev pub python_difference : File → Option Segments → Option Segments → List Finding
+python_difference lock (Some own) (Some locked) = first_difference lock (find (is_in_one own locked) python_minors)
+python_difference lock (Some own) None = []
+python_difference lock None locked = []
+
+-- the first document, if it is a project, does not have the hash of the second, if this is a lock, in this file, or other versions of Python or requirements
 abbrev pub stale_beside : File → DocumentReading → DocumentReading → List Finding
-stale_beside lock (IsProject t together names overridden xs) (IsLock parts ys ms es fs) = stale_by lock t parts.hash ++ (if is_plain_for_uv t then differing names xs es else [])
+stale_beside lock (IsProject t together names overridden xs) (IsLock parts python ys ms es fs) =
+    stale_by lock t parts.hash ++ (python_difference lock (project_python xs) python ++ (if is_plain_for_uv t then differing names xs es else []))
 stale_beside lock x y = []
 
 -- ---- which lock is compared with which project
@@ -387,13 +433,14 @@ in_one_folder one other = bytes_eq (folder one.file.name) (folder other.file.nam
 abbrev pub stale_in_pair : Document × DocumentReading → Document × DocumentReading → List Finding
 stale_in_pair a b = if in_one_folder a.0 b.0 then stale_beside b.0.file a.1 b.1 else []
 
--- a document that was read beside another, if it is compared with it
-abbrev pub found_in_pair : List Document → Document × DocumentReading → Document × DocumentReading → List Finding
-found_in_pair documents a b = if is_beside documents a.0 b.0 then stale_in_pair a b ++ found_beside b.0.kind a.1 b.1 else []
+module _ (excused : List ℕ → Excuse) where
+  -- a document that was read beside another, if it is compared with it
+  abbrev pub found_in_pair : List Document → Document × DocumentReading → Document × DocumentReading → List Finding
+  found_in_pair documents a b = if is_beside documents a.0 b.0 then stale_in_pair a b ++ found_beside excused (in_one_folder a.0 b.0) b.0.kind a.1 b.1 else []
 
--- a document beside each of these
-abbrev pub beside_all : List Document → List (Document × DocumentReading) → Document × DocumentReading → List Finding
-beside_all documents others a = flat_map (found_in_pair documents a) others
+  -- a document beside each of these
+  abbrev pub beside_all : List Document → List (Document × DocumentReading) → Document × DocumentReading → List Finding
+  beside_all documents others a = flat_map (found_in_pair documents a) others
 
 -- ---- all documents
 
@@ -403,12 +450,12 @@ with_findings a found = record { findings = a.findings ++ found; ignored = a.ign
 
 -- the report of documents that were read: of each by itself, in order, and then of each project beside each lock that counts for it
 abbrev pub documents_report : List Document → List DocumentReading → Report
-documents_report documents xs = with_findings (with_own_reports (is_excused xs) empty_report xs) (flat_map (beside_all documents (zip documents xs)) (zip documents xs))
+documents_report documents xs = with_findings (with_own_reports (is_excused xs) empty_report xs) (flat_map (beside_all (is_excused xs) documents (zip documents xs)) (zip documents xs))
 
 -- of a project the requirements that hold together and have no version in common
 abbrev pub FindsOfReading : DocumentReading → List Finding → List Cause → Type 0
-FindsOfReading (IsProject t together names overridden xs) fs cs = FindsOfParts together xs fs cs
-FindsOfReading (IsLock parts ys ms es files) fs cs = FindsNothing fs cs
+FindsOfReading (IsProject t together names overridden xs) fs cs = FindsOfParts together overridden xs fs cs
+FindsOfReading (IsLock parts python ys ms es files) fs cs = FindsNothing fs cs
 FindsOfReading (IsBroken f) fs cs = FindsNothing fs cs
 
 -- a report with more findings and causes
@@ -419,3 +466,68 @@ with_found a fs cs = record { findings = a.findings ++ fs; ignored = a.ignored; 
 abbrev pub IsDocumentsReport : List Document → Report → Type 0
 IsDocumentsReport documents r = (xs : List DocumentReading) × AllZip IsDocumentReading documents xs
     × (fs : List Finding) × (cs : List Cause) × FindsOfEach FindsOfReading xs fs cs × (r ≡ with_found (documents_report documents xs) fs cs)
+
+-- ---- exports beside locks
+
+-- a project with this path
+abbrev pub project_at : List ℕ → Document
+project_at path = record { kind = Project; file = record { name = path; text = [] } }
+
+-- a lock counts for the file with this path, if it lies in its folder or in one above, and none of its kind in one that is nearer
+abbrev pub counts_for : List Document → List ℕ → Document → Bool
+counts_for documents path lock = lies_above lock.file.name path && not (list_any (is_nearer (project_at path) lock) documents)
+
+-- a requirement of an export beside these packages, if it names a version: the lock that the export was made of has none of the name; or it
+-- has some, in no version that the list contains. What the export says of environments does not count, since it has the versions of the lock
+abbrev pub pin_beside : Bool → List LockedReading → Demand → List Finding
+pin_beside made ys a = if a.pinned then (if made then absent ys a else []) ++ excluded a ys else []
+
+abbrev pub is_uv_lock : DocumentKind → Bool
+is_uv_lock (Lock Uv) = true
+is_uv_lock _ = false
+
+-- it says that it was made of the lock of this kind
+abbrev pub is_made_of : DocumentKind → File → Bool
+is_made_of kind f = is_uv_lock kind && is_of_uv_lock f.text
+
+-- an export and what its lines ask for
+pub record Export : Type 0 where
+  pub file : File
+  pub demands : List Demand
+
+-- what is found of an export beside a document of this kind, if that is a lock
+abbrev pub pins_beside : Export → DocumentKind → DocumentReading → List Finding
+pins_beside e kind (IsLock parts python ys ms es fs) = flat_map (pin_beside (is_made_of kind e.file) ys) e.demands
+pins_beside e kind (IsProject t together names overridden xs) = []
+pins_beside e kind (IsBroken f) = []
+
+-- beside a document that was read, if it counts for the export
+abbrev pub found_in_export : List Document → Export → Document × DocumentReading → List Finding
+found_in_export documents e b = if counts_for documents e.file.name b.0 then pins_beside e b.0.kind b.1 else []
+
+-- beside each of these
+abbrev pub found_of_export : List Document → List (Document × DocumentReading) → Export → List Finding
+found_of_export documents pairs e = flat_map (found_in_export documents e) pairs
+
+abbrev pub export_of : ExportValue → Export
+export_of e = record { file = file_of e.file.now; demands = map demand_of e.demands.items }
+
+abbrev pub file_of_export : Export → File
+file_of_export e = e.file
+
+-- each has the requirements of its file
+abbrev pub HasDemands : Export → Type 0
+HasDemands e = AreDemandsOf e.file e.demands
+
+-- those of the files that are exports
+abbrev pub AreExports : List File → List Export → Type 0
+AreExports files es = (map file_of_export es ≡ filter is_export files) × All HasDemands es
+
+-- what is found of the exports beside the documents, which are read if there are some
+abbrev pub FindsOfExports : List Document → List Export → List Finding → Type 0
+FindsOfExports documents [] found = found ≡ []
+FindsOfExports documents (e ∷ es) found = (xs : List DocumentReading) × AllZip IsDocumentReading documents xs × (found ≡ flat_map (found_of_export documents (zip documents xs)) (e ∷ es))
+
+-- the report of exports beside documents: only findings
+abbrev pub IsExportsReport : List File → List Document → Report → Type 0
+IsExportsReport files documents r = (es : List Export) × AreExports files es × (found : List Finding) × FindsOfExports documents es found × (r ≡ with_findings empty_report found)

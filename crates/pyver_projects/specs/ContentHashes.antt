@@ -1,6 +1,6 @@
 -- The hash of a project that Poetry and PDM write into its lock: SHA-256 of tables of `pyproject.toml` as JSON, which Python's `json.dumps` writes with
 -- sorted keys (Poetry: `poetry.packages.locker`, `_get_content_hash`; PDM: `pdm.project.project_file`, `content_hash`).
-use Rattle.std.specs.Prelude.{Bool, List, None, Option, Some, [], bytes_eq, codes, false, if◌then◌else◌, is_none, is_some, length, nat_lt, not, option_and_then, option_map, true, ℕ, ◌&&◌, ◌++◌, ◌==◌, ◌||◌, ◌∷◌}
+use Rattle.std.specs.Prelude.{Bool, List, None, Option, Some, [], bytes_eq, codes, false, if◌then◌else◌, is_none, is_some, length, nat_lt, not, option_and_then, true, ℕ, ◌&&◌, ◌++◌, ◌==◌, ◌||◌, ◌∷◌}
 use Rattle.std.specs.Fmt.{signed_decimal}
 use Rattle.std.specs.List.{flat_map, list_all, list_any, starts_with}
 use Rattle.std.specs.Prelude.{nat_eq}

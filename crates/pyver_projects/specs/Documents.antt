@@ -1,21 +1,27 @@
--- The kinds of documents, by their paths and by words, and what a parsed one has to check: the strings of `pyproject.toml`, and the versions of a lock.
-use Rattle.std.specs.Prelude.{Bool, false, List, None, Option, Some, [], bytes_eq, codes, count_by, get_or, if◌then◌else◌, is_none, is_some, length, map, nat_eq, nat_lt, not, option_and_then, option_map, option_to_list, ℕ, ◌&&◌, ◌++◌, ◌+◌, ◌==◌, ◌||◌, ◌∷◌}
+-- The kinds of documents, by their paths and by words, and what a parsed one has to check: the strings of `pyproject.toml` or a Pipfile, and the versions of a
+-- lock.
+use Rattle.std.specs.Prelude.{Bool, false, true, List, None, Option, Some, [], bytes_eq, codes, count_by, get_or, if◌then◌else◌, is_none, is_some, length, map, nat_eq, nat_lt, not, option_and_then, option_map, option_to_list, ℕ, ◌&&◌, ◌++◌, ◌+◌, ◌==◌, ◌||◌, ◌∷◌}
 use Rattle.std.specs.List.{ends_with, flat_map, list_any, starts_with}
 use Rattle.std.specs.Option.{option_map_or, option_or, unwrap_or}
 use Rattle.pep440_pick.specs.Names.{is_name, is_name_byte, normal}
 use Rattle.pep440_rs.specs.Blanks.{opens}
+use Rattle.pep440_version.specs.Grammar.{starts}
 use Rattle.pep440_version.specs.Reading.{lead}
-use Rattle.toml.specs.Data.{Data, Members, as_array, as_str, as_table, get, get_member}
+use Rattle.pyver_requirements.specs.MarkerTokens.{is_operator_byte}
+use Rattle.toml.specs.Data.{Data, Members, as_array, as_bool, as_str, as_table, get, get_member}
 use Rattle.pyver_projects.specs.ContentHashes.{lock_hash}
+use Rattle.pyver_projects.specs.KnownEnvironments.{is_false}
 use Rattle.pyver_projects.specs.LockedFiles.{array_faults, files_from, last_section, counted_names, has_markers, locked_python, package_condition, package_faults, package_name_in, document_faults, member_packages}
-use Rattle.pyver_projects.specs.PackageRequirements.{entries_from, poetry_list, requirement_text, requirements_from, both_markers, marked_text, platform_marker, python_marker}
-use Rattle.pyver_projects.specs.ProjectStrings.{Build, Dependencies, Entry, Extra, Group, Include, Invalid, LockContents, LockFault, LockParts, LockedPackage, PackageCondition, ProjectString, Python, Section, Unread, Version, header_lines, entries, inside, is_array_or_none, is_table_or_none, key_path, listed, text_in, is_text_or_none}
+use Rattle.pyver_projects.specs.PackageRequirements.{entries_from, is_own_package, lacks, plain_list, poetry_list, requirement_text, requirements_from, both_markers, marked_text, platform_marker, python_marker}
+use Rattle.pyver_projects.specs.ProjectStrings.{Build, Constraint, Dependencies, Entry, Environment, Extra, Group, Include, Invalid, LockContents, LockFault, LockParts, LockedPackage, PackageCondition, ProjectString, Python, Section, Unread, Version, after_blanks, header_lines, entries, inside, is_array_or_none, is_table_or_none, key_path, listed, text_in, is_text_or_none}
 use Rattle.pyver_findings.specs.NamedFiles.{folder}
 use Rattle.pyver_findings.specs.declared.cause.Cause.{Cause}
 use Rattle.pyver_findings.specs.declared.cause.Cause.TheVariants as cause
 use Rattle.pyver_projects.specs.declared.document_kind.DocumentKind.{DocumentKind}
 use Rattle.pyver_projects.specs.declared.document_kind.DocumentKind.TheVariants.{Lock, Project}
 use Rattle.pyver_projects.specs.declared.document_kind.LockKind.TheVariants.{Pdm, Pipfile, Poetry, Pylock, Unknown, Uv}
+use Rattle.pyver_projects.specs.declared.project.EntryTool.{EntryTool}
+use Rattle.pyver_projects.specs.declared.project.EntryTool.TheVariants as of_entries
 use Rattle.pyver_projects.specs.declared.tool_tables.GroupTool.{GroupTool}
 use Rattle.pyver_projects.specs.declared.tool_tables.GroupTool.TheVariants as of_tool
 use Rattle.serde_json.specs.Data.{Data as JsonData}
@@ -147,26 +153,44 @@ build_sources document = array_sources (codes "build-system.") (codes "requires"
 
 -- ---- tables of tools
 
--- the conditions of a table, if it has some, are strings
-abbrev pub has_conditions : Data → Bool
-has_conditions d = is_text_or_none (get (codes "markers") d) && (is_text_or_none (get (codes "python") d) && is_text_or_none (get (codes "platform") d))
+-- the table has no variable of a marker as a key ("Specifiers" of Pipenv)
+abbrev pub lacks_variables : Data → Bool
+lacks_variables d = lacks (codes "os_name") d && (lacks (codes "sys_platform") d && (lacks (codes "platform_machine") d
+    && (lacks (codes "platform_python_implementation") d && (lacks (codes "platform_release") d && (lacks (codes "platform_system") d
+    && (lacks (codes "platform_version") d && (lacks (codes "python_version") d && (lacks (codes "python_full_version") d
+    && (lacks (codes "implementation_name") d && lacks (codes "implementation_version") d)))))))))
+
+-- the conditions of a table, if it has some, are those that are read, and strings
+abbrev pub has_conditions : EntryTool → Data → Bool
+has_conditions of_entries.Poetry d = is_text_or_none (get (codes "markers") d) && (is_text_or_none (get (codes "python") d) && is_text_or_none (get (codes "platform") d))
+has_conditions of_entries.Pipenv d = is_text_or_none (get (codes "markers") d) && lacks_variables d
 
 -- the list of a table, or `*`
-abbrev pub table_list : Data → Option (List ℕ)
-table_list d = if has_conditions d then Some (option_map_or (λ list. list) (text_in (get (codes "version") d)) (codes "*")) else None
+abbrev pub table_list : EntryTool → Data → Option (List ℕ)
+table_list tool d = if has_conditions tool d then Some (option_map_or (λ list. list) (text_in (get (codes "version") d)) (codes "*")) else None
 
 -- the list of an entry: a string, or a table
-abbrev pub entry_list : Data → Option (List ℕ)
-entry_list d = option_or (as_str d) (option_and_then (λ (members : Members). table_list d) (as_table d))
+abbrev pub entry_list : EntryTool → Data → Option (List ℕ)
+entry_list tool d = option_or (as_str d) (option_and_then (λ (members : Members). table_list tool d) (as_table d))
+
+-- a list of Pipenv, in which a version by itself is this one
+abbrev pub pipenv_list : List ℕ → List ℕ
+pipenv_list list = if starts is_operator_byte (after_blanks list) || bytes_eq list [] then list else codes "==" ++ list
+
+-- the list as one of PEP 440
+abbrev pub entry_specifiers : EntryTool → List ℕ → List ℕ
+entry_specifiers of_entries.Poetry list = poetry_list list
+entry_specifiers of_entries.Pipenv list = pipenv_list (plain_list list)
 
 -- the condition of a table, or none
 abbrev pub condition : List ℕ → Data → List ℕ
 condition key d = unwrap_or (text_in (get key d)) []
 
 -- the conditions of an entry as one marker, where `python` has a list of Poetry ("`python` restricted dependencies", "Using environment markers")
-abbrev pub entry_marker : Data → List ℕ
-entry_marker d = both_markers (condition (codes "markers") d)
+abbrev pub entry_marker : EntryTool → Data → List ℕ
+entry_marker of_entries.Poetry d = both_markers (condition (codes "markers") d)
     (both_markers (python_marker (poetry_list (condition (codes "python") d))) (platform_marker (condition (codes "platform") d)))
+entry_marker of_entries.Pipenv d = condition (codes "markers") d
 
 -- the name and the list are those of a package
 abbrev pub is_package_name : List ℕ → Bool
@@ -177,24 +201,33 @@ abbrev pub unread : Cause → List ProjectString
 unread c = record { section = Unread c; text = [] } ∷ []
 
 -- the entry of this name with this list and this marker, as a requirement of PEP 508
-abbrev pub listed_source : List ℕ → List ℕ → List ℕ → Option (List ℕ) → List ProjectString
-listed_source table name marker None = unread cause.OtherSyntax
-listed_source table name marker (Some list) = record { section = Entry table name; text = marked_text (requirement_text name (poetry_list list)) marker } ∷ []
+abbrev pub listed_source : EntryTool → List ℕ → List ℕ → List ℕ → Option (List ℕ) → List ProjectString
+listed_source tool table name marker None = unread cause.OtherSyntax
+listed_source tool table name marker (Some list) = record { section = Entry tool table name; text = marked_text (requirement_text name (entry_specifiers tool list)) marker } ∷ []
 
-abbrev pub entry_source : List ℕ → List ℕ → Data → List ProjectString
-entry_source table name d = listed_source table name (entry_marker d) (entry_list d)
+abbrev pub entry_source : EntryTool → List ℕ → List ℕ → Data → List ProjectString
+entry_source tool table name d = listed_source tool table name (entry_marker tool d) (entry_list tool d)
 
 -- what an array of entries asks for, or another value, which is one ("Multiple constraints dependencies")
-abbrev pub each_source : List ℕ → List ℕ → Data → List ProjectString
-each_source table name d = if is_some (as_array d) then flat_map (entry_source table name) (listed (Some d)) else entry_source table name d
+abbrev pub each_source : EntryTool → List ℕ → List ℕ → Data → List ProjectString
+each_source tool table name d = if is_some (as_array d) then flat_map (entry_source tool table name) (listed (Some d)) else entry_source tool table name d
 
--- what an entry of Poetry's table with this path asks for
-unfoldable pub entry_sources : List ℕ → List ℕ × Data → List ProjectString
-entry_sources table e = if is_package_name e.0 then each_source table e.0 e.1 else []
+-- an entry of Pipenv is a string or a table
+abbrev pub is_entry : EntryTool → Data → Bool
+is_entry of_entries.Poetry d = true
+is_entry of_entries.Pipenv d = is_some (as_str d) || is_some (as_table d)
+
+-- what it asks for, or that it is none
+abbrev pub sources_or_fault : EntryTool → List ℕ → List ℕ → Data → List ProjectString
+sources_or_fault tool table name d = if is_entry tool d then each_source tool table name d else invalid_name table name (codes "neither a string nor a table")
+
+-- what an entry of the tool's table with this path asks for
+unfoldable pub entry_sources : EntryTool → List ℕ → List ℕ × Data → List ProjectString
+entry_sources tool table e = if is_package_name e.0 then sources_or_fault tool table e.0 e.1 else []
 
 -- the entries of the table
-abbrev pub poetry_table : List ℕ → Option Data → List ProjectString
-poetry_table table value = flat_map (entry_sources table) (entries value)
+abbrev pub tool_table : EntryTool → List ℕ → Option Data → List ProjectString
+tool_table tool table value = flat_map (entry_sources tool table) (entries value)
 
 -- what uv or Rye, whose table has this path, adds to the group `dev`
 abbrev pub dev_sources : List ℕ → Option Data → List ProjectString
@@ -208,10 +241,19 @@ is_editable d = option_map_or (opens 45) (as_str d) false
 abbrev pub group_path : List ℕ → List ℕ
 group_path name = key_path (codes "tool.poetry.group.") name ++ codes "dependencies."
 
--- what an entry of a table of groups asks for: of Poetry, whose groups are tables with one for what they ask for; or of PDM, whose groups are arrays of
--- requirements, unless one is an editable
+-- the path of the array of the environment with this name
+abbrev pub array_name : List ℕ → List ℕ → List ℕ
+array_name name key = name ++ (codes "." ++ key)
+
+-- the requirements in the array with this key of the environment with this name
+unfoldable pub environment_array : List ℕ → List ℕ → Data → List ProjectString
+environment_array name key d = array_sources (codes "tool.hatch.envs.") (array_name name key) (Environment (key_path (codes "tool.hatch.envs.") name)) (get key d)
+
+-- what an entry of a table of groups asks for: of Poetry, whose groups are tables with one for what they ask for; of PDM, whose groups are arrays of
+-- requirements, unless one is an editable; or of Hatch, whose environments have two arrays ("Dependencies" of "Environment configuration")
 abbrev pub tool_group : GroupTool → List ℕ × Data → List ProjectString
-tool_group of_tool.Poetry e = poetry_table (group_path e.0) (get (codes "dependencies") e.1)
+tool_group of_tool.Poetry e = tool_table of_entries.Poetry (group_path e.0) (get (codes "dependencies") e.1)
+tool_group of_tool.Hatch e = environment_array e.0 (codes "dependencies") e.1 ++ environment_array e.0 (codes "extra-dependencies") e.1
 tool_group of_tool.Pdm e = if list_any is_editable (listed (Some e.1)) then unread cause.Editable else array_sources (codes "tool.pdm.dev-dependencies.") e.0 (Group (normal e.0)) (Some e.1)
 
 -- the groups of such a table
@@ -220,20 +262,18 @@ tool_groups tool value = flat_map (tool_group tool) (entries value)
 
 -- what Poetry's tables ask for ("Dependencies and dev-dependencies", "Dependency groups" of Poetry)
 abbrev pub poetry_sources : Option Data → List ProjectString
-poetry_sources poetry = poetry_table (codes "tool.poetry.dependencies.") (inside (codes "dependencies") poetry)
-    ++ (poetry_table (codes "tool.poetry.dev-dependencies.") (inside (codes "dev-dependencies") poetry)
+poetry_sources poetry = tool_table of_entries.Poetry (codes "tool.poetry.dependencies.") (inside (codes "dependencies") poetry)
+    ++ (tool_table of_entries.Poetry (codes "tool.poetry.dev-dependencies.") (inside (codes "dev-dependencies") poetry)
     ++ tool_groups of_tool.Poetry (inside (codes "group") poetry))
 
 -- the table is not read, if there is one
 abbrev pub unread_table : Option Data → List ProjectString
 unread_table value = if is_some value then unread cause.OtherTable else []
 
--- the tables of Pixi and Hatch, and the constraints of uv
+-- the tables of Pixi
 abbrev pub unread_tables : Option Data → List ProjectString
 unread_tables tool = unread_table (inside (codes "dependencies") (inside (codes "pixi") tool))
-    ++ (unread_table (inside (codes "pypi-dependencies") (inside (codes "pixi") tool))
-    ++ (unread_table (inside (codes "envs") (inside (codes "hatch") tool))
-    ++ unread_table (inside (codes "constraint-dependencies") (inside (codes "uv") tool))))
+    ++ unread_table (inside (codes "pypi-dependencies") (inside (codes "pixi") tool))
 
 -- those of Setuptools and Flit
 abbrev pub unread_fields : Option Data → List ProjectString
@@ -248,18 +288,46 @@ added_sources tool = dev_sources (codes "tool.uv.") (inside (codes "uv") tool)
     ++ (dev_sources (codes "tool.rye.") (inside (codes "rye") tool)
     ++ tool_groups of_tool.Pdm (inside (codes "dev-dependencies") (inside (codes "pdm") tool)))
 
+-- the requirements of uv that hold wherever a package is asked for: its constraints, and its overrides, which replace what asks for it
+abbrev pub constraint_sources : Option Data → List ProjectString
+constraint_sources uv = array_sources (codes "tool.uv.") (codes "constraint-dependencies") Constraint (inside (codes "constraint-dependencies") uv)
+    ++ array_sources (codes "tool.uv.") (codes "override-dependencies") Constraint (inside (codes "override-dependencies") uv)
+
+-- these, and the environments of Hatch
+abbrev pub other_sources : Option Data → List ProjectString
+other_sources tool = constraint_sources (inside (codes "uv") tool) ++ tool_groups of_tool.Hatch (inside (codes "envs") (inside (codes "hatch") tool))
+
 -- what tables of tools ask for, and which are not read
 abbrev pub tool_sources : Option Data → List ProjectString
-tool_sources tool = poetry_sources (inside (codes "poetry") tool) ++ (added_sources tool ++ (unread_tables tool ++ unread_fields tool))
+tool_sources tool = poetry_sources (inside (codes "poetry") tool) ++ (added_sources tool ++ (other_sources tool ++ (unread_tables tool ++ unread_fields tool)))
 
--- the strings of `pyproject.toml`. Those of an included group stand in that group alone
+-- the packages to develop with, in a Pipfile with these settings: they hold with the others, if not said otherwise ("use_default_constraints")
+abbrev pub dev_packages : Option Data → Option Data → List ProjectString
+dev_packages settings value = if is_false (option_and_then as_bool (inside (codes "use_default_constraints") settings)) then unread_table value
+    else tool_table of_entries.Pipenv (codes "dev-packages.") value
+
+-- that the packages in a Pipfile are no tables
+abbrev pub pipenv_faults : Option Data → Option Data → List ProjectString
+pipenv_faults packages dev = table_fault [] (codes "packages") packages ++ table_fault [] (codes "dev-packages") dev
+
+-- what they ask for
+abbrev pub pipenv_tables : Option Data → Option Data → Option Data → List ProjectString
+pipenv_tables settings packages dev = tool_table of_entries.Pipenv (codes "packages.") packages ++ dev_packages settings dev
+
+-- what a Pipfile asks for ("Pipfile" of Pipenv)
+abbrev pub pipenv_sources : Members → List ProjectString
+pipenv_sources document = pipenv_faults (get_member (codes "packages") document) (get_member (codes "dev-packages") document)
+    ++ pipenv_tables (get_member (codes "pipenv") document) (get_member (codes "packages") document) (get_member (codes "dev-packages") document)
+
+-- the strings of `pyproject.toml`, or of a Pipfile. Those of an included group stand in that group alone
 abbrev pub sources : Members → List ProjectString
 sources document = table_faults document
     ++ (table_sources (get_member (codes "project") document)
     ++ (dynamic_sources (get_member (codes "project") document)
     ++ (flat_map (group_sources (group_names document)) (groups_table document)
     ++ (tool_sources (get_member (codes "tool") document)
-    ++ build_sources document))))
+    ++ (pipenv_sources document
+    ++ build_sources document)))))
 
 -- the name of the project as it is written, by PEP 621 or as Poetry has it
 abbrev pub written_name : Members → Option (List ℕ)
@@ -345,6 +413,12 @@ package_parts kind packages = []
 abbrev pub texts_listed : Option Data → List (List ℕ)
 texts_listed value = flat_map (λ (d : Data). option_to_list (as_str d)) (listed value)
 
+-- for which Pythons a lock of uv says that the project in its folder is, if this is one of its packages and it has no other members
+abbrev pub own_python : LockKind → Members → List Data → Option (List ℕ)
+own_python Uv document packages = if list_any is_own_package packages && is_none (inside (codes "members") (get_member (codes "manifest") document))
+    then text_in (get_member (codes "requires-python") document) else None
+own_python kind document packages = None
+
 -- the parts of a lock with this text and these packages. Only one of PEP 751 has extras and groups for markers, and environments
 abbrev pub lock_parts : LockKind → List ℕ → Members → List Data → LockParts
 lock_parts kind text document packages = record {
@@ -353,6 +427,7 @@ lock_parts kind text document packages = record {
   groups = names_listed (get_member (codes "dependency-groups") document) ++ names_listed (get_member (codes "default-groups") document);
   environments = texts_listed (get_member (codes "environments") document);
   hash = lock_hash kind text document;
+  python = own_python kind document packages;
 }
 
 -- what the tables of packages of a lock of this kind have, each with its line, beside these parts and faults, that have markers or not, for these
@@ -395,7 +470,7 @@ is_document_path path = ends_with nat_eq path (codes ".lock") || (ends_with nat_
 -- the kind of the document with this path
 abbrev pub kind_of_path : List ℕ → Option DocumentKind
 kind_of_path path =
-    if ends_path path (codes "pyproject.toml") (codes "/pyproject.toml") then Some Project
+    if ends_path path (codes "pyproject.toml") (codes "/pyproject.toml") || ends_path path (codes "Pipfile") (codes "/Pipfile") then Some Project
     else if ends_path path (codes "pylock.toml") (codes "/pylock.toml") then Some (Lock Pylock)
     else if is_named_pylock (last_section path) then Some (Lock Pylock)
     else if ends_path path (codes "uv.lock") (codes "/uv.lock") then Some (Lock Uv)
@@ -421,7 +496,7 @@ toml_contents kind key header text = option_map (contents kind header text key) 
 
 -- what `Pipfile.lock` with this text has: only packages
 abbrev pub pipfile_contents : List ℕ → JsonData → LockContents
-pipfile_contents text document = record { parts = record { names = []; extras = []; groups = []; environments = []; hash = None }; packages = member_packages text document; requirements = []; entries = []; files = []; faults = document_faults text document }
+pipfile_contents text document = record { parts = record { names = []; extras = []; groups = []; environments = []; hash = None; python = None }; packages = member_packages text document; requirements = []; entries = []; files = []; faults = document_faults text document }
 
 -- what a lock with this text has, if it is TOML, or JSON, of a known format
 abbrev pub locked : LockKind → List ℕ → Option LockContents

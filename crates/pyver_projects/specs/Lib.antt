@@ -9,4 +9,3 @@ pub mod ProjectViews
 pub mod Together
 pub mod Comparing
 pub mod ProjectLaws
-pub mod ExportComparing

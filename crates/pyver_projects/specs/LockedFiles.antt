@@ -263,9 +263,13 @@ section_members key document = object_entries_or_none (option_and_then as_object
 abbrev pub pinned_version : List ℕ → List ℕ
 pinned_version text = unwrap_or (after (codes "==") text) text
 
+-- the version of such a text: `*` is none, which Pipenv writes for what no environment of its own needs
+abbrev pub known_version : List ℕ → Option (List ℕ)
+known_version text = if bytes_eq text (codes "*") then None else Some (pinned_version text)
+
 -- the version of a package, if it has one
 abbrev pub package_version : JsonData → Option (List ℕ)
-package_version d = option_map pinned_version (option_and_then as_str (json_get (codes "version") d))
+package_version d = option_and_then known_version (option_and_then as_str (json_get (codes "version") d))
 
 -- a member as a package, on the first line of the lock on which its name stands in quotes
 abbrev pub member_package : List ℕ → List ℕ × JsonData → LockedPackage

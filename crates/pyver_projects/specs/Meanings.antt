@@ -3,6 +3,7 @@ use Rattle.std.specs.Prelude.{◌≡◌, ◌⊎◌, ℕ, ◌+◌, List, [], ◌+
 use Rattle.std.specs.List.{AllZip, All, flat_map, list_any}
 use Rattle.std.specs.Str.{IsUtf8}
 use Rattle.pep440_pick.specs.Names.{normal}
+use Rattle.pep440_pick.specs.RequirementGrammar.{has_byte}
 use Rattle.pep440_rs.specs.Bounds.{Segments}
 use Rattle.pep440_rs.specs.Lists.ListGrammar.{DerivesList, PieceRejection, RejectsList}
 use Rattle.pep440_rs.specs.LiteralMatching.{matches_literally}
@@ -23,8 +24,10 @@ use Rattle.toml.specs.Parse.{parse_document}
 use Rattle.pyver_projects.specs.Documents.{has_group_tool, locked, overridden_names, project_names, sources, group_names}
 use Rattle.pyver_projects.specs.KnownEnvironments.{ReadCondition}
 use Rattle.pyver_projects.specs.PackageRequirements.{package_text, requirement_text}
-use Rattle.pyver_projects.specs.ProjectStrings.{Build, Dependencies, Entry, Extra, Group, Include, Invalid, LockContents, LockFault, LockParts, LockedFile, LockedPackage, LockedRequirement, PackageCondition, ProjectString, Python, Section, Unread, Version, string_number, last_bytes, line_after, line_at}
+use Rattle.pyver_projects.specs.ProjectStrings.{Build, Constraint, Dependencies, Entry, Environment, Extra, Group, Include, Invalid, LockContents, LockFault, LockParts, LockedFile, LockedPackage, LockedRequirement, PackageCondition, ProjectString, Python, Section, Unread, Version, string_number, last_bytes, line_after, line_at}
 use Rattle.pyver_projects.specs.declared.document_kind.DocumentKind.{DocumentKind}
+use Rattle.pyver_projects.specs.declared.project.EntryTool.{EntryTool}
+use Rattle.pyver_projects.specs.declared.project.EntryTool.TheVariants as of_entries
 use Rattle.pyver_projects.specs.declared.document_kind.DocumentKind.TheVariants.{Lock, Project}
 use Rattle.pyver_findings.specs.Reports.{demands_in}
 
@@ -42,7 +45,9 @@ inclusion Dependencies = []
 inclusion (Extra name) = []
 inclusion (Group name) = []
 inclusion (Invalid table reason) = []
-inclusion (Entry table name) = []
+inclusion (Entry tool table name) = []
+inclusion Constraint = []
+inclusion (Environment table) = []
 inclusion (Unread c) = []
 inclusion Build = []
 inclusion Python = []
@@ -101,9 +106,14 @@ left_out_if_none (Asks a) = Asks a
 left_out_if_none (LeftOut c) = LeftOut c
 left_out_if_none AsksNothing = AsksNothing
 
--- what a line is that stands for an entry of Poetry, whose list PEP 440 may not have
-abbrev pub IsEntryMeaning : FileLine → LineMeaning → Type 0
-IsEntryMeaning line x = (m : LineMeaning) × IsPartsMeaning line (line_parts line.text) m × (x ≡ left_out_if_none m)
+-- what a line is that stands for an entry of the tool: of Poetry, whose list PEP 440 may not have
+abbrev pub IsEntryMeaning : EntryTool → FileLine → LineMeaning → Type 0
+IsEntryMeaning of_entries.Poetry line x = (m : LineMeaning) × IsPartsMeaning line (line_parts line.text) m × (x ≡ left_out_if_none m)
+IsEntryMeaning of_entries.Pipenv line x = IsPartsMeaning line (line_parts line.text) x
+
+-- what a string of an environment of Hatch is, which may have a field to be filled in ("Context formatting")
+abbrev pub IsFilledMeaning : FileLine → List ℕ → LineMeaning → Type 0
+IsFilledMeaning line text x = ((has_byte 123 text ≡ true) × (x ≡ LeftOut cause.OtherSyntax)) ⊎ ((has_byte 123 text ≡ false) × IsPartsMeaning line (line_parts line.text) x)
 
 -- what the string of this line, which is this text, is in this section of a project with these groups
 abbrev pub IsSectionMeaning : Groups → Section → FileLine → List ℕ → LineMeaning → Type 0
@@ -114,7 +124,9 @@ IsSectionMeaning all (Extra name) line text x = IsPartsMeaning line (line_parts 
 IsSectionMeaning all (Group name) line text x = IsPartsMeaning line (line_parts line.text) x
 IsSectionMeaning all (Include group included) line text x = x ≡ include_meaning all line group included
 IsSectionMeaning all (Invalid table reason) line text x = x ≡ no_group line reason
-IsSectionMeaning all (Entry table name) line text x = IsEntryMeaning line x
+IsSectionMeaning all (Entry tool table name) line text x = IsEntryMeaning tool line x
+IsSectionMeaning all Constraint line text x = IsPartsMeaning line (line_parts line.text) x
+IsSectionMeaning all (Environment table) line text x = IsFilledMeaning line text x
 IsSectionMeaning all (Unread c) line text x = x ≡ LeftOut c
 IsSectionMeaning all Build line text x = IsPartsMeaning line (line_parts line.text) x
 
@@ -135,7 +147,9 @@ ArePythons (Extra name) text p = p ≡ None
 ArePythons (Group name) text p = p ≡ None
 ArePythons (Include group included) text p = p ≡ None
 ArePythons (Invalid table reason) text p = p ≡ None
-ArePythons (Entry table name) text p = p ≡ None
+ArePythons (Entry tool table name) text p = p ≡ None
+ArePythons Constraint text p = p ≡ None
+ArePythons (Environment table) text p = p ≡ None
 ArePythons (Unread c) text p = p ≡ None
 ArePythons Build text p = p ≡ None
 
@@ -233,21 +247,27 @@ pub record Document : Type 0 where
   pub kind : DocumentKind
   pub file : File
 
--- a document that was read: of a project whether its groups hold together with its dependencies, its names, those that it overrides, and its strings; the parts and packages of a lock,
--- what they require and what the lock says that its project requires, and what is wrong with their files and beside one another; or why it was not read
+-- a document that was read: of a project whether its groups hold together with its dependencies, its names, those that it overrides, and its strings; the parts of a lock,
+-- for which versions of Python it says that its project is, its packages, what they require and what the lock says that its project requires, and what is
+-- wrong with their files and beside one another; or why it was not read
 pub data DocumentReading : Type 0 where
   IsProject : Members → Bool → (names overridden : List (List ℕ)) → List StringReading → DocumentReading
-  IsLock : (parts : LockParts) → List LockedReading → (requirements entries faults : List LineMeaning) → DocumentReading
+  IsLock : (parts : LockParts) → (python : Option Segments) → List LockedReading → (requirements entries faults : List LineMeaning) → DocumentReading
   IsBroken : Finding → DocumentReading
 
 -- what a project with this table is
 abbrev pub IsProjectReading : File → Members → DocumentReading → Type 0
 IsProjectReading file t x = (xs : List StringReading) × AllZip (IsStringReading (groups t) file) (sources t) xs × (x ≡ IsProject t (has_group_tool t) (project_names t) (overridden_names t) xs)
 
+-- the versions of Python of a lock, if it has such a list with a set of them
+abbrev pub AreLockedPythons : Option (List ℕ) → Option Segments → Type 0
+AreLockedPythons None p = p ≡ None
+AreLockedPythons (Some text) p = AreVersions text p
+
 -- what a lock is that has this
 abbrev pub IsLockReading : List ℕ → LockContents → DocumentReading → Type 0
-IsLockReading file l x = (ys : List LockedReading) × (ms es fs : List LineMeaning) × AllZip (IsLockedReading file) l.packages ys × AllZip (IsRequirementReading file) l.requirements ms
-    × AllZip (IsRequirementReading file) l.entries es × AllZip (IsFileReading file) l.files fs × (x ≡ IsLock l.parts ys ms es (fs ++ map (fault_meaning file) l.faults))
+IsLockReading file l x = (p : Option Segments) × AreLockedPythons l.parts.python p × (ys : List LockedReading) × (ms es fs : List LineMeaning) × AllZip (IsLockedReading file) l.packages ys × AllZip (IsRequirementReading file) l.requirements ms
+    × AllZip (IsRequirementReading file) l.entries es × AllZip (IsFileReading file) l.files fs × (x ≡ IsLock l.parts p ys ms es (fs ++ map (fault_meaning file) l.faults))
 
 -- the line of a position in the file
 abbrev pub position_line : File → ℕ → FileLine
@@ -283,5 +303,5 @@ IsSoundString x = All IsSound (demands_in x.meaning)
 -- and the lists of a project
 abbrev pub IsSoundDocument : DocumentReading → Type 0
 IsSoundDocument (IsProject t together names overridden xs) = All IsSoundString xs
-IsSoundDocument (IsLock parts ys ms es fs) = ⊤
+IsSoundDocument (IsLock parts python ys ms es fs) = ⊤
 IsSoundDocument (IsBroken f) = ⊤

@@ -5,35 +5,39 @@ use Rattle.std.specs.List.{All, AllZip, Contains, filter, flat_map, list_any}
 use Rattle.std.specs.Str.{IsUtf8}
 use Rattle.pep440_pick.specs.Names.{normal, same_name}
 use Rattle.pep440_pick.specs.RequirementGrammar.{DerivesRequirement, Needed}
+use Rattle.pep440_ranges.specs.RangeSegments.{contains}
+use Rattle.pep440_rs.specs.Bounds.{Segments}
 use Rattle.pep440_rs.specs.Lists.ListGrammar.{DerivesList}
 use Rattle.pep440_rs.specs.LiteralMatching.{list_matches_literally}
 use Rattle.pep440_rs.specs.Specifiers.{Spec}
 use Rattle.pep440_version.specs.ErrorTexts.{rejection_text}
 use Rattle.pep440_version.specs.Grammar.{Derives}
+use Rattle.pep440_version.specs.Key.{record_cmp}
 use Rattle.pep440_version.specs.Record.{Record}
 use Rattle.pep440_version.specs.Rejections.{Rejection, Rejects}
 use Rattle.pyver_findings.specs.Conflicts.{has_same_name, unmarked}
-use Rattle.pyver_findings.specs.Demands.{Demand}
-use Rattle.pyver_findings.specs.FileLines.{Conflicting, File, FileLine, Finding, NoRequirement}
-use Rattle.pyver_findings.specs.FindingLaws.{AreAlike, HasMarker, HaveNone, IsOneIn, IsRightConflict, IsUndecided}
+use Rattle.pyver_findings.specs.Demands.{Demand, is_pinned}
+use Rattle.pyver_findings.specs.FileLines.{Conflicting, File, FileLine, Finding, NoRequirement, file_lines}
+use Rattle.pyver_findings.specs.FindingLaws.{AreAlike, HasMarker, HaveNone, IsOneIn, IsRightConflict, IsUndecided, IsRequirementLine}
 use Rattle.pyver_findings.specs.LineMeanings.{IsNone, IsPlain}
 use Rattle.pyver_findings.specs.Reports.{Report}
 use Rattle.pyver_findings.specs.declared.finding.Conflict.TheVariants.{PinOutside}
 use Rattle.pyver_markers.specs.Conditions.{Domain, IsEnvironment}
 use Rattle.pyver_markers.specs.Environments.{Environment}
 use Rattle.pyver_markers.specs.MarkerValues.{value}
-use Rattle.pyver_requirements.specs.LineParts.{line_parts}
+use Rattle.pyver_requirements.specs.LineParts.{line_parts, pip_parts}
 use Rattle.pyver_requirements.specs.MarkerGrammar.{DenotesMarker, Marker}
 use Rattle.toml.specs.Data.{Members}
 use Rattle.toml.specs.Parse.{parse_document}
-use Rattle.pyver_projects.specs.Comparing.{IsDocumentsReport, is_beside, is_installer, is_locked, is_needed, is_plain_for_uv, lack_in, leaves_out, same_list, stale_finding, unentered_reason, unrequired_reason}
+use Rattle.pyver_findings.specs.Exports.{is_export}
+use Rattle.pyver_projects.specs.Comparing.{IsDocumentsReport, is_beside, is_installer, is_locked, is_needed, is_plain_for_uv, lack_in, leaves_out, python_finding, python_minors, same_list, stale_finding, unentered_reason, unrequired_reason, IsExportsReport, counts_for, is_made_of}
 use Rattle.pyver_findings.specs.NamedFiles.{folder}
 use Rattle.pyver_projects.specs.ContentHashes.{hash_of, hashed_texts, is_known_text}
 use Rattle.pyver_projects.specs.Documents.{has_group_tool, locked, overridden_names, project_names, sources}
-use Rattle.pyver_projects.specs.Meanings.{groups, Document, IsSectionMeaning, IsStringReading, StringReading, fault_meaning, file_meaning, is_of_version, package_line, requirement_line, string_line}
+use Rattle.pyver_projects.specs.Meanings.{groups, AreLockedPythons, Document, IsSectionMeaning, IsStringReading, StringReading, fault_meaning, file_meaning, is_of_version, package_line, requirement_line, string_line}
 use Rattle.pyver_projects.specs.KnownEnvironments.{is_for, known_environment, known_environments, python_record}
 use Rattle.pyver_projects.specs.ProjectStrings.{ContentHash, LockContents, LockFault, LockParts, LockedFile, LockedPackage, LockedRequirement, PackageCondition, ProjectString, Section}
-use Rattle.pyver_projects.specs.Together.{has_group, holds_in, part_demands, project_domain, section_part}
+use Rattle.pyver_projects.specs.Together.{has_group, holds_in, is_replaced, is_standard, part_demands, project_domain, project_python, section_part}
 use Rattle.pyver_projects.specs.declared.document_kind.DocumentKind.{DocumentKind}
 use Rattle.pyver_projects.specs.declared.document_kind.DocumentKind.TheVariants.{Lock, Project}
 use Rattle.pyver_projects.specs.declared.document_kind.LockKind.{LockKind}
@@ -302,6 +306,30 @@ pub record IsStale (documents : List Document) (f : Finding) : Type 0 where
   pub none : All (HasOtherHash hash.value) (hashed_texts hash.rule table)
   pub is : f ≡ stale_finding lock hash.rule
 
+-- the versions of Python of a project, as a set, and those of which a lock with this says that the project in its folder is
+pub record HavePythons (file : File) (t : Members) (l : LockContents) (own locked : Segments) : Type 0 where
+  pub readings : List StringReading
+  pub read : AllZip (IsStringReading (groups t) file) (sources t) readings
+  pub project : project_python readings ≡ Some own
+  pub lock : AreLockedPythons l.parts.python (Some locked)
+
+-- a lock says that the project in its folder is for a version of Python that this is not for, or the reverse
+pub record IsOtherPython (documents : List Document) (f : Finding) : Type 0 where
+  pub file : File
+  pub table : Members
+  pub lock : File
+  pub kind : LockKind
+  pub contents : LockContents
+  pub minor : ℕ
+  pub own : Segments
+  pub locked : Segments
+  pub has : HasProject documents file table
+  pub known : HasLock documents kind lock contents
+  pub beside : folder file.name ≡ folder lock.name
+  pub have : HavePythons file table contents own locked
+  pub differ : contains record_cmp own (python_record minor) ≢ contains record_cmp locked (python_record minor)
+  pub is : f ≡ python_finding lock minor
+
 -- the string is this requirement, always or under a marker, and has no URL
 abbrev pub Requires : ProjectString → Needed → Type 0
 Requires s n = IsPlain (line_parts s.text).requirement × DerivesRequirement (line_parts s.text).requirement n × ((m : Option (List ℕ)) × HasMarker (line_parts s.text) m) × ((line_parts s.text).url ≡ None)
@@ -328,14 +356,14 @@ pub record IsUnentered (documents : List Document) (f : Finding) : Type 0 where
   pub contents : LockContents
   pub are : AreTogether documents file table lock kind contents
   pub within : Contains (sources table) string
-  pub counts : is_locked string.section ≡ true
+  pub counts : is_standard string.section ≡ true
   pub requires : Requires string needed
   pub none : All (λ q. ¬ IsEntryFor needed q) contents.entries
   pub is : f ≡ NoRequirement (string_line file string) unentered_reason 0
 
 -- the string is no requirement that the lock says its project has
 abbrev pub IsOtherString : LockedRequirement → ProjectString → Type 0
-IsOtherString q s = is_locked s.section ≡ true → (n : Needed) → Requires s n → ¬ IsEntryFor n q
+IsOtherString q s = is_standard s.section ≡ true → (n : Needed) → Requires s n → ¬ IsEntryFor n q
 
 -- the lock says that its project has a requirement that it does not have
 pub record IsUnrequired (documents : List Document) (f : Finding) : Type 0 where
@@ -353,7 +381,7 @@ pub record IsUnrequired (documents : List Document) (f : Finding) : Type 0 where
 -- the finding is right
 abbrev pub IsDocumentFinding : List Document → Finding → Type 0
 IsDocumentFinding documents f = IsInvalidString documents f
-    ⊎ (IsInvalidPackage documents f ⊎ (IsUnread documents f ⊎ (IsMissing documents f ⊎ (IsExcluded documents f ⊎ (IsConflict documents f ⊎ (IsUnmet documents f ⊎ (IsAbsent documents f ⊎ (IsOtherFile documents f ⊎ (IsLockFault documents f ⊎ (IsPartlyMissing documents f ⊎ (IsPartlyAbsent documents f ⊎ (IsStale documents f ⊎ (IsUnentered documents f ⊎ IsUnrequired documents f)))))))))))))
+    ⊎ (IsInvalidPackage documents f ⊎ (IsUnread documents f ⊎ (IsMissing documents f ⊎ (IsExcluded documents f ⊎ (IsConflict documents f ⊎ (IsUnmet documents f ⊎ (IsAbsent documents f ⊎ (IsOtherFile documents f ⊎ (IsLockFault documents f ⊎ (IsPartlyMissing documents f ⊎ (IsPartlyAbsent documents f ⊎ (IsStale documents f ⊎ (IsUnentered documents f ⊎ (IsUnrequired documents f ⊎ IsOtherPython documents f))))))))))))))
 
 -- each finding is right
 abbrev pub DocumentFindingsHold : Type 0
@@ -365,12 +393,16 @@ DocumentFindingsHold = (documents : List Document) (r : Report) → IsDocumentsR
 abbrev pub overrides : List ℕ → Members → Bool
 overrides name t = list_any (bytes_eq (normal name)) (overridden_names t)
 
--- each requirement of each project that it does not override contains a version of its name in each lock that counts for it, does not leave its part out, and
+-- it does, in place of a requirement for the name that stands where this string does
+abbrev pub replaces : ProjectString → List ℕ → Members → Bool
+replaces s name t = is_replaced (overridden_names t) s.section (normal name)
+
+-- each requirement of each project that none replaces contains a version of its name in each lock that counts for it, does not leave its part out, and
 -- has one
 abbrev pub AllContained : List Document → Type 0
 AllContained documents = (file lock : File) (kind : LockKind) (l : LockContents) (s : ProjectString) (p : LockedPackage) (n : Needed) (v : Record)
     → HasString documents file s → HasLock documents kind lock l → Contains l.packages p → IsTrue (is_beside documents (record { kind = Project; file = file }) (record { kind = Lock kind; file = lock }))
-    → IsTrue (is_locked s.section) → leaves_out kind l.parts.names s.section ≡ false → AlwaysAsks s n → ((t : Members) → HasProject documents file t → overrides n.name t ≡ false)
+    → IsTrue (is_locked (bytes_eq (folder file.name) (folder lock.name)) s.section) → leaves_out kind l.parts.names s.section ≡ false → AlwaysAsks s n → ((other : File) (t : Members) → HasProject documents other t → replaces s n.name t ≡ false)
     → LocksVersion n.name p v → SomeContained l.packages n.name n.specifiers
 
 -- each requirement of a package whose list is one contains a version of its name in the same lock, if that has one and no project overrides it
@@ -406,22 +438,28 @@ AllFresh documents = (file lock : File) (kind : LockKind) (l : LockContents) (t 
     → IsTrue (is_beside documents (record { kind = Project; file = file }) (record { kind = Lock kind; file = lock })) → folder file.name ≡ folder lock.name → l.parts.hash ≡ Some hash
     → (text : List ℕ) × Contains (hashed_texts hash.rule t) text × (IsTrue (is_known_text text) → hash.value ≡ hash_of text)
 
+-- each lock that says for which versions of Python the project in its folder is says the same as this
+abbrev pub AllOfOnePython : List Document → Type 0
+AllOfOnePython documents = (file lock : File) (kind : LockKind) (l : LockContents) (t : Members) (own locked : Segments) (minor : ℕ) → HasProject documents file t → HasLock documents kind lock l
+    → IsTrue (is_beside documents (record { kind = Project; file = file }) (record { kind = Lock kind; file = lock })) → folder file.name ≡ folder lock.name → HavePythons file t l own locked
+    → Contains python_minors minor → contains record_cmp own (python_record minor) ≡ contains record_cmp locked (python_record minor)
+
 -- each requirement of a project of another name is one that the lock in its folder says it has, where that says some
 abbrev pub AllEntered : List Document → Type 0
 AllEntered documents = (file lock : File) (kind : LockKind) (l : LockContents) (t : Members) (s : ProjectString) (n : Needed) → AreTogether documents file t lock kind l
     → IsTrue (is_beside documents (record { kind = Project; file = file }) (record { kind = Lock kind; file = lock })) → nat_lt 0 (length l.entries) ≡ true
-    → Contains (sources t) s → is_locked s.section ≡ true → Requires s n → IsOtherProject n.name t → (q : LockedRequirement) × Contains l.entries q × IsEntryFor n q
+    → Contains (sources t) s → is_standard s.section ≡ true → Requires s n → IsOtherProject n.name t → (q : LockedRequirement) × Contains l.entries q × IsEntryFor n q
 
 -- and each that it says the project has, without a source of its own, is one of the project
 abbrev pub AllRequired : List Document → Type 0
 AllRequired documents = (file lock : File) (kind : LockKind) (l : LockContents) (t : Members) (q : LockedRequirement) (list : List Spec) → AreTogether documents file t lock kind l
     → IsTrue (is_beside documents (record { kind = Project; file = file }) (record { kind = Lock kind; file = lock }))
     → Contains l.entries q → DerivesList q.list list → q.is_reference ≡ false → IsOtherProject q.name t
-    → (s : ProjectString) × (n : Needed) × Contains (sources t) s × (is_locked s.section ≡ true) × Requires s n × IsEntryFor n q
+    → (s : ProjectString) × (n : Needed) × Contains (sources t) s × (is_standard s.section ≡ true) × Requires s n × IsEntryFor n q
 
 -- where nothing is found, they do
 abbrev pub NoFindingImpliesContained : Type 0
-NoFindingImpliesContained = (documents : List Document) (r : Report) → IsDocumentsReport documents r → r.findings ≡ [] → AllContained documents × (AllMet documents × (AllPresent documents × (AllOfVersion documents × (AllAlone documents × (AllFresh documents × (AllEntered documents × AllRequired documents))))))
+NoFindingImpliesContained = (documents : List Document) (r : Report) → IsDocumentsReport documents r → r.findings ≡ [] → AllContained documents × (AllMet documents × (AllPresent documents × (AllOfVersion documents × (AllAlone documents × (AllFresh documents × (AllEntered documents × (AllRequired documents × AllOfOnePython documents)))))))
 
 -- the lines are the requirements of a part of a project, which is installed in the environments of the domain
 pub record IsPart (documents : List Document) (d : Domain) (lines : List Demand) : Type 0 where
@@ -433,7 +471,7 @@ pub record IsPart (documents : List Document) (d : Domain) (lines : List Demand)
   pub within : Contains (sources table) string
   pub read : AllZip (IsStringReading (groups table) file) (sources table) readings
   pub bounds : d ≡ project_domain readings
-  pub are : lines ≡ part_demands (has_group_tool table) (groups table).inclusions (section_part string.section) readings
+  pub are : lines ≡ part_demands (has_group_tool table) (overridden_names table) (groups table).inclusions (section_part string.section) readings
 
 -- those of one name without a marker have a version in common
 abbrev pub AllSatisfiable : List Document → Type 0
@@ -455,3 +493,65 @@ NoFindingImpliesSatisfiable = (documents : List Document) (r : Report) → IsDoc
 abbrev pub DocumentReportsOnce : Type 0
 DocumentReportsOnce = (documents : List Document) (r s : Report) → All IsReadable documents → IsDocumentsReport documents r → IsDocumentsReport documents s
     → ¬ IsUndecided r → ¬ IsUndecided s → AreAlike r s
+
+-- ---- exports beside locks
+
+-- one of the files is an export, and has this line
+abbrev pub HasExportLine : List File → File → FileLine → Type 0
+HasExportLine files file line = Contains files file × IsTrue (is_export file) × Contains (file_lines file) line
+
+-- the line is a requirement, which names a version, whatever its marker
+abbrev pub IsPin : FileLine → Needed → Type 0
+IsPin line n = IsRequirementLine line × ((pip_parts line.text).url ≡ None) × DerivesRequirement (pip_parts line.text).requirement n × IsTrue (is_pinned n.specifiers)
+
+-- one of the documents is a lock of this kind in this file, has this, and counts for the file with this path
+abbrev pub HasLockFor : List Document → List ℕ → LockKind → File → LockContents → Type 0
+HasLockFor documents path kind lock l = HasLock documents kind lock l × IsTrue (counts_for documents path (record { kind = Lock kind; file = lock }))
+
+-- the list of a pin of an export contains no version of a package of its name in a lock that counts for it
+pub record IsOtherPin (files : List File) (documents : List Document) (f : Finding) : Type 0 where
+  pub file : File
+  pub line : FileLine
+  pub needed : Needed
+  pub lock : File
+  pub kind : LockKind
+  pub contents : LockContents
+  pub has : HasExportLine files file line
+  pub derives : DerivesRequirement (pip_parts line.text).requirement needed
+  pub pins : IsTrue (is_pinned needed.specifiers)
+  pub known : HasLockFor documents file.name kind lock contents
+  pub outside : IsOutside lock.name contents.packages needed.name needed.specifiers line f
+
+-- no package of the lock that an export was made of has the name of a pin
+pub record IsUnlockedPin (files : List File) (documents : List Document) (f : Finding) : Type 0 where
+  pub file : File
+  pub line : FileLine
+  pub needed : Needed
+  pub lock : File
+  pub kind : LockKind
+  pub contents : LockContents
+  pub has : HasExportLine files file line
+  pub derives : DerivesRequirement (pip_parts line.text).requirement needed
+  pub pins : IsTrue (is_pinned needed.specifiers)
+  pub known : HasLockFor documents file.name kind lock contents
+  pub made : IsTrue (is_made_of (Lock kind) file)
+  pub none : All (λ (p : LockedPackage). same_name needed.name p.name ≡ false) contents.packages
+  pub is : f ≡ NoRequirement line (codes "the lock has no package of this name") 0
+
+-- each finding is right
+abbrev pub ExportFindingsHold : Type 0
+ExportFindingsHold = (files : List File) (documents : List Document) (r : Report) → IsExportsReport files documents r → All (λ (f : Finding). IsOtherPin files documents f ⊎ IsUnlockedPin files documents f) r.findings
+
+-- where nothing is found, each pin of an export contains a version of its name in each lock that counts for it and has one, and the lock that it was made of has
+-- a package of that name
+abbrev pub AllPinned : List File → List Document → Type 0
+AllPinned files documents = (file lock : File) (kind : LockKind) (l : LockContents) (line : FileLine) (n : Needed) → HasExportLine files file line → IsPin line n → HasLockFor documents file.name kind lock l
+    → ((p : LockedPackage) (v : Record) → Contains l.packages p → LocksVersion n.name p v → SomeContained l.packages n.name n.specifiers)
+    × (IsTrue (is_made_of (Lock kind) file) → (p : LockedPackage) × Contains l.packages p × IsTrue (same_name n.name p.name))
+
+abbrev pub NoFindingImpliesPinned : Type 0
+NoFindingImpliesPinned = (files : List File) (documents : List Document) (r : Report) → IsExportsReport files documents r → r.findings ≡ [] → AllPinned files documents
+
+-- there is one report, if the documents are readable
+abbrev pub ExportReportsOnce : Type 0
+ExportReportsOnce = (files : List File) (documents : List Document) (r s : Report) → All IsReadable documents → IsExportsReport files documents r → IsExportsReport files documents s → r ≡ s

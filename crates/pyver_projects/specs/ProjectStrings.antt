@@ -10,6 +10,7 @@ use Rattle.pyver_findings.specs.declared.cause.Cause.{Cause}
 use Rattle.pyver_projects.specs.declared.locked_package.HashRule.{HashRule}
 use Rattle.pyver_projects.specs.declared.place.Places.{Places}
 use Rattle.pyver_projects.specs.declared.place.QuotedLines.{QuotedLines}
+use Rattle.pyver_projects.specs.declared.project.EntryTool.{EntryTool}
 use Rattle.toml.specs.Data.{Data, Items, Members, as_array, as_str, as_table, get, item, member, no_items, no_members}
 
 abbrev pub items_list : Items → List Data
@@ -60,16 +61,19 @@ is_table_or_none value = is_some_or as_table value
 abbrev pub is_text_or_none : Option Data → Bool
 is_text_or_none value = is_some_or as_str value
 
--- where a string stands in `pyproject.toml`: extras and groups by the normal forms of their names, and for the name of a group that another
--- includes both; or, for a key or a name that is invalid, the path of what it stands in, and why it is; or, for what a key of a table of Poetry
--- asks for, the path of the table and the key; or why what stands there is not read
+-- where a string stands in `pyproject.toml` or a Pipfile: extras and groups by the normal forms of their names, and for the name of a group that
+-- another includes both; or, for a key or a name that is invalid, the path of what it stands in, and why it is; or, for what a key of a table of
+-- Poetry or Pipenv asks for, the tool, the path of the table and the key; or that it is a constraint or an override of uv; or the path of the table of
+-- an environment of Hatch; or why what stands there is not read
 pub data Section : Type 0 where
   Dependencies : Section
   Extra : List ℕ → Section
   Group : List ℕ → Section
   Include : (group included : List ℕ) → Section
   Invalid : (table reason : List ℕ) → Section
-  Entry : (table name : List ℕ) → Section
+  Entry : EntryTool → (table name : List ℕ) → Section
+  Constraint : Section
+  Environment : (table : List ℕ) → Section
   Unread : Cause → Section
   Build : Section
   Python : Section
@@ -122,13 +126,14 @@ pub record ContentHash : Type 0 where
 
 -- the parts of a project that a lock has, in normal form: the names of its groups and extras, with `default` for the dependencies; and what `extras` and
 -- `dependency_groups` are in its markers where all that it has is installed; and the markers of the environments that it is for, or none (PEP 751,
--- "Installation"); and the hash of the project, if it is known what is hashed
+-- "Installation"); the hash of the project, if it is known what is hashed; and for which versions of Python the lock says that the project in its folder is
 pub record LockParts : Type 0 where
   pub names : List (List ℕ)
   pub extras : List (List ℕ)
   pub groups : List (List ℕ)
   pub environments : List (List ℕ)
   pub hash : Option ContentHash
+  pub python : Option (List ℕ)
 
 -- what is read of a lock: `entries` are what it says that the project in its folder requires
 pub record LockContents : Type 0 where
@@ -281,7 +286,9 @@ section_path (Extra name) = codes "project.optional-dependencies."
 section_path (Group name) = codes "dependency-groups."
 section_path (Include group included) = codes "dependency-groups."
 section_path (Invalid table reason) = table
-section_path (Entry table name) = table
+section_path (Entry tool table name) = table
+section_path Constraint = codes "tool.uv."
+section_path (Environment table) = table
 section_path (Unread c) = []
 section_path Build = codes "build-system.requires."
 section_path Python = codes "project.requires-python."
@@ -290,7 +297,7 @@ section_path Version = codes "project.version."
 -- the number of the line of a key that is invalid, or that asks for a package
 abbrev pub own_line : List ℕ → Section → List ℕ → Option ℕ
 own_line text (Invalid table reason) name = key_line text (key_path table name)
-own_line text (Entry table name) string = key_line text (key_path table name)
+own_line text (Entry tool table name) string = key_line text (key_path table name)
 own_line text section name = None
 
 -- the number of the line of a string: a key has its own, another string the first on which it opens, or that of what it stands in; or 1

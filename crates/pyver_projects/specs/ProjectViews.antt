@@ -4,7 +4,7 @@ use Rattle.std.specs.Prelude.{map, option_map, option_to_list, string_bytes, Boo
 use Rattle.pyver_findings.specs.Views.{file_line_of, file_of, finding_of, line_meaning_of}
 use Rattle.pyver_projects.specs.Meanings.{Inclusion, Groups, Document, DocumentReading, IsBroken, IsLock, IsProject, LockedReading, StringReading}
 use Rattle.pyver_projects.specs.KnownEnvironments.{ReadCondition}
-use Rattle.pyver_projects.specs.ProjectStrings.{Build, ContentHash, Dependencies, Entry, Extra, Group, Include, Invalid, KeyLine, LockContents, LockFault, LockParts, LockedFile, LockedPackage, LockedRequirement, PackageCondition, Section, Python, ProjectString, Unread, Version}
+use Rattle.pyver_projects.specs.ProjectStrings.{Build, Constraint, ContentHash, Dependencies, Entry, Environment, Extra, Group, Include, Invalid, KeyLine, LockContents, LockFault, LockParts, LockedFile, LockedPackage, LockedRequirement, PackageCondition, Section, Python, ProjectString, Unread, Version}
 use Rattle.pyver_projects.specs.declared.document_kind.Document.{Document as DocumentValue}
 use Rattle.pyver_projects.specs.declared.document_reading.DocumentReading.{DocumentReading as DocumentReadingValue}
 use Rattle.pyver_projects.specs.declared.document_reading.ReadDocument.{ReadDocument as ReadDocumentValue}
@@ -43,8 +43,10 @@ section_of section.Dependencies = Dependencies
 section_of (section.Extra name) = Extra name.items
 section_of (section.Group name) = Group name.items
 section_of (section.Include group included) = Include group.items included.items
-section_of (section.Invalid table reason) = Invalid table.now reason.now
-section_of (section.Entry table name) = Entry table.items name.items
+section_of (section.Invalid table reason) = Invalid table.items reason.now
+section_of (section.Entry tool table name) = Entry tool table.items name.items
+section_of section.Constraint = Constraint
+section_of (section.Environment table) = Environment table.items
 section_of (section.Unread c) = Unread c
 section_of section.Build = Build
 section_of section.Python = Python
@@ -81,7 +83,7 @@ abbrev pub content_hash_of : HashValue → ContentHash
 content_hash_of h = record { rule = h.rule; value = h.value.items }
 
 abbrev pub parts_of : PartsValue → LockParts
-parts_of p = record { names = map (λ n. n.items) p.names.items; extras = map (λ n. n.items) p.extras.items; groups = map (λ n. n.items) p.groups.items; environments = map (λ t. t.items) p.environments.items; hash = option_map content_hash_of p.hash }
+parts_of p = record { names = map (λ n. n.items) p.names.items; extras = map (λ n. n.items) p.extras.items; groups = map (λ n. n.items) p.groups.items; environments = map (λ t. t.items) p.environments.items; hash = option_map content_hash_of p.hash; python = option_map string_bytes p.python }
 
 abbrev pub contents_of : ContentsValue → LockContents
 contents_of l = record { parts = parts_of l.parts; packages = map locked_of l.packages.items; requirements = map requirement_of l.requirements.items; entries = map requirement_of l.entries.items; files = map locked_file_of l.files.items; faults = map fault_of l.faults.items }
@@ -97,7 +99,7 @@ document_of d = record { kind = d.kind; file = file_of d.file }
 
 abbrev pub document_reading_of : DocumentReadingValue → DocumentReading
 document_reading_of (reading.Project p) = IsProject (table_view p.table) p.together (option_to_list (option_map (λ n. n.items) p.name)) (map (λ n. n.items) p.overridden.items) (map string_reading_of p.strings.items)
-document_reading_of (reading.Lock l) = IsLock (parts_of l.parts) (map locked_reading_of l.packages.items) (map line_meaning_of l.requirements.items) (map line_meaning_of l.entries.items) (map line_meaning_of l.faults.items)
+document_reading_of (reading.Lock l) = IsLock (parts_of l.parts) l.python (map locked_reading_of l.packages.items) (map line_meaning_of l.requirements.items) (map line_meaning_of l.entries.items) (map line_meaning_of l.faults.items)
 document_reading_of (reading.Broken f) = IsBroken (finding_of f)
 
 -- what a document was read as

@@ -1,7 +1,8 @@
 -- Requirements of a project that hold together: its dependencies; those of an extra with the dependencies; those of a group with the groups
--- that it includes, and with the dependencies if `together` is true; and those of its build.
-use Rattle.std.specs.Prelude.{◌≡◌, ℕ, ◌&&◌, List, [], ◌∷◌, ◌++◌, Bool, true, false, None, Option, bytes_eq, map, nat_eq, if◌then◌else◌, is_some}
-use Rattle.std.specs.List.{flat_map, list_any}
+-- that it includes, and with the dependencies if `together` is true; those of its build; and those of an environment of Hatch. What a project
+-- overrides is replaced by the override.
+use Rattle.std.specs.Prelude.{◌≡◌, ℕ, ◌&&◌, List, [], ◌∷◌, ◌++◌, Bool, true, false, None, Option, bytes_eq, map, nat_eq, not, if◌then◌else◌, is_some}
+use Rattle.std.specs.List.{filter, flat_map, list_any}
 use Rattle.std.specs.Option.{option_or}
 use Rattle.pep440_rs.specs.Bounds.{Segments}
 use Rattle.pyver_findings.specs.Demands.{Demand}
@@ -11,19 +12,21 @@ use Rattle.pyver_findings.specs.Reports.{demands_in}
 use Rattle.pyver_findings.specs.declared.cause.Cause.{Cause}
 use Rattle.pyver_markers.specs.Conditions.{Domain}
 use Rattle.pyver_projects.specs.Meanings.{Inclusion, includes, inclusions, StringReading}
-use Rattle.pyver_projects.specs.ProjectStrings.{Build, Dependencies, Entry, Extra, Group, Include, Invalid, Python, Section, Unread, Version}
+use Rattle.pyver_projects.specs.ProjectStrings.{Build, Constraint, Dependencies, Entry, Environment, Extra, Group, Include, Invalid, Python, Section, Unread, Version}
 
 -- ---- parts of a project
 
--- the part to which a string of the section belongs: the name of an included group belongs to the group that includes it, and what Poetry's tables
--- ask for to the dependencies, since it looks for versions for all its groups at once
+-- the part to which a string of the section belongs: the name of an included group belongs to the group that includes it; and to the dependencies what
+-- tables of Poetry and Pipenv ask for, since both look for versions for all their groups at once, and what uv is to add to them
 abbrev pub section_part : Section → Section
 section_part (Include group included) = Group group
 section_part Dependencies = Dependencies
 section_part (Extra name) = Extra name
 section_part (Group name) = Group name
 section_part (Invalid table reason) = Invalid table reason
-section_part (Entry table name) = Dependencies
+section_part (Entry tool table name) = Dependencies
+section_part Constraint = Dependencies
+section_part (Environment table) = Environment table
 section_part (Unread c) = Unread c
 section_part Build = Build
 section_part Python = Python
@@ -33,6 +36,7 @@ section_part Version = Version
 abbrev pub same_part : Section → Section → Bool
 same_part (Extra a) (Extra b) = bytes_eq a b
 same_part (Group a) (Group b) = bytes_eq a b
+same_part (Environment a) (Environment b) = bytes_eq a b
 same_part Dependencies Dependencies = true
 same_part Build Build = true
 same_part _ _ = false
@@ -56,7 +60,9 @@ has_group is Dependencies name = false
 has_group is (Extra other) name = false
 has_group is (Include group included) name = false
 has_group is (Invalid table reason) name = false
-has_group is (Entry table key) name = false
+has_group is (Entry tool table key) name = false
+has_group is Constraint name = false
+has_group is (Environment table) name = false
 has_group is (Unread c) name = false
 has_group is Build name = false
 has_group is Python name = false
@@ -66,6 +72,11 @@ abbrev pub is_build : Section → Bool
 is_build Build = true
 is_build _ = false
 
+-- the part is this environment
+abbrev pub is_environment : List ℕ → Section → Bool
+is_environment table (Environment other) = bytes_eq table other
+is_environment table _ = false
+
 -- a string of the section holds in the part, which has these groups
 abbrev pub holds_in : Bool → (List ℕ → Bool) → Section → Section → Bool
 holds_in together has part Dependencies = has_dependencies together part
@@ -74,18 +85,35 @@ holds_in together has part (Group name) = has name
 holds_in together has part Build = is_build part
 holds_in together has part (Include group included) = false
 holds_in together has part (Invalid table reason) = false
-holds_in together has part (Entry table name) = has_dependencies together part
+holds_in together has part (Entry tool table name) = has_dependencies together part
+holds_in together has part Constraint = has_dependencies together part
+holds_in together has part (Environment table) = is_environment table part
 holds_in together has part (Unread c) = false
 holds_in together has part Python = false
 holds_in together has part Version = false
 
--- the requirement of a string that holds in the part
-abbrev pub demand_in_part : Bool → (List ℕ → Bool) → Section → StringReading → List Demand
-demand_in_part together has part x = if holds_in together has part x.section then demands_in x.meaning else []
+-- the section is of the tables that PEP 621 and PEP 735 define, whose requirements uv and PDM may replace
+abbrev pub is_standard : Section → Bool
+is_standard Dependencies = true
+is_standard (Extra name) = true
+is_standard (Group name) = true
+is_standard _ = false
+
+-- the project overrides these names, and so a requirement of this section for the name
+abbrev pub is_replaced : List (List ℕ) → Section → List ℕ → Bool
+is_replaced overridden section name = is_standard section && list_any (bytes_eq name) overridden
+
+-- what is left of the requirements of a section
+abbrev pub unreplaced : List (List ℕ) → Section → List Demand → List Demand
+unreplaced overridden section lines = filter (λ (a : Demand). not (is_replaced overridden section a.name)) lines
+
+-- the requirement of a string that holds in the part of a project that overrides these names
+abbrev pub demand_in_part : Bool → List (List ℕ) → (List ℕ → Bool) → Section → StringReading → List Demand
+demand_in_part together overridden has part x = if holds_in together has part x.section then unreplaced overridden x.section (demands_in x.meaning) else []
 
 -- the requirements of a part
-abbrev pub part_demands : Bool → List Inclusion → Section → List StringReading → List Demand
-part_demands together is part xs = flat_map (demand_in_part together (has_group is part) part) xs
+abbrev pub part_demands : Bool → List (List ℕ) → List Inclusion → Section → List StringReading → List Demand
+part_demands together overridden is part xs = flat_map (demand_in_part together overridden (has_group is part) part) xs
 
 -- the requirements of all strings
 abbrev pub all_demands : List StringReading → List Demand
@@ -137,9 +165,9 @@ abbrev pub project_domain : List StringReading → Domain
 project_domain xs = record { linked = true; python = project_python xs }
 
 -- of the requirements of a part those that have no version in common, in an environment in which the project is installed
-abbrev pub FindsOfPart : Bool → List StringReading → Section → List Finding → List Cause → Type 0
-FindsOfPart together xs part = FindsOfNames (project_domain xs) (part_demands together (inclusions (sections xs)) part xs)
+abbrev pub FindsOfPart : Bool → List (List ℕ) → List StringReading → Section → List Finding → List Cause → Type 0
+FindsOfPart together overridden xs part = FindsOfNames (project_domain xs) (part_demands together overridden (inclusions (sections xs)) part xs)
 
 -- of each part, each finding once
-abbrev pub FindsOfParts : Bool → List StringReading → List Finding → List Cause → Type 0
-FindsOfParts together xs fs cs = (found : List Finding) × FindsOfEach (FindsOfPart together xs) (parts xs) found cs × (fs ≡ with_new same_finding [] found)
+abbrev pub FindsOfParts : Bool → List (List ℕ) → List StringReading → List Finding → List Cause → Type 0
+FindsOfParts together overridden xs fs cs = (found : List Finding) × FindsOfEach (FindsOfPart together overridden xs) (parts xs) found cs × (fs ≡ with_new same_finding [] found)

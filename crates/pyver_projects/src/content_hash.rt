@@ -12,7 +12,7 @@ ghost use Rattle.toml.specs.View.{table_view, view};
 
 use crate::document_kind::{Document, LockKind, folder};
 use crate::document_reading::{DocumentReading, ReadDocument};
-use crate::entries::push_differences;
+use crate::entries::{push_differences, push_python_difference};
 use crate::json_text::{json_member, json_text, object_text, table_members};
 use crate::locked_package::{ContentHash, HashRule, split_at_byte};
 use crate::place::{document_keys, key_path, number_keys};
@@ -564,7 +564,7 @@ fn hash_table(rule: HashRule) -> &'static [u8]
 }
 
 // The number of the first line of the text that has the key with this path.
-fn key_line(alloc: Global, text: &[u8], path: &[u8]) -> Result<Option<usize>, AllocError>
+pub(crate) fn key_line(alloc: Global, text: &[u8], path: &[u8]) -> Result<Option<usize>, AllocError>
     ensures { IfOk result (λ number. number ≡ key_line text.now path.now) }
 {
     let keys = document_keys(alloc, text)?;
@@ -631,11 +631,12 @@ fn push_stale_beside(
         return Ok(());
     };
     push_stale(alloc, findings, lock, &project.table, &read.parts.hash)?;
+    push_python_difference(alloc, findings, lock, project, &read.python)?;
     push_differences(alloc, findings, project, read.entries.as_slice())
 }
 
 // Both are in one folder.
-fn in_one_folder(one: &Document, other: &Document) -> bool
+pub(crate) fn in_one_folder(one: &Document, other: &Document) -> bool
     ensures { result ≡ in_one_folder (document_of one.now) (document_of other.now) }
 {
     folder(one.file.name.as_slice()) == folder(other.file.name.as_slice())

@@ -2,8 +2,7 @@
 ghost use Rattle.std.specs.List.{list_any};
 ghost use Rattle.std.specs.Prelude.{◌≡◌, ◌==◌, count_by, map};
 ghost use Rattle.pyver_findings.specs.NamedFiles.{folder};
-ghost use Rattle.pyver_projects.specs.Comparing.{is_below, is_beside, is_nearer, is_project, same_kind, same_lock_kind};
-ghost use Rattle.pyver_projects.specs.ExportComparing.{counts_for, project_at};
+ghost use Rattle.pyver_projects.specs.Comparing.{is_below, is_beside, is_nearer, is_project, same_kind, same_lock_kind, counts_for, project_at};
 ghost use Rattle.pyver_projects.specs.ProjectViews.{document_of};
 ghost use Rattle.pyver_projects.specs.Documents.{ends_path, lies_above, is_document_path, is_named_pylock, kind_of_path, kind_of_word};
 ghost use Rattle.pyver_projects.specs.LockedFiles.{has_slash, last_section};
@@ -201,14 +200,16 @@ pub fn is_document_path(path: &[u8]) -> bool
         || path.ends_with(b".json")
 }
 
-/// The kind of the document with this path, by its last section: `pyproject.toml`, `pylock.toml`, `pylock.NAME.toml` with a
+/// The kind of the document with this path, by its last section: `pyproject.toml`, `Pipfile`, `pylock.toml`, `pylock.NAME.toml` with a
 /// NAME without a dot, `uv.lock`, `poetry.lock`, `pdm.lock` or `Pipfile.lock`. Any other document has none.
 ///
 /// Allocates nothing.
 pub fn kind_of_path(path: &[u8]) -> Option<DocumentKind>
     ensures { result ≡ kind_of_path path.now }
 {
-    if ends_path(path, b"pyproject.toml", b"/pyproject.toml") {
+    if ends_path(path, b"pyproject.toml", b"/pyproject.toml")
+        || ends_path(path, b"Pipfile", b"/Pipfile")
+    {
         Some(DocumentKind::Project)
     } else if ends_path(path, b"pylock.toml", b"/pylock.toml") {
         Some(DocumentKind::Lock(LockKind::Pylock))

@@ -1,12 +1,14 @@
 //! What strings of a project and documents are to the check.
-ghost use Rattle.std.specs.Prelude.{◌≡◌, IfOk, IfSome, Some, map, string_bytes, is_none, false};
+ghost use Rattle.std.specs.Prelude.{◌≡◌, IfOk, IfSome, Some, map, option_map, string_bytes, is_none, false};
 ghost use Rattle.pyver_projects.specs.Documents.{locked, toml_contents};
-ghost use Rattle.pyver_projects.specs.Meanings.{ArePythons, AreVersions, IsBrokenReading, IsContentsReading, IsDocumentReading, IsEntryMeaning, IsLockReading, IsProjectReading, IsTextReading, IsSectionMeaning, IsStringReading, IsVersionMeaning, list_versions, include_meaning, no_group};
+ghost use Rattle.pyver_projects.specs.Meanings.{AreLockedPythons, ArePythons, AreVersions, IsBrokenReading, IsContentsReading, IsDocumentReading, IsEntryMeaning, IsFilledMeaning, IsLockReading, IsProjectReading, IsTextReading, IsSectionMeaning, IsStringReading, IsVersionMeaning, list_versions, include_meaning, no_group};
 ghost use Rattle.pyver_projects.specs.ProjectViews.{contents_of, document_of, document_reading_of, HasGroups, groups_of, project_string_of, section_of, string_reading_of};
 ghost use Rattle.pyver_projects.specs.declared.document_kind.DocumentKind.TheVariants as of_kind;
 ghost use Rattle.pyver_projects.specs.declared.document_kind.LockKind.TheVariants as lock_kind;
+ghost use Rattle.pyver_projects.specs.declared.project.EntryTool.TheVariants as of_entries;
 ghost use Rattle.toml.specs.View.{table_view};
 ghost use Rattle.std.specs.List.{All, AllZip};
+ghost use Rattle.pep440_pick.specs.RequirementGrammar.{has_byte};
 ghost use Rattle.pep440_rs.specs.Denoted.{IsDenotable};
 ghost use Rattle.pep440_version.specs.Errors.{error_rejection};
 ghost use Rattle.pep440_version.specs.ErrorTexts.{error_text, rejection_text};
@@ -28,7 +30,7 @@ use crate::place::{
     Places, document_keys, position_of, read_places, read_quoted_lines, reject_document,
     string_line,
 };
-use crate::project::{ProjectString, Section, project_strings};
+use crate::project::{EntryTool, ProjectString, Section, project_strings};
 use crate::toml_lock::toml_contents;
 use crate::tool_tables::overridden_names;
 use pep440_rs::{ErrorKind, Version, VersionParseError, VersionSpecifiers};
@@ -55,6 +57,8 @@ pub(crate) struct ProjectReading {
 #[derive(Drop)]
 pub(crate) struct LockReading {
     pub(crate) parts: LockParts,
+    // For which versions of Python the lock says that the project in its folder is, as a set.
+    pub(crate) python: Option<VersionSet>,
     pub(crate) packages: Vec<LockedReading>,
     // What the packages require of one another.
     pub(crate) requirements: Vec<LineMeaning>,
@@ -115,6 +119,7 @@ fn read_lock(
 ) -> Result<DocumentReading, AllocError>
     ensures { IfOk result (λ x. IsLockReading name.now (contents_of contents) (document_reading_of x)) }
 {
+    let python = parse_locked_pythons(alloc, &contents.parts.python)?;
     let packages = read_packages(alloc, name, contents.packages.as_slice())?;
     let requirements = read_requirements(alloc, name, contents.requirements.as_slice())?;
     let entries = read_requirements(alloc, name, contents.entries.as_slice())?;
@@ -122,6 +127,7 @@ fn read_lock(
     push_faults(alloc, &mut faults, name, contents.faults.as_slice())?;
     Ok(DocumentReading::Lock(LockReading {
         parts: contents.parts,
+        python,
         packages,
         requirements,
         entries,
@@ -298,6 +304,19 @@ fn parse_versions(alloc: Global, text: &str) -> Result<Option<VersionSet>, Alloc
     }
 }
 
+// The versions of Python of a lock, if it has such a list.
+fn parse_locked_pythons(
+    alloc: Global,
+    list: &Option<String>,
+) -> Result<Option<VersionSet>, AllocError>
+    ensures { IfOk result (AreLockedPythons (option_map string_bytes list.now)) }
+{
+    match list {
+        Some(list) => parse_versions(alloc, list.as_str()),
+        None => Ok(None),
+    }
+}
+
 // The versions of Python that the string bounds in this section.
 fn parse_python(
     alloc: Global,
@@ -310,8 +329,8 @@ fn parse_python(
         Section::Python => parse_versions(alloc, text),
         Section::Version | Section::Dependencies | Section::Build => Ok(None),
         Section::Extra(_) | Section::Group(_) => Ok(None),
-        Section::Include(_, _) | Section::Invalid(_, _) | Section::Entry(_, _) => Ok(None),
-        Section::Unread(_) => Ok(None),
+        Section::Include(_, _) | Section::Invalid(_, _) | Section::Entry(_, _, _) => Ok(None),
+        Section::Constraint | Section::Environment(_) | Section::Unread(_) => Ok(None),
     }
 }
 
@@ -370,14 +389,42 @@ fn include_meaning(
     Ok(LineMeaning::AsksNothing)
 }
 
-// What a line is that stands for an entry of Poetry.
-fn parse_entry(alloc: Global, line: &FileLine) -> Result<LineMeaning, AllocError>
-    ensures { IfOk result (λ x. IsEntryMeaning (file_line_of line.now) (line_meaning_of x)) }
+// What a line is that stands for an entry of Poetry, whose list PEP 440 may not have.
+fn parse_poetry_entry(alloc: Global, line: &FileLine) -> Result<LineMeaning, AllocError>
+    ensures { IfOk result (λ x. IsEntryMeaning of_entries.Poetry (file_line_of line.now) (line_meaning_of x)) }
 {
     match parse_requirement(alloc, line)? {
         LineMeaning::IsNone(_) => Ok(LineMeaning::LeftOut(Cause::OtherSyntax)),
         meaning => Ok(meaning),
     }
+}
+
+// What a line is that stands for an entry of the tool.
+fn parse_entry(alloc: Global, tool: EntryTool, line: &FileLine) -> Result<LineMeaning, AllocError>
+    ensures { IfOk result (λ x. IsEntryMeaning tool (file_line_of line.now) (line_meaning_of x)) }
+{
+    match tool {
+        EntryTool::Poetry => parse_poetry_entry(alloc, line),
+        EntryTool::Pipenv => parse_requirement(alloc, line),
+    }
+}
+
+// The text has a field that Hatch fills in.
+fn has_field(text: &str) -> bool
+    ensures { result ≡ has_byte 123 text.now }
+{
+    text.as_bytes().contains(&b'{')
+}
+
+// What a string of an environment of Hatch is, which may have a field to be filled in.
+fn parse_filled(alloc: Global, line: &FileLine, text: &str) -> Result<LineMeaning, AllocError>
+    ensures { IfOk result (λ x. IsFilledMeaning (file_line_of line.now) text.now (line_meaning_of x)) }
+{
+    if has_field(text) {
+        return Ok(LineMeaning::LeftOut(Cause::OtherSyntax));
+    }
+    let meaning = parse_requirement(alloc, line)?;
+    Ok(meaning)
 }
 
 // What the string of this line, which is this text, is in this section of a project with these groups.
@@ -399,7 +446,9 @@ fn parse_string(
         Section::Group(_) => parse_requirement(alloc, line),
         Section::Build => parse_requirement(alloc, line),
         Section::Invalid(_, reason) => no_group(alloc, line, reason),
-        Section::Entry(_, _) => parse_entry(alloc, line),
+        Section::Entry(tool, _, _) => parse_entry(alloc, *tool, line),
+        Section::Constraint => parse_requirement(alloc, line),
+        Section::Environment(_) => parse_filled(alloc, line, text),
         Section::Unread(cause) => Ok(LineMeaning::LeftOut(*cause)),
         Section::Include(group, included) => {
             include_meaning(alloc, groups, line, group.as_slice(), included.as_slice())

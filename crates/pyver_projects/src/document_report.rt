@@ -136,6 +136,7 @@ fn report_lock(
 {
     let LockReading {
         parts,
+        python: _python,
         packages,
         requirements,
         entries: _entries,
@@ -211,14 +212,15 @@ fn report_all(
 // What is found in each project beside each lock that counts for it, of these documents.
 fn compare_all(
     alloc: Global,
+    projects: &KnownProjects,
     documents: &[Document],
     read: &[ReadDocument<'_>],
 ) -> Result<Vec<Finding>, AllocError>
-    ensures { IfOk result (λ found. map finding_of found.items ≡ flat_map (beside_all (map document_of documents.now) (map read_pair read.now)) (map read_pair read.now)) }
+    ensures { IfOk result (λ found. map finding_of found.items ≡ flat_map (beside_all (excuses projects.now) (map document_of documents.now) (map read_pair read.now)) (map read_pair read.now)) }
 {
     let mut findings = Vec::new(alloc);
     for document in read {
-        push_beside_all(alloc, &mut findings, documents, read, document)?;
+        push_beside_all(alloc, &mut findings, projects, documents, read, document)?;
     }
     Ok(findings)
 }
@@ -236,7 +238,13 @@ fn push_reading_conflicts(
     match reading {
         DocumentReading::Project(project) => {
             let strings = project.strings.as_slice();
-            let mut found = project_conflicts(alloc, left_out, project.together, strings)?;
+            let mut found = project_conflicts(
+                alloc,
+                left_out,
+                project.together,
+                project.overridden.as_slice(),
+                strings,
+            )?;
             findings.append(&mut found)?;
             Ok(())
         }
@@ -291,16 +299,20 @@ pub(crate) fn read_documents<'a>(
 /// versions of its name, if it contains none.
 /// Then what is wrong in each project beside each lock in its folder, or in the nearest above that has one of its kind, and beside each
 /// lock for which that is no project: in one folder whether `metadata.content-hash` of `poetry.lock`, `metadata.content_hash` of `pdm.lock`, or
-/// `tool.pdm.hashes` of `pylock.toml`, is the hash of the project, on the line of that key; in one folder, where `uv.lock` says what that project requires, for
+/// `tool.pdm.hashes` of `pylock.toml`, is the hash of the project, on the line of that key; in one folder, where `uv.lock` has that project as a package and names
+/// no members, the first of CPython 3.9 to 3.14 that only one of both `requires-python` contains, on the line of the lock's; where it says what the project requires, for
 /// each requirement of the project of dependencies, extras and groups whether the lock has one with its name and list, and for each of the lock, on the line of
 /// its package, whether the project has; for each requirement, in order, whether the lock lacks a package of its name, or such an environment,
 /// and the lines of the locked versions of its name with the line of the requirement, if it contains none. Then the requirements of each project that hold
 /// together and have no version in common, as `pyver_findings` reports them, each once: `project.dependencies`; these with each extra; each group with
-/// all that it includes, and with these if there is a table `tool.uv` or `tool.poetry`; and what the build requires. Those with markers are reported in an
-/// environment with a version of Python that `project.requires-python` contains, if that is a list without `===`.
+/// all that it includes, and with these if there is a table `tool.uv` or `tool.poetry`; what the build requires; and each environment of `tool.hatch.envs`. With
+/// the dependencies hold `tool.uv.constraint-dependencies` and `override-dependencies`; a requirement of dependencies, extras and groups for a name that the project
+/// overrides does not count. Those with markers are reported in an environment with a version of Python that `project.requires-python` contains, if that is a list without `===`.
 ///
 /// Of `pyproject.toml` these are read: `project.dependencies`, `project.optional-dependencies`, `project.requires-python`,
-/// `project.version`, `dependency-groups` with the names of included groups, and `build-system.requires`; of a lock the names and
+/// `project.version`, `dependency-groups` with the names of included groups, `build-system.requires`, `dev-dependencies` of `tool.uv`, `tool.rye` and `tool.pdm`,
+/// uv's constraints and overrides, `dependencies` and `extra-dependencies` of each environment of Hatch, if no string of the array has a `{`, and the tables of
+/// `tool.poetry`; of a Pipfile `packages` and `dev-packages`, whose lists are of PEP 440, with no other condition than `markers`; of a lock the names and
 /// versions of its packages, in `Pipfile.lock` of the members of `default` and of those of `develop` that are not there with the same
 /// version. Their requirements are the names in uv's `metadata.requires-dist`, each with its `specifier`, those in an array
 /// `dependencies`, or its strings, as PDM writes them, there or, in `pylock.toml`, at `tool.pdm`, and those in Poetry's table `dependencies` with their lists; one that PEP 440 does
@@ -309,9 +321,11 @@ pub(crate) fn read_documents<'a>(
 /// their names. A string has the number of the first line on which it stands in quotes, a package of `Pipfile.lock` the number of the first line with its name in quotes, another
 /// package, with what it requires, the number of its header. Either has 1 without one. Each string and each package counts as a line.
 ///
-/// A requirement with a marker or a URL, of a package with markers that may not hold, of the build, or that is optional, is not compared, nor one of a name
-/// that a project overrides: with which a string of its `tool.uv.override-dependencies` begins, or that is a key of `tool.pdm.resolution.overrides`. Each lock is to
-/// have packages for `project.dependencies`, `poetry.lock` and `uv.lock` for extras, `uv.lock` for groups, too; `poetry.lock` for the groups
+/// A requirement with a marker or a URL, of a package with markers that may not hold, of the build or an environment of Hatch, or that is optional, is not
+/// compared, nor one of a package, dependencies, extras or groups for a name that a project overrides: with which a string of its `tool.uv.override-dependencies`
+/// begins, or that is a key of `tool.pdm.resolution.overrides`. With uv's constraints and overrides only `uv.lock` is compared, which need not have their packages.
+/// Each lock is to have packages for `project.dependencies`, `poetry.lock` and `uv.lock` for extras, `uv.lock` for groups, `poetry.lock` for `tool.poetry`,
+/// `Pipfile.lock` for a Pipfile, too; `poetry.lock` for the groups
 /// that its packages name, and `pdm.lock` and `pylock.toml` (PEP 751, `dependency-groups`, `extras`) for those that they name: `default` are the
 /// dependencies, and extras are groups; with what they then do not have nothing is compared. `pylock.toml` has the dependencies, unless its
 /// `default-groups` are some, each of them named, or `default`.
@@ -330,10 +344,10 @@ pub fn find_document_problems(alloc: Global, documents: &[Document]) -> Result<R
     ensures { IfOk result (λ r. IsDocumentsReport (map document_of documents.now) (report_of r)) }
 {
     let read = read_documents(alloc, documents)?;
-    let mut compared = compare_all(alloc, documents, read.as_slice())?;
+    let projects = KnownProjects::new(alloc, read.as_slice())?;
+    let mut compared = compare_all(alloc, &projects, documents, read.as_slice())?;
     let (mut conflicts, mut undecided) = (Vec::new(alloc), Vec::new(alloc));
     push_all_conflicts(alloc, &mut conflicts, &mut undecided, read.as_slice())?;
-    let projects = KnownProjects::new(alloc, read.as_slice())?;
     let mut report = report_all(alloc, &projects, read)?;
     report.findings.append(&mut compared)?;
     report.findings.append(&mut conflicts)?;

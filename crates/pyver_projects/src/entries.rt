@@ -1,24 +1,28 @@
 //! What `uv.lock` says that the project in its folder requires, and that project beside it.
 ghost use Rattle.std.specs.Prelude.{◌≡◌, ◌∷◌, ◌++◌, [], IfOk, if◌then◌else◌, map, option_map, option_to_list};
-ghost use Rattle.std.specs.List.{flat_map, list_any};
-ghost use Rattle.pyver_findings.specs.Views.{demand_of, finding_of, line_meaning_of};
-ghost use Rattle.pyver_projects.specs.Comparing.{differing, has_dynamic, has_each, is_dynamic, is_in_lock, is_in_project, is_plain_for_uv, is_same_requirement, locked_demands, same_list, same_specifier, unentered, unentered_in, unmatched, unrequired, unrequired_in};
+ghost use Rattle.std.specs.List.{find, flat_map, list_any};
+ghost use Rattle.pyver_findings.specs.Views.{demand_of, file_line_of, file_of, finding_of, line_meaning_of};
+ghost use Rattle.pyver_projects.specs.Comparing.{differing, first_difference, has_dynamic, has_each, is_dynamic, is_in_lock, is_in_one, is_in_project, is_plain_for_uv, is_same_requirement, locked_demands, python_difference, python_finding, python_line, python_minors, same_list, same_specifier, unentered, unentered_in, unmatched, unrequired, unrequired_in};
 ghost use Rattle.pyver_projects.specs.PackageRequirements.{entries_from, entry, group_entries, has_folder, has_own_source, is_dot, is_own_package, metadata_entries};
 ghost use Rattle.pyver_projects.specs.ProjectStrings.{entries, listed, members_list};
 ghost use Rattle.pyver_projects.specs.ProjectViews.{requirement_of, string_reading_of};
+ghost use Rattle.pyver_projects.specs.Together.{project_python};
 ghost use Rattle.pyver_projects.specs.declared.document_kind.LockKind.TheVariants.{Uv};
 ghost use Rattle.toml.specs.Data.{as_str};
 ghost use Rattle.toml.specs.View.{table_view, view};
 
+use crate::content_hash::key_line;
 use crate::document_kind::LockKind;
 use crate::document_reading::{ProjectReading, StringReading};
 use crate::groups::has_tool;
-use crate::lock_comparison::{is_locked, is_project_name};
+use crate::lock_comparison::is_project_name;
 use crate::locked_package::{LockedRequirement, package_text};
 use crate::package_requirements::text_or_empty;
 use crate::table::{inside, items, table, text, top};
-use pep440_rs::VersionSpecifier;
-use pyver_findings::{Demand, Finding, LineMeaning};
+use crate::together::{is_standard, project_python};
+use pep440_rs::{Version, VersionSpecifier};
+use pep440_sets::VersionSet;
+use pyver_findings::{Demand, FileLine, Finding, LineMeaning, SourceFile};
 use std::alloc::{AllocError, Global};
 use toml::{Table, Value};
 
@@ -145,7 +149,7 @@ fn is_dot(path: Option<&str>) -> bool
 }
 
 // The package is the project in the folder of the lock.
-fn is_own_package(item: &Value) -> bool
+pub(crate) fn is_own_package(item: &Value) -> bool
     ensures { result ≡ is_own_package (view item.now) }
 {
     let source = item.get("source");
@@ -249,7 +253,7 @@ fn is_entered(demand: &Demand, entries: &[LineMeaning]) -> bool
 fn locked_demand(string: &StringReading) -> Option<&Demand>
     ensures { option_to_list (option_map (λ a. demand_of a.now) result) ≡ locked_demands (string_reading_of string.now) }
 {
-    if !is_locked(&string.section) {
+    if !is_standard(&string.section) {
         return None;
     }
     match &string.meaning {
@@ -324,7 +328,7 @@ fn push_unentered_in(
 ) -> Result<(), AllocError>
     ensures { IfOk result (λ _. map finding_of findings.new.items ≡ map finding_of findings.old.items ++ unentered_in (option_to_list (option_map (λ n. n.items) project.now)) (map line_meaning_of entries.now) (string_reading_of string.now)) }
 {
-    if !is_locked(&string.section) {
+    if !is_standard(&string.section) {
         return Ok(());
     }
     match &string.meaning {
@@ -397,6 +401,113 @@ fn push_all_unrequired(
     }
     Ok(())
 }
+
+// ---- their versions of Python
+
+// One of the sets has this Python, and the other does not.
+fn is_in_one(
+    alloc: Global,
+    own: &VersionSet,
+    locked: &VersionSet,
+    minor: u64,
+) -> Result<bool, AllocError>
+    ensures { IfOk result (λ b. b ≡ is_in_one own.now locked.now minor) }
+{
+    let version = Version::new(alloc, &[3, minor, 0])?;
+    let in_lock = locked.contains(&version);
+    if own.contains(&version) {
+        return Ok(!in_lock);
+    }
+    Ok(in_lock)
+}
+
+// The first of these that one of them has.
+fn find_difference(
+    alloc: Global,
+    own: &VersionSet,
+    locked: &VersionSet,
+    minors: &[u64],
+) -> Result<Option<u64>, AllocError>
+    ensures { IfOk result (λ found. found ≡ find (is_in_one own.now locked.now) minors.now) }
+{
+    for minor in minors {
+        if is_in_one(alloc, own, locked, *minor)? {
+            return Ok(Some(*minor));
+        }
+    }
+    Ok(None)
+}
+
+// The second numbers of the versions of CPython 3 that are and may soon be.
+fn python_minors() -> [u64; 21]
+    ensures { result ≡ python_minors }
+{
+    [
+        0, 1, 2, 3, 4, 5, 6, 7, 8, 9, 10, 11, 12, 13, 14, 15, 16, 17, 18, 19, 20,
+    ]
+}
+
+// The line of `requires-python` in the lock.
+fn python_line(alloc: Global, lock: &SourceFile) -> Result<FileLine, AllocError>
+    ensures { IfOk result (λ line. file_line_of line ≡ python_line (file_of lock.now)) }
+{
+    let number = match key_line(alloc, lock.text.as_slice(), b"requires-python.")? {
+        Some(number) => number as u64,
+        None => 1,
+    };
+    Ok(FileLine {
+        file: Vec::from_slice(alloc, lock.name.as_slice())?,
+        number,
+        text: Vec::from_slice(alloc, b"requires-python")?,
+        comment: Vec::new(alloc),
+    })
+}
+
+// That the lock is out of date by this Python.
+fn python_finding(alloc: Global, lock: &SourceFile, minor: u64) -> Result<Finding, AllocError>
+    ensures { IfOk result (λ f. finding_of f ≡ python_finding (file_of lock.now) minor) }
+{
+    let reason = "the lock is out of date: it and its project differ on Python 3.";
+    let mut reason = String::from_str(alloc, reason)?;
+    reason.push_str(minor.to_string(alloc)?.as_str())?;
+    Ok(Finding::NoRequirement(python_line(alloc, lock)?, reason, 0))
+}
+
+fn push_first_difference(
+    alloc: Global,
+    findings: &mut Vec<Finding>,
+    lock: &SourceFile,
+    minor: Option<u64>,
+) -> Result<(), AllocError>
+    ensures { IfOk result (λ _. map finding_of findings.new.items ≡ map finding_of findings.old.items ++ first_difference (file_of lock.now) minor) }
+{
+    if let Some(minor) = minor {
+        findings.push(python_finding(alloc, lock, minor)?)?;
+    }
+    Ok(())
+}
+
+// Adds the first Python that only the project has or only its lock, if both have a set of them.
+pub(crate) fn push_python_difference(
+    alloc: Global,
+    findings: &mut Vec<Finding>,
+    lock: &SourceFile,
+    project: &ProjectReading,
+    locked: &Option<VersionSet>,
+) -> Result<(), AllocError>
+    ensures { IfOk result (λ _. map finding_of findings.new.items ≡ map finding_of findings.old.items ++ python_difference (file_of lock.now) (project_python (map string_reading_of project.now.strings.items)) locked.now) }
+{
+    let Some(own) = project_python(project.strings.as_slice()) else {
+        return Ok(());
+    };
+    let Some(locked) = locked else {
+        return Ok(());
+    };
+    let minor = find_difference(alloc, own, locked, &python_minors())?;
+    push_first_difference(alloc, findings, lock, minor)
+}
+
+// ---- what uv reads of a project
 
 // The field is that of dependencies or of extras.
 fn is_dynamic(field: Option<&str>) -> bool

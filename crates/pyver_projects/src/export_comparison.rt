@@ -3,7 +3,7 @@ ghost use Rattle.std.specs.Prelude.{◌≡◌, ◌++◌, ◌∷◌, [], IfOk, ma
 ghost use Rattle.std.specs.List.{All, filter, flat_map};
 ghost use Rattle.pyver_findings.specs.Exports.{is_export};
 ghost use Rattle.pyver_findings.specs.Views.{demand_of, file_of, finding_of, report_of};
-ghost use Rattle.pyver_projects.specs.ExportComparing.{AreExports, FindsOfExports, HasDemands, IsExportsReport, export_of, file_of_export, found_in_export, found_of_export, is_made_of, is_uv_lock, pin_beside, pins_beside};
+ghost use Rattle.pyver_projects.specs.Comparing.{AreExports, FindsOfExports, HasDemands, IsExportsReport, export_of, file_of_export, found_in_export, found_of_export, is_made_of, is_uv_lock, pin_beside, pins_beside};
 ghost use Rattle.pyver_projects.specs.ProjectViews.{IsIndex, document_of, document_reading_of, packages_of, read_pair};
 
 use crate::document_kind::{Document, DocumentKind, LockKind, counts_for};

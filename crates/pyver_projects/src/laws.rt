@@ -1,6 +1,5 @@
 //! What holds of reports of documents, as the contract of a function that does nothing.
-ghost use Rattle.pyver_projects.specs.ExportComparing.{ExportFindingsHold, ExportReportsOnce, NoFindingImpliesPinned};
-ghost use Rattle.pyver_projects.specs.ProjectLaws.{DocumentReportsOnce, DocumentFindingsHold, NoFindingImpliesContained, NoFindingImpliesSatisfiable};
+ghost use Rattle.pyver_projects.specs.ProjectLaws.{DocumentReportsOnce, DocumentFindingsHold, NoFindingImpliesContained, NoFindingImpliesSatisfiable, ExportFindingsHold, ExportReportsOnce, NoFindingImpliesPinned};
 
 /// What is reported by itself is a string of a project that is not what it is to be there, a group that is invalid, a package whose version
 /// is none or is not that in the name of one of its files, a package whose name and marker another has, too, or a dependency on two, if the

@@ -3,21 +3,22 @@ ghost use Rattle.std.specs.Prelude.{◌≡◌, ◌++◌, [], IfOk, if◌then◌e
 ghost use Rattle.std.specs.List.{flat_map, find, list_any, filter};
 ghost use Rattle.pyver_findings.specs.Reports.{demands_in};
 ghost use Rattle.pyver_findings.specs.Views.{demand_of, file_line_of, finding_of, line_meaning_of};
-ghost use Rattle.pyver_projects.specs.Comparing.{unmet_demand, absent, found_beside, found_in_pair, beside_all, compared, compared_demand, accepts_version, excluded, excluded_in, leaves_out, names_groups, locks_extras, locks_groups, has_name, is_entry, is_installer, is_of_poetry, is_locked, is_needed, lack_finding, lack_in, lacking, leaves_out_all, locked_line, may_take, missing, outside, partly_locked, taken_packages, unlocked, unmet};
+ghost use Rattle.pyver_projects.specs.Comparing.{unmet_demand, absent, found_beside, found_in_pair, beside_all, compared, compared_demand, accepts_version, excluded, excluded_in, leaves_out, names_groups, locks_extras, locks_groups, has_name, is_installer, is_of_other_tool, is_overridden, is_locked, locks_entries, is_needed, lack_finding, lack_in, lacking, leaves_out_all, locked_line, may_take, missing, outside, partly_locked, taken_packages, unlocked, unmet};
 ghost use Rattle.pyver_projects.specs.KnownEnvironments.{known_environments};
 ghost use Rattle.pyver_projects.specs.ProjectViews.{IsIndex, excuses, index_parts, packages_of, parts_of, document_of, document_reading_of, locked_reading_of, read_pair, section_of, string_reading_of};
 ghost use Rattle.std.specs.HashMap.{get_by};
 ghost use Rattle.std.specs.Option.{option_map_or};
 
-use crate::content_hash::push_stale_in_pair;
+use crate::content_hash::{in_one_folder, push_stale_in_pair};
 use crate::document_kind::{Document, DocumentKind, LockKind, is_beside};
 use crate::document_reading::{DocumentReading, ReadDocument, StringReading};
 use crate::known_environment::{KnownEnvironment, known_environments};
-use crate::known_projects::{KnownProjects, contains_name, is_installer};
+use crate::known_projects::{KnownProjects, is_installer};
 use crate::lock_faults::is_listed_part;
 use crate::locked_package::LockParts;
 use crate::locked_reading::LockedReading;
-use crate::project::Section;
+use crate::project::{EntryTool, Section};
+use crate::together::is_standard;
 use pep440_rs::Version;
 use pyver_findings::{Conflict, Demand, FileLine, Finding, LineMeaning};
 use std::alloc::{AllocError, Global};
@@ -95,19 +96,10 @@ struct IndexedLock<'a> {
     kind: LockKind,
     // The name of the project beside it, in its normal form.
     project: &'a Option<Vec<u8>>,
-    // The names that the project overrides.
-    overridden: &'a [Vec<u8>],
+    // In one folder with it.
+    near: bool,
+    projects: &'a KnownProjects,
     packages: PackageIndex<'a>,
-}
-
-impl<'a> IndexedLock<'a> {
-    // The project beside it overrides the name.
-    #[tactic(auto, using(pyver_findings::proofs::Steps::any_viewed))]
-    fn is_overridden(&self, name: &[u8]) -> bool
-        ensures { result ≡ list_any (bytes_eq name.now) (map (λ n. n.items) self.now.overridden.now) }
-    {
-        contains_name(self.overridden, name)
-    }
 }
 
 fn locks_groups(kind: LockKind) -> bool
@@ -132,16 +124,25 @@ fn names_groups(kind: LockKind, parts: &[Vec<u8>]) -> bool
     }
 }
 
-fn is_of_poetry(kind: LockKind) -> bool
-    ensures { result ≡ is_of_poetry kind }
+// The lock has what all such tables of the tool ask for.
+fn locks_entries(tool: EntryTool, kind: LockKind) -> bool
+    ensures { result ≡ locks_entries tool kind }
 {
-    matches!(kind, LockKind::Poetry)
+    match tool {
+        EntryTool::Poetry => matches!(kind, LockKind::Poetry),
+        EntryTool::Pipenv => matches!(kind, LockKind::Pipfile),
+    }
 }
 
-fn is_entry(section: &Section) -> bool
-    ensures { result ≡ is_entry (section_of section.now) }
+// The section is of a table of another tool than that of the lock.
+fn is_of_other_tool(kind: LockKind, section: &Section) -> bool
+    ensures { result ≡ is_of_other_tool kind (section_of section.now) }
 {
-    matches!(section, Section::Entry(_, _))
+    match section {
+        Section::Entry(tool, _, _) => !locks_entries(*tool, kind),
+        Section::Constraint => !locks_groups(kind),
+        _ => false,
+    }
 }
 
 // A lock with these groups has what this part of the project needs.
@@ -153,7 +154,7 @@ fn is_needed(kind: LockKind, parts: &[Vec<u8>], section: &Section) -> bool
         Section::Dependencies => !names_groups(kind, parts) || is_listed_part(parts, b"default"),
         Section::Extra(name) => locks_extras(kind) || is_listed_part(parts, name.as_slice()),
         Section::Group(name) => locks_groups(kind) || is_listed_part(parts, name.as_slice()),
-        Section::Entry(_, _) => is_of_poetry(kind),
+        Section::Entry(tool, _, _) => locks_entries(*tool, kind),
         _ => false,
     }
 }
@@ -162,16 +163,27 @@ fn is_needed(kind: LockKind, parts: &[Vec<u8>], section: &Section) -> bool
 fn leaves_out(kind: LockKind, parts: &[Vec<u8>], section: &Section) -> bool
     ensures { result ≡ leaves_out kind (map (λ n. n.items) parts.now) (section_of section.now) }
 {
-    (is_entry(section) || names_groups(kind, parts)) && !is_needed(kind, parts, section)
+    is_of_other_tool(kind, section)
+        || (names_groups(kind, parts) && !is_needed(kind, parts, section))
 }
 
-pub(crate) fn is_locked(section: &Section) -> bool
-    ensures { result ≡ is_locked (section_of section.now) }
+// A lock, in one folder with the project or not, may have what the part needs.
+fn is_locked(near: bool, section: &Section) -> bool
+    ensures { result ≡ is_locked near (section_of section.now) }
 {
-    matches!(
-        section,
-        Section::Dependencies | Section::Extra(_) | Section::Group(_) | Section::Entry(_, _)
-    )
+    match section {
+        Section::Dependencies | Section::Extra(_) | Section::Group(_) => true,
+        Section::Entry(EntryTool::Poetry, _, _) => true,
+        Section::Entry(EntryTool::Pipenv, _, _) | Section::Constraint => near,
+        _ => false,
+    }
+}
+
+// A project overrides the name, and so what tables of the standard require of it.
+fn is_overridden(projects: &KnownProjects, section: &Section, name: &[u8]) -> bool
+    ensures { result ≡ is_overridden (excuses projects.now) (section_of section.now) name.now }
+{
+    is_standard(section) && projects.overrides(name)
 }
 
 // Adds the line beside those of versions that it excludes, if there are some.
@@ -611,12 +623,12 @@ fn push_compared_demand(
     demand: &Demand,
 ) -> Result<(), AllocError>
     requires { IsIndex lock.now.packages }
-    ensures { IfOk result (λ _. map finding_of findings.new.items ≡ map finding_of findings.old.items ++ compared_demand lock.now.kind (index_parts lock.now.packages) (option_to_list (option_map (λ n. n.items) lock.now.project.now)) (map (λ n. n.items) lock.now.overridden.now) (packages_of lock.now.packages) (section_of section.now) (demand_of demand.now)) }
+    ensures { IfOk result (λ _. map finding_of findings.new.items ≡ map finding_of findings.old.items ++ compared_demand lock.now.kind (index_parts lock.now.packages) (option_to_list (option_map (λ n. n.items) lock.now.project.now)) (excuses lock.now.projects.now) lock.now.near (packages_of lock.now.packages) (section_of section.now) (demand_of demand.now)) }
 {
     if demand.marker.is_some() {
         return Ok(());
     }
-    if lock.is_overridden(demand.name.as_slice()) {
+    if is_overridden(lock.projects, section, demand.name.as_slice()) {
         return Ok(());
     }
     push_missing(alloc, findings, lock, section, demand)?;
@@ -631,7 +643,7 @@ fn push_compared_meaning(
     meaning: &LineMeaning,
 ) -> Result<(), AllocError>
     requires { IsIndex lock.now.packages }
-    ensures { IfOk result (λ _. map finding_of findings.new.items ≡ map finding_of findings.old.items ++ flat_map (compared_demand lock.now.kind (index_parts lock.now.packages) (option_to_list (option_map (λ n. n.items) lock.now.project.now)) (map (λ n. n.items) lock.now.overridden.now) (packages_of lock.now.packages) (section_of section.now)) (demands_in (line_meaning_of meaning.now))) }
+    ensures { IfOk result (λ _. map finding_of findings.new.items ≡ map finding_of findings.old.items ++ flat_map (compared_demand lock.now.kind (index_parts lock.now.packages) (option_to_list (option_map (λ n. n.items) lock.now.project.now)) (excuses lock.now.projects.now) lock.now.near (packages_of lock.now.packages) (section_of section.now)) (demands_in (line_meaning_of meaning.now))) }
 {
     match meaning {
         LineMeaning::Asks(demand) => {
@@ -648,9 +660,9 @@ fn push_compared(
     string: &StringReading,
 ) -> Result<(), AllocError>
     requires { IsIndex lock.now.packages }
-    ensures { IfOk result (λ _. map finding_of findings.new.items ≡ map finding_of findings.old.items ++ compared lock.now.kind (index_parts lock.now.packages) (option_to_list (option_map (λ n. n.items) lock.now.project.now)) (map (λ n. n.items) lock.now.overridden.now) (packages_of lock.now.packages) (string_reading_of string.now)) }
+    ensures { IfOk result (λ _. map finding_of findings.new.items ≡ map finding_of findings.old.items ++ compared lock.now.kind (index_parts lock.now.packages) (option_to_list (option_map (λ n. n.items) lock.now.project.now)) (excuses lock.now.projects.now) lock.now.near (packages_of lock.now.packages) (string_reading_of string.now)) }
 {
-    if !is_locked(&string.section) {
+    if !is_locked(lock.near, &string.section) {
         return Ok(());
     }
     push_compared_meaning(alloc, findings, lock, &string.section, &string.meaning)
@@ -663,7 +675,7 @@ fn push_all_compared(
     strings: &[StringReading],
 ) -> Result<(), AllocError>
     requires { IsIndex lock.now.packages }
-    ensures { IfOk result (λ _. map finding_of findings.new.items ≡ map finding_of findings.old.items ++ flat_map (compared lock.now.kind (index_parts lock.now.packages) (option_to_list (option_map (λ n. n.items) lock.now.project.now)) (map (λ n. n.items) lock.now.overridden.now) (packages_of lock.now.packages)) (map string_reading_of strings.now)) }
+    ensures { IfOk result (λ _. map finding_of findings.new.items ≡ map finding_of findings.old.items ++ flat_map (compared lock.now.kind (index_parts lock.now.packages) (option_to_list (option_map (λ n. n.items) lock.now.project.now)) (excuses lock.now.projects.now) lock.now.near (packages_of lock.now.packages)) (map string_reading_of strings.now)) }
 {
     for string in strings {
         push_compared(alloc, findings, lock, string)?;
@@ -671,15 +683,17 @@ fn push_all_compared(
     Ok(())
 }
 
-// What is found in the first document beside the second, of this kind.
+// What is found in the first document beside the second, of this kind, in one folder with it or not.
 fn push_beside<'a>(
     alloc: Global,
     findings: &mut Vec<Finding>,
+    projects: &'a KnownProjects,
+    near: bool,
     kind: DocumentKind,
     document: &'a DocumentReading,
     other: &'a DocumentReading,
 ) -> Result<(), AllocError>
-    ensures { IfOk result (λ _. map finding_of findings.new.items ≡ map finding_of findings.old.items ++ found_beside kind (document_reading_of document.now) (document_reading_of other.now)) }
+    ensures { IfOk result (λ _. map finding_of findings.new.items ≡ map finding_of findings.old.items ++ found_beside (excuses projects.now) near kind (document_reading_of document.now) (document_reading_of other.now)) }
 {
     let DocumentKind::Lock(kind) = kind else {
         return Ok(());
@@ -694,7 +708,8 @@ fn push_beside<'a>(
     let lock = IndexedLock {
         kind,
         project: &project.name,
-        overridden: project.overridden.as_slice(),
+        near,
+        projects,
         packages,
     };
     push_all_compared(alloc, findings, &lock, project.strings.as_slice())
@@ -704,11 +719,12 @@ fn push_beside<'a>(
 fn push_pair_of_documents(
     alloc: Global,
     findings: &mut Vec<Finding>,
+    projects: &KnownProjects,
     documents: &[Document],
     read: &ReadDocument<'_>,
     other: &ReadDocument<'_>,
 ) -> Result<(), AllocError>
-    ensures { IfOk result (λ _. map finding_of findings.new.items ≡ map finding_of findings.old.items ++ found_in_pair (map document_of documents.now) (read_pair read.now) (read_pair other.now)) }
+    ensures { IfOk result (λ _. map finding_of findings.new.items ≡ map finding_of findings.old.items ++ found_in_pair (excuses projects.now) (map document_of documents.now) (read_pair read.now) (read_pair other.now)) }
 {
     if !is_beside(documents, read.document, other.document) {
         return Ok(());
@@ -717,6 +733,8 @@ fn push_pair_of_documents(
     push_beside(
         alloc,
         findings,
+        projects,
+        in_one_folder(read.document, other.document),
         other.document.kind,
         &read.reading,
         &other.reading,
@@ -727,14 +745,15 @@ fn push_pair_of_documents(
 pub(crate) fn push_beside_all(
     alloc: Global,
     findings: &mut Vec<Finding>,
+    projects: &KnownProjects,
     documents: &[Document],
     others: &[ReadDocument<'_>],
     read: &ReadDocument<'_>,
 ) -> Result<(), AllocError>
-    ensures { IfOk result (λ _. map finding_of findings.new.items ≡ map finding_of findings.old.items ++ beside_all (map document_of documents.now) (map read_pair others.now) (read_pair read.now)) }
+    ensures { IfOk result (λ _. map finding_of findings.new.items ≡ map finding_of findings.old.items ++ beside_all (excuses projects.now) (map document_of documents.now) (map read_pair others.now) (read_pair read.now)) }
 {
     for other in others {
-        push_pair_of_documents(alloc, findings, documents, read, other)?;
+        push_pair_of_documents(alloc, findings, projects, documents, read, other)?;
     }
     Ok(())
 }

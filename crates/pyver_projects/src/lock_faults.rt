@@ -1,16 +1,18 @@
 //! The names of projects, the groups of locks, and what is wrong with locked packages of one name.
-ghost use Rattle.std.specs.Prelude.{◌≡◌, ◌++◌, IfOk, ◌∷◌, [], Some, bytes_eq, codes, map, option_map, option_to_list, string_bytes};
-ghost use Rattle.pyver_projects.specs.PackageRequirements.{poetry_list};
+ghost use Rattle.std.specs.Prelude.{◌≡◌, ◌&&◌, ◌++◌, IfOk, ◌∷◌, [], Some, bytes_eq, codes, is_none, map, option_map, option_to_list, string_bytes};
+ghost use Rattle.pyver_projects.specs.PackageRequirements.{is_own_package, poetry_list};
+ghost use Rattle.pyver_projects.specs.ProjectStrings.{inside};
 ghost use Rattle.std.specs.List.{flat_map, list_any};
-ghost use Rattle.pyver_projects.specs.Documents.{has_default, is_new_group, lock_parts, named_parts, names_listed, part_names, with_default, package_parts, project_names, written_name};
+ghost use Rattle.pyver_projects.specs.Documents.{has_default, is_new_group, lock_parts, named_parts, names_listed, own_python, part_names, with_default, package_parts, project_names, written_name};
 ghost use Rattle.pyver_projects.specs.LockedFiles.{ambiguous, ambiguous_by, ambiguous_fault, ambiguous_item, ambiguous_name, fault_unless, faults_beside, text_faults, value_faults, counted_names, is_for_extras, has_markers, is_shared, is_uv, locked_python, package_condition, target_python, written_marker, marked_name, marked_names, marker_text, package_faults, package_name_in, twin_fault, twin_in, twins};
 ghost use Rattle.pyver_projects.specs.ProjectViews.{IsNameIndex, condition_of_package, indexed_names, fault_of, parts_of};
 ghost use Rattle.pyver_projects.specs.declared.document_kind.LockKind.TheVariants as lock_kind;
-ghost use Rattle.toml.specs.Data.{as_str};
+ghost use Rattle.toml.specs.Data.{as_str, get_member};
 ghost use Rattle.toml.specs.View.{table_view, view};
 
 use crate::content_hash::lock_hash;
 use crate::document_kind::LockKind;
+use crate::entries::is_own_package;
 use crate::groups::NameIndex;
 use crate::locked_package::{
     LockFault, LockParts, PackageCondition, copy_text, first_of, package_text,
@@ -326,6 +328,37 @@ fn listed_texts(alloc: Global, list: &[Value]) -> Result<Vec<Vec<u8>>, AllocErro
     Ok(texts)
 }
 
+fn any_own_package(packages: &[Value]) -> bool
+    ensures { result ≡ list_any (λ v. is_own_package (view v)) packages.now }
+{
+    packages.iter().any(|item| is_own_package(item))
+}
+
+// The project in the folder of the lock is one of its packages, and it has no other members.
+#[tactic(auto, using(pyver_findings::proofs::Steps::any_viewed))]
+fn is_of_one_project(document: &Table, packages: &[Value]) -> bool
+    ensures { result ≡ list_any is_own_package (map view packages.now) && is_none (inside (codes "members") (get_member (codes "manifest") (table_view document.now))) }
+{
+    any_own_package(packages) && inside(top(document, "manifest"), "members").is_none()
+}
+
+// For which Pythons a lock says that the project in its folder is.
+fn own_python(
+    alloc: Global,
+    kind: LockKind,
+    document: &Table,
+    packages: &[Value],
+) -> Result<Option<String>, AllocError>
+    ensures { IfOk result (λ python. option_map string_bytes python ≡ own_python kind (table_view document.now) (map view packages.now)) }
+{
+    match kind {
+        LockKind::Uv if is_of_one_project(document, packages) => {
+            copy_text(alloc, text(top(document, "requires-python")))
+        }
+        _ => Ok(None),
+    }
+}
+
 // The parts of a lock of this kind with these packages.
 pub(crate) fn lock_parts(
     alloc: Global,
@@ -343,12 +376,14 @@ pub(crate) fn lock_parts(
     push_listed_names(alloc, &mut groups, top(document, "default-groups"))?;
     let environments = listed_texts(alloc, items(top(document, "environments")))?;
     let hash = lock_hash(alloc, kind, text, document)?;
+    let python = own_python(alloc, kind, document, packages)?;
     Ok(LockParts {
         names,
         extras,
         groups,
         environments,
         hash,
+        python,
     })
 }
 

@@ -104,6 +104,8 @@ pub(crate) struct LockParts {
     pub(crate) environments: Vec<Vec<u8>>,
     // The hash of the project, if it is known what is hashed.
     pub(crate) hash: Option<ContentHash>,
+    // For which versions of Python it says that the project in its folder is.
+    pub(crate) python: Option<String>,
 }
 
 // What is read of a lock.

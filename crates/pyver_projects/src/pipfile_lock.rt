@@ -3,7 +3,7 @@ ghost use Rattle.std.specs.Prelude.{◌≡◌, ◌++◌, IfOk, Some, codes, map,
 ghost use Rattle.std.specs.List.{flat_map};
 ghost use Rattle.std.specs.Option.{option_map_or};
 ghost use Rattle.pep440_version.specs.Changes.ChangeWords.{after};
-ghost use Rattle.pyver_projects.specs.LockedFiles.{document_faults, invalid_value, has_version, is_object, is_string, member_faults, member_package, named_fault, section_faults, new_package, object_entries, object_entries_or_none, package_version, pinned_version, same_version, section_members};
+ghost use Rattle.pyver_projects.specs.LockedFiles.{document_faults, invalid_value, has_version, is_object, is_string, known_version, member_faults, member_package, named_fault, section_faults, new_package, object_entries, object_entries_or_none, package_version, pinned_version, same_version, section_members};
 ghost use Rattle.pyver_projects.specs.Documents.{pipfile_contents};
 ghost use Rattle.pyver_projects.specs.ProjectViews.{contents_of, fault_of, locked_of};
 ghost use Rattle.pyver_projects.specs.ProjectStrings.{HasQuotedLines};
@@ -33,13 +33,23 @@ fn pinned_version(text: &str) -> &str
     }
 }
 
+// The version of such a text: `*` is none.
+fn known_version(text: &str) -> Option<&str>
+    ensures { option_map (λ t. t.now) result ≡ known_version text.now }
+{
+    if text == "*" {
+        return None;
+    }
+    Some(pinned_version(text))
+}
+
 // The version of a package, if it has one.
 fn package_version(member: &Value) -> Option<&str>
     ensures { option_map (λ t. t.now) result ≡ package_version (view member.now) }
 {
     let version = member.get("version")?;
     match version.as_str() {
-        Some(text) => Some(pinned_version(text)),
+        Some(text) => known_version(text),
         None => None,
     }
 }
@@ -289,6 +299,7 @@ pub(crate) fn pipfile_contents(
             groups: Vec::new(alloc),
             environments: Vec::new(alloc),
             hash: None,
+            python: None,
         },
         packages,
         requirements: Vec::new(alloc),

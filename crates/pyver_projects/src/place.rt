@@ -163,7 +163,7 @@ fn count_blanks(line: &[u8]) -> usize
         .count()
 }
 
-fn after_blanks(line: &[u8]) -> &[u8]
+pub(crate) fn after_blanks(line: &[u8]) -> &[u8]
     ensures { result.now ≡ after_blanks line.now }
 {
     &line[count_blanks(line)..]
@@ -339,10 +339,10 @@ fn own_line(
 {
     match section {
         Section::Invalid(table, _) => {
-            let path = key_path(alloc, table.as_bytes(), string)?;
+            let path = key_path(alloc, table.as_slice(), string)?;
             Ok(key_line(places, path.as_slice()))
         }
-        Section::Entry(table, name) => {
+        Section::Entry(_, table, name) => {
             let path = key_path(alloc, table.as_slice(), name.as_slice())?;
             Ok(key_line(places, path.as_slice()))
         }
@@ -359,8 +359,10 @@ fn section_path(section: &Section) -> &[u8]
         Section::Extra(_) => b"project.optional-dependencies.",
         Section::Group(_) => b"dependency-groups.",
         Section::Include(_, _) => b"dependency-groups.",
-        Section::Invalid(table, _) => table.as_bytes(),
-        Section::Entry(table, _) => table.as_slice(),
+        Section::Invalid(table, _) => table.as_slice(),
+        Section::Entry(_, table, _) => table.as_slice(),
+        Section::Constraint => b"tool.uv.",
+        Section::Environment(table) => table.as_slice(),
         Section::Unread(_) => b"",
         Section::Build => b"build-system.requires.",
         Section::Python => b"project.requires-python.",

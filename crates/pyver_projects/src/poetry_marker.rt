@@ -1,4 +1,4 @@
-//! The conditions of an entry of Poetry as a marker of PEP 508.
+//! The conditions of an entry of Poetry or Pipenv as a marker of PEP 508.
 ghost use Rattle.std.specs.Prelude.{◌≡◌, ◌≤◌, ◌++◌, ◌==◌, ◌&&◌, IfOk, codes, count_by, length, map, option_copied, string_bytes};
 ghost use Rattle.std.specs.List.{flat_map, list_all, prefix_len, slice_split};
 ghost use Rattle.pep440_version.specs.Changes.ChangeWords.{after};
@@ -8,16 +8,18 @@ ghost use Rattle.pyver_requirements.specs.MarkerTerms.{joined_terms};
 ghost use Rattle.pyver_requirements.specs.MarkerTokens.{is_operator_byte};
 ghost use Rattle.pyver_projects.specs.Documents.{condition, entry_marker};
 ghost use Rattle.pyver_projects.specs.PackageRequirements.{both_markers, is_python_pair, is_value_byte, past_blank, platform_comparison, platform_marker, platform_specifier, poetry_list, python_comparison, python_marker, python_variable, quoted_value, specifier_comparison};
+ghost use Rattle.pyver_projects.specs.declared.project.EntryTool.TheVariants as of_entries;
 ghost use Rattle.toml.specs.View.{view};
 
 use crate::package_requirements::{is_name_byte, plain_list, poetry_list};
+use crate::project::EntryTool;
 use crate::table::text;
 use std::alloc::{AllocError, Global};
 use toml::Value;
 
 // ---- comparisons
 
-fn is_operator_byte(byte: u8) -> bool
+pub(crate) fn is_operator_byte(byte: u8) -> bool
     ensures { result ≡ is_operator_byte byte }
 {
     matches!(byte, b'<' | b'>' | b'=' | b'!' | b'~')
@@ -242,13 +244,27 @@ fn condition<'a>(entry: &'a Value, key: &str) -> &'a str
     }
 }
 
-// The conditions of an entry as one marker.
-pub(crate) fn entry_marker(alloc: Global, entry: &Value) -> Result<String, AllocError>
-    ensures { IfOk result (λ marker. string_bytes marker ≡ entry_marker (view entry.now)) }
+// The conditions of an entry of Poetry as one marker.
+fn poetry_marker(alloc: Global, entry: &Value) -> Result<String, AllocError>
+    ensures { IfOk result (λ marker. string_bytes marker ≡ entry_marker of_entries.Poetry (view entry.now)) }
 {
     let pythons = poetry_list(alloc, condition(entry, "python"))?;
     let pythons = python_marker(alloc, pythons.as_str())?;
     let platform = platform_marker(alloc, condition(entry, "platform"))?;
     let installed = both_markers(alloc, pythons.as_str(), platform.as_str())?;
     both_markers(alloc, condition(entry, "markers"), installed.as_str())
+}
+
+// The conditions of an entry of the tool as one marker.
+pub(crate) fn entry_marker(
+    alloc: Global,
+    tool: EntryTool,
+    entry: &Value,
+) -> Result<String, AllocError>
+    ensures { IfOk result (λ marker. string_bytes marker ≡ entry_marker tool (view entry.now)) }
+{
+    match tool {
+        EntryTool::Poetry => poetry_marker(alloc, entry),
+        EntryTool::Pipenv => String::from_str(alloc, condition(entry, "markers")),
+    }
 }

@@ -1,8 +1,8 @@
-//! What is read of `pyproject.toml`.
+//! What is read of `pyproject.toml`, or of a Pipfile.
 ghost use Rattle.std.specs.Prelude.{◌≡◌, ◌∷◌, ◌++◌, [], IfOk, codes, Some, length, map, nat_eq, option_map, string_bytes};
 ghost use Rattle.std.specs.List.{flat_map};
 ghost use Rattle.pep440_pick.specs.Names.{normal};
-ghost use Rattle.pyver_projects.specs.Documents.{array_sources, build_sources, dynamic_source, dynamic_sources, entry_names, extra_sources, field_sources, group_items, group_names, group_sources, groups_table, included_name, item_source, item_sources, name_faults, optional_sources, repeated_name, source_from, sources, string_or, table_fault, table_faults, table_sources, text_sources, unless};
+ghost use Rattle.pyver_projects.specs.Documents.{array_sources, build_sources, dynamic_source, dynamic_sources, entry_names, extra_sources, field_sources, group_items, group_names, group_sources, groups_table, included_name, invalid_name, item_source, item_sources, name_faults, optional_sources, repeated_name, source_from, sources, string_or, table_fault, table_faults, table_sources, text_sources, unless};
 ghost use Rattle.pyver_projects.specs.ProjectViews.{IsNameIndex, indexed_names, section_of, project_string_of};
 ghost use Rattle.pyver_projects.specs.ProjectStrings.{Extra, Group, Include, entries, members_list};
 ghost use Rattle.toml.specs.Data.{Data, as_str};
@@ -10,13 +10,20 @@ ghost use Rattle.toml.specs.View.{table_view, view};
 
 use crate::groups::{NameIndex, group_names, table_names};
 use crate::table::{inside, is_array_or_none, is_table_or_none, items, table, text, top};
-use crate::tool_tables::push_tools;
+use crate::tool_tables::{push_pipenv, push_tools};
 use pep440_pick::is_name;
 use pyver_findings::{Cause, normalize_name};
 use std::alloc::{AllocError, Global};
 use toml::{Table, Value};
 
-// Where a string stands in `pyproject.toml`. Names are in their normal form.
+// A tool with tables whose keys are names of packages.
+#[derive(Clone, Copy)]
+pub(crate) enum EntryTool {
+    Poetry,
+    Pipenv,
+}
+
+// Where a string stands in `pyproject.toml` or a Pipfile. Names are in their normal form.
 #[derive(Drop)]
 pub(crate) enum Section {
     // In `project.dependencies`.
@@ -28,9 +35,13 @@ pub(crate) enum Section {
     // There, as the name of a group that is included: this group includes that one.
     Include(Vec<u8>, Vec<u8>),
     // As the name of a value in the table with this path that is invalid for this reason.
-    Invalid(&'static str, &'static str),
-    // As what this key of the table of Poetry with this path asks for.
-    Entry(Vec<u8>, Vec<u8>),
+    Invalid(Vec<u8>, &'static str),
+    // As what this key of the tool's table with this path asks for.
+    Entry(EntryTool, Vec<u8>, Vec<u8>),
+    // In uv's `constraint-dependencies` or `override-dependencies`.
+    Constraint,
+    // In an environment of Hatch, whose table has this path.
+    Environment(Vec<u8>),
     // As what is not read for this cause.
     Unread(Cause),
     // In `build-system.requires`.
@@ -41,7 +52,7 @@ pub(crate) enum Section {
     Version,
 }
 
-// A string of `pyproject.toml` that is to be a requirement, a list of specifiers or a version.
+// A string there that is to be a requirement, a list of specifiers or a version.
 #[derive(Drop)]
 pub(crate) struct ProjectString {
     pub(crate) section: Section,
@@ -59,8 +70,12 @@ impl Clone for Section {
             Section::Include(group, included) => {
                 Ok(Section::Include(group.clone()?, included.clone()?))
             }
-            Section::Invalid(table, reason) => Ok(Section::Invalid(*table, *reason)),
-            Section::Entry(table, name) => Ok(Section::Entry(table.clone()?, name.clone()?)),
+            Section::Invalid(table, reason) => Ok(Section::Invalid(table.clone()?, *reason)),
+            Section::Entry(tool, table, name) => {
+                Ok(Section::Entry(*tool, table.clone()?, name.clone()?))
+            }
+            Section::Constraint => Ok(Section::Constraint),
+            Section::Environment(table) => Ok(Section::Environment(table.clone()?)),
             Section::Unread(cause) => Ok(Section::Unread(*cause)),
             Section::Build => Ok(Section::Build),
             Section::Python => Ok(Section::Python),
@@ -82,6 +97,20 @@ pub(crate) fn push_string(
     Ok(())
 }
 
+// Adds the name of a value in the table with this path, which is invalid for this reason.
+pub(crate) fn push_invalid(
+    alloc: Global,
+    sources: &mut Vec<ProjectString>,
+    table: &[u8],
+    name: &str,
+    reason: &'static str,
+) -> Result<(), AllocError>
+    ensures { IfOk result (λ _. map project_string_of sources.new.items ≡ map project_string_of sources.old.items ++ invalid_name table.now name.now reason.now) }
+{
+    let table = Vec::from_slice(alloc, table)?;
+    push_string(alloc, sources, Section::Invalid(table, reason), name)
+}
+
 // Adds the name for this reason, unless it is right.
 fn push_unless(
     alloc: Global,
@@ -96,7 +125,7 @@ fn push_unless(
     if is_right {
         return Ok(());
     }
-    push_string(alloc, sources, Section::Invalid(table, reason), name)
+    push_invalid(alloc, sources, table.as_bytes(), name, reason)
 }
 
 // Adds the string, or the name for this reason, if there is none.
@@ -113,7 +142,7 @@ fn push_string_or(
 {
     match text {
         Some(text) => push_string(alloc, sources, section.clone()?, text),
-        None => push_string(alloc, sources, Section::Invalid(table, reason), name),
+        None => push_invalid(alloc, sources, table.as_bytes(), name, reason),
     }
 }
 
@@ -309,14 +338,13 @@ fn push_item_source(
     ensures { IfOk result (λ _. map project_string_of sources.new.items ≡ map project_string_of sources.old.items ++ item_source name.now (option_map (λ t. t.now) text.entry) (option_map (λ t. t.now) included.entry)) }
 {
     let reason = "an item is neither a requirement nor an included group";
-    let invalid = Section::Invalid("dependency-groups.", reason);
     match (text, included) {
         (Some(text), _) => push_string(alloc, sources, group_section(alloc, name)?, text),
         (None, Some(included)) => {
             let section = include_section(alloc, name, included)?;
             push_string(alloc, sources, section, included)
         }
-        (None, None) => push_string(alloc, sources, invalid, name),
+        (None, None) => push_invalid(alloc, sources, b"dependency-groups.", name, reason),
     }
 }
 
@@ -448,7 +476,7 @@ fn push_all_groups(
 }
 
 // Adds the name, if the value is no table.
-fn push_table_fault(
+pub(crate) fn push_table_fault(
     alloc: Global,
     sources: &mut Vec<ProjectString>,
     table: &'static str,
@@ -550,12 +578,7 @@ fn push_dynamic_item(
                 "both dynamic and given",
             )
         }
-        None => push_string(
-            alloc,
-            sources,
-            Section::Invalid("project.", reason),
-            "dynamic",
-        ),
+        None => push_invalid(alloc, sources, b"project.", "dynamic", reason),
     }
 }
 
@@ -628,7 +651,7 @@ fn push_build(
     )
 }
 
-// The strings of `pyproject.toml`.
+// The strings of `pyproject.toml`, or of a Pipfile.
 pub(crate) fn project_strings(
     alloc: Global,
     document: &Table,
@@ -641,6 +664,7 @@ pub(crate) fn project_strings(
     push_dynamic(alloc, &mut found, top(document, "project"))?;
     push_all_groups(alloc, &mut found, document)?;
     push_tools(alloc, &mut found, top(document, "tool"))?;
+    push_pipenv(alloc, &mut found, document)?;
     push_build(alloc, &mut found, document)?;
     Ok(found)
 }

@@ -7,10 +7,11 @@ ghost use Rattle.pyver_findings.specs.Views.{AddsFound, demand_of, file_line_of,
 ghost use Rattle.pyver_markers.specs.EnvironmentViews.{domain_of};
 ghost use Rattle.pyver_projects.specs.Meanings.{inclusions as inclusions_in, IsSoundString};
 ghost use Rattle.pyver_projects.specs.ProjectViews.{IsInclusionIndex, has_key, inclusions_of, section_of, string_reading_of};
-ghost use Rattle.pyver_projects.specs.Together.{FindsOfPart, FindsOfParts, all_demands, demand_in_part, has_dependencies, has_group, holds_in, is_build, is_extra, is_marked, part_demands, parts, project_domain, project_python, same_finding, same_line, same_lines, same_part, section_part, sections, with_new};
+ghost use Rattle.pyver_projects.specs.Together.{FindsOfPart, FindsOfParts, all_demands, demand_in_part, has_dependencies, has_group, holds_in, is_build, is_environment, is_extra, is_marked, is_replaced, is_standard, part_demands, parts, project_domain, project_python, same_finding, same_line, same_lines, same_part, section_part, sections, unreplaced, with_new};
 
 use crate::document_reading::StringReading;
 use crate::groups::{InclusionIndex, included_groups, inclusions};
+use crate::known_projects::contains_name;
 use crate::project::Section;
 use pep440_sets::VersionSet;
 use pyver_findings::{Cause, Demand, FileLine, Finding, LineMeaning, push_conflicts};
@@ -20,10 +21,11 @@ use std::collections::HashMap;
 
 // ---- parts of a project
 
-// The strings of a project, which groups include which, and whether groups hold together with the dependencies.
+// The strings of a project, which groups include which, whether groups hold together with the dependencies, and the names that it overrides.
 #[derive(Drop)]
 struct ProjectParts<'a> {
     together: bool,
+    overridden: &'a [Vec<u8>],
     inclusions: InclusionIndex<'a>,
     strings: &'a [StringReading],
 }
@@ -33,7 +35,7 @@ fn section_part(section: &Section) -> Result<Section, AllocError>
 {
     match section {
         Section::Include(group, _) => Ok(Section::Group(group.clone()?)),
-        Section::Entry(_, _) => Ok(Section::Dependencies),
+        Section::Entry(_, _, _) | Section::Constraint => Ok(Section::Dependencies),
         other => other.clone(),
     }
 }
@@ -44,6 +46,9 @@ fn same_part(one: &Section, other: &Section) -> bool
     match (one, other) {
         (Section::Extra(one), Section::Extra(other)) => one.as_slice() == other.as_slice(),
         (Section::Group(one), Section::Group(other)) => one.as_slice() == other.as_slice(),
+        (Section::Environment(one), Section::Environment(other)) => {
+            one.as_slice() == other.as_slice()
+        }
         (Section::Dependencies, Section::Dependencies) => true,
         (Section::Build, Section::Build) => true,
         _ => false,
@@ -102,6 +107,15 @@ fn is_build(part: &Section) -> bool
     matches!(part, Section::Build)
 }
 
+fn is_environment(table: &[u8], part: &Section) -> bool
+    ensures { result ≡ is_environment table.now (section_of part.now) }
+{
+    match part {
+        Section::Environment(other) => table == other.as_slice(),
+        _ => false,
+    }
+}
+
 // The names of the groups in the part.
 fn part_groups<'a>(
     alloc: Global,
@@ -122,10 +136,12 @@ fn holds_in(together: bool, groups: &HashMap<&[u8], ()>, part: &Section, section
     ensures { result ≡ holds_in together (has_key groups.now) (section_of part.now) (section_of section.now) }
 {
     match section {
-        Section::Dependencies | Section::Entry(_, _) => has_dependencies(together, part),
+        Section::Dependencies => has_dependencies(together, part),
+        Section::Entry(_, _, _) | Section::Constraint => has_dependencies(together, part),
         Section::Extra(name) => is_extra(name.as_slice(), part),
         Section::Group(name) => groups.contains_key(name.as_slice()),
         Section::Build => is_build(part),
+        Section::Environment(table) => is_environment(table.as_slice(), part),
         Section::Include(_, _) | Section::Invalid(..) | Section::Unread(_) => false,
         Section::Python | Section::Version => false,
     }
@@ -154,6 +170,24 @@ fn copy_demand(demand: &Demand) -> Result<Demand, AllocError>
     })
 }
 
+// The section is of the tables that PEP 621 and PEP 735 define.
+pub(crate) fn is_standard(section: &Section) -> bool
+    ensures { result ≡ is_standard (section_of section.now) }
+{
+    matches!(
+        section,
+        Section::Dependencies | Section::Extra(_) | Section::Group(_)
+    )
+}
+
+// The project overrides these names, and so a requirement of this section for the name.
+#[tactic(auto, using(pyver_findings::proofs::Steps::any_viewed))]
+pub(crate) fn is_replaced(overridden: &[Vec<u8>], section: &Section, name: &[u8]) -> bool
+    ensures { result ≡ is_replaced (map (λ n. n.items) overridden.now) (section_of section.now) name.now }
+{
+    is_standard(section) && contains_name(overridden, name)
+}
+
 fn push_demand(demands: &mut Vec<Demand>, meaning: &LineMeaning) -> Result<(), AllocError>
     ensures { IfOk result (λ _. map demand_of demands.new.items ≡ map demand_of demands.old.items ++ demands_in (line_meaning_of meaning.now)) }
 {
@@ -164,17 +198,33 @@ fn push_demand(demands: &mut Vec<Demand>, meaning: &LineMeaning) -> Result<(), A
     Ok(())
 }
 
+// Adds what the string asks for, unless the project, which overrides these names, replaces it.
+fn push_unreplaced(
+    demands: &mut Vec<Demand>,
+    overridden: &[Vec<u8>],
+    string: &StringReading,
+) -> Result<(), AllocError>
+    ensures { IfOk result (λ _. map demand_of demands.new.items ≡ map demand_of demands.old.items ++ unreplaced (map (λ n. n.items) overridden.now) (string_reading_of string.now).section (demands_in (string_reading_of string.now).meaning)) }
+{
+    if let LineMeaning::Asks(demand) = &string.meaning {
+        if !is_replaced(overridden, &string.section, demand.name.as_slice()) {
+            demands.push(copy_demand(demand)?)?;
+        }
+    }
+    Ok(())
+}
+
 fn push_in_part(
     demands: &mut Vec<Demand>,
-    together: bool,
+    project: &ProjectParts<'_>,
     groups: &HashMap<&[u8], ()>,
     part: &Section,
     string: &StringReading,
 ) -> Result<(), AllocError>
-    ensures { IfOk result (λ _. map demand_of demands.new.items ≡ map demand_of demands.old.items ++ demand_in_part together (has_key groups.now) (section_of part.now) (string_reading_of string.now)) }
+    ensures { IfOk result (λ _. map demand_of demands.new.items ≡ map demand_of demands.old.items ++ demand_in_part project.now.together (map (λ n. n.items) project.now.overridden.now) (has_key groups.now) (section_of part.now) (string_reading_of string.now)) }
 {
-    if holds_in(together, groups, part, &string.section) {
-        push_demand(demands, &string.meaning)?;
+    if holds_in(project.together, groups, part, &string.section) {
+        push_unreplaced(demands, project.overridden, string)?;
     }
     Ok(())
 }
@@ -182,16 +232,15 @@ fn push_in_part(
 // The requirements of the part, which has these groups.
 fn demands_of_part(
     alloc: Global,
-    together: bool,
+    project: &ProjectParts<'_>,
     groups: &HashMap<&[u8], ()>,
     part: &Section,
-    strings: &[StringReading],
 ) -> Result<Vec<Demand>, AllocError>
-    ensures { IfOk result (λ demands. map demand_of demands.items ≡ flat_map (demand_in_part together (has_key groups.now) (section_of part.now)) (map string_reading_of strings.now)) }
+    ensures { IfOk result (λ demands. map demand_of demands.items ≡ flat_map (demand_in_part project.now.together (map (λ n. n.items) project.now.overridden.now) (has_key groups.now) (section_of part.now)) (map string_reading_of project.now.strings.now)) }
 {
     let mut demands = Vec::new(alloc);
-    for string in strings {
-        push_in_part(&mut demands, together, groups, part, string)?;
+    for string in project.strings {
+        push_in_part(&mut demands, project, groups, part, string)?;
     }
     Ok(demands)
 }
@@ -203,10 +252,10 @@ fn part_demands(
     part: &Section,
 ) -> Result<Vec<Demand>, AllocError>
     requires { IsInclusionIndex project.now.inclusions }
-    ensures { IfOk result (λ demands. map demand_of demands.items ≡ part_demands project.now.together (inclusions_of project.now.inclusions) (section_of part.now) (map string_reading_of project.now.strings.now)) }
+    ensures { IfOk result (λ demands. map demand_of demands.items ≡ part_demands project.now.together (map (λ n. n.items) project.now.overridden.now) (inclusions_of project.now.inclusions) (section_of part.now) (map string_reading_of project.now.strings.now)) }
 {
     let groups = part_groups(alloc, &project.inclusions, part)?;
-    demands_of_part(alloc, project.together, &groups, part, project.strings)
+    demands_of_part(alloc, project, &groups, part)
 }
 
 // ---- findings, each once
@@ -271,7 +320,7 @@ fn each_once(alloc: Global, findings: Vec<Finding>) -> Result<Vec<Finding>, Allo
 // ---- requirements that have no version in common
 
 // The versions of Python that the project with these strings is for, or all.
-fn project_python(strings: &[StringReading]) -> Option<&VersionSet>
+pub(crate) fn project_python(strings: &[StringReading]) -> Option<&VersionSet>
     ensures { option_map (λ set. set.now) result ≡ project_python (map string_reading_of strings.now) }
 {
     let mut rest = strings;
@@ -305,7 +354,7 @@ fn push_part_conflicts(
     requires sound { All IsSoundString (map string_reading_of project.now.strings.now) }
     requires known { inclusions_of project.now.inclusions ≡ inclusions_in (sections (map string_reading_of project.now.strings.now)) }
     requires index { IsInclusionIndex project.now.inclusions }
-    ensures { IfOk result (λ _. AddsFound (FindsOfPart project.now.together (map string_reading_of project.now.strings.now) (section_of part.now)) findings.old.items findings.new.items left_out.old.items left_out.new.items) }
+    ensures { IfOk result (λ _. AddsFound (FindsOfPart project.now.together (map (λ n. n.items) project.now.overridden.now) (map string_reading_of project.now.strings.now) (section_of part.now)) findings.old.items findings.new.items left_out.old.items left_out.new.items) }
 {
     let demands = part_demands(alloc, project, part)?;
     let domain = project_domain(project.strings);
@@ -318,16 +367,18 @@ fn conflicts_of_parts(
     alloc: Global,
     left_out: &mut Vec<Cause>,
     together: bool,
+    overridden: &[Vec<u8>],
     parts: &[Section],
     strings: &[StringReading],
 ) -> Result<Vec<Finding>, AllocError>
     requires { All IsSoundString (map string_reading_of strings.now) }
-    ensures { IfOk result (λ found. AddsFound (FindsOfEach (FindsOfPart together (map string_reading_of strings.now)) (map section_of parts.now)) [] found.items left_out.old.items left_out.new.items) }
+    ensures { IfOk result (λ found. AddsFound (FindsOfEach (FindsOfPart together (map (λ n. n.items) overridden.now) (map string_reading_of strings.now)) (map section_of parts.now)) [] found.items left_out.old.items left_out.new.items) }
 {
     let inclusions = inclusions(alloc, strings)?;
     let inclusions = InclusionIndex::new(alloc, inclusions.as_slice())?;
     let project = ProjectParts {
         together,
+        overridden,
         inclusions,
         strings,
     };
@@ -377,7 +428,7 @@ fn has_marker(strings: &[StringReading]) -> bool
 // Whether no requirement has a marker, and all that have one name have a version in common, as if they held together; then so have those of each part.
 fn are_satisfiable(alloc: Global, strings: &[StringReading]) -> Result<bool, AllocError>
     requires { All IsSoundString (map string_reading_of strings.now) }
-    ensures { IfOk result (λ b. b ≡ true → (together : Bool) → FindsOfParts together (map string_reading_of strings.now) [] []) }
+    ensures { IfOk result (λ b. b ≡ true → (together : Bool) (overridden : List (List ℕ)) → FindsOfParts together overridden (map string_reading_of strings.now) [] []) }
 {
     if has_marker(strings) {
         return Ok(false);
@@ -401,16 +452,18 @@ pub(crate) fn project_conflicts(
     alloc: Global,
     left_out: &mut Vec<Cause>,
     together: bool,
+    overridden: &[Vec<u8>],
     strings: &[StringReading],
 ) -> Result<Vec<Finding>, AllocError>
     requires { All IsSoundString (map string_reading_of strings.now) }
-    ensures { IfOk result (λ found. AddsFound (FindsOfParts together (map string_reading_of strings.now)) [] found.items left_out.old.items left_out.new.items) }
+    ensures { IfOk result (λ found. AddsFound (FindsOfParts together (map (λ n. n.items) overridden.now) (map string_reading_of strings.now)) [] found.items left_out.old.items left_out.new.items) }
 {
     if are_satisfiable(alloc, strings)? {
         return Ok(Vec::new(alloc));
     }
     let parts = parts(alloc, strings)?;
-    let found = conflicts_of_parts(alloc, left_out, together, parts.as_slice(), strings)?;
+    let parts = parts.as_slice();
+    let found = conflicts_of_parts(alloc, left_out, together, overridden, parts, strings)?;
     let once = each_once(alloc, found)?;
     Ok(once)
 }

@@ -1,43 +1,70 @@
-//! What tables of tools in `pyproject.toml` ask for, and what they override.
-ghost use Rattle.std.specs.Prelude.{◌≡◌, ◌++◌, [], IfOk, Some, codes, map, option_map, string_bytes};
+//! What tables of tools in `pyproject.toml` ask for, or a Pipfile, and what they override.
+ghost use Rattle.std.specs.Prelude.{◌≡◌, ◌++◌, [], IfOk, Some, codes, map, option_and_then, option_map, string_bytes};
 ghost use Rattle.std.specs.List.{flat_map, list_any};
 ghost use Rattle.pep440_rs.specs.Blanks.{opens};
 ghost use Rattle.pep440_pick.specs.Names.{normal};
-ghost use Rattle.pyver_projects.specs.Documents.{added_sources, array_sources, entry_list, entry_names, each_source, entry_source, entry_sources, group_path, has_conditions, is_package_name, is_editable, leading_name, listed_source, overridden_names, poetry_sources, poetry_table, table_list, tool_group, tool_groups, tool_sources, unread, unread_fields, unread_table, unread_tables, dev_sources};
-ghost use Rattle.pyver_projects.specs.PackageRequirements.{marked_text, poetry_list, requirement_text};
-ghost use Rattle.pyver_projects.specs.ProjectStrings.{Entry, Group, entries, key_path, listed, members_list};
+ghost use Rattle.pep440_version.specs.Grammar.{starts};
+ghost use Rattle.pyver_requirements.specs.MarkerTokens.{is_operator_byte};
+ghost use Rattle.pyver_projects.specs.Documents.{added_sources, array_name, array_sources, constraint_sources, dev_packages, entry_list, entry_names, entry_specifiers, environment_array, each_source, entry_source, entry_sources, group_path, has_conditions, is_entry, is_package_name, is_editable, lacks_variables, leading_name, listed_source, other_sources, overridden_names, pipenv_faults, pipenv_list, pipenv_sources, pipenv_tables, poetry_sources, sources_or_fault, table_list, tool_group, tool_groups, tool_sources, tool_table, unread, unread_fields, unread_table, unread_tables, dev_sources};
+ghost use Rattle.pyver_projects.specs.PackageRequirements.{marked_text, requirement_text};
+ghost use Rattle.pyver_projects.specs.ProjectStrings.{Entry, Environment, Group, entries, inside, key_path, listed, members_list};
+ghost use Rattle.pyver_projects.specs.KnownEnvironments.{is_false};
 ghost use Rattle.pyver_projects.specs.ProjectViews.{project_string_of, section_of};
 ghost use Rattle.pyver_projects.specs.declared.tool_tables.GroupTool.TheVariants as of_tool;
-ghost use Rattle.toml.specs.Data.{Data, as_str};
+ghost use Rattle.toml.specs.Data.{Data, as_bool, as_str};
 ghost use Rattle.toml.specs.View.{table_view, view};
 
 use crate::groups::table_names;
-use crate::package_requirements::{poetry_list, requirement_text, split_name};
-use crate::place::key_path;
-use crate::poetry_marker::entry_marker;
-use crate::project::{ProjectString, Section, push_array, push_string};
+use crate::package_requirements::{lacks, plain_list, poetry_list, requirement_text, split_name};
+use crate::place::{after_blanks, key_path};
+use crate::poetry_marker::{entry_marker, is_operator_byte};
+use crate::project::{
+    EntryTool, ProjectString, Section, push_array, push_invalid, push_string, push_table_fault,
+};
 use crate::table::{inside, is_text_or_none, items, table, text, top};
 use pep440_pick::is_name;
 use pyver_findings::{Cause, normalize_name};
 use std::alloc::{AllocError, Global};
 use toml::{Table, Value};
 
-// ---- Poetry
+// ---- tables of Poetry and Pipenv
 
-// The conditions of a table, if it has some, are strings.
-fn has_conditions(entry: &Value) -> bool
-    ensures { result ≡ has_conditions (view entry.now) }
+// The table has no variable of a marker as a key.
+fn lacks_variables(entry: &Value) -> bool
+    ensures { result ≡ lacks_variables (view entry.now) }
 {
-    is_text_or_none(entry.get("markers"))
-        && is_text_or_none(entry.get("python"))
-        && is_text_or_none(entry.get("platform"))
+    lacks(entry, "os_name")
+        && lacks(entry, "sys_platform")
+        && lacks(entry, "platform_machine")
+        && lacks(entry, "platform_python_implementation")
+        && lacks(entry, "platform_release")
+        && lacks(entry, "platform_system")
+        && lacks(entry, "platform_version")
+        && lacks(entry, "python_version")
+        && lacks(entry, "python_full_version")
+        && lacks(entry, "implementation_name")
+        && lacks(entry, "implementation_version")
+}
+
+// The conditions of a table, if it has some, are those that are read, and strings.
+fn has_conditions(tool: EntryTool, entry: &Value) -> bool
+    ensures { result ≡ has_conditions tool (view entry.now) }
+{
+    match tool {
+        EntryTool::Poetry => {
+            is_text_or_none(entry.get("markers"))
+                && is_text_or_none(entry.get("python"))
+                && is_text_or_none(entry.get("platform"))
+        }
+        EntryTool::Pipenv => is_text_or_none(entry.get("markers")) && lacks_variables(entry),
+    }
 }
 
 // The list of a table, or `*`.
-fn table_list(entry: &Value) -> Option<&str>
-    ensures { option_map (λ t. t.now) result ≡ table_list (view entry.now) }
+fn table_list(tool: EntryTool, entry: &Value) -> Option<&str>
+    ensures { option_map (λ t. t.now) result ≡ table_list tool (view entry.now) }
 {
-    if !has_conditions(entry) {
+    if !has_conditions(tool, entry) {
         return None;
     }
     match text(entry.get("version")) {
@@ -47,15 +74,46 @@ fn table_list(entry: &Value) -> Option<&str>
 }
 
 // The list of an entry: a string, or a table.
-fn entry_list(entry: &Value) -> Option<&str>
-    ensures { option_map (λ t. t.now) result ≡ entry_list (view entry.now) }
+fn entry_list(tool: EntryTool, entry: &Value) -> Option<&str>
+    ensures { option_map (λ t. t.now) result ≡ entry_list tool (view entry.now) }
 {
     if let Some(list) = entry.as_str() {
         return Some(list);
     }
     match entry.as_table() {
-        Some(_) => table_list(entry),
+        Some(_) => table_list(tool, entry),
         None => None,
+    }
+}
+
+fn starts_with_operator(list: &[u8]) -> bool
+    ensures { result ≡ starts is_operator_byte list.now }
+{
+    match list {
+        [byte, ..] => is_operator_byte(*byte),
+        [] => false,
+    }
+}
+
+// A list of Pipenv, in which a version by itself is this one.
+fn pipenv_list(alloc: Global, list: &str) -> Result<String, AllocError>
+    ensures { IfOk result (λ text. string_bytes text ≡ pipenv_list list.now) }
+{
+    if starts_with_operator(after_blanks(list.as_bytes())) || list.is_empty() {
+        return String::from_str(alloc, list);
+    }
+    let mut text = String::from_str(alloc, "==")?;
+    text.push_str(list)?;
+    Ok(text)
+}
+
+// The list as one of PEP 440.
+fn entry_specifiers(alloc: Global, tool: EntryTool, list: &str) -> Result<String, AllocError>
+    ensures { IfOk result (λ text. string_bytes text ≡ entry_specifiers tool list.now) }
+{
+    match tool {
+        EntryTool::Poetry => poetry_list(alloc, list),
+        EntryTool::Pipenv => pipenv_list(alloc, plain_list(list)),
     }
 }
 
@@ -65,11 +123,17 @@ fn is_package_name(name: &str) -> bool
     is_name(name) && name != "python"
 }
 
-fn entry_section(alloc: Global, table: &[u8], name: &str) -> Result<Section, AllocError>
-    ensures { IfOk result (λ section. section_of section ≡ Entry table.now name.now) }
+fn entry_section(
+    alloc: Global,
+    tool: EntryTool,
+    table: &[u8],
+    name: &str,
+) -> Result<Section, AllocError>
+    ensures { IfOk result (λ section. section_of section ≡ Entry tool table.now name.now) }
 {
     let table = Vec::from_slice(alloc, table)?;
-    Ok(Section::Entry(table, Vec::from_slice(alloc, name.as_bytes())?))
+    let name = Vec::from_slice(alloc, name.as_bytes())?;
+    Ok(Section::Entry(tool, table, name))
 }
 
 // Adds that it is not read for this cause.
@@ -99,54 +163,58 @@ fn marked_text(requirement: String, marker: &str) -> Result<String, AllocError>
 fn push_listed(
     alloc: Global,
     sources: &mut Vec<ProjectString>,
+    tool: EntryTool,
     table: &[u8],
     name: &str,
     marker: &str,
     list: Option<&str>,
 ) -> Result<(), AllocError>
-    ensures { IfOk result (λ _. map project_string_of sources.new.items ≡ map project_string_of sources.old.items ++ listed_source table.now name.now marker.now (option_map (λ t. t.now) list.entry)) }
+    ensures { IfOk result (λ _. map project_string_of sources.new.items ≡ map project_string_of sources.old.items ++ listed_source tool table.now name.now marker.now (option_map (λ t. t.now) list.entry)) }
 {
     let Some(list) = list else {
         return push_unread(alloc, sources, Cause::OtherSyntax);
     };
-    let list = poetry_list(alloc, list)?;
+    let list = entry_specifiers(alloc, tool, list)?;
     let text = requirement_text(alloc, name, list.as_str())?;
     let text = marked_text(text, marker)?;
-    let section = entry_section(alloc, table, name)?;
+    let section = entry_section(alloc, tool, table, name)?;
     push_string(alloc, sources, section, text.as_str())
 }
 
 fn push_entry(
     alloc: Global,
     sources: &mut Vec<ProjectString>,
+    tool: EntryTool,
     table: &[u8],
     name: &str,
     entry: &Value,
 ) -> Result<(), AllocError>
-    ensures { IfOk result (λ _. map project_string_of sources.new.items ≡ map project_string_of sources.old.items ++ entry_source table.now name.now (view entry.now)) }
+    ensures { IfOk result (λ _. map project_string_of sources.new.items ≡ map project_string_of sources.old.items ++ entry_source tool table.now name.now (view entry.now)) }
 {
-    let marker = entry_marker(alloc, entry)?;
+    let marker = entry_marker(alloc, tool, entry)?;
     push_listed(
         alloc,
         sources,
+        tool,
         table,
         name,
         marker.as_str(),
-        entry_list(entry),
+        entry_list(tool, entry),
     )
 }
 
 fn push_items(
     alloc: Global,
     sources: &mut Vec<ProjectString>,
+    tool: EntryTool,
     table: &[u8],
     name: &str,
     found: &[Value],
 ) -> Result<(), AllocError>
-    ensures { IfOk result (λ _. map project_string_of sources.new.items ≡ map project_string_of sources.old.items ++ flat_map (entry_source table.now name.now) (map view found.now)) }
+    ensures { IfOk result (λ _. map project_string_of sources.new.items ≡ map project_string_of sources.old.items ++ flat_map (entry_source tool table.now name.now) (map view found.now)) }
 {
     for entry in found {
-        push_entry(alloc, sources, table, name, entry)?;
+        push_entry(alloc, sources, tool, table, name, entry)?;
     }
     Ok(())
 }
@@ -155,16 +223,45 @@ fn push_items(
 fn push_each(
     alloc: Global,
     sources: &mut Vec<ProjectString>,
+    tool: EntryTool,
     table: &[u8],
     name: &str,
     value: &Value,
 ) -> Result<(), AllocError>
-    ensures { IfOk result (λ _. map project_string_of sources.new.items ≡ map project_string_of sources.old.items ++ each_source table.now name.now (view value.now)) }
+    ensures { IfOk result (λ _. map project_string_of sources.new.items ≡ map project_string_of sources.old.items ++ each_source tool table.now name.now (view value.now)) }
 {
     if value.as_array().is_some() {
-        return push_items(alloc, sources, table, name, items(Some(value)));
+        return push_items(alloc, sources, tool, table, name, items(Some(value)));
     }
-    push_entry(alloc, sources, table, name, value)
+    push_entry(alloc, sources, tool, table, name, value)
+}
+
+// An entry of Pipenv is a string or a table.
+fn is_entry(tool: EntryTool, entry: &Value) -> bool
+    ensures { result ≡ is_entry tool (view entry.now) }
+{
+    match tool {
+        EntryTool::Poetry => true,
+        EntryTool::Pipenv => entry.as_str().is_some() || entry.as_table().is_some(),
+    }
+}
+
+// Adds what the entry asks for, or that it is none.
+fn push_entries_or_fault(
+    alloc: Global,
+    sources: &mut Vec<ProjectString>,
+    tool: EntryTool,
+    table: &[u8],
+    name: &str,
+    value: &Value,
+) -> Result<(), AllocError>
+    ensures { IfOk result (λ _. map project_string_of sources.new.items ≡ map project_string_of sources.old.items ++ sources_or_fault tool table.now name.now (view value.now)) }
+{
+    if is_entry(tool, value) {
+        return push_each(alloc, sources, tool, table, name, value);
+    }
+    let reason = "neither a string nor a table";
+    push_invalid(alloc, sources, table, name, reason)
 }
 
 // Adds what the entry asks for.
@@ -172,43 +269,46 @@ fn push_each(
 fn push_named(
     alloc: Global,
     sources: &mut Vec<ProjectString>,
+    tool: EntryTool,
     table: &[u8],
     name: &String,
     value: &Value,
 ) -> Result<(), AllocError>
-    ensures { IfOk result (λ _. map project_string_of sources.new.items ≡ map project_string_of sources.old.items ++ entry_sources table.now (string_bytes name.now, view value.now)) }
+    ensures { IfOk result (λ _. map project_string_of sources.new.items ≡ map project_string_of sources.old.items ++ entry_sources tool table.now (string_bytes name.now, view value.now)) }
 {
     if !is_package_name(name.as_str()) {
         return Ok(());
     }
-    push_each(alloc, sources, table, name.as_str(), value)
+    push_entries_or_fault(alloc, sources, tool, table, name.as_str(), value)
 }
 
 fn push_entries(
     alloc: Global,
     sources: &mut Vec<ProjectString>,
+    tool: EntryTool,
     path: &[u8],
     found: &Table,
 ) -> Result<(), AllocError>
-    ensures { IfOk result (λ _. map project_string_of sources.new.items ≡ map project_string_of sources.old.items ++ flat_map (entry_sources path.now) (members_list (table_view found.now))) }
+    ensures { IfOk result (λ _. map project_string_of sources.new.items ≡ map project_string_of sources.old.items ++ flat_map (entry_sources tool path.now) (members_list (table_view found.now))) }
 {
     for (name, entry) in found.iter() {
-        push_named(alloc, sources, path, name, entry)?;
+        push_named(alloc, sources, tool, path, name, entry)?;
     }
     Ok(())
 }
 
 // Adds the entries of the table with this path.
-fn push_poetry_table(
+fn push_tool_table(
     alloc: Global,
     sources: &mut Vec<ProjectString>,
+    tool: EntryTool,
     path: &[u8],
     value: Option<&Value>,
 ) -> Result<(), AllocError>
-    ensures { IfOk result (λ _. map project_string_of sources.new.items ≡ map project_string_of sources.old.items ++ poetry_table path.now (option_map (λ v. view v.now) value.entry)) }
+    ensures { IfOk result (λ _. map project_string_of sources.new.items ≡ map project_string_of sources.old.items ++ tool_table tool path.now (option_map (λ v. view v.now) value.entry)) }
 {
     match table(value) {
-        Some(found) => push_entries(alloc, sources, path, found),
+        Some(found) => push_entries(alloc, sources, tool, path, found),
         None => Ok(()),
     }
 }
@@ -220,6 +320,7 @@ fn push_poetry_table(
 pub(crate) enum GroupTool {
     Poetry,
     Pdm,
+    Hatch,
 }
 
 fn any_editable(found: &[Value]) -> bool
@@ -280,7 +381,8 @@ fn push_poetry_group(
     ensures { IfOk result (λ _. map project_string_of sources.new.items ≡ map project_string_of sources.old.items ++ tool_group of_tool.Poetry (name.now, view group.now)) }
 {
     let path = group_path(alloc, name)?;
-    push_poetry_table(alloc, sources, path.as_slice(), group.get("dependencies"))
+    let value = group.get("dependencies");
+    push_tool_table(alloc, sources, EntryTool::Poetry, path.as_slice(), value)
 }
 
 // Adds the requirements of a group of PDM.
@@ -317,6 +419,58 @@ fn push_pdm_group(
     push_pdm_array(alloc, sources, name, group)
 }
 
+// The path of an array of an environment.
+fn array_name(alloc: Global, name: &str, key: &str) -> Result<String, AllocError>
+    ensures { IfOk result (λ path. string_bytes path ≡ array_name name.now key.now) }
+{
+    let mut path = String::from_str(alloc, name)?;
+    path.push_str(".")?;
+    path.push_str(key)?;
+    Ok(path)
+}
+
+// Adds the requirements in the array with this path, if there is a value, of the environment with this name.
+fn push_environment_items(
+    alloc: Global,
+    sources: &mut Vec<ProjectString>,
+    name: &str,
+    path: &str,
+    value: Option<&Value>,
+) -> Result<(), AllocError>
+    ensures { IfOk result (λ _. map project_string_of sources.new.items ≡ map project_string_of sources.old.items ++ array_sources (codes "tool.hatch.envs.") path.now (Environment (key_path (codes "tool.hatch.envs.") name.now)) (option_map (λ v. view v.now) value.entry)) }
+{
+    let table = key_path(alloc, b"tool.hatch.envs.", name.as_bytes())?;
+    let section = Section::Environment(table);
+    push_array(alloc, sources, "tool.hatch.envs.", path, &section, value)
+}
+
+// Adds the requirements in the array with this key of the environment with this name.
+#[tactic(auto, unfolding(crate::specs::Documents::environment_array))]
+fn push_environment_array(
+    alloc: Global,
+    sources: &mut Vec<ProjectString>,
+    name: &str,
+    key: &str,
+    group: &Value,
+) -> Result<(), AllocError>
+    ensures { IfOk result (λ _. map project_string_of sources.new.items ≡ map project_string_of sources.old.items ++ environment_array name.now key.now (view group.now)) }
+{
+    let path = array_name(alloc, name, key)?;
+    push_environment_items(alloc, sources, name, path.as_str(), group.get(key))
+}
+
+fn push_environment(
+    alloc: Global,
+    sources: &mut Vec<ProjectString>,
+    name: &str,
+    group: &Value,
+) -> Result<(), AllocError>
+    ensures { IfOk result (λ _. map project_string_of sources.new.items ≡ map project_string_of sources.old.items ++ tool_group of_tool.Hatch (name.now, view group.now)) }
+{
+    push_environment_array(alloc, sources, name, "dependencies", group)?;
+    push_environment_array(alloc, sources, name, "extra-dependencies", group)
+}
+
 fn push_group(
     alloc: Global,
     sources: &mut Vec<ProjectString>,
@@ -329,6 +483,7 @@ fn push_group(
     match tool {
         GroupTool::Poetry => push_poetry_group(alloc, sources, name.as_str(), group),
         GroupTool::Pdm => push_pdm_group(alloc, sources, name.as_str(), group),
+        GroupTool::Hatch => push_environment(alloc, sources, name.as_str(), group),
     }
 }
 
@@ -371,10 +526,12 @@ fn push_poetry(
 ) -> Result<(), AllocError>
     ensures { IfOk result (λ _. map project_string_of sources.new.items ≡ map project_string_of sources.old.items ++ poetry_sources (option_map (λ v. view v.now) poetry.entry)) }
 {
+    let tool = EntryTool::Poetry;
     let path = b"tool.poetry.dependencies.";
-    push_poetry_table(alloc, sources, path, inside(poetry, "dependencies"))?;
+    push_tool_table(alloc, sources, tool, path, inside(poetry, "dependencies"))?;
     let path = b"tool.poetry.dev-dependencies.";
-    push_poetry_table(alloc, sources, path, inside(poetry, "dev-dependencies"))?;
+    let value = inside(poetry, "dev-dependencies");
+    push_tool_table(alloc, sources, tool, path, value)?;
     push_groups(alloc, sources, GroupTool::Poetry, inside(poetry, "group"))
 }
 
@@ -425,7 +582,7 @@ fn push_unread_table(
     }
 }
 
-// Adds the tables of Pixi and Hatch, and the constraints of uv.
+// Adds the tables of Pixi.
 fn push_unread_tables(
     alloc: Global,
     sources: &mut Vec<ProjectString>,
@@ -435,10 +592,7 @@ fn push_unread_tables(
 {
     let pixi = inside(tool, "pixi");
     push_unread_table(alloc, sources, inside(pixi, "dependencies"))?;
-    push_unread_table(alloc, sources, inside(pixi, "pypi-dependencies"))?;
-    push_unread_table(alloc, sources, inside(inside(tool, "hatch"), "envs"))?;
-    let uv = inside(tool, "uv");
-    push_unread_table(alloc, sources, inside(uv, "constraint-dependencies"))
+    push_unread_table(alloc, sources, inside(pixi, "pypi-dependencies"))
 }
 
 // Adds those of Setuptools and Flit.
@@ -473,6 +627,34 @@ fn push_additions(
     push_groups(alloc, sources, GroupTool::Pdm, pdm)
 }
 
+// Adds uv's constraints and overrides.
+fn push_constraints(
+    alloc: Global,
+    sources: &mut Vec<ProjectString>,
+    uv: Option<&Value>,
+) -> Result<(), AllocError>
+    ensures { IfOk result (λ _. map project_string_of sources.new.items ≡ map project_string_of sources.old.items ++ constraint_sources (option_map (λ v. view v.now) uv.entry)) }
+{
+    let name = "constraint-dependencies";
+    let section = Section::Constraint;
+    push_array(alloc, sources, "tool.uv.", name, &section, inside(uv, name))?;
+    let name = "override-dependencies";
+    push_array(alloc, sources, "tool.uv.", name, &section, inside(uv, name))
+}
+
+// Adds these, and the environments of Hatch.
+fn push_others(
+    alloc: Global,
+    sources: &mut Vec<ProjectString>,
+    tool: Option<&Value>,
+) -> Result<(), AllocError>
+    ensures { IfOk result (λ _. map project_string_of sources.new.items ≡ map project_string_of sources.old.items ++ other_sources (option_map (λ v. view v.now) tool.entry)) }
+{
+    push_constraints(alloc, sources, inside(tool, "uv"))?;
+    let environments = inside(inside(tool, "hatch"), "envs");
+    push_groups(alloc, sources, GroupTool::Hatch, environments)
+}
+
 // Adds which tables are not read.
 fn push_all_unread(
     alloc: Global,
@@ -495,7 +677,77 @@ pub(crate) fn push_tools(
 {
     push_poetry(alloc, sources, inside(tool, "poetry"))?;
     push_additions(alloc, sources, tool)?;
+    push_others(alloc, sources, tool)?;
     push_all_unread(alloc, sources, tool)
+}
+
+// ---- a Pipfile
+
+// The settings of a Pipfile let its packages to develop with hold by themselves.
+fn is_apart(settings: Option<&Value>) -> bool
+    ensures { result ≡ is_false (option_and_then as_bool (inside (codes "use_default_constraints") (option_map (λ v. view v.now) settings.entry))) }
+{
+    match inside(settings, "use_default_constraints") {
+        Some(value) => value.as_bool() == Some(false),
+        None => false,
+    }
+}
+
+// Adds the packages to develop with, in a Pipfile with these settings.
+fn push_dev_packages(
+    alloc: Global,
+    sources: &mut Vec<ProjectString>,
+    settings: Option<&Value>,
+    value: Option<&Value>,
+) -> Result<(), AllocError>
+    ensures { IfOk result (λ _. map project_string_of sources.new.items ≡ map project_string_of sources.old.items ++ dev_packages (option_map (λ v. view v.now) settings.entry) (option_map (λ v. view v.now) value.entry)) }
+{
+    if is_apart(settings) {
+        return push_unread_table(alloc, sources, value);
+    }
+    push_tool_table(alloc, sources, EntryTool::Pipenv, b"dev-packages.", value)
+}
+
+// Adds the names of these two values of a Pipfile, if they are no tables.
+fn push_pipenv_faults(
+    alloc: Global,
+    sources: &mut Vec<ProjectString>,
+    packages: Option<&Value>,
+    dev_packages: Option<&Value>,
+) -> Result<(), AllocError>
+    ensures { IfOk result (λ _. map project_string_of sources.new.items ≡ map project_string_of sources.old.items ++ pipenv_faults (option_map (λ v. view v.now) packages.entry) (option_map (λ v. view v.now) dev_packages.entry)) }
+{
+    push_table_fault(alloc, sources, "", "packages", packages)?;
+    push_table_fault(alloc, sources, "", "dev-packages", dev_packages)
+}
+
+// Adds what its packages ask for.
+fn push_pipenv_tables(
+    alloc: Global,
+    sources: &mut Vec<ProjectString>,
+    settings: Option<&Value>,
+    packages: Option<&Value>,
+    dev_packages: Option<&Value>,
+) -> Result<(), AllocError>
+    ensures { IfOk result (λ _. map project_string_of sources.new.items ≡ map project_string_of sources.old.items ++ pipenv_tables (option_map (λ v. view v.now) settings.entry) (option_map (λ v. view v.now) packages.entry) (option_map (λ v. view v.now) dev_packages.entry)) }
+{
+    push_tool_table(alloc, sources, EntryTool::Pipenv, b"packages.", packages)?;
+    push_dev_packages(alloc, sources, settings, dev_packages)
+}
+
+// Adds what a Pipfile asks for.
+pub(crate) fn push_pipenv(
+    alloc: Global,
+    sources: &mut Vec<ProjectString>,
+    document: &Table,
+) -> Result<(), AllocError>
+    ensures { IfOk result (λ _. map project_string_of sources.new.items ≡ map project_string_of sources.old.items ++ pipenv_sources (table_view document.now)) }
+{
+    let packages = top(document, "packages");
+    let dev_packages = top(document, "dev-packages");
+    let settings = top(document, "pipenv");
+    push_pipenv_faults(alloc, sources, packages, dev_packages)?;
+    push_pipenv_tables(alloc, sources, settings, packages, dev_packages)
 }
 
 // ---- overrides

@@ -1,5 +1,5 @@
 use Rattle.pyver_projects.proofs.ExportsFound.{demands_more}
-use Rattle.pyver_projects.specs.ExportComparing.{export_of}
+use Rattle.pyver_projects.specs.Comparing.{export_of}
 use Rattle.pyver_projects.proofs.export_comparison.push_export.Goals as goal
 
 pub returns-clause-demands : goal.returns-clause-demands

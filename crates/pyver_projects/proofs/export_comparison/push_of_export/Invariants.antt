@@ -1,7 +1,7 @@
 use Rattle.std.proofs.Common.{◌≡◌, ◌++◌, drop, map}
 use Rattle.std.specs.List.{flat_map}
 use Rattle.pyver_findings.specs.Views.{finding_of}
-use Rattle.pyver_projects.specs.ExportComparing.{export_of, found_in_export}
+use Rattle.pyver_projects.specs.Comparing.{export_of, found_in_export}
 use Rattle.pyver_projects.specs.ProjectViews.{document_of, read_pair}
 use Rattle.pyver_projects.proofs.export_comparison.push_of_export.Given as goal
 

@@ -1,7 +1,7 @@
 use Rattle.std.proofs.Common.{◌≡◌, ◌++◌, drop, map}
 use Rattle.std.specs.List.{flat_map}
 use Rattle.pyver_findings.specs.Views.{demand_of, finding_of}
-use Rattle.pyver_projects.specs.ExportComparing.{pin_beside}
+use Rattle.pyver_projects.specs.Comparing.{pin_beside}
 use Rattle.pyver_projects.specs.ProjectViews.{packages_of}
 use Rattle.pyver_projects.proofs.export_comparison.push_pins.Given as goal
 

@@ -2,7 +2,7 @@ use Rattle.std.proofs.Common.{◌≡◌, ◌++◌, drop, map}
 use Rattle.std.specs.List.{All, filter}
 use Rattle.pyver_findings.specs.Exports.{is_export}
 use Rattle.pyver_findings.specs.Views.{file_of}
-use Rattle.pyver_projects.specs.ExportComparing.{HasDemands, export_of, file_of_export}
+use Rattle.pyver_projects.specs.Comparing.{HasDemands, export_of, file_of_export}
 use Rattle.pyver_projects.proofs.export_comparison.read_exports.Given as goal
 
 abbrev pub invariant-loop-file : goal.invariant-loop-file

@@ -13,7 +13,7 @@ push_conflicts-requires c =
     subst (λ xs. All IsSound (map demand_of xs)) (sym c.as_slice.ensures.value) (subst (All IsSound) (sym c.in_ok-demands.ensures) (sound_all (map string_reading_of c.args.strings.now) c.requires))
 
 pub returns : goal.returns
-returns c = λ is together.
+returns c = λ is together overridden.
     let xs = map string_reading_of c.args.strings.now in
     let all = all_demands xs in
     let found = c.push_conflicts.new.findings.items in
@@ -21,4 +21,4 @@ returns c = λ is together.
     let nil : found ≡ [] = is_nil found (ap (λ n. n == 0) (sym c.push_conflicts.new.findings.ok.0) ∙ sym c.is_empty.ensures ∙ is) in
     let lines = ap (map demand_of) c.as_slice.ensures.value ∙ c.in_ok-demands.ensures in
     let (cs, finds) = nothing_of_all xs _ _ _ _ _ _ c.project_domain-domain.ensures lines c.new-findings.ensures.items nil c.in_ok-push_conflicts.ensures in
-    nothing_in_parts together xs (sym c.has_marker.ensures ∙ c.if-has_marker.false) (sound_all xs c.requires) cs finds
+    nothing_in_parts together overridden xs (sym c.has_marker.ensures ∙ c.if-has_marker.false) (sound_all xs c.requires) cs finds

@@ -9,7 +9,7 @@ loop-part-init c = start _ _ _ _ _ c.new-findings.ensures.items refl
 
 pub loop-part-preserved : goal.loop-part-preserved
 loop-part-preserved c =
-    each_more section_of (FindsOfPart c.args.together (map string_reading_of c.args.strings.now)) c.args.parts.now c.loop-part.part-index c.part-item.result [] _ _ _ _ _ c.loop-part-test.true c.part-item.is c.in_ok-push_part_conflicts.ensures c.loop-part.invariant
+    each_more section_of (FindsOfPart c.args.together (map (λ n. n.items) c.args.overridden.now) (map string_reading_of c.args.strings.now)) c.args.parts.now c.loop-part.part-index c.part-item.result [] _ _ _ _ _ c.loop-part-test.true c.part-item.is c.in_ok-push_part_conflicts.ensures c.loop-part.invariant
 
 pub returns : goal.returns
-returns c = each_done section_of (FindsOfPart c.args.together (map string_reading_of c.args.strings.now)) c.args.parts.now c.loop-part.part-index [] _ _ _ c.loop-part-test.false c.loop-part.invariant
+returns c = each_done section_of (FindsOfPart c.args.together (map (λ n. n.items) c.args.overridden.now) (map string_reading_of c.args.strings.now)) c.args.parts.now c.loop-part.part-index [] _ _ _ c.loop-part-test.false c.loop-part.invariant

@@ -8,5 +8,5 @@ use Rattle.pyver_projects.proofs.together.conflicts_of_parts.Given as goal
 
 abbrev pub invariant-loop-part : goal.invariant-loop-part
 invariant-loop-part l =
-    let found = FindsOfEach (FindsOfPart l.together (map string_reading_of l.strings)) in
+    let found = FindsOfEach (FindsOfPart l.together (map (λ n. n.items) l.overridden) (map string_reading_of l.strings)) in
     AddsFound (Continues (found (map section_of (drop l.part-index l.parts))) (found (map section_of l.parts))) [] l.findings.items l.initial.left_out.items l.left_out.items

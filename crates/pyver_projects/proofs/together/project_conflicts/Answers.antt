@@ -10,11 +10,11 @@ use Rattle.pyver_projects.proofs.together.project_conflicts.Goals as goal
 pub returns-then-branch : goal.returns-then-branch
 returns-then-branch c =
     let xs = map string_reading_of c.args.strings.now in
-    nothing_found (FindsOfParts c.args.together xs) [] _ _ _ (c.in_ok-are_satisfiable.ensures c.if-branch.true c.args.together) c.new.ensures.items refl
+    nothing_found (FindsOfParts c.args.together (map (λ n. n.items) c.args.overridden.now) xs) [] _ _ _ (c.in_ok-are_satisfiable.ensures c.if-branch.true c.args.together (map (λ n. n.items) c.args.overridden.now)) c.new.ensures.items refl
 
 pub returns : goal.returns
 returns c =
     let xs = map string_reading_of c.args.strings.now in
-    parts_found c.args.together xs c.in_ok-found.found.items c.in_ok-once.once.items c.args.left_out.now.items c.conflicts_of_parts.new.left_out.items c.in_ok-once.ensures
-    (subst (λ l. AddsFound (FindsOfEach (FindsOfPart c.args.together xs) l) [] c.in_ok-found.found.items c.args.left_out.now.items c.conflicts_of_parts.new.left_out.items)
-    (ap (map section_of) c.as_slice.ensures.value ∙ c.in_ok-parts.ensures) c.in_ok-found.ensures)
+    parts_found c.args.together (map (λ n. n.items) c.args.overridden.now) xs c.in_ok-found.found.items c.in_ok-once.once.items c.args.left_out.now.items c.conflicts_of_parts.new.left_out.items c.in_ok-once.ensures
+    (subst (λ l. AddsFound (FindsOfEach (FindsOfPart c.args.together (map (λ n. n.items) c.args.overridden.now) xs) l) [] c.in_ok-found.found.items c.args.left_out.now.items c.conflicts_of_parts.new.left_out.items)
+    (ap (map section_of) c.as_slice-parts.ensures.value ∙ c.in_ok-parts.ensures) c.in_ok-found.ensures)

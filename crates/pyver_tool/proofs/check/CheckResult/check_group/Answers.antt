@@ -2,8 +2,7 @@ use Rattle.std.proofs.Common.{◌≡◌, ◌∙◌, List, ap, map, subst}
 use Rattle.pyver_findings.specs.FileLines.{File}
 use Rattle.pyver_findings.specs.Reports.{IsReport, Report, joined_report, without_ignored}
 use Rattle.pyver_findings.specs.Views.{file_of, report_of}
-use Rattle.pyver_projects.specs.Comparing.{IsDocumentsReport}
-use Rattle.pyver_projects.specs.ExportComparing.{IsExportsReport}
+use Rattle.pyver_projects.specs.Comparing.{IsDocumentsReport, IsExportsReport}
 use Rattle.pyver_projects.specs.Meanings.{Document}
 use Rattle.pyver_projects.specs.ProjectViews.{document_of}
 use Rattle.pyver_tool.specs.TaskViews.{check_result_of}
