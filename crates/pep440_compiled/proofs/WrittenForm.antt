@@ -1,22 +1,29 @@
 -- A compiled form that is written part by part.
-use Rattle.std.proofs.Common.{◌≡◌, ◌∙◌, ◌<◌, ◌-◌, ℕ, List, [], ◌∷◌, ◌++◌, Option, None, Some, true, false, ap, inl, inr, refl, sym, subst, append_assoc, arith, true≢false, ◌≤◌, ◌+◌, suc, codes, drop, get_or, length, take, ◌^◌, IfSome, is_none}
+use Rattle.std.proofs.Common.{◌≡◌, ◌∙◌, ◌<◌, ◌-◌, ℕ, zero, List, [], ◌∷◌, ◌++◌, Option, None, Some, true, false, ap, inl, inr, refl, sym, subst, append_assoc, arith, true≢false, ◌≤◌, ◌+◌, suc, codes, drop, get_or, length, take, ◌^◌, IfSome, is_none}
 use Rattle.std.proofs.lemmas.Bool.{lt-ltb}
 use Rattle.std.proofs.lemmas.Bool.Decides.{nat_tests}
 use Rattle.std.proofs.lemmas.Grind.{flat_map-append}
 use Rattle.std.proofs.lemmas.List.{append-nil, length-append, nil_from_length, take-append-drop}
 use Rattle.std.specs.Char.{is_ascii_alphanumeric, is_ascii_digit}
 use Rattle.std.specs.List.{flat_map, list_all, All}
+use Rattle.std.specs.Prelude.{replicate}
 use Rattle.pep440_rs.proofs.Reread.Plain.{all_weaker}
 use Rattle.pep440_version.specs.Rejections.{Rejection, Rejects}
-use Rattle.pep440_keys.specs.SortKeys.{key_bytes, local_bytes, segment_bytes}
+use Rattle.pep440_keys.specs.SortKeys.{local_bytes, number_bytes, rank_bytes, segment_bytes}
 use Rattle.pep440_version.proofs.Reading.LocalAgrees.{segments_cons}
 use Rattle.pep440_version.proofs.RoundTrip.PrintIsRead.{segment_reads}
 use Rattle.pep440_version.proofs.Reading.NormalParts.{Digits, release_more, with_local}
 use Rattle.pep440_version.specs.Grammar.{AreSegments, Derives, IsLeadingV, IsNumber, IsPre, IsRelease, IsSegment, IsSeparator, IsSpelling, pre_spellings, starts}
+use Rattle.pep440_version.specs.Key.{dev_of, dev_rank, post_of, post_rank, stage_of, stage_rank}
+use Rattle.pep440_version.specs.Key.Trim.{trim}
 use Rattle.pep440_version.specs.Record.{Fits, LocalSegmentValue, Record, Text, Number, from_parts}
 use Rattle.pep440_version.specs.RoundTrip.{is_lower, SegmentRoundTrips}
 use Rattle.std.proofs.lemmas.Fmt.{decimal_digit, digits_decimal}
+use Rattle.pep440_compiled.proofs.Checking.{ones}
 use Rattle.pep440_compiled.proofs.Exact.{parsed}
+use Rattle.pep440_compiled.proofs.Prefixes.{none_needed}
+use Rattle.pep440_compiled.proofs.Zeros as release
+use Rattle.pep440_compiled.specs.KeyParts.{ending_zeros}
 use Rattle.pep440_compiled.specs.Version.{DenotesVersion, IsShortSegment, compiled_bytes, zero_bytes}
 use Rattle.pep440_version.proofs.Reading.Digits.{digits_model}
 use Rattle.pep440_version.proofs.Reading.Prefixes.{same_front}
@@ -266,6 +273,36 @@ release_derives text after part numbers pre letter digits is =
     with_local text letter.0 [] digits.0 part [] [] [] numbers 0 pre None None [] (letter.2 ∙ ap (λ l. letter.0 ++ l) (digits.2 ∙ ap (λ l. digits.0 ++ l) (sym (append-nil part))))
     letter.1 (inl (refl, refl)) digits.1 is refl refl refl
 
+-- ---- and of its bytes
+
+-- the bytes of zeros are ones
+zeros_are_ones : (k : ℕ) → flat_map (number_bytes 1) (replicate k 0) ≡ replicate k 1
+zeros_are_ones zero = refl
+zeros_are_ones (suc k) = λ i. ((1 + length (none_needed i)) ∷ none_needed i) ++ zeros_are_ones k i
+
+-- a zero more is not written yet
+pub zero_pushed : (form old numbers : List ℕ) (before ending number : ℕ) → number ≡ 0 → ending ≡ before + 1 → before ≡ ending_zeros numbers → form ≡ old ++ flat_map (number_bytes 1) (trim numbers)
+    → (ending ≡ ending_zeros (numbers ++ number ∷ [])) × (form ≡ old ++ flat_map (number_bytes 1) (trim (numbers ++ number ∷ [])))
+zero_pushed form old numbers before ending number none more count is =
+    let all : numbers ++ number ∷ [] ≡ numbers ++ 0 ∷ [] = ap (λ n. numbers ++ n ∷ []) none in
+    let after = release.zero_more numbers in
+    (more ∙ ap (λ n. n + 1) count ∙ sym (ap ending_zeros all ∙ after.1), is ∙ ap (λ l. old ++ flat_map (number_bytes 1) l) (sym (ap trim all ∙ after.0)))
+
+-- another number is written, after the zeros before it
+pub number_pushed : (form one two old numbers : List ℕ) (zeros number : ℕ) → (number ≡ 0 → ⊥) → one ≡ form ++ replicate zeros 1 → two ≡ one ++ number_bytes 1 number → zeros ≡ ending_zeros numbers
+    → form ≡ old ++ flat_map (number_bytes 1) (trim numbers) → (0 ≡ ending_zeros (numbers ++ number ∷ [])) × (two ≡ old ++ flat_map (number_bytes 1) (trim (numbers ++ number ∷ [])))
+number_pushed form one two old numbers zeros number other first second count is =
+    let code : List ℕ → List ℕ = flat_map (number_bytes 1) in
+    let trimmed : trim (numbers ++ number ∷ []) ≡ numbers ++ number ∷ [] = release.number_more numbers number other in
+    let all : code numbers ≡ code (trim numbers) ++ replicate zeros 1 =
+    ap code (release.trim_pad numbers) ∙ flat_map-append (number_bytes 1) (trim numbers) (replicate (ending_zeros numbers) 0)
+    ∙ ap (λ l. code (trim numbers) ++ l) (zeros_are_ones (ending_zeros numbers) ∙ ap (λ k. replicate k 1) (sym count)) in (
+      sym (release.trimmed_zeros (numbers ++ number ∷ []) trimmed),
+      second ∙ ap (λ l. l ++ number_bytes 1 number) (first ∙ ap (λ l. l ++ replicate zeros 1) is ∙ append_assoc old (code (trim numbers)) (replicate zeros 1) ∙ ap (λ l. old ++ l) (sym all))
+          ∙ append_assoc old (code numbers) (number_bytes 1 number)
+          ∙ ap (λ l. old ++ l) (ap (λ l. code numbers ++ l) (sym (append-nil (number_bytes 1 number))) ∙ sym (flat_map-append (number_bytes 1) numbers (number ∷ [])) ∙ ap code (sym trimmed)),
+    )
+
 pub release_denoted : (text numbers release old new : List ℕ) (pre : Option Prerelease) → Derives text (from_parts 0 numbers pre None None []) → release ≡ numbers → old ≡ [] → new ≡ old ++ compiled_bytes (from_parts 0 release pre None None [])
     → (r : Record) × Derives text r × DenotesVersion new r
 release_denoted text numbers release old new pre d same none is =
@@ -277,9 +314,21 @@ pub no_dot : (local : List LocalSegmentValue) (rest : List ℕ) → rest ≡ loc
 no_dot [] rest e some is = omega (arith, some, ap length e)
 no_dot (s ∷ local) rest e some is = omega (arith, is, ap (λ l. get_or l 0 0) e)
 
-pub release_written : (old one two three new release : List ℕ) (pre : Option Prerelease) → one ≡ old ++ 4 ∷ [] → ((local : List LocalSegmentValue) → two ++ local_bytes local ≡ one ++ key_bytes (from_parts 0 release pre None None local))
-    → three ≡ two ++ 0 ∷ [] → new ≡ three ++ zero_bytes release → new ≡ old ++ compiled_bytes (from_parts 0 release pre None None [])
-release_written old one two three new release pre first key last zeros =
-    let bytes = key_bytes (from_parts 0 release pre None None []) in
-    zeros ∙ ap (λ l. l ++ zero_bytes release) (last ∙ key [] ∙ ap (λ l. l ++ bytes) first) ∙ append_assoc (old ++ 4 ∷ []) bytes (zero_bytes release)
-    ∙ append_assoc old (4 ∷ []) (bytes ++ zero_bytes release)
+-- the parts of a form, as they are written
+regroup : (old first numbers stage post dev local zeros : List ℕ) → ((((old ++ first) ++ numbers) ++ 0 ∷ (stage ++ post ++ dev)) ++ local) ++ zeros
+    ≡ old ++ ((first ++ (numbers ++ 0 ∷ []) ++ stage ++ post ++ dev ++ local) ++ zeros)
+regroup old first numbers stage post dev local zeros = simp append_assoc
+
+pub release_written : (old one two three four new numbers : List ℕ) (pre : Option Prerelease) (ending : ℕ) → one ≡ old ++ 4 ∷ 0 ∷ [] → two ≡ one ++ flat_map (number_bytes 1) (trim numbers)
+    → three ≡ two ++ 0 ∷ (rank_bytes (stage_rank (stage_of None pre None None None)) ++ rank_bytes (post_rank (post_of None None)) ++ rank_bytes (dev_rank (dev_of None None))) → four ≡ three ++ 0 ∷ []
+    → ending ≡ ending_zeros numbers → new ≡ four ++ replicate ending 1 → new ≡ old ++ compiled_bytes (from_parts 0 numbers pre None None [])
+release_written old one two three four new numbers pre ending first release suffix local count last =
+    let code : List ℕ = flat_map (number_bytes 1) (trim numbers) in
+    let stage : List ℕ = rank_bytes (stage_rank (stage_of None pre None None None)) in
+    let post : List ℕ = rank_bytes (post_rank (post_of None None)) in
+    let dev : List ℕ = rank_bytes (dev_rank (dev_of None None)) in
+    let start : one ≡ old ++ 4 ∷ number_bytes 0 0 = first ∙ (λ i. old ++ 4 ∷ ((0 + length (sym none_needed i)) ∷ sym none_needed i)) in
+    let zeros : replicate ending 1 ≡ zero_bytes numbers = ap (λ k. replicate k 1) count ∙ sym (ones (drop (length (trim numbers)) numbers)) in
+    let four_is : four ≡ (((old ++ 4 ∷ number_bytes 0 0) ++ code) ++ 0 ∷ (stage ++ post ++ dev)) ++ 0 ∷ [] =
+    local ∙ ap (λ l. l ++ 0 ∷ []) (suffix ∙ ap (λ l. l ++ 0 ∷ (stage ++ post ++ dev)) (release ∙ ap (λ l. l ++ code) start)) in
+    last ∙ (λ i. four_is i ++ zeros i) ∙ regroup old (4 ∷ number_bytes 0 0) code stage post dev (0 ∷ []) (zero_bytes numbers)

@@ -67,7 +67,7 @@ impl FormBuffer {
     ///
     /// Does not allocate for the normalized form of a version whose compiled form has at most 64 bytes, if it has up to four release
     /// numbers, none above 2147483647, and no local segment of digits, but of one. Nor does it for longer numbers in the local part, for
-    /// releases of up to sixteen numbers, and in other spellings of their pre-releases.
+    /// releases of more or larger numbers, and in other spellings of their pre-releases.
     #[inline(always)]
     pub fn compile<'a>(
         &'a mut self,

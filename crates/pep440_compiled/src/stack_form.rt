@@ -1,10 +1,12 @@
 //! The compiled form of a string in a normal spelling, written from its parts before a version is made of them.
-ghost use Rattle.std.specs.Prelude.{◌≡◌, ◌+◌, ◌++◌, ◌-◌, ◌<◌, ◌≤◌, ℕ, List, [], length, None, Ok, IfOk, IfSome, IsOk, OnOk, false, true};
+ghost use Rattle.std.specs.Prelude.{◌≡◌, ◌+◌, ◌++◌, ◌-◌, ◌<◌, ◌≤◌, ◌∷◌, ℕ, List, [], length, replicate, None, Ok, IfOk, IfSome, IsOk, OnOk, false, true};
 ghost use Rattle.std.specs.Char.{is_ascii_digit};
 ghost use Rattle.std.specs.List.{All, flat_map, list_all, prefix_len};
+ghost use Rattle.pep440_compiled.specs.KeyParts.{ending_zeros};
 ghost use Rattle.pep440_compiled.specs.Version.{DenotesVersion, HasShortForm, IsShortSegment, compiled_bytes};
-ghost use Rattle.pep440_keys.specs.SortKeys.{local_bytes, segment_bytes};
+ghost use Rattle.pep440_keys.specs.SortKeys.{local_bytes, number_bytes, segment_bytes};
 ghost use Rattle.pep440_version.specs.Grammar.{AreSegments, Derives, IsLeadingV, IsLocal, IsNumber, IsPre, IsRelease, IsSegment, IsSeparator, IsSpelling, pre_spellings, starts};
+ghost use Rattle.pep440_version.specs.Key.Trim.{trim};
 ghost use Rattle.pep440_version.specs.Print.{dotted, local_text, print, print_segment};
 ghost use Rattle.pep440_version.specs.Record.{LocalSegmentValue, Number, Record, from_parts};
 ghost use Rattle.pep440_version.specs.RoundTrip.{SegmentRoundTrips, is_lower};
@@ -14,7 +16,7 @@ use crate::parsed::is_digits;
 use crate::version::push_zeros;
 use crate::views::VERSION;
 use arrayvec::ArrayVec;
-use pep440_keys::{KeySink, push_number, push_parts_key};
+use pep440_keys::{KeySink, push_number, push_parts_key, push_suffix_of};
 use pep440_version::{NormalParts, Prerelease, PrereleaseKind, parse_leading_parts};
 use std::alloc::AllocError;
 
@@ -216,25 +218,61 @@ fn skip_letter(text: &[u8]) -> &[u8]
     }
 }
 
-// The numbers of the leading release, if they have room, and the rest.
+// Appends so many bytes 1, each a zero of a release.
 #[inline(always)]
-fn split_numbers(text: &[u8]) -> Option<(ArrayVec<u64, 16>, &[u8])>
-    ensures { IfSome result (λ x. (digits : List ℕ) × IsRelease digits x.0.items × (text.now ≡ digits ++ x.1.now)) }
+fn push_ones(form: &mut ArrayVec<u8, 64>, count: usize) -> Result<(), AllocError>
+    ensures { OnOk result (form.new.items ≡ form.old.items ++ replicate count 1) }
 {
-    let (first, mut rest) = split_number(text)?;
-    let mut numbers = ArrayVec::new();
-    numbers.push(first);
+    for _ in 0..count {
+        form.append(&[1])?;
+    }
+    Ok(())
+}
+
+// Appends the next number of a release, and before it the zeros that ended those so far; returns how many zeros end them now, which a sort key
+// leaves out.
+#[inline(always)]
+fn push_release_number(
+    form: &mut ArrayVec<u8, 64>,
+    zeros: usize,
+    number: u64,
+) -> Result<usize, AllocError>
+    ensures { IfOk result (λ ending. (old numbers : List ℕ) → zeros ≡ ending_zeros numbers
+        → form.old.items ≡ old ++ flat_map (number_bytes 1) (trim numbers) → (ending ≡ ending_zeros (numbers ++ number ∷ []))
+        × (form.new.items ≡ old ++ flat_map (number_bytes 1) (trim (numbers ++ number ∷ [])))) }
+{
+    if number == 0 {
+        let Some(ending) = zeros.checked_add(1) else {
+            return Err(AllocError);
+        };
+        return Ok(ending);
+    }
+    push_ones(form, zeros)?;
+    push_number(form, 1, number)?;
+    Ok(0)
+}
+
+// Appends the numbers of the leading release as they are read; returns how many zeros end it, and the rest.
+#[inline(always)]
+fn push_numbers<'a>(
+    form: &mut ArrayVec<u8, 64>,
+    text: &'a [u8],
+) -> Result<Option<(usize, &'a [u8])>, AllocError>
+    ensures { IfOk result (λ found. IfSome found (λ x. (digits release : List ℕ) × IsRelease digits release × (text.now ≡ digits ++ x.1.now)
+        × (x.0 ≡ ending_zeros release) × (form.new.items ≡ form.old.items ++ flat_map (number_bytes 1) (trim release)))) }
+{
+    let Some((first, mut rest)) = split_number(text) else {
+        return Ok(None);
+    };
+    let mut zeros = push_release_number(form, 0, first)?;
     while let [b'.', after @ ..] = rest {
         let Some((number, later)) = split_number(after) else {
             break;
         };
-        if numbers.is_full() {
-            return None;
-        }
-        numbers.push(number);
+        zeros = push_release_number(form, zeros, number)?;
         rest = later;
     }
-    Some((numbers, rest))
+    Ok(Some((zeros, rest)))
 }
 
 // What follows a separator, or nothing.
@@ -299,17 +337,17 @@ fn push_release(bytes: &mut ArrayVec<u8, 64>, text: &[u8]) -> Result<bool, Alloc
     requires { bytes.old.items ≡ [] }
     ensures { IfOk result (λ done. done ≡ true → (r : Record) × Derives text.now r × DenotesVersion bytes.new.items r) }
 {
-    let Some((numbers, rest)) = split_numbers(skip_letter(text)) else {
+    // the format, and the epoch 0
+    bytes.append(&[VERSION, 0])?;
+    let Some((zeros, rest)) = push_numbers(bytes, skip_letter(text))? else {
         return Ok(false);
     };
     let Some(pre) = parse_pre(rest) else {
         return Ok(false);
     };
-    let release = numbers.as_slice();
-    bytes.append(&[VERSION])?;
-    push_parts_key(bytes, 0, release, pre, None, None)?;
+    push_suffix_of(bytes, pre, None, None)?;
     bytes.append(&[0])?;
-    push_zeros(bytes, release)?;
+    push_ones(bytes, zeros)?;
     Ok(true)
 }
 
@@ -331,7 +369,7 @@ pub(crate) fn compile_normal(form: &mut ArrayVec<u8, 64>, text: &[u8]) -> bool
     }
 }
 
-// Writes the compiled form of the version that the string of these bytes parses to, if the string is a release of up to sixteen numbers,
+// Writes the compiled form of the version that the string of these bytes parses to, if the string is a release,
 // with or without the letter `v` before it and a numbered pre-release in lower case after it, in any spelling, and the form has at most 64
 // bytes; `false` of any other string: part of a form may then have been written.
 #[inline(never)]

@@ -30,6 +30,6 @@ mod sink;
 pub use interval::KeyInterval;
 pub use key_bytes::{push_sort_key, sort_key};
 pub use number_bytes::push_number;
-pub use parts_key::push_parts_key;
+pub use parts_key::{push_parts_key, push_suffix_of};
 pub use range_intervals::{range_keys, segment_keys};
 pub use sink::KeySink;

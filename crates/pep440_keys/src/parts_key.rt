@@ -58,9 +58,10 @@ fn rank_dev(dev: Option<u64>) -> RankedNumber
     }
 }
 
-// The end of the release, stage, post and dev; of a final release the same bytes.
+/// Appends what follows the numbers of a release in the sort key of a version of these parts, up to the local part, whose bytes follow: the end of
+/// the release, stage, post and dev. An error where `append` gives one. Allocates as `append` does.
 #[inline(always)]
-fn push_suffix_of<K: KeySink>(
+pub fn push_suffix_of<K: KeySink>(
     key: &mut K,
     pre: Option<Prerelease>,
     post: Option<u64>,
