@@ -12,8 +12,9 @@ use Rattle.pep440_version.specs.Rejections.{Rejection, Rejects}
 use Rattle.pep440_keys.specs.SortKeys.{local_bytes, number_bytes, rank_bytes, segment_bytes}
 use Rattle.pep440_version.proofs.Reading.LocalAgrees.{segments_cons}
 use Rattle.pep440_version.proofs.RoundTrip.PrintIsRead.{segment_reads}
-use Rattle.pep440_version.proofs.Reading.NormalParts.{Digits, release_more, with_local}
-use Rattle.pep440_version.specs.Grammar.{AreSegments, Derives, IsLeadingV, IsNumber, IsPre, IsRelease, IsSegment, IsSeparator, IsSpelling, pre_spellings, starts}
+use Rattle.pep440_version.proofs.Reading.NormalParts.{Digits, release_more}
+use Rattle.pep440_version.specs.Normal.{HasSuffix, spelling}
+use Rattle.pep440_version.specs.Grammar.{AreSegments, Derives, IsNumber, IsPre, IsRelease, IsSegment, IsSeparator, IsSpelling, pre_spellings, starts}
 use Rattle.pep440_version.specs.Key.{dev_of, dev_rank, post_of, post_rank, stage_of, stage_rank}
 use Rattle.pep440_version.specs.Key.Trim.{trim}
 use Rattle.pep440_version.specs.Record.{Fits, LocalSegmentValue, Record, Text, Number, from_parts}
@@ -250,28 +251,33 @@ pub number_ended : (text after rest : List ℕ) (i n : ℕ) → Digits text rest
 number_ended text after rest i n d fits end =
     (d.first ∷ take i rest, (omega arith, d.all, d.value, fits), d.whole ∙ ap (λ t. d.first ∷ t) (sym (take-append-drop i rest)) ∙ ap (λ t. d.first ∷ (take i rest ++ t)) (sym end))
 
--- a pre-release, after which nothing follows
-pub pre_spelled : (text word_on after number_on : List ℕ) (kind : PrereleaseKind) (n : ℕ) → (before : List ℕ) × IsSeparator before × (text ≡ before ++ word_on) → (word : List ℕ) × IsSpelling pre_spellings word kind × (word_on ≡ word ++ after)
-    → (between : List ℕ) × IsSeparator between × (after ≡ between ++ number_on) → (digits : List ℕ) × IsNumber digits n × (number_on ≡ digits ++ []) → IsPre text [] (Some (record { kind = kind; number = n }))
-pre_spelled text word_on after number_on kind n before word between digits = record {
-  before = before.0;
-  word = word.0;
-  between = between.0;
-  digits = digits.0;
-  decomposition = before.2 ∙ ap (λ l. before.0 ++ l) (word.2 ∙ ap (λ l. word.0 ++ l) (between.2 ∙ ap (λ l. between.0 ++ l) (digits.2 ∙ append-nil digits.0)));
-  first = before.1;
-  spelling = word.1;
-  second = between.1;
-  count = inr digits.1;
-  keeps_separator = λ e f. refl;
-  keeps_digits = refl;
-}
+-- a pre-release, and what follows it
+pub pre_spelled : (text word_on after number_on rest : List ℕ) (kind : PrereleaseKind) (n : ℕ) → (before : List ℕ) × IsSeparator before × (text ≡ before ++ word_on) → (word : List ℕ) × IsSpelling pre_spellings word kind × (word_on ≡ word ++ after)
+    → (between : List ℕ) × IsSeparator between × (after ≡ between ++ number_on) → (digits : List ℕ) × IsNumber digits n × (number_on ≡ digits ++ rest) → starts is_ascii_digit rest ≡ false
+    → (p : List ℕ) × IsPre p rest (Some (record { kind = kind; number = n })) × (text ≡ p ++ rest)
+pre_spelled text word_on after number_on rest kind n before word between digits ended =
+    let part : List ℕ = before.0 ++ (word.0 ++ (between.0 ++ digits.0)) in
+    let whole : before.0 ++ (word.0 ++ (between.0 ++ (digits.0 ++ rest))) ≡ part ++ rest = simp append_assoc in (
+      part,
+      record {
+        before = before.0;
+        word = word.0;
+        between = between.0;
+        digits = digits.0;
+        decomposition = refl;
+        first = before.1;
+        spelling = word.1;
+        second = between.1;
+        count = inr digits.1;
+        keeps_separator = λ none empty. absurd (omega (arith, digits.1.0, ap length empty));
+        keeps_digits = ended;
+      },
+      before.2 ∙ ap (λ l. before.0 ++ l) (word.2 ∙ ap (λ l. word.0 ++ l) (between.2 ∙ ap (λ l. between.0 ++ l) digits.2)) ∙ whole,
+    )
 
-pub release_derives : (text after part : List ℕ) (numbers : List ℕ) (pre : Option Prerelease) → (letter : List ℕ) × IsLeadingV letter × (text ≡ letter ++ after) → (digits : List ℕ) × IsRelease digits numbers × (after ≡ digits ++ part) → IsPre part [] pre
-    → Derives text (from_parts 0 numbers pre None None [])
-release_derives text after part numbers pre letter digits is =
-    with_local text letter.0 [] digits.0 part [] [] [] numbers 0 pre None None [] (letter.2 ∙ ap (λ l. letter.0 ++ l) (digits.2 ∙ ap (λ l. digits.0 ++ l) (sym (append-nil part))))
-    letter.1 (inl (refl, refl)) digits.1 is refl refl refl
+-- a word and the number after it
+pub labelled_number : (word text after rest : List ℕ) (class n : ℕ) → word ≡ spelling class → text ≡ word ++ after → (digits : List ℕ) × IsNumber digits n × (after ≡ digits ++ rest) → starts is_ascii_digit rest ≡ false → HasSuffix class text (Some n) rest
+labelled_number word text after rest class n is split number ended = (number.0, number.1, ended, split ∙ (λ i. is i ++ number.2 i))
 
 -- ---- and of its bytes
 
@@ -303,11 +309,8 @@ number_pushed form one two old numbers zeros number other first second count is 
           ∙ ap (λ l. old ++ l) (ap (λ l. code numbers ++ l) (sym (append-nil (number_bytes 1 number))) ∙ sym (flat_map-append (number_bytes 1) numbers (number ∷ [])) ∙ ap code (sym trimmed)),
     )
 
-pub release_denoted : (text numbers release old new : List ℕ) (pre : Option Prerelease) → Derives text (from_parts 0 numbers pre None None []) → release ≡ numbers → old ≡ [] → new ≡ old ++ compiled_bytes (from_parts 0 release pre None None [])
-    → (r : Record) × Derives text r × DenotesVersion new r
-release_denoted text numbers release old new pre d same none is =
-    let r = from_parts 0 numbers pre None None [] in
-    (r, d, record { parsed = parsed text r d; same = is ∙ (λ i. none i ++ compiled_bytes (from_parts 0 (same i) pre None None [])) })
+pub parts_denoted : (text new : List ℕ) (r : Record) → Derives text r → new ≡ compiled_bytes r → (r : Record) × Derives text r × DenotesVersion new r
+parts_denoted text new r d same = (r, d, record { parsed = parsed text r d; same = same })
 
 -- no local part begins with a dot
 pub no_dot : (local : List LocalSegmentValue) (rest : List ℕ) → rest ≡ local_text local → 0 < length rest → get_or rest 0 0 ≡ 46 → ⊥
@@ -315,20 +318,20 @@ no_dot [] rest e some is = omega (arith, some, ap length e)
 no_dot (s ∷ local) rest e some is = omega (arith, is, ap (λ l. get_or l 0 0) e)
 
 -- the parts of a form, as they are written
-regroup : (old first numbers stage post dev local zeros : List ℕ) → ((((old ++ first) ++ numbers) ++ 0 ∷ (stage ++ post ++ dev)) ++ local) ++ zeros
-    ≡ old ++ ((first ++ (numbers ++ 0 ∷ []) ++ stage ++ post ++ dev ++ local) ++ zeros)
-regroup old first numbers stage post dev local zeros = simp append_assoc
+regroup : (old epoch numbers stage post dev local zeros : List ℕ) → (((((old ++ 4 ∷ []) ++ epoch) ++ numbers) ++ 0 ∷ (stage ++ post ++ dev)) ++ local) ++ zeros
+    ≡ old ++ (((4 ∷ epoch) ++ (numbers ++ 0 ∷ []) ++ stage ++ post ++ dev ++ local) ++ zeros)
+regroup old epoch numbers stage post dev local zeros = simp append_assoc
 
-pub release_written : (old one two three four new numbers : List ℕ) (pre : Option Prerelease) (ending : ℕ) → one ≡ old ++ 4 ∷ 0 ∷ [] → two ≡ one ++ flat_map (number_bytes 1) (trim numbers)
-    → three ≡ two ++ 0 ∷ (rank_bytes (stage_rank (stage_of None pre None None None)) ++ rank_bytes (post_rank (post_of None None)) ++ rank_bytes (dev_rank (dev_of None None))) → four ≡ three ++ 0 ∷ []
-    → ending ≡ ending_zeros numbers → new ≡ four ++ replicate ending 1 → new ≡ old ++ compiled_bytes (from_parts 0 numbers pre None None [])
-release_written old one two three four new numbers pre ending first release suffix local count last =
+pub parts_written : (old one two three four five new numbers : List ℕ) (epoch : ℕ) (pre : Option Prerelease) (post dev : Option ℕ) (local : List LocalSegmentValue) (ending : ℕ) → old ≡ []
+    → one ≡ old ++ 4 ∷ [] → two ≡ one ++ number_bytes 0 epoch → three ≡ two ++ flat_map (number_bytes 1) (trim numbers)
+    → four ≡ three ++ 0 ∷ (rank_bytes (stage_rank (stage_of None pre dev post None)) ++ rank_bytes (post_rank (post_of None post)) ++ rank_bytes (dev_rank (dev_of None dev))) → five ≡ four ++ local_bytes local
+    → ending ≡ ending_zeros numbers → new ≡ five ++ replicate ending 1 → new ≡ compiled_bytes (from_parts epoch numbers pre post dev local)
+parts_written old one two three four five new numbers epoch pre post dev local ending none format first release suffix after count last =
     let code : List ℕ = flat_map (number_bytes 1) (trim numbers) in
-    let stage : List ℕ = rank_bytes (stage_rank (stage_of None pre None None None)) in
-    let post : List ℕ = rank_bytes (post_rank (post_of None None)) in
-    let dev : List ℕ = rank_bytes (dev_rank (dev_of None None)) in
-    let start : one ≡ old ++ 4 ∷ number_bytes 0 0 = first ∙ (λ i. old ++ 4 ∷ ((0 + length (sym none_needed i)) ∷ sym none_needed i)) in
+    let ranks : List ℕ = rank_bytes (stage_rank (stage_of None pre dev post None)) ++ rank_bytes (post_rank (post_of None post)) ++ rank_bytes (dev_rank (dev_of None dev)) in
     let zeros : replicate ending 1 ≡ zero_bytes numbers = ap (λ k. replicate k 1) count ∙ sym (ones (drop (length (trim numbers)) numbers)) in
-    let four_is : four ≡ (((old ++ 4 ∷ number_bytes 0 0) ++ code) ++ 0 ∷ (stage ++ post ++ dev)) ++ 0 ∷ [] =
-    local ∙ ap (λ l. l ++ 0 ∷ []) (suffix ∙ ap (λ l. l ++ 0 ∷ (stage ++ post ++ dev)) (release ∙ ap (λ l. l ++ code) start)) in
-    last ∙ (λ i. four_is i ++ zeros i) ∙ regroup old (4 ∷ number_bytes 0 0) code stage post dev (0 ∷ []) (zero_bytes numbers)
+    let five_is : five ≡ ((((old ++ 4 ∷ []) ++ number_bytes 0 epoch) ++ code) ++ 0 ∷ ranks) ++ local_bytes local =
+    after ∙ ap (λ l. l ++ local_bytes local) (suffix ∙ ap (λ l. l ++ 0 ∷ ranks) (release ∙ ap (λ l. l ++ code) (first ∙ ap (λ l. l ++ number_bytes 0 epoch) format))) in
+    last ∙ (λ i. five_is i ++ zeros i)
+    ∙ regroup old (number_bytes 0 epoch) code (rank_bytes (stage_rank (stage_of None pre dev post None))) (rank_bytes (post_rank (post_of None post))) (rank_bytes (dev_rank (dev_of None dev))) (local_bytes local) (zero_bytes numbers)
+    ∙ ap (λ l. l ++ compiled_bytes (from_parts epoch numbers pre post dev local)) none

@@ -7,7 +7,7 @@ ghost use Rattle.pep440_version.specs.Print.{print};
 ghost use Rattle.pep440_version.specs.Record.{Record};
 
 use crate::error::CompileStringError;
-use crate::stack_form::{compile_normal, compile_release};
+use crate::stack_form::{compile_normal, compile_parts};
 use crate::version::push_compiled_form;
 use arrayvec::ArrayVec;
 use pep440_version::Version;
@@ -79,13 +79,13 @@ impl FormBuffer {
         ensures memory { (r : Record) → HasShortForm r → text.now ≡ print r → IsOk result }
     {
         self.stack.clear();
-        if compile_normal(&mut self.stack, text) {
+        if compile_parts(&mut self.stack, text) {
             return Ok(self.stack.as_slice());
         }
         self.compile_other(alloc, text)
     }
 
-    // As `compile`, of a string in another spelling, or with more or larger numbers. A call of its own, since few are.
+    // As `compile`, of a string in another spelling. A call of its own, since few are.
     #[inline(never)]
     fn compile_other<'a>(
         &'a mut self,
@@ -94,9 +94,10 @@ impl FormBuffer {
     ) -> Result<&'a [u8], CompileStringError>
         ensures found { IfOk result (λ form. (r : Record) × Derives text.now r × DenotesVersion form.now r) }
         ensures rejected { IfErr result (IsCompileStringError text.now) }
+        ensures memory { (r : Record) → HasShortForm r → text.now ≡ print r → IsOk result }
     {
         self.stack.clear();
-        if compile_release(&mut self.stack, text) {
+        if compile_normal(&mut self.stack, text) {
             return Ok(self.stack.as_slice());
         }
         self.heap = parse_and_compile(alloc, text)?;

@@ -5,12 +5,14 @@ ghost use Rattle.std.specs.List.{All, flat_map, list_all, prefix_len};
 ghost use Rattle.pep440_compiled.specs.KeyParts.{ending_zeros};
 ghost use Rattle.pep440_compiled.specs.Version.{DenotesVersion, HasShortForm, IsShortSegment, compiled_bytes};
 ghost use Rattle.pep440_keys.specs.SortKeys.{local_bytes, number_bytes, segment_bytes};
-ghost use Rattle.pep440_version.specs.Grammar.{AreSegments, Derives, IsLeadingV, IsLocal, IsNumber, IsPre, IsRelease, IsSegment, IsSeparator, IsSpelling, pre_spellings, starts};
+ghost use Rattle.pep440_version.specs.Grammar.{AreSegments, Derives, IsDev, IsEpoch, IsLeadingV, IsLocal, IsNumber, IsPost, IsPre, IsRelease, IsSegment, IsSeparator, IsSpelling, pre_spellings, starts};
 ghost use Rattle.pep440_version.specs.Key.Trim.{trim};
+ghost use Rattle.pep440_version.specs.Normal.{HasSuffix, spelling};
 ghost use Rattle.pep440_version.specs.Print.{dotted, local_text, print, print_segment};
 ghost use Rattle.pep440_version.specs.Record.{LocalSegmentValue, Number, Record, from_parts};
 ghost use Rattle.pep440_version.specs.RoundTrip.{SegmentRoundTrips, is_lower};
 
+use crate::decode::SuffixParts;
 use crate::matching::strip_base;
 use crate::parsed::is_digits;
 use crate::version::push_zeros;
@@ -189,7 +191,8 @@ fn push_form(
 // The leading number, if it is below 2^64, and the rest.
 #[inline(always)]
 fn split_number(text: &[u8]) -> Option<(u64, &[u8])>
-    ensures { IfSome result (λ x. (digits : List ℕ) × IsNumber digits x.0 × (text.now ≡ digits ++ x.1.now)) }
+    ensures number { IfSome result (λ x. (digits : List ℕ) × IsNumber digits x.0 × (text.now ≡ digits ++ x.1.now)) }
+    ensures ended { IfSome result (λ x. starts is_ascii_digit x.1.now ≡ false) }
 {
     let (first, rest) = text.split_first()?;
     if !first.is_ascii_digit() {
@@ -252,18 +255,31 @@ fn push_release_number(
     Ok(0)
 }
 
-// Appends the numbers of the leading release as they are read; returns how many zeros end it, and the rest.
+// The leading epoch, 0 if none is written, the number after it, and the rest.
+#[inline(always)]
+fn split_epoch(text: &[u8]) -> Option<(u64, u64, &[u8])>
+    ensures { IfSome result (λ x. (e digits : List ℕ) × IsEpoch e x.0 × IsNumber digits x.1 × (text.now ≡ e ++ (digits ++ x.2.now))) }
+{
+    let (number, after) = split_number(text)?;
+    let [b'!', release @ ..] = after else {
+        return Some((0, number, after));
+    };
+    let (first, rest) = split_number(release)?;
+    Some((number, first, rest))
+}
+
+// Appends the numbers of a release, of which the first was read, as the others are read; returns how many zeros end it, and the rest.
 #[inline(always)]
 fn push_numbers<'a>(
     form: &mut ArrayVec<u8, 64>,
+    first: u64,
     text: &'a [u8],
-) -> Result<Option<(usize, &'a [u8])>, AllocError>
-    ensures { IfOk result (λ found. IfSome found (λ x. (digits release : List ℕ) × IsRelease digits release × (text.now ≡ digits ++ x.1.now)
-        × (x.0 ≡ ending_zeros release) × (form.new.items ≡ form.old.items ++ flat_map (number_bytes 1) (trim release)))) }
+) -> Result<(usize, &'a [u8]), AllocError>
+    ensures { IfOk result (λ x. (digits : List ℕ) → IsNumber digits first → (read release : List ℕ) × IsRelease read release
+        × (digits ++ text.now ≡ read ++ x.1.now) × (x.0 ≡ ending_zeros release)
+        × (form.new.items ≡ form.old.items ++ flat_map (number_bytes 1) (trim release))) }
 {
-    let Some((first, mut rest)) = split_number(text) else {
-        return Ok(None);
-    };
+    let mut rest = text;
     let mut zeros = push_release_number(form, 0, first)?;
     while let [b'.', after @ ..] = rest {
         let Some((number, later)) = split_number(after) else {
@@ -272,7 +288,7 @@ fn push_numbers<'a>(
         zeros = push_release_number(form, zeros, number)?;
         rest = later;
     }
-    Ok(Some((zeros, rest)))
+    Ok((zeros, rest))
 }
 
 // What follows a separator, or nothing.
@@ -315,38 +331,70 @@ fn split_kind(text: &[u8]) -> Option<(PrereleaseKind, &[u8])>
     }
 }
 
-// A pre-release with its number, or nothing; after which nothing follows.
+// The leading pre-release with its number, or nothing, and the rest.
 #[inline(always)]
-fn parse_pre(text: &[u8]) -> Option<Option<Prerelease>>
-    ensures { IfSome result (IsPre text.now []) }
+fn split_pre(text: &[u8]) -> Option<(Option<Prerelease>, &[u8])>
+    ensures { IfSome result (λ x. (p : List ℕ) × IsPre p x.1.now x.0 × (text.now ≡ p ++ x.1.now)) }
 {
-    if text.is_empty() {
-        return Some(None);
-    }
-    let (kind, after) = split_kind(skip_separator(text))?;
+    let Some((kind, after)) = split_kind(skip_separator(text)) else {
+        return Some((None, text));
+    };
     let (number, rest) = split_number(skip_separator(after))?;
-    if !rest.is_empty() {
-        return None;
-    }
-    Some(Some(Prerelease { kind, number }))
+    Some((Some(Prerelease { kind, number }), rest))
 }
 
-// Appends the compiled form of the version that a string of a release and a pre-release parses to; `false` of another string.
+// The number after this word, if the string begins with the word, and the rest.
 #[inline(always)]
-fn push_release(bytes: &mut ArrayVec<u8, 64>, text: &[u8]) -> Result<bool, AllocError>
+fn split_labelled<'a>(word: &[u8], text: &'a [u8]) -> Option<(Option<u64>, &'a [u8])>
+    ensures { (class : ℕ) → word.now ≡ spelling class → IfSome result (λ x. HasSuffix class text.now x.0 x.1.now) }
+{
+    let Some(digits) = strip_base(text, word) else {
+        return Some((None, text));
+    };
+    let (number, rest) = split_number(digits)?;
+    Some((Some(number), rest))
+}
+
+// Pre-release, post-release and developmental release, of which the last two are in their normal spelling, and the local part.
+#[inline(always)]
+fn split_suffix(text: &[u8]) -> Option<(SuffixParts, &[u8])>
+    ensures { IfSome result (λ x. (after_pre after_post : List ℕ) × ((p : List ℕ) × IsPre p after_pre x.0.pre × (text.now ≡ p ++ after_pre))
+        × ((q : List ℕ) × IsPost q after_post x.0.post × (after_pre ≡ q ++ after_post))
+        × ((d : List ℕ) × IsDev d x.1.now x.0.dev × (after_post ≡ d ++ x.1.now))) }
+{
+    if begins_local(text) {
+        let none = SuffixParts {
+            pre: None,
+            post: None,
+            dev: None,
+        };
+        return Some((none, text));
+    }
+    let (pre, after_pre) = split_pre(text)?;
+    let (post, after_post) = split_labelled(b".post", after_pre)?;
+    let (dev, rest) = split_labelled(b".dev", after_post)?;
+    Some((SuffixParts { pre, post, dev }, rest))
+}
+
+// Appends the compiled form of the version that a string parses to, part by part as they are read; `false` of a string in other spellings.
+#[inline(always)]
+fn push_parts(bytes: &mut ArrayVec<u8, 64>, text: &[u8]) -> Result<bool, AllocError>
     requires { bytes.old.items ≡ [] }
     ensures { IfOk result (λ done. done ≡ true → (r : Record) × Derives text.now r × DenotesVersion bytes.new.items r) }
 {
-    // the format, and the epoch 0
-    bytes.append(&[VERSION, 0])?;
-    let Some((zeros, rest)) = push_numbers(bytes, skip_letter(text))? else {
+    let Some((epoch, first, after)) = split_epoch(skip_letter(text)) else {
         return Ok(false);
     };
-    let Some(pre) = parse_pre(rest) else {
+    bytes.append(&[VERSION])?;
+    push_number(bytes, 0, epoch)?;
+    let (zeros, suffix) = push_numbers(bytes, first, after)?;
+    let Some((parts, local)) = split_suffix(suffix) else {
         return Ok(false);
     };
-    push_suffix_of(bytes, pre, None, None)?;
-    bytes.append(&[0])?;
+    push_suffix_of(bytes, parts.pre, parts.post, parts.dev)?;
+    if !push_local(bytes, local)? {
+        return Ok(false);
+    }
     push_ones(bytes, zeros)?;
     Ok(true)
 }
@@ -369,15 +417,15 @@ pub(crate) fn compile_normal(form: &mut ArrayVec<u8, 64>, text: &[u8]) -> bool
     }
 }
 
-// Writes the compiled form of the version that the string of these bytes parses to, if the string is a release,
-// with or without the letter `v` before it and a numbered pre-release in lower case after it, in any spelling, and the form has at most 64
-// bytes; `false` of any other string: part of a form may then have been written.
-#[inline(never)]
-pub(crate) fn compile_release(form: &mut ArrayVec<u8, 64>, text: &[u8]) -> bool
+// Writes the compiled form of the version that the string of these bytes parses to, if the form has at most 64 bytes and the string is spelled as
+// most are: with or without the letter `v`, a numbered pre-release in lower case in any spelling, and all else in its normal spelling. `false` of
+// any other string; part of a form may then have been written.
+#[inline(always)]
+pub(crate) fn compile_parts(form: &mut ArrayVec<u8, 64>, text: &[u8]) -> bool
     requires { form.old.items ≡ [] }
     ensures { result ≡ true → (r : Record) × Derives text.now r × DenotesVersion form.new.items r }
 {
-    match push_release(form, text) {
+    match push_parts(form, text) {
         Ok(is_written) => is_written,
         Err(_) => false,
     }

@@ -4,7 +4,7 @@ use Rattle.pep440_compiled.proofs.Loops.{after_text}
 use Rattle.pep440_compiled.proofs.Rewritten.{coded_again, text_again}
 use Rattle.pep440_compiled.proofs.checked_version.check_segment.Goals as goal
 use Rattle.pep440_keys.proofs.Order.{no_zero}
-use Rattle.pep440_version.specs.Record.{LocalSegmentValue, Number, Text}
+use Rattle.pep440_version.specs.Record.{Number, Text}
 use Rattle.pep440_version.specs.RoundTrip.{SegmentRoundTrips}
 
 pub returns-then-first-gt1-clause-exact : goal.returns-then-first-gt1-clause-exact

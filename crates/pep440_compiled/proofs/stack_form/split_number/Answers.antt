@@ -4,8 +4,8 @@ use Rattle.pep440_compiled.proofs.WrittenForm.{number_ended}
 use Rattle.pep440_version.proofs.Reading.NormalParts.{Digits, digit_more, rest_of}
 use Rattle.pep440_compiled.proofs.stack_form.split_number.Goals as goal
 
-pub returns-then-not-is_ascii_digit-2 : goal.returns-then-not-is_ascii_digit-2
-returns-then-not-is_ascii_digit-2 c =
+pub returns-then-not-is_ascii_digit-2-clause-number : goal.returns-then-not-is_ascii_digit-2-clause-number
+returns-then-not-is_ascii_digit-2-clause-number c =
     number_ended c.args.text.now _ c.in_ok-first.rest.now c.loop-i.i c.loop-i.number c.loop-i.invariant.1 c.loop-i.invariant.0 (rest_of c.loop-i.i c.in_ok-first.rest.now)
 
 pub loop-i-preserved : goal.loop-i-preserved

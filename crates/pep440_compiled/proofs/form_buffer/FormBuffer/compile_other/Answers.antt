@@ -1,4 +1,4 @@
-use Rattle.std.proofs.Common.{◌∙◌}
+use Rattle.std.proofs.Common.{◌∙◌, refl}
 use Rattle.pep440_compiled.proofs.Exact.{parsed}
 use Rattle.pep440_compiled.proofs.form_buffer.FormBuffer.compile_other.Goals as goal
 
@@ -8,4 +8,5 @@ returns c =
     record {
       found = (r, derives, record { parsed = parsed c.args.text.now r derives; same = c.as_slice-2.ensures.value ∙ bytes });
       rejected = tt;
+      memory = λ r short is. refl;
     }
