@@ -136,6 +136,13 @@ pub record Joins (strings : List (List ℕ)) (bytes ends : List ℕ) : Type 0 wh
   pub joined : bytes ≡ flat_map (λ s. s) strings
   pub ended : ends ≡ ends_from 0 strings
 
+-- strings are written, joined, at the start of the caller's buffers, or a buffer is too small; how many bytes are needed is written.
+-- Otherwise nothing is written, and the status is out of memory
+abbrev pub WritesStrings : List (List ℕ) → List ℕ → List ℕ → List ℕ → List ℕ → ℕ → ℕ → ℕ → Type 0
+WritesStrings strings old new old_ends ends old_written written status =
+    ((bytes : List ℕ) × (places : List ℕ) × Joins strings bytes places × (written ≡ length bytes) × WritesBoth bytes places old new old_ends ends status)
+    ⊎ ((new ≡ old) × (ends ≡ old_ends) × (written ≡ old_written) × (status ≡ 3))
+
 -- strings are written, joined, at the start of the caller's buffers, or a buffer is too small; how many bytes and strings there
 -- are is written. Otherwise nothing is written
 abbrev pub WritesJoinedOr : (Fault → Type 0) → (List ℕ → List ℕ → Type 0) → List ℕ → List ℕ → List ℕ → List ℕ → ℕ → ℕ → ℕ → ℕ → ℕ → Type 0

@@ -16,7 +16,7 @@ ghost use Rattle.pep440_calls.specs.CallerBytes.{BytesDenote, BytesDenoteList, L
 ghost use Rattle.pep440_calls.specs.Statuses.{Faults, HoldsOr, HoldsOrFaults};
 ghost use Rattle.pep440_calls.specs.declared.batch.BatchError.TheVariants.{OutOfMemory};
 
-use crate::buffer::{put, put_both};
+use crate::buffer::{put, put_both, put_strings};
 use crate::fault::Fault;
 use crate::joined_strings::JoinedStrings;
 use crate::one_version::{compile_string, find_form, find_key, make_string_key};
@@ -284,7 +284,7 @@ fn read_word(key: &[u8]) -> u64
 }
 
 // The first eight bytes of a key that may have fewer.
-#[tactic(auto, using(crate::proofs::KeyOrder::eight_read))]
+#[tactic(auto, using(crate::proofs::Placed::eight_read))]
 fn pad_word(key: &[u8]) -> u64
     ensures { result ≡ big_endian 0 (padded 8 key.now) }
 {
@@ -301,7 +301,7 @@ fn pad_word(key: &[u8]) -> u64
 }
 
 // The first eight bytes.
-#[tactic(auto, using(crate::proofs::KeyOrder::padded_whole))]
+#[tactic(auto, using(crate::proofs::Placed::padded_whole))]
 #[inline(always)]
 fn read_front(key: &[u8]) -> u64
     ensures { result ≡ big_endian 0 (padded 8 key.now) }
@@ -313,7 +313,7 @@ fn read_front(key: &[u8]) -> u64
 }
 
 // The four bytes after the first eight.
-#[tactic(auto, using(crate::proofs::KeyOrder::four_read))]
+#[tactic(auto, using(crate::proofs::Placed::four_read))]
 #[inline(always)]
 fn read_next(key: &[u8]) -> u32
     ensures { result ≡ big_endian 0 (padded 4 (drop 8 key.now)) }
@@ -369,7 +369,7 @@ fn cmp_entries(keys: &[&[u8]], a: &Entry, b: &Entry) -> Ordering
 }
 
 // The entries of the keys, in the order given.
-#[tactic(auto, using(crate::proofs::KeyOrder::entries_more))]
+#[tactic(auto, using(crate::proofs::Placed::entries_more))]
 fn collect_entries(alloc: Global, keys: &[&[u8]]) -> Result<Vec<Entry>, AllocError>
     ensures { IfOk result (λ entries. HasEntries 0 (map (λ k. k.now) keys.now) entries.items) }
 {
@@ -401,29 +401,11 @@ fn sort_positions(alloc: Global, keys: &[&[u8]]) -> Result<Vec<usize>, AllocErro
     collect_positions(alloc, entries.as_slice())
 }
 
-// The sort keys of compiled versions, as they lie in them; `None` if one of the strings is none.
-fn view_keys<'a>(alloc: Global, texts: &[&'a [u8]]) -> Result<Option<Vec<&'a [u8]>>, AllocError>
-    ensures { IfOk result (λ o. IfSome o (λ keys. (versions : List Record)
-        × AllZip BytesDenote (map (λ t. t.now) texts.now) versions × (map (λ k. k.now) keys.items ≡ map key_bytes versions))) }
-{
-    let mut keys = Vec::with_capacity(alloc, texts.len())?;
-    for text in texts {
-        if !has_version_format(text) {
-            return Ok(None);
-        }
-        let Ok(key) = find_key(text) else {
-            return Ok(None);
-        };
-        keys.push(key)?;
-    }
-    Ok(Some(keys))
-}
-
 // The positions of the strings in the order of their versions: of their sort keys, which are made first, if they are not compiled versions.
 fn sort(alloc: Global, texts: &[&[u8]]) -> Result<Vec<usize>, BatchError>
     ensures { HoldsOrBatchFaults (map (λ t. t.now) texts.now) (λ found. Sorts (map (λ t. t.now) texts.now) found.items) result }
 {
-    if let Some(keys) = view_keys(alloc, texts)? {
+    if let Some(keys) = view_encodings(alloc, texts, Encoding::SortKey)? {
         return Ok(sort_positions(alloc, keys.as_slice())?);
     }
     let joined = encode_all(alloc, texts, Encoding::SortKey)?;
@@ -466,8 +448,27 @@ pub fn write_forms(
     write_encodings(alloc, texts, Encoding::Compiled, out, ends, written, at)
 }
 
-// Writes the versions of the strings, one after the other, and the end of each.
+// Writes the versions of the strings, one after the other, and the end of each: of compiled versions as they lie in them, with no copy between.
 fn write_encodings(
+    alloc: Global,
+    texts: &[&[u8]],
+    encoding: Encoding,
+    out: &mut [u8],
+    ends: &mut [usize],
+    written: &mut usize,
+    at: &mut usize,
+) -> u8
+    ensures { EncodingsResult (encoding_bytes encoding) (map (λ t. t.now) texts.now) out.old out.new ends.old ends.new written.old written.new at.old at.new result }
+{
+    match view_encodings(alloc, texts, encoding) {
+        Ok(Some(found)) => put_strings(found.as_slice(), out, ends, written),
+        Ok(None) => encode_and_write(alloc, texts, encoding, out, ends, written, at),
+        Err(_) => Fault::OutOfMemory.status(),
+    }
+}
+
+// As above, of strings that are not all compiled versions: they are joined first, since one may be invalid.
+fn encode_and_write(
     alloc: Global,
     texts: &[&[u8]],
     encoding: Encoding,
@@ -498,6 +499,28 @@ fn view_encoding(encoding: Encoding, form: &[u8]) -> Result<&[u8], Fault>
         Encoding::SortKey => find_key(form),
         Encoding::Compiled => find_form(form),
     }
+}
+
+// Compiled versions as they are written, as they lie in their forms; `None` if one of the strings is no compiled version.
+fn view_encodings<'a>(
+    alloc: Global,
+    texts: &[&'a [u8]],
+    encoding: Encoding,
+) -> Result<Option<Vec<&'a [u8]>>, AllocError>
+    ensures { IfOk result (λ o. IfSome o (λ found. (versions : List Record)
+        × AllZip BytesDenote (map (λ t. t.now) texts.now) versions × (map (λ f. f.now) found.items ≡ map (encoding_bytes encoding) versions))) }
+{
+    let mut found = Vec::with_capacity(alloc, texts.len())?;
+    for text in texts {
+        if !has_version_format(text) {
+            return Ok(None);
+        }
+        let Ok(view) = view_encoding(encoding, text) else {
+            return Ok(None);
+        };
+        found.push(view)?;
+    }
+    Ok(Some(found))
 }
 
 // The version of a string as it is written, in the buffer.

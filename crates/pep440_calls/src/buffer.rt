@@ -1,6 +1,7 @@
 //! What is written to the caller's memory.
-ghost use Rattle.std.specs.Prelude.{IfErr, length, string_bytes, ◌≡◌, ◌≢◌};
-ghost use Rattle.pep440_calls.specs.Statuses.{WritesAtStart, WritesBoth, WritesJoinedResult, WritesResult, flag};
+ghost use Rattle.std.specs.List.{flat_map};
+ghost use Rattle.std.specs.Prelude.{IfErr, IfSome, List, drop, length, map, string_bytes, ℕ, ◌++◌, ◌≡◌, ◌≢◌, ◌≤◌};
+ghost use Rattle.pep440_calls.specs.Statuses.{Joins, WritesAtStart, WritesBoth, WritesJoinedResult, WritesResult, WritesStrings, flag};
 ghost use Rattle.pep440_calls.specs.declared.fault.Fault.TheVariants.{OutOfMemory};
 
 use crate::fault::Fault;
@@ -80,6 +81,59 @@ pub(crate) fn put_both(bytes: &[u8], places: &[usize], out: &mut [u8], ends: &mu
     }
     out[..bytes.len()].copy_from_slice(bytes);
     ends[..places.len()].copy_from_slice(places);
+    OK
+}
+
+// How many bytes the strings have together, if that is a `usize`.
+#[tactic(auto, using(crate::proofs::Placed::length_more))]
+fn sum_lengths(strings: &[&[u8]]) -> Option<usize>
+    ensures { IfSome result (λ sum. sum ≡ length (flat_map (λ s. s) (map (λ s. s.now) strings.now))) }
+{
+    let mut sum = 0_usize;
+    for string in strings {
+        sum = sum.checked_add(string.len())?;
+    }
+    Some(sum)
+}
+
+// Copies the strings, one after the other, to the start of the one buffer, and where each ends to the start of the other.
+fn copy_strings(strings: &[&[u8]], out: &mut [u8], ends: &mut [usize])
+    requires bytes { length (flat_map (λ s. s) (map (λ s. s.now) strings.now)) ≤ length out.old }
+    requires ends { length strings.now ≤ length ends.old }
+    ensures { (bytes places : List ℕ) × Joins (map (λ s. s.now) strings.now) bytes places
+        × (out.new ≡ bytes ++ drop (length bytes) out.old) × (ends.new ≡ places ++ drop (length places) ends.old) }
+{
+    let mut start = 0;
+    for (position, string) in strings.iter().enumerate() {
+        let end = start + string.len();
+        out[start..end].copy_from_slice(string);
+        ends[position] = end;
+        start = end;
+    }
+}
+
+// Writes strings, one after the other, and where each ends at the start of the two buffers if both have room, and reports how many bytes
+// they are. Out of memory if no memory has so many, which strings that lie in one another may have.
+#[tactic(auto, using(crate::proofs::Placed::no_bytes_fit))]
+pub(crate) fn put_strings(
+    strings: &[&[u8]],
+    out: &mut [u8],
+    ends: &mut [usize],
+    written: &mut usize,
+) -> u8
+    ensures { WritesStrings (map (λ s. s.now) strings.now) out.old out.new ends.old ends.new written.old written.new result }
+{
+    let Some(sum) = sum_lengths(strings) else {
+        return Fault::OutOfMemory.status();
+    };
+    *written = sum;
+    if out.len() < sum {
+        return NO_ROOM;
+    }
+    if ends.len() < strings.len() {
+        return NO_ROOM;
+    }
+    copy_strings(strings, out, ends);
     OK
 }
 

@@ -96,6 +96,7 @@ impl FormBuffer {
         ensures rejected { IfErr result (IsCompileStringError text.now) }
         ensures memory { (r : Record) → HasShortForm r → text.now ≡ print r → IsOk result }
     {
+        // The pass before takes as many strings, but of this one it is proved.
         self.stack.clear();
         if compile_normal(&mut self.stack, text) {
             return Ok(self.stack.as_slice());

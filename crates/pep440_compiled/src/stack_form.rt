@@ -1,4 +1,4 @@
-//! The compiled form of a string in a normal spelling, written from its parts before a version is made of them.
+//! The compiled form of a string, written part by part before a version is made of them.
 ghost use Rattle.std.specs.Prelude.{◌≡◌, ◌+◌, ◌++◌, ◌-◌, ◌<◌, ◌≤◌, ◌∷◌, ℕ, List, [], length, replicate, None, Ok, IfOk, IfSome, IsOk, OnOk, false, true};
 ghost use Rattle.std.specs.Char.{is_ascii_digit};
 ghost use Rattle.std.specs.List.{All, flat_map, list_all, prefix_len};

@@ -2,20 +2,15 @@
 //! `src/` has them.
 #![tactic(auto)]
 
-mod compiled_lists;
-mod compiled_versions;
+mod compiled;
 mod ranges;
-mod written_bytes;
-mod written_numbers;
-mod written_strings;
+mod written;
 
-use compiled_lists::{
-    compile_list_of, compile_unchecked, contains_bytes, denotes_list, keys_of_set, list_contains,
-    requests, set_complement, set_has, set_has_soon, set_intersection, set_subset, set_union,
-};
-use compiled_versions::{
-    are_rising, compile, compile_local, compile_string, compile_string_bytes, denotes, is_outside,
-    key, range_intervals, segment_interval,
+use compiled::{
+    are_rising, compile, compile_list_of, compile_local, compile_string, compile_string_bytes,
+    compile_unchecked, contains_bytes, denotes, denotes_list, is_outside, key, keys_of_set,
+    list_contains, range_intervals, requests, segment_interval, set_complement, set_has,
+    set_has_soon, set_intersection, set_subset, set_union,
 };
 use ranges::{
     between, between_versions, complement, contains, intersection, of_number, of_version, segments,
@@ -24,9 +19,7 @@ use ranges::{
 use std::alloc::Global;
 use std::io;
 use testing::{Calls, CaseError, run_cases};
-use written_bytes::{given_arguments, print_written};
-use written_numbers::print_call;
-use written_strings::print_joined;
+use written::{given_arguments, print_call, print_joined, print_written};
 
 struct CompiledCalls;
 

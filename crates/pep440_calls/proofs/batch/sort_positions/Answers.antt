@@ -2,7 +2,7 @@ use Rattle.std.proofs.Common.{Bor, List, ℕ, map, rules}
 use Rattle.std.proofs.lemmas.Fn.{always_returns_same}
 use Rattle.std.proofs.lemmas.List.Sorted.{ranks_by}
 use Rattle.std.specs.Ordering.{is_lt}
-use Rattle.pep440_calls.proofs.KeyOrder.{arranged_if, entry_total}
+use Rattle.pep440_calls.proofs.Placed.{arranged_if, entry_total}
 use Rattle.pep440_calls.proofs.batch.sort_positions.Goals as goal
 use Rattle.pep440_calls.specs.Batches.{entry_cmp}
 use Rattle.pep440_calls.specs.declared.batch.Entry.{Entry}

@@ -1,5 +1,5 @@
 use Rattle.std.proofs.Common.{◌≡◌, [], length, rules, subst, sym}
-use Rattle.pep440_calls.proofs.KeyOrder.{IsSplit, next_fits, next_of, split_begun, split_done, split_more}
+use Rattle.pep440_calls.proofs.Placed.{IsSplit, next_fits, next_of, split_begun, split_done, split_more}
 use Rattle.pep440_calls.proofs.joined_strings.JoinedStrings.split.Goals as goal
 
 pub loop-end-init : goal.loop-end-init

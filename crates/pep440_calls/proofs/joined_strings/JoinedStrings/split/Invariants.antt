@@ -1,5 +1,5 @@
 use Rattle.std.proofs.Common.{List, length, ℕ}
-use Rattle.pep440_calls.proofs.KeyOrder.{IsSplit}
+use Rattle.pep440_calls.proofs.Placed.{IsSplit}
 use Rattle.pep440_calls.proofs.joined_strings.JoinedStrings.split.Given as goal
 use Rattle.pep440_calls.specs.Statuses.{Joins}
 

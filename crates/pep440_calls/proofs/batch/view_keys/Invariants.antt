@@ -1,9 +1,0 @@
-use Rattle.std.proofs.Common.{List, ◌≡◌, map, take}
-use Rattle.std.specs.List.{AllZip}
-use Rattle.pep440_calls.proofs.batch.view_keys.Given as goal
-use Rattle.pep440_calls.specs.CallerBytes.{BytesDenote}
-use Rattle.pep440_keys.specs.SortKeys.{key_bytes}
-use Rattle.pep440_version.specs.Record.{Record}
-
-abbrev pub invariant-loop-text : goal.invariant-loop-text
-invariant-loop-text l = (versions : List Record) × AllZip BytesDenote (map (λ t. t.now) (take l.text-index l.texts)) versions × (map (λ k. k.now) l.keys.items ≡ map key_bytes versions)
