@@ -96,7 +96,7 @@ fn sum_lengths(strings: &[&[u8]]) -> Option<usize>
     Some(sum)
 }
 
-// Copies the strings, one after the other, to the start of the one buffer, and where each ends to the start of the other.
+// Copies the strings, one after the other, to the start of the one buffer, and their ends to the start of the other.
 fn copy_strings(strings: &[&[u8]], out: &mut [u8], ends: &mut [usize])
     requires bytes { length (flat_map (λ s. s) (map (λ s. s.now) strings.now)) ≤ length out.old }
     requires ends { length strings.now ≤ length ends.old }
@@ -112,7 +112,7 @@ fn copy_strings(strings: &[&[u8]], out: &mut [u8], ends: &mut [usize])
     }
 }
 
-// Writes strings, one after the other, and where each ends at the start of the two buffers if both have room, and reports how many bytes
+// Writes strings, one after the other, and their ends at the start of the two buffers if both have room, and reports how many bytes
 // they are. Out of memory if no memory has so many, which strings that lie in one another may have.
 #[tactic(auto, using(crate::proofs::Placed::no_bytes_fit))]
 pub(crate) fn put_strings(

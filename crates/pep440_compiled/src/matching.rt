@@ -16,7 +16,8 @@ use crate::views::PartsView;
 use pep440_rs::Operator;
 use std::cmp::Ordering;
 
-// What follows these bytes, if the others begin with them.
+// What follows these bytes, if the others begin with them. Inlined, since a length that the compiler knows takes fewer instructions.
+#[inline(always)]
 pub(crate) fn strip_base<'a>(bytes: &'a [u8], base: &[u8]) -> Option<&'a [u8]>
     ensures { MatchOption result (starts_with nat_eq bytes.now base.now ≡ false) (λ rest. bytes.now ≡ base.now ++ rest.now) }
 {
