@@ -3,18 +3,14 @@
 #![tactic(auto)]
 
 mod compiled;
-mod ranges;
 mod written;
 
 use compiled::{
-    are_rising, compile, compile_list_of, compile_local, compile_string, compile_string_bytes,
-    compile_unchecked, contains_bytes, denotes, denotes_list, is_outside, key, keys_of_set,
-    list_contains, range_intervals, requests, segment_interval, set_complement, set_has,
-    set_has_soon, set_intersection, set_subset, set_union,
-};
-use ranges::{
-    between, between_versions, complement, contains, intersection, of_number, of_version, segments,
-    without,
+    are_rising, between, between_versions, compile, compile_list_of, compile_local, compile_string,
+    compile_string_bytes, compile_unchecked, complement_range, contains_bytes, denotes,
+    denotes_list, intersect_ranges, is_outside, key, keys_of_set, list_contains, of_number,
+    of_version, range_contains, range_intervals, requests, segment_interval, segments,
+    set_complement, set_has, set_has_soon, set_intersection, set_subset, set_union, without,
 };
 use std::alloc::Global;
 use std::io;
@@ -26,7 +22,7 @@ struct CompiledCalls;
 fn of_one(alloc: Global, call: &str, text: &str) -> Result<String, CaseError> {
     match call {
         "segments" => segments(alloc, text),
-        "complement" => complement(alloc, text),
+        "complement" => complement_range(alloc, text),
         "without" => without(alloc, text),
         "key" => key(alloc, text),
         "compile" => compile(alloc, text),
@@ -49,8 +45,8 @@ fn of_two(alloc: Global, call: &str, one: &str, other: &str) -> Result<String, C
         "version" => of_version(alloc, one, other),
         "between" => between(alloc, one, other),
         "between-versions" => between_versions(alloc, one, other),
-        "contains" => contains(alloc, one, other),
-        "intersection" => intersection(alloc, one, other),
+        "contains" => range_contains(alloc, one, other),
+        "intersection" => intersect_ranges(alloc, one, other),
         "segment-keys" => segment_interval(alloc, one, other),
         "range-keys" => range_intervals(alloc, one, other),
         "compile-unchecked" => compile_unchecked(alloc, one, other),

@@ -1,5 +1,13 @@
 //! Arguments of calls that are given as strings or compiled; the bytes, the numbers and the joined strings that calls write.
-use pep440_calls::{Parts, write_allow_flag, write_boundaries, write_build_error, write_compiled, write_compiled_list, write_compiled_specifier, write_complement, write_edit_error, write_edited, write_error, write_forms, write_intersection, write_marks, write_match, write_members, write_newest, write_normal_form, write_normal_list, write_order, write_parts, write_pattern, write_positions, write_prerelease_flag, write_range, write_range_bounds, write_release_range_bounds, write_request_flag, write_sort_key, write_sort_keys, write_specifier, write_subset, write_union, write_version_in, write_word};
+use pep440_calls::{
+    Parts, write_allow_flag, write_boundaries, write_build_error, write_compiled,
+    write_compiled_list, write_compiled_specifier, write_complement, write_edit_error,
+    write_edited, write_error, write_forms, write_intersection, write_marks, write_match,
+    write_members, write_newest, write_normal_form, write_normal_list, write_order, write_parts,
+    write_pattern, write_positions, write_prerelease_flag, write_range, write_range_bounds,
+    write_release_range_bounds, write_request_flag, write_sort_key, write_sort_keys,
+    write_specifier, write_subset, write_union, write_version_in, write_word,
+};
 use std::alloc::{AllocError, Global};
 use std::fmt::Display;
 use testing::CaseError;
