@@ -59,7 +59,7 @@ fn rank_dev(dev: Option<u64>) -> RankedNumber
 }
 
 /// Appends what follows the numbers of a release in the sort key of a version of these parts, up to the local part, whose bytes follow: the end of
-/// the release, stage, post and dev. An error where `append` gives one. Allocates as `append` does.
+/// the release, stage, post and dev. Fails and allocates as `append` does.
 #[inline(always)]
 pub fn push_suffix_of<K: KeySink>(
     key: &mut K,
