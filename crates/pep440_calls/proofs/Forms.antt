@@ -16,7 +16,7 @@ use Rattle.pep440_calls.specs.CallerBytes.{IsNoCompiledList, IsNoCompiledVersion
 use Rattle.pep440_calls.specs.declared.fault.Fault.{Fault}
 use Rattle.std.proofs.lemmas.List.Elements.{All-weaker}
 use Rattle.std.specs.List.{All, list_all, flat_map}
-use Rattle.pep440_compiled.proofs.Exact.{parsed}
+use Rattle.pep440_compiled.proofs.Fronts.{parsed}
 use Rattle.pep440_version.specs.RoundTrip.{IsParsed}
 use Rattle.pep440_compiled.specs.Strings.{IsCompileStringError}
 use Rattle.pep440_compiled.specs.declared.error.CompileError.{CompileError}

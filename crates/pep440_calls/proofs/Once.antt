@@ -17,7 +17,7 @@ use Rattle.pep440_calls.specs.CallResults.{Combines, ExplainsSpecifier, IsOperat
 use Rattle.pep440_rs.specs.ErrorTexts.{specifier_rejection_text}
 use Rattle.pep440_calls.specs.Explanations.{ExplainsPattern}
 use Rattle.std.specs.Prelude.{Ok, slice_get}
-use Rattle.pep440_compiled.proofs.Exact.{one_denoted}
+use Rattle.pep440_compiled.proofs.Fronts.{one_denoted}
 use Rattle.pep440_compiled.proofs.Listed.{one_denoted_list}
 use Rattle.pep440_compiled.specs.Lists.{DenotesList, HasListFormat}
 use Rattle.pep440_compiled.specs.Version.{DenotesVersion, HasVersionFormat}

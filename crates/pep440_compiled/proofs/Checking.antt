@@ -5,8 +5,7 @@ use Rattle.std.proofs.lemmas.List.{length-append, length-replicate, append-nil, 
 use Rattle.std.proofs.lemmas.List.Elements.{All-from_recursion}
 use Rattle.std.specs.List.{All, AllByRecursion, flat_map, list_all}
 use Rattle.pep440_compiled.proofs.Loops.{Leads, Reads}
-use Rattle.pep440_compiled.proofs.Prefixes.{IsTrimmed, none_needed, padded, some_needed}
-use Rattle.pep440_compiled.proofs.Zeros.{number_more, trim_again, trim_pad, trim_padded, zero_more, zeros_padded}
+use Rattle.pep440_compiled.proofs.Fronts.{IsTrimmed, none_needed, padded, some_needed, number_more, trim_again, trim_pad, trim_padded, zero_more, zeros_padded}
 use Rattle.pep440_compiled.specs.KeyParts.{ending_zeros, suffix_bytes}
 use Rattle.pep440_keys.specs.SortKeys.{needed_bytes, number_bytes, segment_bytes, key_bytes, local_bytes, rank_bytes}
 use Rattle.pep440_version.specs.Record.{Fits, LocalSegmentValue, SegmentFits, Record, Text, from_parts}

@@ -9,10 +9,8 @@ use Rattle.std.specs.List.{starts_with, flat_map, AllByRecursion}
 use Rattle.std.specs.Prelude.{drop, if◌then◌else◌, replicate}
 use Rattle.std.specs.declared.cmp.Ordering.{Ordering}
 use Rattle.std.specs.declared.cmp.Ordering.TheVariants.{Equal}
-use Rattle.pep440_compiled.proofs.Fronts.{both_tie, keyed, public_cmp, public_in_order, same_bytes, same_release_bytes, tied_last}
-use Rattle.pep440_compiled.proofs.Prefixes.{none_continue, IsTrimmed, none_needed, numbers_code, some_needed}
+use Rattle.pep440_compiled.proofs.Fronts.{both_tie, keyed, public_cmp, public_in_order, same_bytes, same_release_bytes, tied_last, none_continue, IsTrimmed, none_needed, numbers_code, some_needed, prefix_by_bytes, last_taken, number_more, trim_pad, trimmed_zeros, zero_more}
 use Rattle.pep440_compiled.proofs.Suffixes.{no_local_left}
-use Rattle.pep440_compiled.proofs.Zeros.{prefix_by_bytes, last_taken, number_more, trim_pad, trimmed_zeros, zero_more}
 use Rattle.pep440_compiled.specs.KeyParts.{base_bytes, continues_with_zeros, ending_zeros, public_bytes, suffix_bytes}
 use Rattle.pep440_compiled.specs.KeyViews.{HasKey, IsDecided}
 use Rattle.pep440_version.specs.RoundTrip.{IsParsed}

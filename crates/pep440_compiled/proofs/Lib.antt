@@ -1,14 +1,11 @@
 pub mod ByteOrder
 pub mod Checking
 pub mod Comparing
-pub mod Exact
 pub mod Fronts
 pub mod Listed
 pub mod Loops
-pub mod Prefixes
 pub mod Rewritten
 pub mod SetKeys
 pub mod SetMerging
 pub mod Suffixes
 pub mod WrittenForm
-pub mod Zeros

@@ -10,8 +10,7 @@ use Rattle.std.specs.Ordering.{nat_cmp}
 use Rattle.std.specs.Prelude.{drop}
 use Rattle.std.specs.declared.cmp.Ordering.TheVariants.{Equal}
 use Rattle.std.specs.declared.cmp.Ordering.TheVariants as ordering
-use Rattle.pep440_compiled.proofs.Exact.{member_version}
-use Rattle.pep440_compiled.proofs.Fronts.{both_tie, itself}
+use Rattle.pep440_compiled.proofs.Fronts.{member_version, both_tie, itself}
 use Rattle.pep440_compiled.specs.Lists.{DenotesList, DenotesMembers, DenotesWithSet, IsFormBy, IsListForm, IsParsedMember, has_set, member_bytes, members_bytes}
 use Rattle.pep440_compiled.specs.SetBytes.{sized_bytes, set_bytes}
 use Rattle.pep440_keys.proofs.Codes.{number_is_code}

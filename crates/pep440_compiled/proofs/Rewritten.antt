@@ -8,8 +8,7 @@ use Rattle.std.proofs.lemmas.Nat.{be_bytes_8, from_be_bytes-to_be_bytes_8}
 use Rattle.std.specs.Int.{from_be_bytes, to_be_bytes, bytes_high_first}
 use Rattle.std.specs.List.{flat_map, list_all}
 use Rattle.pep440_compiled.proofs.Checking.{key_in_turn, ones}
-use Rattle.pep440_compiled.proofs.Prefixes.{IsTrimmed, none_needed, same_number}
-use Rattle.pep440_compiled.proofs.Zeros.{trim_padded, zeros_none, zeros_padded}
+use Rattle.pep440_compiled.proofs.Fronts.{IsTrimmed, none_needed, same_number, trim_padded, zeros_none, zeros_padded}
 use Rattle.pep440_compiled.specs.KeyParts.{BeginsOtherwise, ending_zeros, suffix_bytes}
 use Rattle.pep440_compiled.specs.KeyViews.{IsViewOf}
 use Rattle.pep440_compiled.specs.Version.{DenotesVersion}

@@ -17,7 +17,7 @@ use Rattle.pep440_compiled.proofs.ByteOrder.{AreBytes, other_words}
 use Rattle.pep440_compiled.proofs.Fronts.{keyed}
 use Rattle.pep440_compiled.specs.Lists.{IsParsedMember, has_set, is_bare, may_stand}
 use Rattle.pep440_compiled.specs.SetBytes.{AreOthers, HasBothFronts, HasFronts, HasLongKeys, IsFront, IsLong, IsSized, high_bytes, low_bytes, set_bytes, sized_bytes}
-use Rattle.pep440_keys.proofs.Membership.{in_range}
+use Rattle.pep440_keys.proofs.Order.{in_range}
 use Rattle.pep440_keys.specs.RangeKeys.{HasKeys, IsKeyedBound, IsKeyedSegment, high_key, is_below_key, is_within, low_key, segment_interval}
 use Rattle.pep440_keys.specs.SortKeys.{HasNoZero, IsKeyed, key_bytes}
 use Rattle.pep440_ranges.specs.RangeSegments.{Segment, contains}

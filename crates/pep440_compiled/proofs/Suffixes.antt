@@ -5,7 +5,7 @@ use Rattle.pep440_version.specs.RoundTrip.{IsParsed}
 use Rattle.std.specs.List.{flat_map}
 use Rattle.std.specs.Slice.Scan.{big_endian}
 use Rattle.pep440_compiled.proofs.ByteOrder.{AreBytes}
-use Rattle.pep440_compiled.proofs.Prefixes.{none_needed}
+use Rattle.pep440_compiled.proofs.Fronts.{none_needed}
 use Rattle.pep440_compiled.specs.KeyParts.{suffix_bytes}
 use Rattle.pep440_keys.proofs.Bytes.{needed_le}
 use Rattle.pep440_keys.proofs.Codes.{segment_opens}

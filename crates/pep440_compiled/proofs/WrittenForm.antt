@@ -21,9 +21,8 @@ use Rattle.pep440_version.specs.Record.{Fits, LocalSegmentValue, Record, Text, N
 use Rattle.pep440_version.specs.RoundTrip.{is_lower, SegmentRoundTrips}
 use Rattle.std.proofs.lemmas.Fmt.{decimal_digit, digits_decimal}
 use Rattle.pep440_compiled.proofs.Checking.{ones}
-use Rattle.pep440_compiled.proofs.Exact.{parsed}
-use Rattle.pep440_compiled.proofs.Prefixes.{none_needed}
-use Rattle.pep440_compiled.proofs.Zeros as release
+use Rattle.pep440_compiled.proofs.Fronts.{parsed, none_needed}
+use Rattle.pep440_compiled.proofs.Fronts as release
 use Rattle.pep440_compiled.specs.KeyParts.{ending_zeros}
 use Rattle.pep440_compiled.specs.Version.{DenotesVersion, IsShortSegment, compiled_bytes, zero_bytes}
 use Rattle.pep440_version.proofs.Reading.Digits.{digits_model}

@@ -1,6 +1,5 @@
--- Numbers by their bytes: of as many bytes the greatest first decides, and without the zeros in front how many there are
--- decides first.
-use Rattle.std.proofs.Common.{◌≡◌, ◌∙◌, ℕ, zero, suc, ◌+◌, ◌*◌, ◌/◌, ◌%◌, ◌^◌, ◌<◌, ◌≤◌, List, [], ◌∷◌, ◌++◌, refl, sym, ap, add-zero, append_assoc, arith, length, Option, None, if◌then◌else◌}
+-- Numbers by their bytes: of as many bytes the greatest first decides, and without the zeros in front how many there are; and capacity for bytes and their parts.
+use Rattle.std.proofs.Common.{◌≡◌, ◌∙◌, ℕ, zero, suc, ◌+◌, ◌*◌, ◌/◌, ◌%◌, ◌^◌, ◌<◌, ◌≤◌, List, [], ◌∷◌, ◌++◌, refl, sym, ap, add-zero, append_assoc, arith, length, Option, None, if◌then◌else◌, drop, get_or, subst}
 use Rattle.std.proofs.Math.Arith.{mod-mul}
 use Rattle.std.proofs.Math.Dec.{eqb-suc-zero}
 use Rattle.std.proofs.Math.Nat.{div-one, div-eq_of_lt, mod-one, mod-lt, mod-eq_of_lt, one-le-pow, pow-succ', zero-lt-suc}
@@ -16,6 +15,9 @@ use Rattle.pep440_version.specs.Record.{Fits, from_release}
 use Rattle.pep440_version.specs.Key.Trim.{trim}
 use Rattle.pep440_version.specs.declared.prerelease.Prerelease.{Prerelease}
 use Rattle.pep440_keys.specs.SortKeys.{key_bytes, needed_bytes, number_bytes, rank_bytes, trim_leading_zeros}
+use Rattle.std.proofs.lemmas.List.{drop_more, length-append}
+
+-- ---- numbers by their bytes: of as many bytes the greatest first decides, and without the zeros in front how many there are
 
 -- ---- bytes without the zeros in front
 
@@ -166,3 +168,34 @@ pub final_bytes : (pre : Option Prerelease) (post dev : Option ℕ) → pre ≡ 
     → rank_bytes (stage_rank (stage_of None pre dev post None)) ++ rank_bytes (post_rank (post_of None post)) ++ rank_bytes (dev_rank (dev_of None dev)) ≡ 80 ∷ 0 ∷ 16 ∷ []
 unfolding needed_bytes
 final_bytes pre post dev e f g = λ i. rank_bytes (stage_rank (stage_of None (e i) (g i) (f i) None)) ++ rank_bytes (post_rank (post_of None (f i))) ++ rank_bytes (dev_rank (dev_of None (g i)))
+
+-- ---- capacity for bytes, and so for each of their parts after the one before it
+
+module _ (HasCapacity : ℕ → Type 0) where
+  pub capacity_for_two : (first second : List ℕ) (more : ℕ) → HasCapacity (length (first ++ second) + more) → HasCapacity (length first + (length second + more))
+  capacity_for_two first second more = subst HasCapacity (omega (arith, length-append first second))
+
+  pub capacity_for_three : (first second third : List ℕ) (more : ℕ) → HasCapacity (length (first ++ second ++ third) + more) → HasCapacity (length first + (length second + (length third + more)))
+  capacity_for_three first second third more = subst HasCapacity (omega (arith, length-append (first ++ second) third, length-append first second))
+
+  -- for the next item, and for those after it
+  pub capacity_for_next : (code : ℕ → List ℕ) (items : List ℕ) (k more : ℕ) → k < length items → HasCapacity (length (flat_map code (drop k items)) + more)
+      → HasCapacity (length (code (get_or items k 0)) + (length (flat_map code (drop (k + 1) items)) + more))
+  capacity_for_next code items k more inside capacity =
+      capacity_for_two (code (get_or items k 0)) (flat_map code (drop (k + 1) items)) more (subst (λ l. HasCapacity (length (flat_map code l) + more)) (drop_more items k 0 inside) capacity)
+
+  -- a key's epoch, its release, what follows it and the local part
+  pub capacity_for_key : (epoch release stage post dev local : List ℕ) (more : ℕ) → HasCapacity (length (epoch ++ (release ++ 0 ∷ []) ++ stage ++ post ++ dev ++ local) + more)
+      → HasCapacity (length epoch + (length release + (length (0 ∷ (stage ++ post ++ dev)) + (length local + more))))
+  capacity_for_key epoch release stage post dev local more =
+      subst HasCapacity (omega (
+        arith,
+        length-append (epoch ++ (release ++ 0 ∷ []) ++ stage ++ post ++ dev) local,
+        length-append (epoch ++ (release ++ 0 ∷ []) ++ stage ++ post) dev,
+        length-append (epoch ++ (release ++ 0 ∷ []) ++ stage) post,
+        length-append (epoch ++ (release ++ 0 ∷ [])) stage,
+        length-append epoch (release ++ 0 ∷ []),
+        length-append release (0 ∷ []),
+        length-append (stage ++ post) dev,
+        length-append stage post,
+      ))

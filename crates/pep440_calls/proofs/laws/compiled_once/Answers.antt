@@ -1,7 +1,7 @@
 -- Compiled forms: one of each version and list, which denotes what the bytes denote that it was made of.
 use Rattle.std.proofs.Common.{◌≡◌, ◌∙◌, ℕ, List, sym, ap, inr, subst}
 use Rattle.std.specs.Prelude.{◌↔◌}
-use Rattle.pep440_compiled.proofs.Exact.{one_denoted}
+use Rattle.pep440_compiled.proofs.Fronts.{one_denoted}
 use Rattle.pep440_compiled.proofs.Listed.{form_denotes, one_denoted_list, one_form as one_form_of_list}
 use Rattle.pep440_compiled.specs.Lists.{DenotesList, IsListForm}
 use Rattle.pep440_compiled.specs.Version.{DenotesVersion, compiled_bytes}

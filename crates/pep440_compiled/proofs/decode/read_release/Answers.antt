@@ -1,9 +1,8 @@
 use Rattle.std.proofs.Common.{◌≡◌, ◌∙◌, ◌++◌, ◌∷◌, ap, arith, length, rules, subst, sym, true≢false}
 use Rattle.std.specs.List.{flat_map}
 use Rattle.pep440_compiled.proofs.Checking.{release_again}
-use Rattle.pep440_compiled.proofs.Prefixes.{IsTrimmed}
+use Rattle.pep440_compiled.proofs.Fronts.{IsTrimmed, trim_again}
 use Rattle.pep440_compiled.proofs.Rewritten.{release_written}
-use Rattle.pep440_compiled.proofs.Zeros.{trim_again}
 use Rattle.pep440_compiled.proofs.decode.read_release.Goals as goal
 use Rattle.pep440_keys.specs.SortKeys.{number_bytes}
 use Rattle.pep440_version.specs.Key.Trim.{trim}

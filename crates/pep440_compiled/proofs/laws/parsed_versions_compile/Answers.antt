@@ -1,4 +1,4 @@
-use Rattle.pep440_compiled.proofs.Exact.{parsed}
+use Rattle.pep440_compiled.proofs.Fronts.{parsed}
 use Rattle.pep440_compiled.proofs.laws.parsed_versions_compile.Goals as goal
 
 pub returns : goal.returns

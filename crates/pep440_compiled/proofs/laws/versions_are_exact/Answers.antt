@@ -1,5 +1,5 @@
 use Rattle.std.proofs.Common.{◌∙◌, ap, subst, sym}
-use Rattle.pep440_compiled.proofs.Exact.{one_denoted}
+use Rattle.pep440_compiled.proofs.Fronts.{one_denoted}
 use Rattle.pep440_compiled.proofs.laws.versions_are_exact.Goals as goal
 use Rattle.pep440_compiled.specs.Version.{DenotesVersion, compiled_bytes}
 

@@ -3,8 +3,7 @@ use Rattle.std.proofs.Math.Seq.{drop-append_seam}
 use Rattle.std.specs.List.{starts_with}
 use Rattle.std.specs.Prelude.{drop}
 use Rattle.pep440_compiled.proofs.Comparing.{key_front}
-use Rattle.pep440_compiled.proofs.Fronts.{starts}
-use Rattle.pep440_compiled.proofs.Zeros.{prefix_by_bytes}
+use Rattle.pep440_compiled.proofs.Fronts.{starts, prefix_by_bytes}
 use Rattle.pep440_compiled.proofs.matching.has_prefix.Goals as goal
 use Rattle.pep440_compiled.specs.KeyParts.{continues_with_zeros, ending_zeros, base_bytes, suffix_bytes}
 use Rattle.pep440_keys.specs.SortKeys.{key_bytes, local_bytes}

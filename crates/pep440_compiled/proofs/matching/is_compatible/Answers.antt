@@ -1,6 +1,5 @@
 use Rattle.std.proofs.Common.{◌≡◌, ◌∙◌, ◌-◌, ◌++◌, ap, arith, suc, sym}
-use Rattle.pep440_compiled.proofs.Prefixes.{numbers_code}
-use Rattle.pep440_compiled.proofs.Zeros.{without_last_fits, zero_taken}
+use Rattle.pep440_compiled.proofs.Fronts.{numbers_code, without_last_fits, zero_taken}
 use Rattle.pep440_compiled.proofs.matching.is_compatible.Goals as goal
 use Rattle.pep440_compiled.specs.KeyParts.{ending_zeros}
 use Rattle.pep440_keys.specs.SortKeys.{number_bytes}

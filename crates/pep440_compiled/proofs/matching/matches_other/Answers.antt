@@ -1,7 +1,7 @@
 use Rattle.std.proofs.Common.{◌≡◌, ◌∙◌, ap, nat_eq, sym, true≢false}
 use Rattle.std.proofs.lemmas.Cmp.{nat_list_eq_equiv}
 use Rattle.std.specs.Cmp.Lexicographic.{pointwise, same_text}
-use Rattle.pep440_compiled.proofs.Exact.{alike_by_zeros, alike_not}
+use Rattle.pep440_compiled.proofs.Fronts.{alike_by_zeros, alike_not}
 use Rattle.pep440_compiled.proofs.matching.matches_other.Goals as goal
 use Rattle.pep440_keys.specs.SortKeys.{key_bytes}
 use Rattle.pep440_rs.specs.Matching.{matches}

@@ -2,8 +2,7 @@ use Rattle.std.proofs.Common.{◌∙◌, ap, arith, length, sym}
 use Rattle.std.proofs.lemmas.Bool.{eqb-false, eqb-true}
 use Rattle.pep440_compiled.proofs.Comparing.{first_number, last_seen, none_left, none_seen, number_seen, zero_seen}
 use Rattle.pep440_compiled.proofs.Loops.{behind, enough}
-use Rattle.pep440_compiled.proofs.Prefixes.{numbers_code}
-use Rattle.pep440_compiled.proofs.Zeros.{trim_fits, zeros_none}
+use Rattle.pep440_compiled.proofs.Fronts.{numbers_code, trim_fits, zeros_none}
 use Rattle.pep440_compiled.proofs.matching.without_last.Goals as goal
 use Rattle.pep440_keys.specs.SortKeys.{needed_bytes}
 use Rattle.pep440_version.specs.Key.Trim.{trim}

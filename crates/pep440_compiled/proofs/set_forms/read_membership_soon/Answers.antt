@@ -1,6 +1,6 @@
 use Rattle.std.proofs.Common.{◌≤◌, ◌∙◌, ap, length, subst, sym, take, true≢false}
 use Rattle.std.specs.Slice.Scan.{big_endian}
-use Rattle.pep440_compiled.proofs.Exact.{one_denoted}
+use Rattle.pep440_compiled.proofs.Fronts.{one_denoted}
 use Rattle.pep440_compiled.proofs.SetKeys.{set_tells_by}
 use Rattle.pep440_compiled.proofs.set_forms.read_membership_soon.Goals as goal
 use Rattle.pep440_compiled.specs.SetBytes.{AreOthers, HasFronts}

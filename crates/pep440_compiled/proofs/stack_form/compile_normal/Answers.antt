@@ -1,5 +1,5 @@
 use Rattle.std.proofs.Common.{◌∙◌, ◌++◌, ap}
-use Rattle.pep440_compiled.proofs.Exact.{parsed}
+use Rattle.pep440_compiled.proofs.Fronts.{parsed}
 use Rattle.pep440_compiled.proofs.stack_form.compile_normal.Goals as goal
 use Rattle.pep440_compiled.specs.Version.{compiled_bytes}
 use Rattle.pep440_version.specs.Record.{from_parts}

@@ -2,7 +2,7 @@ use Rattle.std.proofs.Common.{◌+◌, length, subst, sym}
 use Rattle.std.specs.List.{flat_map}
 use Rattle.std.proofs.lemmas.Bool.{false≢true}
 use Rattle.pep440_keys.specs.SortKeys.{number_bytes}
-use Rattle.pep440_keys.proofs.Capacity.{capacity_for_next}
+use Rattle.pep440_keys.proofs.Bytes.{capacity_for_next}
 use Rattle.pep440_keys.proofs.key_bytes.push_numbers.Goals as goal
 
 pub returns-in_err-push_number-clause-fits : goal.returns-in_err-push_number-clause-fits

@@ -2,8 +2,7 @@ use Rattle.std.proofs.Common.{◌≡◌, [], ◌∷◌, ◌+◌, ◌++◌, ◌*�
 use Rattle.std.proofs.lemmas.Bool.{false≢true}
 use Rattle.std.proofs.lemmas.Grind.{common_steps}
 use Rattle.pep440_keys.specs.SortKeys.{rank_bytes}
-use Rattle.pep440_keys.proofs.Bytes.{zero_bytes}
-use Rattle.pep440_keys.proofs.Capacity.{capacity_for_three}
+use Rattle.pep440_keys.proofs.Bytes.{zero_bytes, capacity_for_three}
 use Rattle.pep440_keys.proofs.key_bytes.push_suffix.Goals as goal
 
 pub returns-then-dev-eq0-clause-appended : goal.returns-then-dev-eq0-clause-appended

@@ -1,4 +1,4 @@
-use Rattle.pep440_keys.proofs.Membership.{in_range, in_segment}
+use Rattle.pep440_keys.proofs.Order.{in_range, in_segment}
 use Rattle.pep440_keys.proofs.laws.keys_tell_membership.Goals as goal
 
 pub returns-clause-segment : goal.returns-clause-segment

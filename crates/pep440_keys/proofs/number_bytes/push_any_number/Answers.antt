@@ -2,8 +2,7 @@ use Rattle.std.proofs.Common.{◌≡◌, ◌∙◌, [], ◌∷◌, ◌+◌, ap, 
 use Rattle.std.proofs.lemmas.Bool.{false≢true}
 use Rattle.std.proofs.lemmas.Grind.{common_steps}
 use Rattle.pep440_keys.specs.SortKeys.{needed_bytes, number_bytes}
-use Rattle.pep440_keys.proofs.Bytes.{four_bytes, needed_is, two_bytes}
-use Rattle.pep440_keys.proofs.Capacity.{capacity_for_two}
+use Rattle.pep440_keys.proofs.Bytes.{four_bytes, needed_is, two_bytes, capacity_for_two}
 use Rattle.pep440_keys.proofs.number_bytes.push_any_number.Goals as goal
 
 pub returns-in-256-to-65535-clause-appended : goal.returns-in-256-to-65535-clause-appended

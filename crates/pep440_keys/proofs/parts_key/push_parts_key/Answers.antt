@@ -1,7 +1,7 @@
 use Rattle.std.proofs.lemmas.Bool.{false≢true}
 use Rattle.std.specs.List.{flat_map}
 use Rattle.std.specs.Prelude.{None}
-use Rattle.pep440_keys.proofs.Capacity.{capacity_for_key}
+use Rattle.pep440_keys.proofs.Bytes.{capacity_for_key}
 use Rattle.pep440_keys.specs.SortKeys.{local_bytes, number_bytes, rank_bytes}
 use Rattle.pep440_keys.proofs.parts_key.push_parts_key.Goals as goal
 use Rattle.pep440_version.specs.Key.{dev_of, dev_rank, post_of, post_rank, stage_of, stage_rank}

@@ -1,8 +1,7 @@
 use Rattle.std.proofs.Common.{◌≡◌, [], ◌+◌, ◌++◌, ◌∷◌, length, subst, sym}
 use Rattle.std.proofs.lemmas.Bool.{false≢true}
 use Rattle.std.specs.Prelude.{None, OnOk}
-use Rattle.pep440_keys.proofs.Bytes.{final_bytes}
-use Rattle.pep440_keys.proofs.Capacity.{capacity_for_two}
+use Rattle.pep440_keys.proofs.Bytes.{final_bytes, capacity_for_two}
 use Rattle.pep440_keys.specs.SortKeys.{rank_bytes}
 use Rattle.pep440_keys.proofs.parts_key.push_suffix_of.Goals as goal
 use Rattle.pep440_version.specs.Key.{dev_of, dev_rank, post_of, post_rank, stage_of, stage_rank}

@@ -1,6 +1,6 @@
 use Rattle.std.proofs.Common.{◌≡◌, map, rules, subst, sym}
 use Rattle.std.proofs.lemmas.Result.{IfOk-weaker}
-use Rattle.pep440_keys.proofs.Membership.{in_range}
+use Rattle.pep440_keys.proofs.Order.{in_range}
 use Rattle.pep440_keys.specs.RangeKeys.{HoldsKeys, segment_interval}
 use Rattle.pep440_keys.proofs.range_intervals.range_keys.Goals as goal
 

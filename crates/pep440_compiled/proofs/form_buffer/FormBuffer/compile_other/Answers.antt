@@ -1,5 +1,5 @@
 use Rattle.std.proofs.Common.{◌∙◌, refl}
-use Rattle.pep440_compiled.proofs.Exact.{parsed}
+use Rattle.pep440_compiled.proofs.Fronts.{parsed}
 use Rattle.pep440_compiled.proofs.form_buffer.FormBuffer.compile_other.Goals as goal
 
 pub returns : goal.returns
