@@ -263,7 +263,7 @@ section_members key document = object_entries_or_none (option_and_then as_object
 abbrev pub pinned_version : List ℕ → List ℕ
 pinned_version text = unwrap_or (after (codes "==") text) text
 
--- the version of such a text: `*` is none, which Pipenv writes for what no environment of its own needs
+-- the version that the string pins: `*` is none, which Pipenv writes for what its own environment does not need
 abbrev pub known_version : List ℕ → Option (List ℕ)
 known_version text = if bytes_eq text (codes "*") then None else Some (pinned_version text)
 

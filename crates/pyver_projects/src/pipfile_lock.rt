@@ -33,7 +33,7 @@ fn pinned_version(text: &str) -> &str
     }
 }
 
-// The version of such a text: `*` is none.
+// The version that the string pins: `*` is none.
 fn known_version(text: &str) -> Option<&str>
     ensures { option_map (λ t. t.now) result ≡ known_version text.now }
 {

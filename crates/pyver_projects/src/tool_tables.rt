@@ -744,10 +744,10 @@ pub(crate) fn push_pipenv(
     ensures { IfOk result (λ _. map project_string_of sources.new.items ≡ map project_string_of sources.old.items ++ pipenv_sources (table_view document.now)) }
 {
     let packages = top(document, "packages");
-    let dev_packages = top(document, "dev-packages");
+    let development = top(document, "dev-packages");
     let settings = top(document, "pipenv");
-    push_pipenv_faults(alloc, sources, packages, dev_packages)?;
-    push_pipenv_tables(alloc, sources, settings, packages, dev_packages)
+    push_pipenv_faults(alloc, sources, packages, development)?;
+    push_pipenv_tables(alloc, sources, settings, packages, development)
 }
 
 // ---- overrides
