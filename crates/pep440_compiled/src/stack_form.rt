@@ -345,7 +345,7 @@ fn split_pre(text: &[u8]) -> Option<(Option<Prerelease>, &[u8])>
 
 // The number after this word, if the string begins with the word, and the rest.
 #[inline(always)]
-fn split_labelled<'a>(word: &[u8], text: &'a [u8]) -> Option<(Option<u64>, &'a [u8])>
+fn split_number_after<'a>(word: &[u8], text: &'a [u8]) -> Option<(Option<u64>, &'a [u8])>
     ensures { (class : ℕ) → word.now ≡ spelling class → IfSome result (λ x. HasSuffix class text.now x.0 x.1.now) }
 {
     let Some(digits) = strip_base(text, word) else {
@@ -371,8 +371,8 @@ fn split_suffix(text: &[u8]) -> Option<(SuffixParts, &[u8])>
         return Some((none, text));
     }
     let (pre, after_pre) = split_pre(text)?;
-    let (post, after_post) = split_labelled(b".post", after_pre)?;
-    let (dev, rest) = split_labelled(b".dev", after_post)?;
+    let (post, after_post) = split_number_after(b".post", after_pre)?;
+    let (dev, rest) = split_number_after(b".dev", after_post)?;
     Some((SuffixParts { pre, post, dev }, rest))
 }
 

@@ -211,7 +211,7 @@ fn has_all_of(alloc: Global, bytes: &[u8], version: &Version) -> Result<bool, Ca
 }
 
 // The compiled form; of a version that has none the bytes that are appended for it.
-fn print_compiled(alloc: Global, version: &Version) -> Result<String, CaseError> {
+fn print_form(alloc: Global, version: &Version) -> Result<String, CaseError> {
     let mut form = Vec::new(alloc);
     push_compiled_form(&mut form, version)?;
     let print = print_bytes(alloc, form.as_slice())?;
@@ -225,7 +225,7 @@ fn print_compiled(alloc: Global, version: &Version) -> Result<String, CaseError>
 
 /// The compiled form of the version after its changes.
 pub fn compile(alloc: Global, text: &str) -> Result<String, CaseError> {
-    print_compiled(alloc, &version_argument(alloc, text)?)
+    print_form(alloc, &version_argument(alloc, text)?)
 }
 
 /// The compiled form of version 1 with the string as its local part, as it is.
@@ -233,7 +233,7 @@ pub fn compile_local(alloc: Global, text: &str) -> Result<String, CaseError> {
     let segment = LocalSegment::String(String::from_str(alloc, text)?);
     let local = vec![in alloc; segment]?;
     let version = Version::new(alloc, &[1])?.with_local(alloc, local)?;
-    print_compiled(alloc, &version)
+    print_form(alloc, &version)
 }
 
 fn compile_bytes(alloc: Global, text: &[u8]) -> Result<String, CaseError> {
@@ -438,7 +438,7 @@ pub fn compile_list_of(alloc: Global, text: &str) -> Result<String, CaseError> {
 }
 
 // The specifier, without a check.
-fn build_unchecked(operator: &str, version: Version) -> Result<VersionSpecifier, CaseError> {
+fn build_without_check(operator: &str, version: Version) -> Result<VersionSpecifier, CaseError> {
     match operator {
         "<" => Ok(VersionSpecifier::less_than_version(version)),
         ">" => Ok(VersionSpecifier::greater_than_version(version)),
@@ -447,8 +447,12 @@ fn build_unchecked(operator: &str, version: Version) -> Result<VersionSpecifier,
 }
 
 /// The compiled form of the list of one specifier.
-pub fn compile_unchecked(alloc: Global, operator: &str, text: &str) -> Result<String, CaseError> {
-    let member = build_unchecked(operator, version_argument(alloc, text)?)?;
+pub fn compile_without_check(
+    alloc: Global,
+    operator: &str,
+    text: &str,
+) -> Result<String, CaseError> {
+    let member = build_without_check(operator, version_argument(alloc, text)?)?;
     let list = VersionSpecifiers::from_specifier(alloc, member)?;
     print_compiled_list(alloc, &list)
 }
@@ -482,7 +486,7 @@ pub fn requests(alloc: Global, text: &str) -> Result<String, CaseError> {
 }
 
 // Whether the list contains the version, of which it also reports whether it is a pre-release.
-fn print_contained(alloc: Global, list: &[u8], version: &[u8]) -> Result<String, CaseError> {
+fn print_containment(alloc: Global, list: &[u8], version: &[u8]) -> Result<String, CaseError> {
     let text = match contains(list, version) {
         Ok((_, is_prerelease)) if any_prerelease(version) != Ok(is_prerelease) => {
             return Err(CaseError::Disagreement);
@@ -499,7 +503,7 @@ fn print_contained(alloc: Global, list: &[u8], version: &[u8]) -> Result<String,
 pub fn contains_bytes(alloc: Global, list: &str, version: &str) -> Result<String, CaseError> {
     let list = bytes_argument(alloc, list)?;
     let version = bytes_argument(alloc, version)?;
-    print_contained(alloc, list.as_slice(), version.as_slice())
+    print_containment(alloc, list.as_slice(), version.as_slice())
 }
 
 fn compile_error(error: CompileError) -> CaseError {
@@ -515,7 +519,7 @@ pub fn list_contains(alloc: Global, list: &str, version: &str) -> Result<String,
     let version = parse_version(alloc, version)?;
     let list = compile_list(alloc, &list).map_err(compile_error)?;
     let version = compile_version(alloc, &version).map_err(compile_error)?;
-    print_contained(alloc, list.as_slice(), version.as_slice())
+    print_containment(alloc, list.as_slice(), version.as_slice())
 }
 
 // The bytes of a set, or that there are none.

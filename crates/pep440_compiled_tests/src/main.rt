@@ -7,7 +7,7 @@ mod written;
 
 use compiled::{
     are_rising, between, between_versions, compile, compile_list_of, compile_local, compile_string,
-    compile_string_bytes, compile_unchecked, complement_range, contains_bytes, denotes,
+    compile_string_bytes, compile_without_check, complement_range, contains_bytes, denotes,
     denotes_list, intersect_ranges, is_outside, key, keys_of_set, list_contains, of_number,
     of_version, range_contains, range_intervals, requests, segment_interval, segments,
     set_complement, set_has, set_has_soon, set_intersection, set_subset, set_union, without,
@@ -15,7 +15,7 @@ use compiled::{
 use std::alloc::Global;
 use std::io;
 use testing::{Calls, CaseError, run_cases};
-use written::{given_arguments, print_call, print_joined, print_written};
+use written::{given_arguments, print_batch, print_call, print_written};
 
 struct CompiledCalls;
 
@@ -49,7 +49,7 @@ fn of_two(alloc: Global, call: &str, one: &str, other: &str) -> Result<String, C
         "intersection" => intersect_ranges(alloc, one, other),
         "segment-keys" => segment_interval(alloc, one, other),
         "range-keys" => range_intervals(alloc, one, other),
-        "compile-unchecked" => compile_unchecked(alloc, one, other),
+        "compile-unchecked" => compile_without_check(alloc, one, other),
         "compiled-contains" => list_contains(alloc, one, other),
         "contains-bytes" => contains_bytes(alloc, one, other),
         "set-intersection" => set_intersection(alloc, one, other),
@@ -75,7 +75,7 @@ fn of_library(alloc: Global, call: &str, arguments: &[String]) -> Result<String,
         | "write_range_bounds"
         | "write_release_range_bounds"
         | "write_sort_keys"
-        | "write_forms" => print_joined(alloc, call, given),
+        | "write_forms" => print_batch(alloc, call, given),
         "write_order"
         | "write_match"
         | "write_allow_flag"

@@ -476,7 +476,7 @@ fn count_if_written(status: u8, texts: &[&[u8]], count: &mut usize) -> u8 {
 }
 
 // The status of a call, with room for so many bytes and strings.
-fn write_joined(
+fn write_batch(
     alloc: Global,
     call: &str,
     given: &[&[u8]],
@@ -520,7 +520,7 @@ fn is_short(
     full: &Buffers,
 ) -> Result<bool, CaseError> {
     let mut buffers = UNCHANGED_BUFFERS;
-    let status = write_joined(alloc, call, given, room, &mut buffers)?;
+    let status = write_batch(alloc, call, given, room, &mut buffers)?;
     if status == 3 {
         return Err(CaseError::OutOfMemory);
     }
@@ -565,9 +565,9 @@ fn print_strings(alloc: Global, bytes: &[u8], ends: &[usize]) -> Result<String, 
 }
 
 /// The strings that the call writes; or the status, and at which string it stops.
-pub fn print_joined(alloc: Global, call: &str, given: &[&[u8]]) -> Result<String, CaseError> {
+pub fn print_batch(alloc: Global, call: &str, given: &[&[u8]]) -> Result<String, CaseError> {
     let mut buffers = UNCHANGED_BUFFERS;
-    let status = write_joined(alloc, call, given, (MOST_BYTES, MOST_BYTES), &mut buffers)?;
+    let status = write_batch(alloc, call, given, (MOST_BYTES, MOST_BYTES), &mut buffers)?;
     if status == 1 && (call == "write_sort_keys" || call == "write_forms") {
         return Ok(format!(in alloc; "status 1 at {}", buffers.at)?);
     }

@@ -417,7 +417,11 @@ fn has_field(text: &str) -> bool
 }
 
 // What a string of an environment of Hatch is, which may have a field to be filled in.
-fn parse_filled(alloc: Global, line: &FileLine, text: &str) -> Result<LineMeaning, AllocError>
+fn parse_environment_string(
+    alloc: Global,
+    line: &FileLine,
+    text: &str,
+) -> Result<LineMeaning, AllocError>
     ensures { IfOk result (λ x. IsFilledMeaning (file_line_of line.now) text.now (line_meaning_of x)) }
 {
     if has_field(text) {
@@ -448,7 +452,7 @@ fn parse_string(
         Section::Invalid(_, reason) => no_group(alloc, line, reason),
         Section::Entry(tool, _, _) => parse_entry(alloc, *tool, line),
         Section::Constraint => parse_requirement(alloc, line),
-        Section::Environment(_) => parse_filled(alloc, line, text),
+        Section::Environment(_) => parse_environment_string(alloc, line, text),
         Section::Unread(cause) => Ok(LineMeaning::LeftOut(*cause)),
         Section::Include(group, included) => {
             include_meaning(alloc, groups, line, group.as_slice(), included.as_slice())

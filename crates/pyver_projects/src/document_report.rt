@@ -300,7 +300,7 @@ pub(crate) fn read_documents<'a>(
 /// Then what is wrong in each project beside each lock in its folder, or in the nearest above that has one of its kind, and beside each
 /// lock for which that is no project: in one folder whether `metadata.content-hash` of `poetry.lock`, `metadata.content_hash` of `pdm.lock`, or
 /// `tool.pdm.hashes` of `pylock.toml`, is the hash of the project, on the line of that key; in one folder, where `uv.lock` has that project as a package and names
-/// no members, the first of CPython 3.9 to 3.14 that only one of both `requires-python` contains, on the line of the lock's; where it says what the project requires, for
+/// no members, the first of CPython 3.0 to 3.20 that only one of both `requires-python` contains, on the line of the lock's; where it says what the project requires, for
 /// each requirement of the project of dependencies, extras and groups whether the lock has one with its name and list, and for each of the lock, on the line of
 /// its package, whether the project has; for each requirement, in order, whether the lock lacks a package of its name, or such an environment,
 /// and the lines of the locked versions of its name with the line of the requirement, if it contains none. Then the requirements of each project that hold
@@ -311,7 +311,7 @@ pub(crate) fn read_documents<'a>(
 ///
 /// Of `pyproject.toml` these are read: `project.dependencies`, `project.optional-dependencies`, `project.requires-python`,
 /// `project.version`, `dependency-groups` with the names of included groups, `build-system.requires`, `dev-dependencies` of `tool.uv`, `tool.rye` and `tool.pdm`,
-/// uv's constraints and overrides, `dependencies` and `extra-dependencies` of each environment of Hatch, if no string of the array has a `{`, and the tables of
+/// uv's constraints and overrides, `dependencies` and `extra-dependencies` of each environment of Hatch, but for strings with a `{`, and the tables of
 /// `tool.poetry`; of a Pipfile `packages` and `dev-packages`, whose lists are of PEP 440, with no other condition than `markers`; of a lock the names and
 /// versions of its packages, in `Pipfile.lock` of the members of `default` and of those of `develop` that are not there with the same
 /// version. Their requirements are the names in uv's `metadata.requires-dist`, each with its `specifier`, those in an array
@@ -323,7 +323,7 @@ pub(crate) fn read_documents<'a>(
 ///
 /// A requirement with a marker or a URL, of a package with markers that may not hold, of the build or an environment of Hatch, or that is optional, is not
 /// compared, nor one of a package, dependencies, extras or groups for a name that a project overrides: with which a string of its `tool.uv.override-dependencies`
-/// begins, or that is a key of `tool.pdm.resolution.overrides`. With uv's constraints and overrides only `uv.lock` is compared, which need not have their packages.
+/// begins, or that is a key of `tool.pdm.resolution.overrides`. With uv's constraints and overrides only the `uv.lock` in their folder is compared, which need not have their packages, with a Pipfile only the `Pipfile.lock` in its folder.
 /// Each lock is to have packages for `project.dependencies`, `poetry.lock` and `uv.lock` for extras, `uv.lock` for groups, `poetry.lock` for `tool.poetry`,
 /// `Pipfile.lock` for a Pipfile, too; `poetry.lock` for the groups
 /// that its packages name, and `pdm.lock` and `pylock.toml` (PEP 751, `dependency-groups`, `extras`) for those that they name: `default` are the

@@ -6,14 +6,14 @@ ghost use Rattle.pep440_version.specs.Grammar.{starts};
 ghost use Rattle.pep440_version.specs.Reading.{lead, past};
 ghost use Rattle.pyver_requirements.specs.MarkerTerms.{joined_terms};
 ghost use Rattle.pyver_requirements.specs.MarkerTokens.{is_operator_byte};
-ghost use Rattle.pyver_projects.specs.Documents.{condition, entry_marker};
+ghost use Rattle.pyver_projects.specs.Documents.{condition, entry_marker, has_conditions, lacks_variables};
 ghost use Rattle.pyver_projects.specs.PackageRequirements.{both_markers, is_python_pair, is_value_byte, past_blank, platform_comparison, platform_marker, platform_specifier, poetry_list, python_comparison, python_marker, python_variable, quoted_value, specifier_comparison};
 ghost use Rattle.pyver_projects.specs.declared.project.EntryTool.TheVariants as of_entries;
 ghost use Rattle.toml.specs.View.{view};
 
-use crate::package_requirements::{is_name_byte, plain_list, poetry_list};
+use crate::package_requirements::{is_name_byte, lacks, plain_list, poetry_list};
 use crate::project::EntryTool;
-use crate::table::text;
+use crate::table::{is_text_or_none, text};
 use std::alloc::{AllocError, Global};
 use toml::Value;
 
@@ -215,6 +215,37 @@ fn platform_marker(alloc: Global, platform: &str) -> Result<String, AllocError>
 }
 
 // ---- entries
+
+// The table has no variable of a marker as a key.
+fn lacks_variables(entry: &Value) -> bool
+    ensures { result ≡ lacks_variables (view entry.now) }
+{
+    lacks(entry, "os_name")
+        && lacks(entry, "sys_platform")
+        && lacks(entry, "platform_machine")
+        && lacks(entry, "platform_python_implementation")
+        && lacks(entry, "platform_release")
+        && lacks(entry, "platform_system")
+        && lacks(entry, "platform_version")
+        && lacks(entry, "python_version")
+        && lacks(entry, "python_full_version")
+        && lacks(entry, "implementation_name")
+        && lacks(entry, "implementation_version")
+}
+
+// The conditions of a table, if it has some, are those that are read, and strings.
+pub(crate) fn has_conditions(tool: EntryTool, entry: &Value) -> bool
+    ensures { result ≡ has_conditions tool (view entry.now) }
+{
+    match tool {
+        EntryTool::Poetry => {
+            is_text_or_none(entry.get("markers"))
+                && is_text_or_none(entry.get("python"))
+                && is_text_or_none(entry.get("platform"))
+        }
+        EntryTool::Pipenv => is_text_or_none(entry.get("markers")) && lacks_variables(entry),
+    }
+}
 
 // Both markers hold, where none always does.
 fn both_markers(alloc: Global, marker: &str, other: &str) -> Result<String, AllocError>

@@ -199,7 +199,7 @@ fn push_demand(demands: &mut Vec<Demand>, meaning: &LineMeaning) -> Result<(), A
 }
 
 // Adds what the string asks for, unless the project, which overrides these names, replaces it.
-fn push_unreplaced(
+fn push_string_demand(
     demands: &mut Vec<Demand>,
     overridden: &[Vec<u8>],
     string: &StringReading,
@@ -224,7 +224,7 @@ fn push_in_part(
     ensures { IfOk result (λ _. map demand_of demands.new.items ≡ map demand_of demands.old.items ++ demand_in_part project.now.together (map (λ n. n.items) project.now.overridden.now) (has_key groups.now) (section_of part.now) (string_reading_of string.now)) }
 {
     if holds_in(project.together, groups, part, &string.section) {
-        push_unreplaced(demands, project.overridden, string)?;
+        push_string_demand(demands, project.overridden, string)?;
     }
     Ok(())
 }

@@ -5,7 +5,7 @@ ghost use Rattle.pep440_rs.specs.Blanks.{opens};
 ghost use Rattle.pep440_pick.specs.Names.{normal};
 ghost use Rattle.pep440_version.specs.Grammar.{starts};
 ghost use Rattle.pyver_requirements.specs.MarkerTokens.{is_operator_byte};
-ghost use Rattle.pyver_projects.specs.Documents.{added_sources, array_name, array_sources, constraint_sources, dev_packages, entry_list, entry_names, entry_specifiers, environment_array, each_source, entry_source, entry_sources, group_path, has_conditions, is_entry, is_package_name, is_editable, lacks_variables, leading_name, listed_source, other_sources, overridden_names, pipenv_faults, pipenv_list, pipenv_sources, pipenv_tables, poetry_sources, sources_or_fault, table_list, tool_group, tool_groups, tool_sources, tool_table, unread, unread_fields, unread_table, unread_tables, dev_sources};
+ghost use Rattle.pyver_projects.specs.Documents.{added_sources, array_name, array_sources, constraint_sources, dev_packages, entry_list, entry_names, entry_specifiers, environment_array, each_source, entry_source, entry_sources, group_path, is_entry, is_package_name, is_editable, leading_name, listed_source, other_sources, overridden_names, pipenv_faults, pipenv_list, pipenv_sources, pipenv_tables, poetry_sources, sources_or_fault, table_list, tool_group, tool_groups, tool_sources, tool_table, unread, unread_fields, unread_table, unread_tables, dev_sources};
 ghost use Rattle.pyver_projects.specs.PackageRequirements.{marked_text, requirement_text};
 ghost use Rattle.pyver_projects.specs.ProjectStrings.{Entry, Environment, Group, entries, inside, key_path, listed, members_list};
 ghost use Rattle.pyver_projects.specs.KnownEnvironments.{is_false};
@@ -15,50 +15,19 @@ ghost use Rattle.toml.specs.Data.{Data, as_bool, as_str};
 ghost use Rattle.toml.specs.View.{table_view, view};
 
 use crate::groups::table_names;
-use crate::package_requirements::{lacks, plain_list, poetry_list, requirement_text, split_name};
+use crate::package_requirements::{plain_list, poetry_list, requirement_text, split_name};
 use crate::place::{after_blanks, key_path};
-use crate::poetry_marker::{entry_marker, is_operator_byte};
+use crate::poetry_marker::{entry_marker, has_conditions, is_operator_byte};
 use crate::project::{
     EntryTool, ProjectString, Section, push_array, push_invalid, push_string, push_table_fault,
 };
-use crate::table::{inside, is_text_or_none, items, table, text, top};
+use crate::table::{inside, items, table, text, top};
 use pep440_pick::is_name;
 use pyver_findings::{Cause, normalize_name};
 use std::alloc::{AllocError, Global};
 use toml::{Table, Value};
 
 // ---- tables of Poetry and Pipenv
-
-// The table has no variable of a marker as a key.
-fn lacks_variables(entry: &Value) -> bool
-    ensures { result ≡ lacks_variables (view entry.now) }
-{
-    lacks(entry, "os_name")
-        && lacks(entry, "sys_platform")
-        && lacks(entry, "platform_machine")
-        && lacks(entry, "platform_python_implementation")
-        && lacks(entry, "platform_release")
-        && lacks(entry, "platform_system")
-        && lacks(entry, "platform_version")
-        && lacks(entry, "python_version")
-        && lacks(entry, "python_full_version")
-        && lacks(entry, "implementation_name")
-        && lacks(entry, "implementation_version")
-}
-
-// The conditions of a table, if it has some, are those that are read, and strings.
-fn has_conditions(tool: EntryTool, entry: &Value) -> bool
-    ensures { result ≡ has_conditions tool (view entry.now) }
-{
-    match tool {
-        EntryTool::Poetry => {
-            is_text_or_none(entry.get("markers"))
-                && is_text_or_none(entry.get("python"))
-                && is_text_or_none(entry.get("platform"))
-        }
-        EntryTool::Pipenv => is_text_or_none(entry.get("markers")) && lacks_variables(entry),
-    }
-}
 
 // The list of a table, or `*`.
 fn table_list(tool: EntryTool, entry: &Value) -> Option<&str>

@@ -1,6 +1,6 @@
 use Rattle.std.proofs.Common.{refl}
 use Rattle.pep440_compiled.proofs.WrittenForm.{labelled_number}
-use Rattle.pep440_compiled.proofs.stack_form.split_labelled.Goals as goal
+use Rattle.pep440_compiled.proofs.stack_form.split_number_after.Goals as goal
 
 pub returns-in_default : goal.returns-in_default
 returns-in_default c = λ class is. refl
