@@ -17,3 +17,4 @@ pub use candidates::{is_preferred, newest};
 pub use error::{RequirementError, RequirementParseError};
 pub use name::{is_name, same_name};
 pub use requirement::Requirement;
+pub use requirement_parts::copy_extras;

@@ -61,8 +61,11 @@ fn push_extra(alloc: Global, extras: &mut Vec<String>, part: &str) -> Result<(),
     Ok(())
 }
 
-// The extras that stand in brackets.
-pub(crate) fn copy_extras(alloc: Global, inside: &str) -> Result<Vec<String>, AllocError>
+/// The extras in what stands between brackets: names between commas, without the blanks around them; none if there are only blanks (PEP 508,
+/// "Extras"). That each is a name is not checked.
+///
+/// Allocates.
+pub fn copy_extras(alloc: Global, inside: &str) -> Result<Vec<String>, AllocError>
     ensures { IfOk result (λ extras. map string_bytes extras.items ≡ listed_extras inside.now) }
 {
     let mut extras = Vec::new(alloc);

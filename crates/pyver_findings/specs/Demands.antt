@@ -1,5 +1,5 @@
--- What a line asks for that is a requirement: a name and a marker, each in its normal form, a pin or none, and its list.
-use Rattle.std.specs.Prelude.{ℕ, List, Bool, true, false, Option}
+-- What a line asks for that is a requirement: a name, extras and a marker, each in its normal form, a pin or none, and its list.
+use Rattle.std.specs.Prelude.{ℕ, List, Bool, true, false, Option, map}
 use Rattle.std.specs.List.{All, list_any}
 use Rattle.pep440_pick.specs.Names.{normal}
 use Rattle.pep440_pick.specs.RequirementGrammar.{Needed}
@@ -12,6 +12,7 @@ use Rattle.pyver_findings.specs.FileLines.{FileLine}
 pub record Demand : Type 0 where
   pub line : FileLine
   pub name : List ℕ
+  pub extras : List (List ℕ)
   pub marker : Option (List ℕ)
   pub pinned : Bool
   pub specifiers : List Spec
@@ -28,7 +29,7 @@ is_pinned list = list_any (λ m. is_pin_operator m.operator) list
 
 -- what the line asks for
 abbrev pub line_demand : FileLine → Option (List ℕ) → Needed → Demand
-line_demand line marker n = record { line = line; name = normal n.name; marker = marker; pinned = is_pinned n.specifiers; specifiers = n.specifiers }
+line_demand line marker n = record { line = line; name = normal n.name; extras = map normal n.extras; marker = marker; pinned = is_pinned n.specifiers; specifiers = n.specifiers }
 
 -- strings can give the members of its list
 abbrev pub IsSound : Demand → Type 0

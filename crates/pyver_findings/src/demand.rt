@@ -5,7 +5,7 @@ ghost use Rattle.pyver_findings.specs.Demands.{line_demand, is_pin_operator, is_
 ghost use Rattle.pyver_findings.specs.Views.{demand_of, file_line_of};
 
 use crate::file_line::FileLine;
-use crate::normal_name::normalize_name;
+use crate::normal_name::{normalize_name, normalize_names};
 use pep440_pick::Requirement;
 use pep440_rs::{Operator, VersionSpecifier, VersionSpecifiers};
 use std::alloc::{AllocError, Global};
@@ -14,8 +14,10 @@ use std::alloc::{AllocError, Global};
 #[derive(Drop)]
 pub struct Demand {
     pub line: FileLine,
-    /// In its normal form, as the marker.
+    /// In its normal form, as each extra and the marker.
     pub name: Vec<u8>,
+    /// The names of the extras, in order.
+    pub extras: Vec<Vec<u8>>,
     pub marker: Option<Vec<u8>>,
     /// Whether some member of the list names one version.
     pub pinned: bool,
@@ -54,6 +56,7 @@ impl Demand {
         Ok(Demand {
             line: line.clone()?,
             name,
+            extras: normalize_names(alloc, requirement.extras.as_slice())?,
             marker,
             pinned,
             specifiers: requirement.specifiers.clone()?,

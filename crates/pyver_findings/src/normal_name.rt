@@ -1,5 +1,5 @@
 //! Names in their normal form.
-ghost use Rattle.std.specs.Prelude.{◌≡◌, IfOk};
+ghost use Rattle.std.specs.Prelude.{◌≡◌, IfOk, map, string_bytes};
 ghost use Rattle.pep440_pick.specs.Names.{normal};
 ghost use Rattle.pep440_version.specs.Grammar.{is_separator, starts};
 
@@ -37,4 +37,17 @@ pub fn normalize_name(alloc: Global, name: &str) -> Result<Vec<u8>, AllocError>
         rest = later;
     }
     Ok(text)
+}
+
+/// The normal form of each of the names, in order.
+///
+/// Allocates.
+pub fn normalize_names(alloc: Global, names: &[String]) -> Result<Vec<Vec<u8>>, AllocError>
+    ensures { IfOk result (λ found. map (λ n. n.items) found.items ≡ map normal (map string_bytes names.now)) }
+{
+    let mut found = Vec::new(alloc);
+    for name in names {
+        found.push(normalize_name(alloc, name.as_str())?)?;
+    }
+    Ok(found)
 }

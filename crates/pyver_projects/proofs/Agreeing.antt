@@ -30,8 +30,8 @@ use Rattle.std.proofs.lemmas.List.Elements.{All-contains_itself, All-head, All-t
 use Rattle.pep440_pick.specs.Names.{normal}
 use Rattle.pyver_projects.specs.Comparing.{FindsOfReading, absent, beside_all, compared, compared_demand, differing, documents_report, excluded, Excuse, excluded_in, first_difference, found_beside, found_in_pair, invalid_package, is_beside, is_in_one, in_one_folder, is_excused, is_installer, is_locked, is_overridden, is_plain_for_uv, is_project_reading, lacking, leaves_out, missing, names_read, overrides_read, own_report, partly_locked, python_difference, python_minors, stale_beside, stale_by, stale_finding, stale_in_pair, taken_packages, unlocked, unmet, unmet_demand, with_found, with_own_reports}
 use Rattle.pyver_projects.specs.Documents.{has_group_tool, overridden_names, project_names, sources}
-use Rattle.pyver_projects.specs.Meanings.{groups, AreLockedPythons, Inclusion, inclusions, Document, DocumentReading, IsDocumentReading, IsFileReading, IsBroken, IsLock, IsLockReading, IsProject, IsRequirementReading, IsStringReading, LockedReading, StringReading, fault_meaning, file_meaning, is_of_version, reference_marker, requirement_line, string_line, IsSoundString}
-use Rattle.pyver_projects.specs.ProjectLaws.{AllAlone, AllContained, AllEntered, AllFresh, AllMet, AllOfOnePython, AllOfVersion, AllPresent, AllRequired, AreTogether, HasContents, HasLock, HasProject, HasTable, IsPart, replaces, NoFindingImpliesContained, NoFindingImpliesSatisfiable}
+use Rattle.pyver_projects.specs.Meanings.{extra_inclusions, groups, AreLockedPythons, Inclusion, inclusions, Document, DocumentReading, IsDocumentReading, IsFileReading, IsBroken, IsLock, IsLockReading, IsProject, IsRequirementReading, IsStringReading, LockedReading, StringReading, fault_meaning, file_meaning, is_of_version, reference_marker, requirement_line, string_line, IsSoundString}
+use Rattle.pyver_projects.specs.ProjectLaws.{AllAlone, AllContained, AllEntered, AllFresh, AllMet, AllOfOnePython, AllOfVersion, AllPresent, AllRequired, AreTogether, HasContents, HasLock, HasProject, HasTable, IsPart, extras_of, replaces, NoFindingImpliesContained, NoFindingImpliesSatisfiable}
 use Rattle.pyver_projects.specs.ProjectStrings.{ContentHash, ProjectString, LockContents, LockFault, LockParts, LockedFile, LockedRequirement, Section, Build, Dependencies, Environment, Extra, Group}
 use Rattle.pyver_projects.specs.KnownEnvironments.{python_record}
 use Rattle.pyver_projects.specs.declared.document_kind.DocumentKind.{DocumentKind}
@@ -43,7 +43,7 @@ use Rattle.pyver_projects.specs.ContentHashes.{hash_of, hashed_texts, is_known_t
 use Rattle.pyver_findings.proofs.Found.{Some_is}
 use Rattle.pyver_findings.specs.FindingLaws.{IsAmong, IsAmongIn}
 use Rattle.pyver_findings.specs.Conflicts.{first_mentions, has_same_marker, has_same_name, have_none, unmarked}
-use Rattle.pyver_projects.specs.Together.{FindsOfPart, FindsOfParts, all_demands, demand_in_part, has_group, is_marked, is_standard, part_demands, parts, project_domain, project_python, same_finding, same_part, section_part, sections, with_new}
+use Rattle.pyver_projects.specs.Together.{FindsOfPart, FindsOfParts, all_demands, demand_in_part, has_extra, has_group, is_marked, is_standard, part_demands, parts, project_domain, project_python, same_finding, same_part, section_part, sections, with_new}
 use Rattle.pyver_findings.proofs.SmallestLists.{Allows, more_none, none_allowed}
 use Rattle.pyver_findings.proofs.MarkedConflicts.{contains_told, found_nothing, of_marker_of, of_name_of, set_shared, tells_right}
 use Rattle.pyver_findings.specs.MarkedConflicts.{FindsByUnmarked, FindsOfEach, FindsOfFirsts, FindsOfName, FindsOfNames, few_first_lines, first_lines}
@@ -438,15 +438,16 @@ module _ (R : List Finding → List Cause → Type 0) (spreads : Spreads R) (onc
   sound_lines : All IsSound lines
   sound_lines =
       subst (All IsSound) (sym p.are)
-      (sound_part together (overridden_names p.table) (groups p.table).inclusions part p.readings
+      (sound_part together (overridden_names p.table) (groups p.table).inclusions (extras_of p.table) part p.readings
       (zip_each (IsStringReading (groups p.table) p.file) (Contains (sources p.table)) IsSoundString (λ s v known n. sound_string (groups p.table) p.file s v n) (sources p.table) p.readings (All-contains_itself (sources p.table)) p.read))
 
   found_part : (fs : List Finding) (cs : List Cause) → FindsOfPart together (overridden_names p.table) p.readings part fs cs → R fs cs
   found_part fs cs finds =
       let same : inclusions (sections p.readings) ≡ (groups p.table).inclusions = ap inclusions (sections_same (groups p.table) p.file (sources p.table) p.readings p.read) in
+      let also : extra_inclusions (sections p.readings) ≡ extras_of p.table = ap extra_inclusions (sections_same (groups p.table) p.file (sources p.table) p.readings p.read) in
       found sound_lines fs cs
       (subst (λ (b : Domain). FindsOfNames b lines fs cs) (sym p.bounds)
-      (subst (λ l. FindsOfNames (project_domain p.readings) l fs cs) (ap (λ is. part_demands together (overridden_names p.table) is part p.readings) same ∙ sym p.are) finds))
+      (subst (λ l. FindsOfNames (project_domain p.readings) l fs cs) ((λ j. part_demands together (overridden_names p.table) (same j) (also j) part p.readings) ∙ sym p.are) finds))
 
   found_parts : (fs : List Finding) (cs : List Cause) → FindsOfParts together (overridden_names p.table) p.readings fs cs → R fs cs
   found_parts fs cs (all, finds, is) =
@@ -610,23 +611,24 @@ module _ (d : Domain) (all part : List Demand) (sound : All IsSound all) (bare :
 -- ---- parts of a project
 
 -- the requirements of a part are some of all
-pub part_known : (together : Bool) (overridden : List (List ℕ)) (is : List Inclusion) (part : Section) (xs : List StringReading) → All (Contains (all_demands xs)) (part_demands together overridden is part xs)
-part_known together overridden is part xs =
+pub part_known : (together : Bool) (overridden : List (List ℕ)) (is es : List Inclusion) (part : Section) (xs : List StringReading) → All (Contains (all_demands xs)) (part_demands together overridden is es part xs)
+part_known together overridden is es part xs =
     let all = all_demands xs in
-    all_flat (Contains all) (demand_in_part together overridden (has_group is part) part) xs
-    (All-weaker (λ x. All (Contains all) (demands_in x.meaning)) (λ x. All (Contains all) (demand_in_part together overridden (has_group is part) part x))
-    (λ x k. of_part_so (Contains all) together overridden (has_group is part) part x k) xs
+    all_flat (Contains all) (demand_in_part together overridden (has_group is part) (has_extra es part) part) xs
+    (All-weaker (λ x. All (Contains all) (demands_in x.meaning)) (λ x. All (Contains all) (demand_in_part together overridden (has_group is part) (has_extra es part) part x))
+    (λ x k. of_part_so (Contains all) together overridden (has_group is part) (has_extra es part) part x k) xs
     (each_flat (Contains all) (λ (x : StringReading). demands_in x.meaning) xs (All-contains_itself all)))
 
 -- nothing is found of any part, where nothing is found of all requirements, and none has a marker
 pub nothing_in_parts : (together : Bool) (overridden : List (List ℕ)) (xs : List StringReading) → list_any is_marked (all_demands xs) ≡ false → All IsSound (all_demands xs) → (cs : List Cause) → FindsOfNames (project_domain xs) (all_demands xs) [] cs → FindsOfParts together overridden xs [] []
 nothing_in_parts together overridden xs bare sound cs none =
     let all = all_demands xs in
-    let is = inclusions (sections xs) in (
+    let is = inclusions (sections xs) in
+    let es = extra_inclusions (sections xs) in (
       [],
       nothing_each (FindsOfPart together overridden xs) (parts xs)
           (everywhere (λ part. FindsOfPart together overridden xs part [] [])
-          (λ part. nothing_in_part (project_domain xs) all (part_demands together overridden is part xs) sound (all_unmarked all bare) (part_known together overridden is part xs) cs none) (parts xs)),
+          (λ part. nothing_in_part (project_domain xs) all (part_demands together overridden is es part xs) sound (all_unmarked all bare) (part_known together overridden is es part xs) cs none) (parts xs)),
       refl,
     )
 

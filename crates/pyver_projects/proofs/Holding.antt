@@ -21,18 +21,18 @@ use Rattle.pyver_findings.specs.Reports.{Report, demands_in, empty_report, inval
 use Rattle.pyver_requirements.specs.LineParts.{line_parts}
 use Rattle.toml.specs.Data.{Members}
 use Rattle.toml.specs.Parse.{parse_document}
-use Rattle.pyver_projects.specs.Together.{FindsOfPart, FindsOfParts, demand_in_part, has_group, holds_in, is_replaced, part_demands, parts, project_domain, project_python, same_finding, sections, with_new}
+use Rattle.pyver_projects.specs.Together.{FindsOfPart, FindsOfParts, demand_in_part, has_extra, has_group, holds_in, is_replaced, part_demands, parts, project_domain, project_python, same_finding, sections, with_new}
 use Rattle.pyver_projects.proofs.Walks.{all_flat, left_false, pairs_each, right_false, zip_each}
 use Rattle.pyver_findings.specs.NamedFiles.{folder}
 use Rattle.std.proofs.lemmas.Slice.Eq.{bytes_eq-Decides}
 use Rattle.pyver_projects.specs.ContentHashes.{hash_of, hashed_texts, is_known_text, is_stale, may_have}
 use Rattle.pyver_projects.specs.Comparing.{Excuse, FindsOfReading, absent, beside_all, compared, compared_demand, differing, documents_report, excluded, excluded_in, first_difference, found_beside, found_in_pair, has_name, invalid_package, invalid_string, is_beside, is_excused, is_in_one, is_installer, is_locked, is_needed, is_overridden, is_plain_for_uv, in_one_folder, lacking, leaves_out, own_report, partly_locked, python_difference, python_finding, python_minors, stale_beside, stale_by, stale_finding, stale_in_pair, taken_packages, unlocked, unmet, unmet_demand, with_own_reports}
 use Rattle.pyver_projects.specs.Documents.{has_group_tool, locked, overridden_names, project_names, sources}
-use Rattle.pyver_projects.specs.Meanings.{AreLockedPythons, Groups, Inclusion, groups, inclusions, Document, DocumentReading, IsBroken, IsBrokenReading, IsDocumentReading, IsFileReading, IsLock, IsLockedReading, IsProject, IsRequirementReading, IsSectionMeaning, IsSoundDocument, IsSoundString, IsStringReading, IsVersionReading, LockedReading, StringReading, fault_meaning, file_meaning, is_of_version, left_out_if_none, package_line, reference_marker, requirement_line, string_line, position_line}
+use Rattle.pyver_projects.specs.Meanings.{AreLockedPythons, Groups, Inclusion, extra_inclusions, groups, inclusions, Document, DocumentReading, IsBroken, IsBrokenReading, IsDocumentReading, IsFileReading, IsLock, IsLockedReading, IsProject, IsRequirementReading, IsSectionMeaning, IsSoundDocument, IsSoundString, IsStringReading, IsVersionReading, LockedReading, StringReading, fault_meaning, file_meaning, is_of_version, left_out_if_none, package_line, reference_marker, requirement_line, string_line, position_line}
 use Rattle.pyver_projects.proofs.Once.{AsksFor, differing_right, of_section}
 use Rattle.pyver_projects.proofs.LockedPackages.{IsLackHere, IsOutsideHere, excluded_right, found_so, none_named, partly_right}
-use Rattle.pyver_projects.specs.ProjectLaws.{AlwaysAsks, AreTogether, DocumentFindingsHold, HasLock, HasOtherHash, HasPackage, HasProject, IsDocumentFinding, IsReadable, IsReadableAs, IsRightPart, line_in_part, part_lines}
-use Rattle.pyver_projects.specs.ProjectStrings.{Build, Constraint, ContentHash, Dependencies, Entry, Environment, Extra, Group, Include, Invalid, LockContents, LockFault, LockParts, LockedFile, LockedPackage, LockedRequirement, ProjectString, Python, Section, Unread, Version, last_bytes}
+use Rattle.pyver_projects.specs.ProjectLaws.{AlwaysAsks, AreTogether, DocumentFindingsHold, HasLock, HasOtherHash, HasPackage, HasProject, IsDocumentFinding, IsReadable, IsReadableAs, IsRightPart, extras_of, line_in_part, part_lines}
+use Rattle.pyver_projects.specs.ProjectStrings.{Build, Constraint, ContentHash, Dependencies, Entry, Environment, Extra, Group, Include, Invalid, LockContents, LockFault, LockParts, LockedFile, LockedPackage, LockedRequirement, OwnExtras, ProjectString, Python, Section, Unread, Version, last_bytes}
 use Rattle.pyver_projects.specs.KnownEnvironments.{python_record}
 use Rattle.pyver_projects.specs.declared.document_kind.DocumentKind.{DocumentKind}
 use Rattle.pyver_projects.specs.declared.document_kind.DocumentKind.TheVariants.{Lock, Project}
@@ -62,6 +62,7 @@ module _ (line : FileLine) (n : Needed) (plain : IsPlain (line_parts line.text).
   asks_always all text near (Include group included) x counts is = cc counts
   asks_always all text near (Invalid table reason) x counts is = cc counts
   asks_always all text near Constraint x counts is = of_its_requirement x is
+  asks_always all text near (OwnExtras asker extras) x counts is = cc counts
   asks_always all text near (Environment table) x counts is = cc counts
   asks_always all text near (Entry of_entries.Poetry table name) x counts (m, is, e) = e ∙ ap left_out_if_none (of_its_requirement m is)
   asks_always all text near (Entry of_entries.Pipenv table name) x counts is = of_its_requirement x is
@@ -99,15 +100,15 @@ some_by P true lines k = k
 some_by P false lines k = All-nil P
 
 -- and of those of a string that hold in a part
-pub of_part_so : (P : Demand → Type 0) (together : Bool) (overridden : List (List ℕ)) (has : List ℕ → Bool) (part : Section) (x : StringReading) → All P (demands_in x.meaning) → All P (demand_in_part together overridden has part x)
-of_part_so P together overridden has part x k =
-    kept_by P (holds_in together has part x.section) (λ (a : Demand). not (is_replaced overridden x.section a.name)) (demands_in x.meaning) (some_by P (holds_in together has part x.section) (demands_in x.meaning) k)
+pub of_part_so : (P : Demand → Type 0) (together : Bool) (overridden : List (List ℕ)) (in_groups in_extras : List ℕ → Bool) (part : Section) (x : StringReading) → All P (demands_in x.meaning) → All P (demand_in_part together overridden in_groups in_extras part x)
+of_part_so P together overridden in_groups in_extras part x k =
+    kept_by P (holds_in together in_groups in_extras part x.section) (λ (a : Demand). not (is_replaced overridden x.section a.name)) (demands_in x.meaning) (some_by P (holds_in together in_groups in_extras part x.section) (demands_in x.meaning) k)
 
 -- the lists of a part are sound
-pub sound_part : (together : Bool) (overridden : List (List ℕ)) (is : List Inclusion) (part : Section) (xs : List StringReading) → All IsSoundString xs → All IsSound (part_demands together overridden is part xs)
-sound_part together overridden is part xs k =
-    all_flat IsSound (demand_in_part together overridden (has_group is part) part) xs
-    (All-weaker IsSoundString (λ x. All IsSound (demand_in_part together overridden (has_group is part) part x)) (λ x sound. of_part_so IsSound together overridden (has_group is part) part x sound) xs k)
+pub sound_part : (together : Bool) (overridden : List (List ℕ)) (is es : List Inclusion) (part : Section) (xs : List StringReading) → All IsSoundString xs → All IsSound (part_demands together overridden is es part xs)
+sound_part together overridden is es part xs k =
+    all_flat IsSound (demand_in_part together overridden (has_group is part) (has_extra es part) part) xs
+    (All-weaker IsSoundString (λ x. All IsSound (demand_in_part together overridden (has_group is part) (has_extra es part) part x)) (λ x sound. of_part_so IsSound together overridden (has_group is part) (has_extra es part) part x sound) xs k)
 
 module _ {X : Type 0} (P : X → Type 0) where
   -- what holds of everything holds of all
@@ -141,23 +142,23 @@ sections_same all file (s ∷ ss) (x ∷ xs) (r, h) = let rest = sections_same a
 
 -- ---- a part
 
-module _ (all : Groups) (file : File) (together : Bool) (overridden : List (List ℕ)) (has : List ℕ → Bool) (part : Section) (read : List FileLine) where
+module _ (all : Groups) (file : File) (together : Bool) (overridden : List (List ℕ)) (in_groups in_extras : List ℕ → Bool) (part : Section) (read : List FileLine) where
   -- the line of the string is known, if that holds in the part
   abbrev pub IsKnown : ProjectString → Type 0
-  IsKnown s = All (Contains read) (line_in_part together has part file s)
+  IsKnown s = All (Contains read) (line_in_part together in_groups in_extras part file s)
 
-  of_part_string : (s : ProjectString) (x : StringReading) (b : Bool) → holds_in together has part s.section ≡ b → IsKnown s → IsStringReading all file s x → All (IsAsked line_parts read) (if b then demands_in x.meaning else [])
-  of_part_string s x true e known (same, is, python) = asked_of all read (string_line file s) s.text s.section x.meaning (of_one (Contains read) (holds_in together has part s.section) (string_line file s) e known) is
+  of_part_string : (s : ProjectString) (x : StringReading) (b : Bool) → holds_in together in_groups in_extras part s.section ≡ b → IsKnown s → IsStringReading all file s x → All (IsAsked line_parts read) (if b then demands_in x.meaning else [])
+  of_part_string s x true e known (same, is, python) = asked_of all read (string_line file s) s.text s.section x.meaning (of_one (Contains read) (holds_in together in_groups in_extras part s.section) (string_line file s) e known) is
   of_part_string s x false e known r = All-nil (IsAsked line_parts read)
 
-  one_string : (s : ProjectString) (x : StringReading) → IsKnown s → IsStringReading all file s x → All (IsAsked line_parts read) (demand_in_part together overridden has part x)
+  one_string : (s : ProjectString) (x : StringReading) → IsKnown s → IsStringReading all file s x → All (IsAsked line_parts read) (demand_in_part together overridden in_groups in_extras part x)
   one_string s x known r =
-      kept_by (IsAsked line_parts read) (holds_in together has part x.section) (λ (a : Demand). not (is_replaced overridden x.section a.name)) (demands_in x.meaning)
-      (subst (λ (section : Section). All (IsAsked line_parts read) (if holds_in together has part section then demands_in x.meaning else [])) (sym r.0)
-      (of_part_string s x (holds_in together has part s.section) refl known r))
+      kept_by (IsAsked line_parts read) (holds_in together in_groups in_extras part x.section) (λ (a : Demand). not (is_replaced overridden x.section a.name)) (demands_in x.meaning)
+      (subst (λ (section : Section). All (IsAsked line_parts read) (if holds_in together in_groups in_extras part section then demands_in x.meaning else [])) (sym r.0)
+      (of_part_string s x (holds_in together in_groups in_extras part s.section) refl known r))
 
-  in_part : (ss : List ProjectString) (xs : List StringReading) → All IsKnown ss → AllZip (IsStringReading all file) ss xs → All (IsAsked line_parts read) (flat_map (demand_in_part together overridden has part) xs)
-  in_part ss xs known h = all_flat (IsAsked line_parts read) (demand_in_part together overridden has part) xs (zip_each (IsStringReading all file) IsKnown (λ x. All (IsAsked line_parts read) (demand_in_part together overridden has part x)) one_string ss xs known h)
+  in_part : (ss : List ProjectString) (xs : List StringReading) → All IsKnown ss → AllZip (IsStringReading all file) ss xs → All (IsAsked line_parts read) (flat_map (demand_in_part together overridden in_groups in_extras part) xs)
+  in_part ss xs known h = all_flat (IsAsked line_parts read) (demand_in_part together overridden in_groups in_extras part) xs (zip_each (IsStringReading all file) IsKnown (λ x. All (IsAsked line_parts read) (demand_in_part together overridden in_groups in_extras part x)) one_string ss xs known h)
 
 module _ (P : Finding → Type 0) where
   by_new : (b : Bool) (found : List Finding) (f : Finding) → All P found → P f → All P (if b then found else found ++ f ∷ [])
@@ -174,12 +175,15 @@ module _ (P : Finding → Type 0) (file : File) (t : Members) (so : (part : Sect
   part_holds : (xs : List StringReading) → AllZip (IsStringReading (groups t) file) (sources t) xs → (part : Section) (fs : List Finding) (cs : List Cause) → FindsOfPart (has_group_tool t) (overridden_names t) xs part fs cs → All P fs
   part_holds xs h part fs cs finds =
       let read = part_lines file t part in
-      let known = each_flat (Contains read) (line_in_part (has_group_tool t) (has_group (groups t).inclusions part) part file) (sources t) (All-contains_itself read) in
-      let asks = in_part (groups t) file (has_group_tool t) (overridden_names t) (has_group (groups t).inclusions part) part read (sources t) xs known h in
+      let known = each_flat (Contains read) (line_in_part (has_group_tool t) (has_group (groups t).inclusions part) (has_extra (extras_of t) part) part file) (sources t) (All-contains_itself read) in
+      let asks = in_part (groups t) file (has_group_tool t) (overridden_names t) (has_group (groups t).inclusions part) (has_extra (extras_of t) part) part read (sources t) xs known h in
       let same : inclusions (sections xs) ≡ (groups t).inclusions = ap inclusions (sections_same (groups t) file (sources t) xs h) in
+      let also : extra_inclusions (sections xs) ≡ extras_of t = ap extra_inclusions (sections_same (groups t) file (sources t) xs h) in
       let domain = project_domain xs in
       All-weaker (IsRightConflict line_parts domain read) P (λ f right. so part f (domain, (xs, h, refl), right)) fs
-      (names_right line_parts read domain (part_demands (has_group_tool t) (overridden_names t) (inclusions (sections xs)) part xs) (subst (λ (is : List Inclusion). All (IsAsked line_parts read) (part_demands (has_group_tool t) (overridden_names t) is part xs)) (sym same) asks) fs cs finds)
+      (names_right line_parts read domain (part_demands (has_group_tool t) (overridden_names t) (inclusions (sections xs)) (extra_inclusions (sections xs)) part xs)
+      (subst (λ (is : List Inclusion). All (IsAsked line_parts read) (part_demands (has_group_tool t) (overridden_names t) is (extra_inclusions (sections xs)) part xs)) (sym same)
+      (subst (λ (es : List Inclusion). All (IsAsked line_parts read) (part_demands (has_group_tool t) (overridden_names t) (groups t).inclusions es part xs)) (sym also) asks)) fs cs finds)
 
   pub conflicts_hold : (xs : List StringReading) → AllZip (IsStringReading (groups t) file) (sources t) xs → (fs : List Finding) (cs : List Cause) → FindsOfParts (has_group_tool t) (overridden_names t) xs fs cs → All P fs
   conflicts_hold xs h fs cs (found, finds, is) =

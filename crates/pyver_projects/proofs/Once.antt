@@ -26,10 +26,10 @@ use Rattle.toml.specs.Data.{Members}
 use Rattle.pyver_projects.proofs.Walks.{zip_once, all_flat, beside_it, beside_some, left_false, left_nil, nil_at, right_false, right_nil, zip_each}
 use Rattle.pyver_projects.specs.Comparing.{FindsOfReading, documents_report, with_found, differing, is_in_lock, is_in_project, is_same_requirement, same_list, unentered, unentered_in, unentered_reason, unmatched, unrequired, unrequired_in, unrequired_reason}
 use Rattle.pyver_projects.specs.Documents.{has_group_tool, overridden_names, project_names, sources}
-use Rattle.pyver_projects.specs.Meanings.{Groups, groups, inclusions, AreLockedPythons, ArePythons, AreVersions, IsFilledMeaning, left_out_if_none, DocumentReading, IsBroken, IsConditionReading, IsDocumentReading, IsFileReading, IsLock, IsLockReading, IsLockedReading, IsProject, IsProjectReading, IsRequirementReading, reference_marker, IsSectionMeaning, IsStringReading, IsVersionReading, LockedReading, StringReading, fault_meaning, file_meaning, is_of_version, package_line, requirement_line, string_line, list_versions, no_group}
+use Rattle.pyver_projects.specs.Meanings.{Groups, extra_inclusions, groups, has_extras, if_it_has, inclusions, AreLockedPythons, ArePythons, AreVersions, IsFilledMeaning, left_out_if_none, DocumentReading, IsBroken, IsConditionReading, IsDocumentReading, IsFileReading, IsLock, IsLockReading, IsLockedReading, IsProject, IsProjectReading, IsRequirementReading, reference_marker, IsSectionMeaning, IsStringReading, IsVersionReading, LockedReading, StringReading, fault_meaning, file_meaning, is_of_version, package_line, requirement_line, string_line, list_versions, no_group}
 use Rattle.pyver_projects.specs.KnownEnvironments.{ReadCondition}
 use Rattle.pyver_projects.specs.ProjectLaws.{DocumentReportsOnce, IsReadable, IsReadableAs, IsEntryFor, IsOtherString, Requires}
-use Rattle.pyver_projects.specs.ProjectStrings.{Build, Constraint, Dependencies, Entry, Environment, Extra, Group, Include, Invalid, LockContents, LockedFile, LockedPackage, LockedRequirement, PackageCondition, Section, Python, ProjectString, Unread, Version}
+use Rattle.pyver_projects.specs.ProjectStrings.{Build, Constraint, Dependencies, Entry, Environment, Extra, Group, Include, Invalid, LockContents, LockedFile, LockedPackage, LockedRequirement, OwnExtras, PackageCondition, Section, Python, ProjectString, Unread, Version}
 use Rattle.pyver_projects.specs.declared.document_kind.DocumentKind.{DocumentKind}
 use Rattle.pyver_projects.specs.declared.document_kind.DocumentKind.TheVariants.{Lock, Project}
 use Rattle.pyver_findings.proofs.MarkedConflicts.{IsOnce, IsTold, each_once, each_told, names_once, names_tell, no_causes}
@@ -60,6 +60,7 @@ one_meaning all line text (Entry of_entries.Poetry table name) x y (m, a, v) (n,
 one_meaning all line text (Entry of_entries.Pipenv table name) x y a b = one_parts line (line_parts line.text) x y a b
 one_meaning all line text (Unread c) x y a b = a ∙ sym b
 one_meaning all line text Constraint x y a b = one_parts line (line_parts line.text) x y a b
+one_meaning all line text (OwnExtras asker extras) x y (m, a, v) (n, b, w) = v ∙ ap (if_it_has (has_extras all.extras extras) line) (one_parts line (line_parts line.text) m n a b) ∙ sym w
 one_meaning all line text (Environment table) x y a b = one_filled line text x y a b
 one_meaning all line text Build x y a b = one_parts line (line_parts line.text) x y a b
 one_meaning all line text Python x y (inl (l, d, a)) (inl (m, e, b)) = a ∙ ap (list_meaning line) (one_list text l m d e) ∙ sym b
@@ -93,6 +94,7 @@ one_python (Invalid table reason) text p q a b = a ∙ sym b
 one_python (Entry tool table name) text p q a b = a ∙ sym b
 one_python (Unread c) text p q a b = a ∙ sym b
 one_python Constraint text p q a b = a ∙ sym b
+one_python (OwnExtras asker extras) text p q a b = a ∙ sym b
 one_python (Environment table) text p q a b = a ∙ sym b
 one_python Build text p q a b = a ∙ sym b
 
@@ -174,7 +176,7 @@ one_document (Lock kind) file x y (ps, (text, e)) (inr (u, inl (ms, f, a))) (inr
 -- ---- requirements that have no version in common
 
 part_told : (together : Bool) (overridden : List (List ℕ)) (xs : List StringReading) (part : Section) (fs : List Finding) (cs : List Cause) → FindsOfPart together overridden xs part fs cs → IsTold cs
-part_told together overridden xs part fs cs finds = names_tell (project_domain xs) (part_demands together overridden (inclusions (sections xs)) part xs) fs cs finds
+part_told together overridden xs part fs cs finds = names_tell (project_domain xs) (part_demands together overridden (inclusions (sections xs)) (extra_inclusions (sections xs)) part xs) fs cs finds
 
 reading_told : (x : DocumentReading) (fs : List Finding) (cs : List Cause) → FindsOfReading x fs cs → IsTold cs
 reading_told (IsProject t together names overridden xs) fs cs (found, finds, is) = each_told (FindsOfPart together overridden xs) (part_told together overridden xs) (parts xs) found cs finds
@@ -207,7 +209,7 @@ new_alike found (f ∷ fs) =
 reading_once : (x : DocumentReading) → IsOnce (FindsOfReading x)
 reading_once (IsProject t together names overridden xs) fs gs (found, finds, is) (others, also, so) =
     ap (map without_environment) is ∙ new_alike [] found
-    ∙ ap (with_new same_finding []) (each_once (FindsOfPart together overridden xs) (λ part. names_once (project_domain xs) (part_demands together overridden (inclusions (sections xs)) part xs)) (parts xs) found others finds also)
+    ∙ ap (with_new same_finding []) (each_once (FindsOfPart together overridden xs) (λ part. names_once (project_domain xs) (part_demands together overridden (inclusions (sections xs)) (extra_inclusions (sections xs)) part xs)) (parts xs) found others finds also)
     ∙ sym (new_alike [] others) ∙ ap (map without_environment) (sym so)
 reading_once (IsLock parts python ys ms es files) fs gs (is, _) (so, _) = ap (map without_environment) (is ∙ sym so)
 reading_once (IsBroken f) fs gs (is, _) (so, _) = ap (map without_environment) (is ∙ sym so)
@@ -288,6 +290,14 @@ of_entry line a (IsNone f) is e = cc e
 of_entry line a (LeftOut c) is e = cc e
 of_entry line a AsksNothing is e = cc e
 
+of_own : (line : FileLine) (a : Demand) (has : Bool) (m : LineMeaning) → IsPartsMeaning line (line_parts line.text) m → Asks a ≡ if_it_has has line m → AsksFor line (line_parts line.text) a
+of_own line a true (Asks b) is e = of_parts line (line_parts line.text) a (subst (λ (c : LineMeaning). IsPartsMeaning line (line_parts line.text) c) (sym e) is)
+of_own line a false (Asks b) is e = cc e
+of_own line a has (IsNone f) is e = cc e
+of_own line a true (LeftOut c) is e = cc e
+of_own line a false (LeftOut c) is e = cc e
+of_own line a has AsksNothing is e = cc e
+
 of_filled : (line : FileLine) (text : List ℕ) (a : Demand) → IsFilledMeaning line text (Asks a) → AsksFor line (line_parts line.text) a
 of_filled line text a (inl (has, is)) = cc is
 of_filled line text a (inr (lacks, is)) = of_parts line (line_parts line.text) a is
@@ -307,6 +317,7 @@ of_section all line text a (Entry of_entries.Poetry table name) (m, is, e) = of_
 of_section all line text a (Entry of_entries.Pipenv table name) is = of_parts line (line_parts line.text) a is
 of_section all line text a (Unread c) is = cc is
 of_section all line text a Constraint is = of_parts line (line_parts line.text) a is
+of_section all line text a (OwnExtras asker extras) (m, is, e) = of_own line a (has_extras all.extras extras) m is e
 of_section all line text a (Environment table) is = of_filled line text a is
 of_section all line text a Build is = of_parts line (line_parts line.text) a is
 
@@ -340,6 +351,7 @@ module _ (line : FileLine) (n : Needed) (plain : IsPlain (line_parts line.text).
   asks all text (Invalid table reason) x has counts is = cc counts
   asks all text (Entry tool table name) x has counts is = cc counts
   asks all text Constraint x has counts is = cc counts
+  asks all text (OwnExtras asker extras) x has counts is = cc counts
   asks all text (Environment table) x has counts is = cc counts
   asks all text (Unread c) x has counts is = cc counts
   asks all text Build x has counts is = cc counts

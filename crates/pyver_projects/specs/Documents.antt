@@ -4,6 +4,7 @@ use Rattle.std.specs.Prelude.{Bool, false, true, List, None, Option, Some, [], b
 use Rattle.std.specs.List.{ends_with, flat_map, list_any, starts_with}
 use Rattle.std.specs.Option.{option_map_or, option_or, unwrap_or}
 use Rattle.pep440_pick.specs.Names.{is_name, is_name_byte, normal}
+use Rattle.pep440_pick.specs.RequirementReading.{name_of}
 use Rattle.pep440_rs.specs.Blanks.{opens}
 use Rattle.pep440_version.specs.Grammar.{starts}
 use Rattle.pep440_version.specs.Reading.{lead}
@@ -12,8 +13,8 @@ use Rattle.toml.specs.Data.{Data, Members, as_array, as_bool, as_str, as_table, 
 use Rattle.pyver_projects.specs.ContentHashes.{lock_hash}
 use Rattle.pyver_projects.specs.KnownEnvironments.{is_false}
 use Rattle.pyver_projects.specs.LockedFiles.{array_faults, files_from, last_section, counted_names, has_markers, locked_python, package_condition, package_faults, package_name_in, document_faults, member_packages}
-use Rattle.pyver_projects.specs.PackageRequirements.{entries_from, is_own_package, lacks, plain_list, poetry_list, requirement_text, requirements_from, both_markers, marked_text, platform_marker, python_marker}
-use Rattle.pyver_projects.specs.ProjectStrings.{Build, Constraint, Dependencies, Entry, Environment, Extra, Group, Include, Invalid, LockContents, LockFault, LockParts, LockedPackage, PackageCondition, ProjectString, Python, Section, Unread, Version, after_blanks, header_lines, entries, inside, is_array_or_none, is_table_or_none, key_path, listed, text_in, is_text_or_none}
+use Rattle.pyver_projects.specs.PackageRequirements.{entries_from, is_conditional, is_own_package, string_extras, lacks, plain_list, poetry_list, requirement_text, requirements_from, both_markers, marked_text, platform_marker, python_marker}
+use Rattle.pyver_projects.specs.ProjectStrings.{Build, Constraint, Dependencies, Entry, Environment, Extra, Group, Include, Invalid, LockContents, LockFault, LockParts, LockedPackage, OwnExtras, PackageCondition, ProjectString, Python, Section, Unread, Version, after_blanks, header_lines, entries, inside, is_array_or_none, is_table_or_none, key_path, listed, text_in, is_text_or_none}
 use Rattle.pyver_findings.specs.NamedFiles.{folder}
 use Rattle.pyver_findings.specs.declared.cause.Cause.{Cause}
 use Rattle.pyver_findings.specs.declared.cause.Cause.TheVariants as cause
@@ -319,9 +320,9 @@ abbrev pub pipenv_sources : Members → List ProjectString
 pipenv_sources document = pipenv_faults (get_member (codes "packages") document) (get_member (codes "dev-packages") document)
     ++ pipenv_tables (get_member (codes "pipenv") document) (get_member (codes "packages") document) (get_member (codes "dev-packages") document)
 
--- the strings of `pyproject.toml`, or of a Pipfile. Those of an included group stand in that group alone
-abbrev pub sources : Members → List ProjectString
-sources document = table_faults document
+-- the strings as they are written. Those of an included group stand in that group alone
+abbrev pub written_sources : Members → List ProjectString
+written_sources document = table_faults document
     ++ (table_sources (get_member (codes "project") document)
     ++ (dynamic_sources (get_member (codes "project") document)
     ++ (flat_map (group_sources (group_names document)) (groups_table document)
@@ -336,6 +337,44 @@ written_name document = option_or (text_in (inside (codes "name") (get_member (c
 -- its normal form, if it has a name
 abbrev pub project_names : Members → List (List ℕ)
 project_names document = option_to_list (option_map normal (written_name document))
+
+-- ---- extras that a project asks itself for (PEP 621, "dependencies/optional-dependencies"; PEP 508, "Extras")
+
+-- the names of its extras, by PEP 621 or as Poetry has them
+abbrev pub extra_names : Members → List (List ℕ)
+extra_names document = entry_names (entries (inside (codes "optional-dependencies") (get_member (codes "project") document)))
+    ++ entry_names (entries (inside (codes "extras") (inside (codes "poetry") (get_member (codes "tool") document))))
+
+-- the table `project` does not have them all (PEP 621, "dynamic")
+abbrev pub has_dynamic_extras : Members → Bool
+has_dynamic_extras document = list_any (λ (d : Data). option_map_or (bytes_eq (codes "optional-dependencies")) (as_str d) false) (listed (inside (codes "dynamic") (get_member (codes "project") document)))
+
+-- the names by which a project whose extras are known asks itself
+abbrev pub own_names : Members → List (List ℕ)
+own_names document = if has_dynamic_extras document then [] else project_names document
+
+-- the string begins with one of these names, and names extras
+abbrev pub asks_itself : List (List ℕ) → List ℕ → Bool
+asks_itself names text = nat_lt 0 (length (string_extras text)) && list_any (bytes_eq (normal (name_of text))) names
+
+-- an extra includes those that a string in it always asks for
+abbrev pub asker_in : List ℕ → List ℕ → Option (List ℕ)
+asker_in name text = if is_conditional text then None else Some name
+
+-- the section of a string that asks the project itself
+abbrev pub own_section : Section → List ℕ → Section
+own_section (Extra name) text = OwnExtras (asker_in name text) (map normal (string_extras text))
+own_section Dependencies text = OwnExtras None (map normal (string_extras text))
+own_section (Group name) text = OwnExtras None (map normal (string_extras text))
+own_section section text = section
+
+-- a string of a project with these names
+abbrev pub own_string : List (List ℕ) → ProjectString → ProjectString
+own_string names s = record { section = if asks_itself names s.text then own_section s.section s.text else s.section; text = s.text }
+
+-- the strings of `pyproject.toml`, or of a Pipfile
+abbrev pub sources : Members → List ProjectString
+sources document = map (own_string (own_names document)) (written_sources document)
 
 -- the name that a requirement begins with (PEP 508, "Grammar"), in its normal form
 abbrev pub leading_name : Option (List ℕ) → List (List ℕ)

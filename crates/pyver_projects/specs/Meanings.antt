@@ -1,6 +1,6 @@
--- What a string of `pyproject.toml`, a locked package and a document are to the check; and groups that include others (PEP 735).
+-- What a string of `pyproject.toml`, a locked package and a document are to the check; and groups (PEP 735) and extras (PEP 621) that include others.
 use Rattle.std.specs.Prelude.{◌≡◌, ◌⊎◌, ℕ, ◌+◌, List, [], ◌++◌, Bool, true, false, Option, Some, None, codes, if◌then◌else◌, length, map, ⊤, ◌-◌, drop, take, ◌||◌, ◌&&◌, suc, zero, ◌∷◌, bytes_eq}
-use Rattle.std.specs.List.{AllZip, All, flat_map, list_any}
+use Rattle.std.specs.List.{AllZip, All, flat_map, list_all, list_any}
 use Rattle.std.specs.Str.{IsUtf8}
 use Rattle.pep440_pick.specs.Names.{normal}
 use Rattle.pep440_pick.specs.RequirementGrammar.{has_byte}
@@ -21,19 +21,19 @@ use Rattle.pyver_findings.specs.declared.cause.Cause.TheVariants as cause
 use Rattle.pyver_requirements.specs.LineParts.{line_parts}
 use Rattle.toml.specs.Data.{Members}
 use Rattle.toml.specs.Parse.{parse_document}
-use Rattle.pyver_projects.specs.Documents.{has_group_tool, locked, overridden_names, project_names, sources, group_names}
+use Rattle.pyver_projects.specs.Documents.{extra_names, has_group_tool, locked, overridden_names, project_names, sources, group_names}
 use Rattle.pyver_projects.specs.KnownEnvironments.{ReadCondition}
 use Rattle.pyver_projects.specs.PackageRequirements.{package_text, requirement_text}
-use Rattle.pyver_projects.specs.ProjectStrings.{Build, Constraint, Dependencies, Entry, Environment, Extra, Group, Include, Invalid, LockContents, LockFault, LockParts, LockedFile, LockedPackage, LockedRequirement, PackageCondition, ProjectString, Python, Section, Unread, Version, string_number, last_bytes, line_after, line_at}
+use Rattle.pyver_projects.specs.ProjectStrings.{Build, Constraint, Dependencies, Entry, Environment, Extra, Group, Include, Invalid, LockContents, LockFault, LockParts, LockedFile, LockedPackage, LockedRequirement, OwnExtras, PackageCondition, ProjectString, Python, Section, Unread, Version, string_number, last_bytes, line_after, line_at}
 use Rattle.pyver_projects.specs.declared.document_kind.DocumentKind.{DocumentKind}
 use Rattle.pyver_projects.specs.declared.project.EntryTool.{EntryTool}
 use Rattle.pyver_projects.specs.declared.project.EntryTool.TheVariants as of_entries
 use Rattle.pyver_projects.specs.declared.document_kind.DocumentKind.TheVariants.{Lock, Project}
 use Rattle.pyver_findings.specs.Reports.{demands_in}
 
--- ---- groups that include others
+-- ---- groups and extras that include others
 
--- one group includes another: both names in their normal form
+-- one group includes another, or one extra: both names in their normal form
 pub record Inclusion : Type 0 where
   pub group : List ℕ
   pub included : List ℕ
@@ -44,6 +44,7 @@ inclusion (Include group included) = record { group = group; included = included
 inclusion Dependencies = []
 inclusion (Extra name) = []
 inclusion (Group name) = []
+inclusion (OwnExtras asker extras) = []
 inclusion (Invalid table reason) = []
 inclusion (Entry tool table name) = []
 inclusion Constraint = []
@@ -53,18 +54,33 @@ inclusion Build = []
 inclusion Python = []
 inclusion Version = []
 
--- the groups of a project: their names, and which includes which
+-- the groups of a project: their names, and which includes which; and the names of its extras
 pub record Groups : Type 0 where
   pub names : List (List ℕ)
   pub inclusions : List Inclusion
+  pub extras : List (List ℕ)
 
 -- the inclusions of these sections
 abbrev pub inclusions : List Section → List Inclusion
 inclusions sections = flat_map inclusion sections
 
--- the groups of `pyproject.toml`
+-- the extra, if there is one, includes these
+abbrev pub inclusions_by : Option (List ℕ) → List (List ℕ) → List Inclusion
+inclusions_by None extras = []
+inclusions_by (Some asker) extras = map (λ (e : List ℕ). record { group = asker; included = e }) extras
+
+-- which extra includes which, by a section
+abbrev pub extra_inclusion : Section → List Inclusion
+extra_inclusion (OwnExtras asker extras) = inclusions_by asker extras
+extra_inclusion section = []
+
+-- by these sections
+abbrev pub extra_inclusions : List Section → List Inclusion
+extra_inclusions sections = flat_map extra_inclusion sections
+
+-- the groups of `pyproject.toml`, and its extras
 abbrev pub groups : Members → Groups
-groups document = record { names = group_names document; inclusions = inclusions (map (λ (s : ProjectString). s.section) (sources document)) }
+groups document = record { names = group_names document; inclusions = inclusions (map (λ (s : ProjectString). s.section) (sources document)); extras = extra_names document }
 
 -- it includes the group, and has this property
 abbrev pub includes_by : (List ℕ → Bool) → List ℕ → Inclusion → Bool
@@ -88,6 +104,17 @@ abbrev pub include_meaning : Groups → FileLine → List ℕ → List ℕ → L
 include_meaning all line group included = if list_any (bytes_eq included) all.names
     then (if includes all.inclusions included group then no_group line (codes "the group includes itself") else AsksNothing)
     else no_group line (codes "there is no group of this name")
+
+-- each of these is an extra of the project
+abbrev pub has_extras : List (List ℕ) → List (List ℕ) → Bool
+has_extras all extras = list_all (λ (e : List ℕ). list_any (bytes_eq e) all) extras
+
+-- what a line is that asks for extras of the project itself, if it has them or not
+abbrev pub if_it_has : Bool → FileLine → LineMeaning → LineMeaning
+if_it_has has line (Asks a) = if has then Asks a else no_group line (codes "the project has no extra of this name")
+if_it_has has line (LeftOut c) = if has then LeftOut c else no_group line (codes "the project has no extra of this name")
+if_it_has has line (IsNone f) = IsNone f
+if_it_has has line AsksNothing = AsksNothing
 
 -- ---- strings of `pyproject.toml`
 
@@ -115,6 +142,10 @@ IsEntryMeaning of_entries.Pipenv line x = IsPartsMeaning line (line_parts line.t
 abbrev pub IsFilledMeaning : FileLine → List ℕ → LineMeaning → Type 0
 IsFilledMeaning line text x = ((has_byte 123 text ≡ true) × (x ≡ LeftOut cause.OtherSyntax)) ⊎ ((has_byte 123 text ≡ false) × IsPartsMeaning line (line_parts line.text) x)
 
+-- what a line is that asks a project with these groups for extras of its own: a requirement, of extras that it has
+abbrev pub IsOwnMeaning : Groups → List (List ℕ) → FileLine → LineMeaning → Type 0
+IsOwnMeaning all extras line x = (m : LineMeaning) × IsPartsMeaning line (line_parts line.text) m × (x ≡ if_it_has (has_extras all.extras extras) line m)
+
 -- what the string of this line, which is this text, is in this section of a project with these groups
 abbrev pub IsSectionMeaning : Groups → Section → FileLine → List ℕ → LineMeaning → Type 0
 IsSectionMeaning all Python line text x = IsListMeaning line text x
@@ -123,6 +154,7 @@ IsSectionMeaning all Dependencies line text x = IsPartsMeaning line (line_parts 
 IsSectionMeaning all (Extra name) line text x = IsPartsMeaning line (line_parts line.text) x
 IsSectionMeaning all (Group name) line text x = IsPartsMeaning line (line_parts line.text) x
 IsSectionMeaning all (Include group included) line text x = x ≡ include_meaning all line group included
+IsSectionMeaning all (OwnExtras asker extras) line text x = IsOwnMeaning all extras line x
 IsSectionMeaning all (Invalid table reason) line text x = x ≡ no_group line reason
 IsSectionMeaning all (Entry tool table name) line text x = IsEntryMeaning tool line x
 IsSectionMeaning all Constraint line text x = IsPartsMeaning line (line_parts line.text) x
@@ -146,6 +178,7 @@ ArePythons Dependencies text p = p ≡ None
 ArePythons (Extra name) text p = p ≡ None
 ArePythons (Group name) text p = p ≡ None
 ArePythons (Include group included) text p = p ≡ None
+ArePythons (OwnExtras asker extras) text p = p ≡ None
 ArePythons (Invalid table reason) text p = p ≡ None
 ArePythons (Entry tool table name) text p = p ≡ None
 ArePythons Constraint text p = p ≡ None

@@ -1,10 +1,10 @@
 -- What locked packages require of one another.
-use Rattle.std.specs.Prelude.{ℕ, ◌&&◌, ◌||◌, List, [], ◌∷◌, ◌++◌, Bool, false, true, Option, Some, None, bytes_eq, codes, if◌then◌else◌, is_none, is_some, nat_eq, nat_lt, not, option_map, count_by, map, ◌==◌}
+use Rattle.std.specs.Prelude.{ℕ, ◌&&◌, ◌||◌, List, [], ◌∷◌, ◌++◌, Bool, false, true, Option, Some, None, bytes_eq, codes, drop, if◌then◌else◌, is_none, is_some, nat_eq, nat_lt, not, option_map, count_by, map, ◌==◌}
 use Rattle.std.specs.List.{flat_map, list_any, starts_with, list_all, slice_split}
 use Rattle.std.specs.Option.{option_map_or, unwrap_or}
 use Rattle.pep440_pick.specs.Names.{is_name, is_name_byte}
 use Rattle.pep440_pick.specs.RequirementGrammar.{has_byte}
-use Rattle.pep440_pick.specs.RequirementReading.{split_at_byte}
+use Rattle.pep440_pick.specs.RequirementReading.{behind_name, listed_extras, split_at_byte}
 use Rattle.pep440_rs.specs.Blanks.{opens}
 use Rattle.pep440_version.specs.Changes.ChangeWords.{after}
 use Rattle.pep440_version.specs.Grammar.{starts}
@@ -157,9 +157,21 @@ requirement_text name (b ∷ list) = name ++ (codes " " ++ (b ∷ list))
 abbrev pub past_extras : List ℕ → List ℕ
 past_extras rest = if opens 91 rest then unwrap_or (option_map (λ p. p.1) (split_at_byte 93 rest)) rest else rest
 
+-- what stands in the brackets with which this begins
+abbrev pub in_brackets : List ℕ → List ℕ
+in_brackets rest = if opens 91 rest then option_map_or (λ p. p.0) (split_at_byte 93 (drop 1 rest)) [] else []
+
+-- the extras behind the name that a string begins with (PEP 508, "Extras")
+abbrev pub string_extras : List ℕ → List (List ℕ)
+string_extras text = listed_extras (in_brackets (behind_name text))
+
+-- the string has a marker or a URL
+abbrev pub is_conditional : List ℕ → Bool
+is_conditional text = has_byte 59 text || has_byte 64 text
+
 -- a string that begins with a name (PEP 508), and has no marker and no URL
 abbrev pub is_plain_string : List ℕ → Bool
-is_plain_string text = is_name (lead is_name_byte text) && (not (has_byte 59 text) && not (has_byte 64 text))
+is_plain_string text = is_name (lead is_name_byte text) && not (is_conditional text)
 
 module _ (line : ℕ) (requirer : List ℕ) where
   -- a requirement of this name with this list

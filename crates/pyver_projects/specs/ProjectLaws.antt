@@ -34,10 +34,10 @@ use Rattle.pyver_projects.specs.Comparing.{IsDocumentsReport, is_beside, is_inst
 use Rattle.pyver_findings.specs.NamedFiles.{folder}
 use Rattle.pyver_projects.specs.ContentHashes.{hash_of, hashed_texts, is_known_text}
 use Rattle.pyver_projects.specs.Documents.{has_group_tool, locked, overridden_names, project_names, sources}
-use Rattle.pyver_projects.specs.Meanings.{groups, AreLockedPythons, Document, IsSectionMeaning, IsStringReading, StringReading, fault_meaning, file_meaning, is_of_version, package_line, requirement_line, string_line}
+use Rattle.pyver_projects.specs.Meanings.{groups, AreLockedPythons, Inclusion, extra_inclusions, Document, IsSectionMeaning, IsStringReading, StringReading, fault_meaning, file_meaning, is_of_version, package_line, requirement_line, string_line}
 use Rattle.pyver_projects.specs.KnownEnvironments.{is_for, known_environment, known_environments, python_record}
 use Rattle.pyver_projects.specs.ProjectStrings.{ContentHash, LockContents, LockFault, LockParts, LockedFile, LockedPackage, LockedRequirement, PackageCondition, ProjectString, Section}
-use Rattle.pyver_projects.specs.Together.{has_group, holds_in, is_replaced, is_standard, part_demands, project_domain, project_python, section_part}
+use Rattle.pyver_projects.specs.Together.{has_extra, has_group, holds_in, is_replaced, is_standard, part_demands, project_domain, project_python, section_part}
 use Rattle.pyver_projects.specs.declared.document_kind.DocumentKind.{DocumentKind}
 use Rattle.pyver_projects.specs.declared.document_kind.DocumentKind.TheVariants.{Lock, Project}
 use Rattle.pyver_projects.specs.declared.document_kind.LockKind.{LockKind}
@@ -123,13 +123,17 @@ pub record IsInvalidString (documents : List Document) (f : Finding) : Type 0 wh
   pub within : Contains (sources table) string
   pub is : IsSectionMeaning (groups table) string.section (string_line file string) string.text (IsNone f)
 
--- the line of a string that holds in the part, which has these groups
-abbrev pub line_in_part : Bool → (List ℕ → Bool) → Section → File → ProjectString → List FileLine
-line_in_part together has part file s = if holds_in together has part s.section then string_line file s ∷ [] else []
+-- the line of a string that holds in the part, which has these groups and extras
+abbrev pub line_in_part : Bool → (has_group has_extra : List ℕ → Bool) → Section → File → ProjectString → List FileLine
+line_in_part together groups extras part file s = if holds_in together groups extras part s.section then string_line file s ∷ [] else []
+
+-- which extra of a project with this table includes which
+abbrev pub extras_of : Members → List Inclusion
+extras_of t = extra_inclusions (map (λ (s : ProjectString). s.section) (sources t))
 
 -- the lines of the strings that hold in the part
 abbrev pub part_lines : File → Members → Section → List FileLine
-part_lines file t part = flat_map (line_in_part (has_group_tool t) (has_group (groups t).inclusions part) part file) (sources t)
+part_lines file t part = flat_map (line_in_part (has_group_tool t) (has_group (groups t).inclusions part) (has_extra (extras_of t) part) part file) (sources t)
 
 -- the environments in which the project with this table is installed
 abbrev pub IsProjectDomain : File → Members → Domain → Type 0
@@ -471,7 +475,7 @@ pub record IsPart (documents : List Document) (d : Domain) (lines : List Demand)
   pub within : Contains (sources table) string
   pub read : AllZip (IsStringReading (groups table) file) (sources table) readings
   pub bounds : d ≡ project_domain readings
-  pub are : lines ≡ part_demands (has_group_tool table) (overridden_names table) (groups table).inclusions (section_part string.section) readings
+  pub are : lines ≡ part_demands (has_group_tool table) (overridden_names table) (groups table).inclusions (extras_of table) (section_part string.section) readings
 
 -- those of one name without a marker have a version in common
 abbrev pub AllSatisfiable : List Document → Type 0

@@ -62,7 +62,8 @@ abbrev pub is_text_or_none : Option Data → Bool
 is_text_or_none value = is_some_or as_str value
 
 -- where a string stands in `pyproject.toml` or a Pipfile: extras and groups by the normal forms of their names, and for the name of a group that
--- another includes both; or, for a key or a name that is invalid, the path of what it stands in, and why it is; or, for what a key of a table of
+-- another includes both; or, for one that asks for extras of the project itself, the extra in which it stands, if its extras belong to that, and the
+-- extras; or, for a key or a name that is invalid, the path of what it stands in, and why it is; or, for what a key of a table of
 -- Poetry or Pipenv asks for, the tool, the path of the table and the key; or that it is a constraint or an override of uv; or the path of the table of
 -- an environment of Hatch; or why what stands there is not read
 pub data Section : Type 0 where
@@ -70,6 +71,7 @@ pub data Section : Type 0 where
   Extra : List ℕ → Section
   Group : List ℕ → Section
   Include : (group included : List ℕ) → Section
+  OwnExtras : (asker : Option (List ℕ)) → (extras : List (List ℕ)) → Section
   Invalid : (table reason : List ℕ) → Section
   Entry : EntryTool → (table name : List ℕ) → Section
   Constraint : Section
@@ -285,6 +287,7 @@ section_path Dependencies = codes "project.dependencies."
 section_path (Extra name) = codes "project.optional-dependencies."
 section_path (Group name) = codes "dependency-groups."
 section_path (Include group included) = codes "dependency-groups."
+section_path (OwnExtras asker extras) = codes "project.optional-dependencies."
 section_path (Invalid table reason) = table
 section_path (Entry tool table name) = table
 section_path Constraint = codes "tool.uv."

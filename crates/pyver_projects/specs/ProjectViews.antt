@@ -4,7 +4,7 @@ use Rattle.std.specs.Prelude.{map, option_map, option_to_list, string_bytes, Boo
 use Rattle.pyver_findings.specs.Views.{file_line_of, file_of, finding_of, line_meaning_of}
 use Rattle.pyver_projects.specs.Meanings.{Inclusion, Groups, Document, DocumentReading, IsBroken, IsLock, IsProject, LockedReading, StringReading}
 use Rattle.pyver_projects.specs.KnownEnvironments.{ReadCondition}
-use Rattle.pyver_projects.specs.ProjectStrings.{Build, Constraint, ContentHash, Dependencies, Entry, Environment, Extra, Group, Include, Invalid, KeyLine, LockContents, LockFault, LockParts, LockedFile, LockedPackage, LockedRequirement, PackageCondition, Section, Python, ProjectString, Unread, Version}
+use Rattle.pyver_projects.specs.ProjectStrings.{Build, Constraint, ContentHash, Dependencies, Entry, Environment, Extra, Group, Include, Invalid, KeyLine, LockContents, LockFault, LockParts, LockedFile, LockedPackage, LockedRequirement, OwnExtras, PackageCondition, Section, Python, ProjectString, Unread, Version}
 use Rattle.pyver_projects.specs.declared.document_kind.Document.{Document as DocumentValue}
 use Rattle.pyver_projects.specs.declared.document_reading.DocumentReading.{DocumentReading as DocumentReadingValue}
 use Rattle.pyver_projects.specs.declared.document_reading.ReadDocument.{ReadDocument as ReadDocumentValue}
@@ -43,6 +43,7 @@ section_of section.Dependencies = Dependencies
 section_of (section.Extra name) = Extra name.items
 section_of (section.Group name) = Group name.items
 section_of (section.Include group included) = Include group.items included.items
+section_of (section.OwnExtras asker extras) = OwnExtras (option_map (λ n. n.items) asker) (map (λ e. e.items) extras.items)
 section_of (section.Invalid table reason) = Invalid table.items reason.now
 section_of (section.Entry tool table name) = Entry tool table.items name.items
 section_of section.Constraint = Constraint
@@ -166,11 +167,11 @@ IsGroupOrder is order = order.is_right ≡ list_all (stands_before (rank_of orde
 -- ---- groups
 
 abbrev pub groups_of : GroupsValue → Groups
-groups_of all = record { names = indexed_names all.names; inclusions = inclusions_of all.inclusions }
+groups_of all = record { names = indexed_names all.names; inclusions = inclusions_of all.inclusions; extras = indexed_names all.extras }
 
 -- its maps are right
 abbrev pub HasGroups : GroupsValue → Type 0
-HasGroups all = IsNameIndex all.names × IsInclusionIndex all.inclusions × IsGroupOrder (inclusions_of all.inclusions) all.order
+HasGroups all = IsNameIndex all.names × IsInclusionIndex all.inclusions × IsGroupOrder (inclusions_of all.inclusions) all.order × IsNameIndex all.extras
 
 abbrev pub index_parts : PackageIndex → LockParts
 index_parts index = parts_of index.parts.now

@@ -1,7 +1,7 @@
--- Requirements of a project that hold together: its dependencies; those of an extra with the dependencies; those of a group with the groups
--- that it includes, and with the dependencies if `together` is true; those of its build; and those of an environment of Hatch. What a project
+-- Requirements of a project that hold together: its dependencies; those of an extra with the extras that it includes and the dependencies; those of a group
+-- with the groups that it includes, and with the dependencies if `together` is true; those of its build; and those of an environment of Hatch. What a project
 -- overrides is replaced by the override.
-use Rattle.std.specs.Prelude.{◌≡◌, ℕ, ◌&&◌, List, [], ◌∷◌, ◌++◌, Bool, true, false, None, Option, bytes_eq, map, nat_eq, not, if◌then◌else◌, is_some}
+use Rattle.std.specs.Prelude.{◌≡◌, ℕ, ◌&&◌, List, [], ◌∷◌, ◌++◌, Bool, true, false, None, Option, Some, bytes_eq, map, nat_eq, not, if◌then◌else◌, is_some}
 use Rattle.std.specs.List.{filter, flat_map, list_any}
 use Rattle.std.specs.Option.{option_or}
 use Rattle.pep440_rs.specs.Bounds.{Segments}
@@ -11,18 +11,21 @@ use Rattle.pyver_findings.specs.MarkedConflicts.{FindsOfEach, FindsOfNames}
 use Rattle.pyver_findings.specs.Reports.{demands_in}
 use Rattle.pyver_findings.specs.declared.cause.Cause.{Cause}
 use Rattle.pyver_markers.specs.Conditions.{Domain}
-use Rattle.pyver_projects.specs.Meanings.{Inclusion, includes, inclusions, StringReading}
-use Rattle.pyver_projects.specs.ProjectStrings.{Build, Constraint, Dependencies, Entry, Environment, Extra, Group, Include, Invalid, Python, Section, Unread, Version}
+use Rattle.pyver_projects.specs.Meanings.{Inclusion, extra_inclusions, includes, inclusions, StringReading}
+use Rattle.pyver_projects.specs.ProjectStrings.{Build, Constraint, Dependencies, Entry, Environment, Extra, Group, Include, Invalid, OwnExtras, Python, Section, Unread, Version}
 
 -- ---- parts of a project
 
--- the part to which a string of the section belongs: the name of an included group belongs to the group that includes it; and to the dependencies what
+-- the part to which a string of the section belongs: the name of an included group belongs to the group that includes it, and an included extra to the extra
+-- that does; and to the dependencies what
 -- tables of Poetry and Pipenv ask for, since both look for versions for all their groups at once, and what uv is to add to them
 abbrev pub section_part : Section → Section
 section_part (Include group included) = Group group
 section_part Dependencies = Dependencies
 section_part (Extra name) = Extra name
 section_part (Group name) = Group name
+section_part (OwnExtras None extras) = OwnExtras None extras
+section_part (OwnExtras (Some asker) extras) = Extra asker
 section_part (Invalid table reason) = Invalid table reason
 section_part (Entry tool table name) = Dependencies
 section_part Constraint = Dependencies
@@ -48,10 +51,10 @@ has_dependencies together (Extra name) = true
 has_dependencies together (Group name) = together
 has_dependencies together _ = false
 
--- the part is this extra
-abbrev pub is_extra : List ℕ → Section → Bool
-is_extra name (Extra other) = bytes_eq name other
-is_extra name _ = false
+-- the part is an extra that is this one or includes it
+abbrev pub has_extra : List Inclusion → Section → List ℕ → Bool
+has_extra is (Extra extra) name = includes is extra name
+has_extra is part name = false
 
 -- the part is a group that is this one or includes it
 abbrev pub has_group : List Inclusion → Section → List ℕ → Bool
@@ -59,6 +62,7 @@ has_group is (Group group) name = includes is group name
 has_group is Dependencies name = false
 has_group is (Extra other) name = false
 has_group is (Include group included) name = false
+has_group is (OwnExtras asker extras) name = false
 has_group is (Invalid table reason) name = false
 has_group is (Entry tool table key) name = false
 has_group is Constraint name = false
@@ -77,20 +81,21 @@ abbrev pub is_environment : List ℕ → Section → Bool
 is_environment table (Environment other) = bytes_eq table other
 is_environment table _ = false
 
--- a string of the section holds in the part, which has these groups
-abbrev pub holds_in : Bool → (List ℕ → Bool) → Section → Section → Bool
-holds_in together has part Dependencies = has_dependencies together part
-holds_in together has part (Extra name) = is_extra name part
-holds_in together has part (Group name) = has name
-holds_in together has part Build = is_build part
-holds_in together has part (Include group included) = false
-holds_in together has part (Invalid table reason) = false
-holds_in together has part (Entry tool table name) = has_dependencies together part
-holds_in together has part Constraint = has_dependencies together part
-holds_in together has part (Environment table) = is_environment table part
-holds_in together has part (Unread c) = false
-holds_in together has part Python = false
-holds_in together has part Version = false
+-- a string of the section holds in the part, which has these groups and extras
+abbrev pub holds_in : Bool → (has_group has_extra : List ℕ → Bool) → Section → Section → Bool
+holds_in together groups extras part Dependencies = has_dependencies together part
+holds_in together groups extras part (Extra name) = extras name
+holds_in together groups extras part (Group name) = groups name
+holds_in together groups extras part Build = is_build part
+holds_in together groups extras part (Include group included) = false
+holds_in together groups extras part (OwnExtras asker asked) = false
+holds_in together groups extras part (Invalid table reason) = false
+holds_in together groups extras part (Entry tool table name) = has_dependencies together part
+holds_in together groups extras part Constraint = has_dependencies together part
+holds_in together groups extras part (Environment table) = is_environment table part
+holds_in together groups extras part (Unread c) = false
+holds_in together groups extras part Python = false
+holds_in together groups extras part Version = false
 
 -- the section is of the tables that PEP 621 and PEP 735 define, whose requirements uv and PDM may replace
 abbrev pub is_standard : Section → Bool
@@ -108,12 +113,12 @@ abbrev pub unreplaced : List (List ℕ) → Section → List Demand → List Dem
 unreplaced overridden section lines = filter (λ (a : Demand). not (is_replaced overridden section a.name)) lines
 
 -- the requirement of a string that holds in the part of a project that overrides these names
-abbrev pub demand_in_part : Bool → List (List ℕ) → (List ℕ → Bool) → Section → StringReading → List Demand
-demand_in_part together overridden has part x = if holds_in together has part x.section then unreplaced overridden x.section (demands_in x.meaning) else []
+abbrev pub demand_in_part : Bool → List (List ℕ) → (has_group has_extra : List ℕ → Bool) → Section → StringReading → List Demand
+demand_in_part together overridden groups extras part x = if holds_in together groups extras part x.section then unreplaced overridden x.section (demands_in x.meaning) else []
 
--- the requirements of a part
-abbrev pub part_demands : Bool → List (List ℕ) → List Inclusion → Section → List StringReading → List Demand
-part_demands together overridden is part xs = flat_map (demand_in_part together overridden (has_group is part) part) xs
+-- the requirements of a part, where groups and extras include others so
+abbrev pub part_demands : Bool → List (List ℕ) → (groups extras : List Inclusion) → Section → List StringReading → List Demand
+part_demands together overridden groups extras part xs = flat_map (demand_in_part together overridden (has_group groups part) (has_extra extras part) part) xs
 
 -- the requirements of all strings
 abbrev pub all_demands : List StringReading → List Demand
@@ -166,7 +171,7 @@ project_domain xs = record { linked = true; python = project_python xs }
 
 -- of the requirements of a part those that have no version in common, in an environment in which the project is installed
 abbrev pub FindsOfPart : Bool → List (List ℕ) → List StringReading → Section → List Finding → List Cause → Type 0
-FindsOfPart together overridden xs part = FindsOfNames (project_domain xs) (part_demands together overridden (inclusions (sections xs)) part xs)
+FindsOfPart together overridden xs part = FindsOfNames (project_domain xs) (part_demands together overridden (inclusions (sections xs)) (extra_inclusions (sections xs)) part xs)
 
 -- of each part, each finding once
 abbrev pub FindsOfParts : Bool → List (List ℕ) → List StringReading → List Finding → List Cause → Type 0

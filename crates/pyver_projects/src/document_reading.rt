@@ -1,7 +1,7 @@
 //! What strings of a project and documents are to the check.
 ghost use Rattle.std.specs.Prelude.{◌≡◌, IfOk, IfSome, Some, map, option_map, string_bytes, is_none, false};
 ghost use Rattle.pyver_projects.specs.Documents.{locked, toml_contents};
-ghost use Rattle.pyver_projects.specs.Meanings.{AreLockedPythons, ArePythons, AreVersions, IsBrokenReading, IsContentsReading, IsDocumentReading, IsEntryMeaning, IsFilledMeaning, IsLockReading, IsProjectReading, IsTextReading, IsSectionMeaning, IsStringReading, IsVersionMeaning, list_versions, include_meaning, no_group};
+ghost use Rattle.pyver_projects.specs.Meanings.{AreLockedPythons, ArePythons, AreVersions, IsBrokenReading, IsContentsReading, IsDocumentReading, IsEntryMeaning, IsFilledMeaning, IsLockReading, IsOwnMeaning, IsProjectReading, IsTextReading, IsSectionMeaning, IsStringReading, IsVersionMeaning, if_it_has, list_versions, include_meaning, no_group};
 ghost use Rattle.pyver_projects.specs.ProjectViews.{contents_of, document_of, document_reading_of, HasGroups, groups_of, project_string_of, section_of, string_reading_of};
 ghost use Rattle.pyver_projects.specs.declared.document_kind.DocumentKind.TheVariants as of_kind;
 ghost use Rattle.pyver_projects.specs.declared.document_kind.LockKind.TheVariants as lock_kind;
@@ -25,12 +25,13 @@ use crate::locked_package::{LockContents, LockParts};
 use crate::locked_reading::{
     LockedReading, push_faults, read_files, read_packages, read_requirements,
 };
+use crate::own_extras::{extra_names, project_strings};
 use crate::pipfile_lock::pipfile_contents;
 use crate::place::{
     Places, document_keys, position_of, read_places, read_quoted_lines, reject_document,
     string_line,
 };
-use crate::project::{EntryTool, ProjectString, Section, project_strings};
+use crate::project::{EntryTool, ProjectString, Section};
 use crate::toml_lock::toml_contents;
 use crate::tool_tables::overridden_names;
 use pep440_rs::{ErrorKind, Version, VersionParseError, VersionSpecifiers};
@@ -95,7 +96,13 @@ fn read_project(
     let strings = project_strings(alloc, &table)?;
     let names = group_names(alloc, &table)?;
     let inclusions = string_inclusions(alloc, strings.as_slice())?;
-    let groups = Groups::new(alloc, names.as_slice(), inclusions.as_slice())?;
+    let extras = extra_names(alloc, &table)?;
+    let groups = Groups::new(
+        alloc,
+        names.as_slice(),
+        inclusions.as_slice(),
+        extras.as_slice(),
+    )?;
     let keys = document_keys(alloc, text.as_bytes())?;
     let places = read_places(alloc, text.as_bytes(), keys.as_slice())?;
     let strings = read_strings(alloc, &groups, name, &places, strings.as_slice())?;
@@ -330,6 +337,7 @@ fn parse_python(
         Section::Version | Section::Dependencies | Section::Build => Ok(None),
         Section::Extra(_) | Section::Group(_) => Ok(None),
         Section::Include(_, _) | Section::Invalid(_, _) | Section::Entry(_, _, _) => Ok(None),
+        Section::OwnExtras(_, _) => Ok(None),
         Section::Constraint | Section::Environment(_) | Section::Unread(_) => Ok(None),
     }
 }
@@ -431,6 +439,37 @@ fn parse_environment_string(
     Ok(meaning)
 }
 
+// What a line is that asks for extras of the project itself, if it has them or not.
+fn if_it_has(
+    alloc: Global,
+    has: bool,
+    line: &FileLine,
+    meaning: LineMeaning,
+) -> Result<LineMeaning, AllocError>
+    ensures { IfOk result (λ x. line_meaning_of x ≡ if_it_has has (file_line_of line.now) (line_meaning_of meaning)) }
+{
+    match meaning {
+        LineMeaning::Asks(_) | LineMeaning::LeftOut(_) if !has => {
+            no_group(alloc, line, "the project has no extra of this name")
+        }
+        other => Ok(other),
+    }
+}
+
+// What a line is that asks for these extras of the project itself.
+fn parse_own(
+    alloc: Global,
+    groups: &Groups<'_>,
+    line: &FileLine,
+    extras: &[Vec<u8>],
+) -> Result<LineMeaning, AllocError>
+    requires { HasGroups groups.now }
+    ensures { IfOk result (λ x. IsOwnMeaning (groups_of groups.now) (map (λ e. e.items) extras.now) (file_line_of line.now) (line_meaning_of x)) }
+{
+    let meaning = parse_requirement(alloc, line)?;
+    if_it_has(alloc, groups.has_extras(extras), line, meaning)
+}
+
 // What the string of this line, which is this text, is in this section of a project with these groups.
 fn parse_string(
     alloc: Global,
@@ -449,6 +488,7 @@ fn parse_string(
         Section::Extra(_) => parse_requirement(alloc, line),
         Section::Group(_) => parse_requirement(alloc, line),
         Section::Build => parse_requirement(alloc, line),
+        Section::OwnExtras(_, extras) => parse_own(alloc, groups, line, extras.as_slice()),
         Section::Invalid(_, reason) => no_group(alloc, line, reason),
         Section::Entry(tool, _, _) => parse_entry(alloc, *tool, line),
         Section::Constraint => parse_requirement(alloc, line),

@@ -1,8 +1,8 @@
-//! Groups that include others, and an order of them.
+//! Groups and extras that include others, and an order of groups.
 ghost use Rattle.std.specs.Prelude.{◌≡◌, ◌++◌, IfOk, bytes_eq, map, ◌∷◌, [], List, ℕ, if◌then◌else◌, count_by, nat_lt, ◌&&◌};
 ghost use Rattle.std.specs.List.{flat_map, list_any, filter, list_all};
 ghost use Rattle.pyver_projects.specs.Documents.{entry_names, group_names, has_group_tool, has_tool};
-ghost use Rattle.pyver_projects.specs.Meanings.{includes, inclusion, inclusions, includes_by};
+ghost use Rattle.pyver_projects.specs.Meanings.{extra_inclusion, extra_inclusions, has_extras, includes, inclusion, inclusions, includes_by};
 ghost use Rattle.pyver_projects.specs.ProjectViews.{HasGroups, IsInclusionIndex, IsNameIndex, IsGroupOrder, groups_of, inclusions_of, indexed_names, is_repeated, inclusion_of, project_string_of, section_of, string_reading_of, stands_before, rank_of, GainsNames, IsFound, KeepsFound, has_key};
 ghost use Rattle.pyver_projects.specs.Together.{sections};
 ghost use Rattle.pyver_projects.specs.ProjectStrings.{members_list};
@@ -18,19 +18,20 @@ use std::alloc::{AllocError, Global};
 use std::collections::HashMap;
 use toml::Table;
 
-// One group includes another. Names are in their normal form.
+// One group includes another, or one extra. Names are in their normal form.
 #[derive(Drop)]
 pub(crate) struct Inclusion {
     pub(crate) group: Vec<u8>,
     pub(crate) included: Vec<u8>,
 }
 
-// The names of groups in their normal form, which includes which, and an order.
+// The names of groups in their normal form, which includes which, and an order; and the names of extras.
 #[derive(Drop)]
 pub(crate) struct Groups<'a> {
     names: NameIndex<'a>,
     inclusions: InclusionIndex<'a>,
     order: GroupOrder<'a>,
+    extras: NameIndex<'a>,
 }
 
 fn new_inclusion(group: &Vec<u8>, included: &Vec<u8>) -> Result<Inclusion, AllocError>
@@ -49,6 +50,45 @@ fn push_inclusion(inclusions: &mut Vec<Inclusion>, section: &Section) -> Result<
         inclusions.push(new_inclusion(group, included)?)?;
     }
     Ok(())
+}
+
+fn push_extras(
+    inclusions: &mut Vec<Inclusion>,
+    asker: &Vec<u8>,
+    extras: &[Vec<u8>],
+) -> Result<(), AllocError>
+    ensures { IfOk result (λ _. map inclusion_of inclusions.new.items ≡ map inclusion_of inclusions.old.items ++ map (λ (e : List ℕ). record { group = asker.now.items; included = e }) (map (λ e. e.items) extras.now)) }
+{
+    for extra in extras {
+        inclusions.push(new_inclusion(asker, extra)?)?;
+    }
+    Ok(())
+}
+
+fn push_extra_inclusion(
+    inclusions: &mut Vec<Inclusion>,
+    section: &Section,
+) -> Result<(), AllocError>
+    ensures { IfOk result (λ _. map inclusion_of inclusions.new.items ≡ map inclusion_of inclusions.old.items ++ extra_inclusion (section_of section.now)) }
+{
+    if let Section::OwnExtras(Some(asker), extras) = section {
+        push_extras(inclusions, asker, extras.as_slice())?;
+    }
+    Ok(())
+}
+
+// Which extras of strings include which.
+pub(crate) fn extra_inclusions(
+    alloc: Global,
+    strings: &[StringReading],
+) -> Result<Vec<Inclusion>, AllocError>
+    ensures { IfOk result (λ is. map inclusion_of is.items ≡ extra_inclusions (sections (map string_reading_of strings.now))) }
+{
+    let mut inclusions = Vec::new(alloc);
+    for string in strings {
+        push_extra_inclusion(&mut inclusions, &string.section)?;
+    }
+    Ok(inclusions)
 }
 
 // Which groups of the strings of a document include which.
@@ -114,22 +154,25 @@ pub(crate) fn has_group_tool(document: &Table) -> bool
 }
 
 impl<'a> Groups<'a> {
-    // The groups with these names, which include others so.
+    // The groups with these names, which include others so, beside these extras.
     pub(crate) fn new(
         alloc: Global,
         names: &'a [Vec<u8>],
         inclusions: &'a [Inclusion],
+        extras: &'a [Vec<u8>],
     ) -> Result<Groups<'a>, AllocError>
-        ensures groups { IfOk result (λ all. groups_of all ≡ record { names = map (λ n. n.items) names.now; inclusions = map inclusion_of inclusions.now }) }
+        ensures groups { IfOk result (λ all. groups_of all ≡ record { names = map (λ n. n.items) names.now; inclusions = map inclusion_of inclusions.now; extras = map (λ n. n.items) extras.now }) }
         ensures found { IfOk result HasGroups }
     {
         let names = NameIndex::new(alloc, names)?;
         let inclusions = InclusionIndex::new(alloc, inclusions)?;
         let order = GroupOrder::new(alloc, &inclusions)?;
+        let extras = NameIndex::new(alloc, extras)?;
         Ok(Groups {
             names,
             inclusions,
             order,
+            extras,
         })
     }
 
@@ -139,6 +182,19 @@ impl<'a> Groups<'a> {
         ensures { result ≡ list_any (bytes_eq name.now) (groups_of self.now).names }
     {
         self.names.has(name)
+    }
+
+    // Each of these is an extra.
+    pub(crate) fn has_extras(&self, extras: &[Vec<u8>]) -> bool
+        requires { HasGroups self.now }
+        ensures { result ≡ has_extras (groups_of self.now).extras (map (λ e. e.items) extras.now) }
+    {
+        for extra in extras {
+            if !self.extras.has(extra.as_slice()) {
+                return false;
+            }
+        }
+        true
     }
 
     // The first group is the second, or includes it.

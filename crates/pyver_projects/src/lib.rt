@@ -19,6 +19,7 @@ mod lock_comparison;
 mod lock_faults;
 mod locked_package;
 mod locked_reading;
+mod own_extras;
 mod package_requirements;
 mod pipfile_lock;
 mod place;

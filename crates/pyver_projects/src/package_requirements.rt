@@ -15,6 +15,7 @@ ghost use Rattle.toml.specs.View.{table_view, view};
 use crate::document_kind::LockKind;
 use crate::known_environment::holds_everywhere;
 use crate::locked_package::{LockParts, LockedRequirement, package_text, split_at_byte};
+use crate::own_extras::is_conditional;
 use crate::table::{inside, items, table, text};
 use pep440_pick::is_name;
 use std::alloc::{AllocError, Global};
@@ -345,8 +346,7 @@ fn is_plain_string(text: &str, name: &str) -> bool
     requires { name.now ≡ lead is_name_byte text.now }
     ensures { result ≡ is_plain_string text.now }
 {
-    let bytes = text.as_bytes();
-    is_name(name) && !bytes.contains(&b';') && !bytes.contains(&b'@')
+    is_name(name) && !is_conditional(text)
 }
 
 // Adds PDM's requirement, unless it has a marker or a URL.

@@ -359,6 +359,7 @@ fn section_path(section: &Section) -> &[u8]
         Section::Extra(_) => b"project.optional-dependencies.",
         Section::Group(_) => b"dependency-groups.",
         Section::Include(_, _) => b"dependency-groups.",
+        Section::OwnExtras(_, _) => b"project.optional-dependencies.",
         Section::Invalid(table, _) => table.as_slice(),
         Section::Entry(_, table, _) => table.as_slice(),
         Section::Constraint => b"tool.uv.",

@@ -2,7 +2,7 @@
 ghost use Rattle.std.specs.Prelude.{◌≡◌, ◌∷◌, ◌++◌, [], IfOk, codes, Some, length, map, nat_eq, option_map, string_bytes};
 ghost use Rattle.std.specs.List.{flat_map};
 ghost use Rattle.pep440_pick.specs.Names.{normal};
-ghost use Rattle.pyver_projects.specs.Documents.{array_sources, build_sources, dynamic_source, dynamic_sources, entry_names, extra_sources, field_sources, group_items, group_names, group_sources, groups_table, included_name, invalid_name, item_source, item_sources, name_faults, optional_sources, repeated_name, source_from, sources, string_or, table_fault, table_faults, table_sources, text_sources, unless};
+ghost use Rattle.pyver_projects.specs.Documents.{array_sources, build_sources, dynamic_source, dynamic_sources, entry_names, extra_sources, field_sources, group_items, group_names, group_sources, groups_table, included_name, invalid_name, item_source, item_sources, name_faults, optional_sources, repeated_name, source_from, string_or, table_fault, table_faults, table_sources, text_sources, unless, written_sources};
 ghost use Rattle.pyver_projects.specs.ProjectViews.{IsNameIndex, indexed_names, section_of, project_string_of};
 ghost use Rattle.pyver_projects.specs.ProjectStrings.{Extra, Group, Include, entries, members_list};
 ghost use Rattle.toml.specs.Data.{Data, as_str};
@@ -34,6 +34,8 @@ pub(crate) enum Section {
     Group(Vec<u8>),
     // There, as the name of a group that is included: this group includes that one.
     Include(Vec<u8>, Vec<u8>),
+    // Where it asks the project for these extras of its own, which this extra includes, if one does.
+    OwnExtras(Option<Vec<u8>>, Vec<Vec<u8>>),
     // As the name of a value in the table with this path that is invalid for this reason.
     Invalid(Vec<u8>, &'static str),
     // As what this key of the tool's table with this path asks for.
@@ -70,6 +72,7 @@ impl Clone for Section {
             Section::Include(group, included) => {
                 Ok(Section::Include(group.clone()?, included.clone()?))
             }
+            Section::OwnExtras(asker, extras) => Ok(Section::OwnExtras(asker.clone()?, extras.clone()?)),
             Section::Invalid(table, reason) => Ok(Section::Invalid(table.clone()?, *reason)),
             Section::Entry(tool, table, name) => {
                 Ok(Section::Entry(*tool, table.clone()?, name.clone()?))
@@ -651,12 +654,12 @@ fn push_build(
     )
 }
 
-// The strings of `pyproject.toml`, or of a Pipfile.
-pub(crate) fn project_strings(
+// The strings of `pyproject.toml`, or of a Pipfile, as they are written.
+pub(crate) fn written_strings(
     alloc: Global,
     document: &Table,
 ) -> Result<Vec<ProjectString>, AllocError>
-    ensures { IfOk result (λ found. map project_string_of found.items ≡ sources (table_view document.now)) }
+    ensures { IfOk result (λ found. map project_string_of found.items ≡ written_sources (table_view document.now)) }
 {
     let mut found = Vec::new(alloc);
     push_table_faults(alloc, &mut found, document)?;

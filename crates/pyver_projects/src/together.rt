@@ -5,12 +5,12 @@ ghost use Rattle.pyver_findings.specs.Reports.{demands_in};
 ghost use Rattle.pyver_findings.specs.MarkedConflicts.{FindsOfEach};
 ghost use Rattle.pyver_findings.specs.Views.{AddsFound, demand_of, file_line_of, finding_of, line_meaning_of};
 ghost use Rattle.pyver_markers.specs.EnvironmentViews.{domain_of};
-ghost use Rattle.pyver_projects.specs.Meanings.{inclusions as inclusions_in, IsSoundString};
+ghost use Rattle.pyver_projects.specs.Meanings.{extra_inclusions as extra_inclusions_in, inclusions as inclusions_in, IsSoundString};
 ghost use Rattle.pyver_projects.specs.ProjectViews.{IsInclusionIndex, has_key, inclusions_of, section_of, string_reading_of};
-ghost use Rattle.pyver_projects.specs.Together.{FindsOfPart, FindsOfParts, all_demands, demand_in_part, has_dependencies, has_group, holds_in, is_build, is_environment, is_extra, is_marked, is_replaced, is_standard, part_demands, parts, project_domain, project_python, same_finding, same_line, same_lines, same_part, section_part, sections, unreplaced, with_new};
+ghost use Rattle.pyver_projects.specs.Together.{FindsOfPart, FindsOfParts, all_demands, demand_in_part, has_dependencies, has_extra, has_group, holds_in, is_build, is_environment, is_marked, is_replaced, is_standard, part_demands, parts, project_domain, project_python, same_finding, same_line, same_lines, same_part, section_part, sections, unreplaced, with_new};
 
 use crate::document_reading::StringReading;
-use crate::groups::{InclusionIndex, included_groups, inclusions};
+use crate::groups::{InclusionIndex, extra_inclusions, included_groups, inclusions};
 use crate::known_projects::contains_name;
 use crate::project::Section;
 use pep440_sets::VersionSet;
@@ -21,12 +21,13 @@ use std::collections::HashMap;
 
 // ---- parts of a project
 
-// The strings of a project, which groups include which, whether groups hold together with the dependencies, and the names that it overrides.
+// The strings of a project, which groups and which extras include which, whether groups hold together with the dependencies, and the names that it overrides.
 #[derive(Drop)]
 struct ProjectParts<'a> {
     together: bool,
     overridden: &'a [Vec<u8>],
     inclusions: InclusionIndex<'a>,
+    extras: InclusionIndex<'a>,
     strings: &'a [StringReading],
 }
 
@@ -35,6 +36,7 @@ fn section_part(section: &Section) -> Result<Section, AllocError>
 {
     match section {
         Section::Include(group, _) => Ok(Section::Group(group.clone()?)),
+        Section::OwnExtras(Some(asker), _) => Ok(Section::Extra(asker.clone()?)),
         Section::Entry(_, _, _) | Section::Constraint => Ok(Section::Dependencies),
         other => other.clone(),
     }
@@ -92,15 +94,6 @@ fn has_dependencies(together: bool, part: &Section) -> bool
     }
 }
 
-fn is_extra(name: &[u8], part: &Section) -> bool
-    ensures { result ≡ is_extra name.now (section_of part.now) }
-{
-    match part {
-        Section::Extra(other) => name == other.as_slice(),
-        _ => false,
-    }
-}
-
 fn is_build(part: &Section) -> bool
     ensures { result ≡ is_build (section_of part.now) }
 {
@@ -131,18 +124,42 @@ fn part_groups<'a>(
     }
 }
 
-// A string of the section holds in the part, which has these groups.
-fn holds_in(together: bool, groups: &HashMap<&[u8], ()>, part: &Section, section: &Section) -> bool
-    ensures { result ≡ holds_in together (has_key groups.now) (section_of part.now) (section_of section.now) }
+// The names of the extras in the part.
+fn part_extras<'a>(
+    alloc: Global,
+    inclusions: &InclusionIndex<'a>,
+    part: &'a Section,
+) -> Result<HashMap<&'a [u8], ()>, AllocError>
+    requires { IsInclusionIndex inclusions.now }
+    ensures { IfOk result (λ names. (q : List ℕ) → has_key names q ≡ has_extra (inclusions_of inclusions.now) (section_of part.now) q) }
+{
+    match part {
+        Section::Extra(extra) => included_groups(alloc, inclusions, extra.as_slice()),
+        _ => Ok(HashMap::new(alloc)),
+    }
+}
+
+// A part of a project, and the names of the groups and extras in it.
+#[derive(Drop)]
+struct PartNames<'a> {
+    part: &'a Section,
+    groups: HashMap<&'a [u8], ()>,
+    extras: HashMap<&'a [u8], ()>,
+}
+
+// A string of the section holds in the part.
+fn holds_in(together: bool, names: &PartNames<'_>, section: &Section) -> bool
+    ensures { result ≡ holds_in together (has_key names.now.groups) (has_key names.now.extras) (section_of names.now.part.now) (section_of section.now) }
 {
     match section {
-        Section::Dependencies => has_dependencies(together, part),
-        Section::Entry(_, _, _) | Section::Constraint => has_dependencies(together, part),
-        Section::Extra(name) => is_extra(name.as_slice(), part),
-        Section::Group(name) => groups.contains_key(name.as_slice()),
-        Section::Build => is_build(part),
-        Section::Environment(table) => is_environment(table.as_slice(), part),
-        Section::Include(_, _) | Section::Invalid(..) | Section::Unread(_) => false,
+        Section::Dependencies => has_dependencies(together, names.part),
+        Section::Entry(_, _, _) | Section::Constraint => has_dependencies(together, names.part),
+        Section::Extra(name) => names.extras.contains_key(name.as_slice()),
+        Section::Group(name) => names.groups.contains_key(name.as_slice()),
+        Section::Build => is_build(names.part),
+        Section::Environment(table) => is_environment(table.as_slice(), names.part),
+        Section::Include(_, _) | Section::OwnExtras(_, _) => false,
+        Section::Invalid(..) | Section::Unread(_) => false,
         Section::Python | Section::Version => false,
     }
 }
@@ -164,6 +181,7 @@ fn copy_demand(demand: &Demand) -> Result<Demand, AllocError>
     Ok(Demand {
         line: demand.line.clone()?,
         name: demand.name.clone()?,
+        extras: demand.extras.clone()?,
         marker: copy_marker(&demand.marker)?,
         pinned: demand.pinned,
         specifiers: demand.specifiers.clone()?,
@@ -217,30 +235,28 @@ fn push_string_demand(
 fn push_in_part(
     demands: &mut Vec<Demand>,
     project: &ProjectParts<'_>,
-    groups: &HashMap<&[u8], ()>,
-    part: &Section,
+    names: &PartNames<'_>,
     string: &StringReading,
 ) -> Result<(), AllocError>
-    ensures { IfOk result (λ _. map demand_of demands.new.items ≡ map demand_of demands.old.items ++ demand_in_part project.now.together (map (λ n. n.items) project.now.overridden.now) (has_key groups.now) (section_of part.now) (string_reading_of string.now)) }
+    ensures { IfOk result (λ _. map demand_of demands.new.items ≡ map demand_of demands.old.items ++ demand_in_part project.now.together (map (λ n. n.items) project.now.overridden.now) (has_key names.now.groups) (has_key names.now.extras) (section_of names.now.part.now) (string_reading_of string.now)) }
 {
-    if holds_in(project.together, groups, part, &string.section) {
+    if holds_in(project.together, names, &string.section) {
         push_string_demand(demands, project.overridden, string)?;
     }
     Ok(())
 }
 
-// The requirements of the part, which has these groups.
+// The requirements of the part.
 fn demands_of_part(
     alloc: Global,
     project: &ProjectParts<'_>,
-    groups: &HashMap<&[u8], ()>,
-    part: &Section,
+    names: &PartNames<'_>,
 ) -> Result<Vec<Demand>, AllocError>
-    ensures { IfOk result (λ demands. map demand_of demands.items ≡ flat_map (demand_in_part project.now.together (map (λ n. n.items) project.now.overridden.now) (has_key groups.now) (section_of part.now)) (map string_reading_of project.now.strings.now)) }
+    ensures { IfOk result (λ demands. map demand_of demands.items ≡ flat_map (demand_in_part project.now.together (map (λ n. n.items) project.now.overridden.now) (has_key names.now.groups) (has_key names.now.extras) (section_of names.now.part.now)) (map string_reading_of project.now.strings.now)) }
 {
     let mut demands = Vec::new(alloc);
     for string in project.strings {
-        push_in_part(&mut demands, project, groups, part, string)?;
+        push_in_part(&mut demands, project, names, string)?;
     }
     Ok(demands)
 }
@@ -251,11 +267,16 @@ fn part_demands(
     project: &ProjectParts<'_>,
     part: &Section,
 ) -> Result<Vec<Demand>, AllocError>
-    requires { IsInclusionIndex project.now.inclusions }
-    ensures { IfOk result (λ demands. map demand_of demands.items ≡ part_demands project.now.together (map (λ n. n.items) project.now.overridden.now) (inclusions_of project.now.inclusions) (section_of part.now) (map string_reading_of project.now.strings.now)) }
+    requires groups { IsInclusionIndex project.now.inclusions }
+    requires extras { IsInclusionIndex project.now.extras }
+    ensures { IfOk result (λ demands. map demand_of demands.items ≡ part_demands project.now.together (map (λ n. n.items) project.now.overridden.now) (inclusions_of project.now.inclusions) (inclusions_of project.now.extras) (section_of part.now) (map string_reading_of project.now.strings.now)) }
 {
-    let groups = part_groups(alloc, &project.inclusions, part)?;
-    demands_of_part(alloc, project, &groups, part)
+    let names = PartNames {
+        part,
+        groups: part_groups(alloc, &project.inclusions, part)?,
+        extras: part_extras(alloc, &project.extras, part)?,
+    };
+    demands_of_part(alloc, project, &names)
 }
 
 // ---- findings, each once
@@ -354,6 +375,8 @@ fn push_part_conflicts(
     requires sound { All IsSoundString (map string_reading_of project.now.strings.now) }
     requires known { inclusions_of project.now.inclusions ≡ inclusions_in (sections (map string_reading_of project.now.strings.now)) }
     requires index { IsInclusionIndex project.now.inclusions }
+    requires extras { inclusions_of project.now.extras ≡ extra_inclusions_in (sections (map string_reading_of project.now.strings.now)) }
+    requires extra_index { IsInclusionIndex project.now.extras }
     ensures { IfOk result (λ _. AddsFound (FindsOfPart project.now.together (map (λ n. n.items) project.now.overridden.now) (map string_reading_of project.now.strings.now) (section_of part.now)) findings.old.items findings.new.items left_out.old.items left_out.new.items) }
 {
     let demands = part_demands(alloc, project, part)?;
@@ -376,10 +399,13 @@ fn conflicts_of_parts(
 {
     let inclusions = inclusions(alloc, strings)?;
     let inclusions = InclusionIndex::new(alloc, inclusions.as_slice())?;
+    let extras = extra_inclusions(alloc, strings)?;
+    let extras = InclusionIndex::new(alloc, extras.as_slice())?;
     let project = ProjectParts {
         together,
         overridden,
         inclusions,
+        extras,
         strings,
     };
     let mut findings = Vec::new(alloc);

@@ -750,7 +750,7 @@ fn push_leading_names(
 }
 
 // The normal forms of the names in the table, if it is one.
-fn names_in(alloc: Global, value: Option<&Value>) -> Result<Vec<Vec<u8>>, AllocError>
+pub(crate) fn names_in(alloc: Global, value: Option<&Value>) -> Result<Vec<Vec<u8>>, AllocError>
     ensures { IfOk result (λ names. map (λ n. n.items) names.items ≡ entry_names (entries (option_map (λ v. view v.now) value.entry))) }
 {
     match table(value) {

@@ -7,5 +7,5 @@ use Rattle.pyver_projects.proofs.together.demands_of_part.Given as goal
 
 abbrev pub invariant-loop-string : goal.invariant-loop-string
 invariant-loop-string l =
-    map demand_of l.demands.items ++ flat_map (demand_in_part l.project.together (map (λ n. n.items) l.project.overridden.now) (has_key l.groups) (section_of l.part)) (map string_reading_of (drop l.string-index l.project.strings.now))
-    ≡ flat_map (demand_in_part l.project.together (map (λ n. n.items) l.project.overridden.now) (has_key l.groups) (section_of l.part)) (map string_reading_of l.project.strings.now)
+    map demand_of l.demands.items ++ flat_map (demand_in_part l.project.together (map (λ n. n.items) l.project.overridden.now) (has_key l.names.groups) (has_key l.names.extras) (section_of l.names.part.now)) (map string_reading_of (drop l.string-index l.project.strings.now))
+    ≡ flat_map (demand_in_part l.project.together (map (λ n. n.items) l.project.overridden.now) (has_key l.names.groups) (has_key l.names.extras) (section_of l.names.part.now)) (map string_reading_of l.project.strings.now)

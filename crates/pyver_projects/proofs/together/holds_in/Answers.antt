@@ -5,6 +5,10 @@ use Rattle.pyver_projects.proofs.together.holds_in.Goals as goal
 
 pub returns-in-Group : goal.returns-in-Group
 returns-in-Group c =
-    let has = has_key c.args.groups.now in
-    let part = section_of c.args.part.now in
-    c.contains_key.ensures ∙ ap has c.as_slice-in-Group.ensures.value ∙ ap (λ s. holds_in c.args.together has part (section_of s)) (sym c.in-Group.is)
+    let names = c.args.names.now in
+    c.contains_key-in-Group.ensures ∙ ap (has_key names.groups) c.as_slice-in-Group.ensures.value ∙ ap (λ s. holds_in c.args.together (has_key names.groups) (has_key names.extras) (section_of names.part.now) (section_of s)) (sym c.in-Group.is)
+
+pub returns-in-Extra : goal.returns-in-Extra
+returns-in-Extra c =
+    let names = c.args.names.now in
+    c.contains_key-in-Extra.ensures ∙ ap (has_key names.extras) c.as_slice-in-Extra.ensures.value ∙ ap (λ s. holds_in c.args.together (has_key names.groups) (has_key names.extras) (section_of names.part.now) (section_of s)) (sym c.in-Extra.is)

@@ -1,0 +1,171 @@
+//! Extras of a project that it asks for itself.
+ghost use Rattle.std.specs.Prelude.{◌≡◌, IfOk, bytes_eq, codes, drop, false, if◌then◌else◌, None, Some, map, option_map, option_to_list, string_bytes};
+ghost use Rattle.std.specs.Option.{option_map_or};
+ghost use Rattle.pep440_pick.specs.Names.{normal};
+ghost use Rattle.pep440_pick.specs.RequirementReading.{name_of};
+ghost use Rattle.pep440_rs.specs.Blanks.{opens};
+ghost use Rattle.pyver_projects.specs.Documents.{asker_in, asks_itself, extra_names, has_dynamic_extras, own_names, own_section, own_string, sources};
+ghost use Rattle.pyver_projects.specs.PackageRequirements.{in_brackets, is_conditional, string_extras};
+ghost use Rattle.pyver_projects.specs.ProjectStrings.{ProjectString};
+ghost use Rattle.pyver_projects.specs.ProjectViews.{project_string_of, section_of};
+ghost use Rattle.std.specs.List.{list_any};
+ghost use Rattle.toml.specs.Data.{Data, as_str};
+ghost use Rattle.toml.specs.View.{table_view, view};
+
+use crate::lock_comparison::is_project_name;
+use crate::lock_faults::project_name;
+use crate::locked_package::split_at_byte;
+use crate::package_requirements::split_name;
+use crate::project::{ProjectString, Section, written_strings};
+use crate::table::{inside, items, top};
+use crate::tool_tables::names_in;
+use pep440_pick::copy_extras;
+use pyver_findings::{normalize_name, normalize_names};
+use std::alloc::{AllocError, Global};
+use toml::{Table, Value};
+
+// What follows the bracket with which this begins.
+fn strip_bracket(rest: &str) -> Option<&str>
+    ensures { option_map (λ t. t.now) result ≡ (if opens 91 rest.now then Some (drop 1 rest.now) else None) }
+{
+    rest.strip_prefix('[')
+}
+
+// What stands in the brackets with which this begins.
+fn in_brackets(rest: &str) -> &str
+    ensures { result.now ≡ in_brackets rest.now }
+{
+    let Some(open) = strip_bracket(rest) else {
+        return "";
+    };
+    match split_at_byte(open, ']') {
+        Some((inside, _)) => inside,
+        None => "",
+    }
+}
+
+// The extras behind the name that the string begins with, as they are written.
+pub(crate) fn string_extras(alloc: Global, text: &str) -> Result<Vec<String>, AllocError>
+    ensures { IfOk result (λ extras. map string_bytes extras.items ≡ string_extras text.now) }
+{
+    let (_, rest) = split_name(text.trim_ascii_start());
+    copy_extras(alloc, in_brackets(rest.trim_ascii_start()))
+}
+
+// The string has a marker or a URL.
+pub(crate) fn is_conditional(text: &str) -> bool
+    ensures { result ≡ is_conditional text.now }
+{
+    let bytes = text.as_bytes();
+    bytes.contains(&b';') || bytes.contains(&b'@')
+}
+
+// The string begins with the name.
+fn begins_with_name(alloc: Global, name: &Option<Vec<u8>>, text: &str) -> Result<bool, AllocError>
+    ensures { IfOk result (λ b. b ≡ list_any (bytes_eq (normal (name_of text.now))) (option_to_list (option_map (λ n. n.items) name.now))) }
+{
+    let (found, _) = split_name(text.trim_ascii_start());
+    let found = normalize_name(alloc, found)?;
+    Ok(is_project_name(name, found.as_slice()))
+}
+
+// An extra includes those that the string in it always asks for.
+fn asker_in(name: Vec<u8>, text: &str) -> Option<Vec<u8>>
+    ensures { option_map (λ n. n.items) result ≡ asker_in name.items text.now }
+{
+    if is_conditional(text) {
+        None
+    } else {
+        Some(name)
+    }
+}
+
+// The section of a string that asks the project itself for these extras.
+fn own_section(section: Section, text: &str, extras: Vec<Vec<u8>>) -> Section
+    requires { map (λ e. e.items) extras.items ≡ map normal (string_extras text.now) }
+    ensures { section_of result ≡ own_section (section_of section) text.now }
+{
+    match section {
+        Section::Extra(name) => Section::OwnExtras(asker_in(name, text), extras),
+        Section::Dependencies | Section::Group(_) => Section::OwnExtras(None, extras),
+        other => other,
+    }
+}
+
+// The string, of a project that asks itself by this name.
+fn own_string(
+    alloc: Global,
+    name: &Option<Vec<u8>>,
+    string: ProjectString,
+) -> Result<ProjectString, AllocError>
+    ensures { IfOk result (λ s. project_string_of s ≡ own_string (option_to_list (option_map (λ n. n.items) name.now)) (project_string_of string)) }
+{
+    let extras = string_extras(alloc, string.text.as_str())?;
+    if extras.is_empty() || !begins_with_name(alloc, name, string.text.as_str())? {
+        return Ok(string);
+    }
+    let extras = normalize_names(alloc, extras.as_slice())?;
+    let ProjectString { section, text } = string;
+    let section = own_section(section, text.as_str(), extras);
+    Ok(ProjectString { section, text })
+}
+
+fn is_extras_field(item: &Value) -> bool
+    ensures { result ≡ option_map_or (bytes_eq (codes "optional-dependencies")) (as_str (view item.now)) false }
+{
+    match item.as_str() {
+        Some(field) => field == "optional-dependencies",
+        None => false,
+    }
+}
+
+fn any_extras_field(fields: &[Value]) -> bool
+    ensures { result ≡ list_any (λ v. option_map_or (bytes_eq (codes "optional-dependencies")) (as_str (view v)) false) fields.now }
+{
+    fields.iter().any(|item| is_extras_field(item))
+}
+
+// The table `project` does not have all extras.
+#[tactic(auto, using(pyver_findings::proofs::Steps::any_viewed))]
+fn has_dynamic_extras(document: &Table) -> bool
+    ensures { result ≡ has_dynamic_extras (table_view document.now) }
+{
+    any_extras_field(items(inside(top(document, "project"), "dynamic")))
+}
+
+// The name by which the project asks itself, if its extras are known.
+fn own_name(alloc: Global, document: &Table) -> Result<Option<Vec<u8>>, AllocError>
+    ensures { IfOk result (λ name. option_to_list (option_map (λ n. n.items) name) ≡ own_names (table_view document.now)) }
+{
+    if has_dynamic_extras(document) {
+        return Ok(None);
+    }
+    project_name(alloc, document)
+}
+
+// The strings of `pyproject.toml`, or of a Pipfile.
+pub(crate) fn project_strings(
+    alloc: Global,
+    document: &Table,
+) -> Result<Vec<ProjectString>, AllocError>
+    ensures { IfOk result (λ found. map project_string_of found.items ≡ sources (table_view document.now)) }
+{
+    let name = own_name(alloc, document)?;
+    let mut found = Vec::new(alloc);
+    for string in written_strings(alloc, document)? {
+        found.push(own_string(alloc, &name, string)?)?;
+    }
+    Ok(found)
+}
+
+// The names of its extras, by PEP 621 or as Poetry has them.
+#[tactic(auto, using(crate::proofs::Walks::joined_views))]
+pub(crate) fn extra_names(alloc: Global, document: &Table) -> Result<Vec<Vec<u8>>, AllocError>
+    ensures { IfOk result (λ names. map (λ n. n.items) names.items ≡ extra_names (table_view document.now)) }
+{
+    let poetry = inside(top(document, "tool"), "poetry");
+    let mut names = names_in(alloc, inside(top(document, "project"), "optional-dependencies"))?;
+    let mut more = names_in(alloc, inside(poetry, "extras"))?;
+    names.append(&mut more)?;
+    Ok(names)
+}
