@@ -30,9 +30,9 @@ use Rattle.std.proofs.lemmas.List.Elements.{All-contains_itself, All-head, All-t
 use Rattle.pep440_pick.specs.Names.{normal}
 use Rattle.pyver_projects.specs.Comparing.{FindsOfReading, absent, beside_all, compared, compared_demand, differing, documents_report, excluded, Excuse, excluded_in, first_difference, found_beside, found_in_pair, invalid_package, is_beside, is_in_one, in_one_folder, is_excused, is_installer, is_locked, is_overridden, is_plain_for_uv, is_project_reading, lacking, leaves_out, missing, names_read, overrides_read, own_report, partly_locked, python_difference, python_minors, stale_beside, stale_by, stale_finding, stale_in_pair, taken_packages, unlocked, unmet, unmet_demand, with_found, with_own_reports}
 use Rattle.pyver_projects.specs.Documents.{has_group_tool, overridden_names, project_names, sources}
-use Rattle.pyver_projects.specs.Meanings.{extra_inclusions, groups, AreLockedPythons, Inclusion, inclusions, Document, DocumentReading, IsDocumentReading, IsFileReading, IsBroken, IsLock, IsLockReading, IsProject, IsRequirementReading, IsStringReading, LockedReading, StringReading, fault_meaning, file_meaning, is_of_version, reference_marker, requirement_line, string_line, IsSoundString}
+use Rattle.pyver_projects.specs.Meanings.{extra_inclusions, groups, AreLockedPythons, inclusions, Document, DocumentReading, IsDocumentReading, IsFileReading, IsBroken, IsLock, IsLockReading, IsProject, IsRequirementReading, IsStringReading, LockedReading, StringReading, fault_meaning, file_meaning, is_of_version, reference_marker, requirement_line, string_line, IsSoundString}
 use Rattle.pyver_projects.specs.ProjectLaws.{AllAlone, AllContained, AllEntered, AllFresh, AllMet, AllOfOnePython, AllOfVersion, AllPresent, AllRequired, AreTogether, HasContents, HasLock, HasProject, HasTable, IsPart, extras_of, replaces, NoFindingImpliesContained, NoFindingImpliesSatisfiable}
-use Rattle.pyver_projects.specs.ProjectStrings.{ContentHash, ProjectString, LockContents, LockFault, LockParts, LockedFile, LockedRequirement, Section, Build, Dependencies, Environment, Extra, Group}
+use Rattle.pyver_projects.specs.ProjectStrings.{Inclusion, ContentHash, ProjectString, LockContents, LockFault, LockParts, LockedFile, LockedRequirement, Section, Build, Dependencies, Environment, Extra, Group}
 use Rattle.pyver_projects.specs.KnownEnvironments.{python_record}
 use Rattle.pyver_projects.specs.declared.document_kind.DocumentKind.{DocumentKind}
 use Rattle.pyver_projects.specs.declared.document_kind.DocumentKind.TheVariants.{Lock, Project}

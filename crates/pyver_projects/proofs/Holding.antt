@@ -28,11 +28,11 @@ use Rattle.std.proofs.lemmas.Slice.Eq.{bytes_eq-Decides}
 use Rattle.pyver_projects.specs.ContentHashes.{hash_of, hashed_texts, is_known_text, is_stale, may_have}
 use Rattle.pyver_projects.specs.Comparing.{Excuse, FindsOfReading, absent, beside_all, compared, compared_demand, differing, documents_report, excluded, excluded_in, first_difference, found_beside, found_in_pair, has_name, invalid_package, invalid_string, is_beside, is_excused, is_in_one, is_installer, is_locked, is_needed, is_overridden, is_plain_for_uv, in_one_folder, lacking, leaves_out, own_report, partly_locked, python_difference, python_finding, python_minors, stale_beside, stale_by, stale_finding, stale_in_pair, taken_packages, unlocked, unmet, unmet_demand, with_own_reports}
 use Rattle.pyver_projects.specs.Documents.{has_group_tool, locked, overridden_names, project_names, sources}
-use Rattle.pyver_projects.specs.Meanings.{AreLockedPythons, Groups, Inclusion, extra_inclusions, groups, inclusions, Document, DocumentReading, IsBroken, IsBrokenReading, IsDocumentReading, IsFileReading, IsLock, IsLockedReading, IsProject, IsRequirementReading, IsSectionMeaning, IsSoundDocument, IsSoundString, IsStringReading, IsVersionReading, LockedReading, StringReading, fault_meaning, file_meaning, is_of_version, left_out_if_none, package_line, reference_marker, requirement_line, string_line, position_line}
+use Rattle.pyver_projects.specs.Meanings.{AreLockedPythons, Groups, extra_inclusions, groups, inclusions, Document, DocumentReading, IsBroken, IsBrokenReading, IsDocumentReading, IsFileReading, IsLock, IsLockedReading, IsProject, IsRequirementReading, IsSectionMeaning, IsSoundDocument, IsSoundString, IsStringReading, IsVersionReading, LockedReading, StringReading, fault_meaning, file_meaning, is_of_version, left_out_if_none, package_line, reference_marker, requirement_line, string_line, position_line}
 use Rattle.pyver_projects.proofs.Once.{AsksFor, differing_right, of_section}
 use Rattle.pyver_projects.proofs.LockedPackages.{IsLackHere, IsOutsideHere, excluded_right, found_so, none_named, partly_right}
 use Rattle.pyver_projects.specs.ProjectLaws.{AlwaysAsks, AreTogether, DocumentFindingsHold, HasLock, HasOtherHash, HasPackage, HasProject, IsDocumentFinding, IsReadable, IsReadableAs, IsRightPart, extras_of, line_in_part, part_lines}
-use Rattle.pyver_projects.specs.ProjectStrings.{Build, Constraint, ContentHash, Dependencies, Entry, Environment, Extra, Group, Include, Invalid, LockContents, LockFault, LockParts, LockedFile, LockedPackage, LockedRequirement, OwnExtras, ProjectString, Python, Section, Unread, Version, last_bytes}
+use Rattle.pyver_projects.specs.ProjectStrings.{Inclusion, Build, Constraint, ContentHash, Dependencies, Entry, Environment, Extra, Group, Include, Invalid, LockContents, LockFault, LockParts, LockedFile, LockedPackage, LockedRequirement, OwnExtras, ProjectString, Python, Section, Unread, Version, last_bytes}
 use Rattle.pyver_projects.specs.KnownEnvironments.{python_record}
 use Rattle.pyver_projects.specs.declared.document_kind.DocumentKind.{DocumentKind}
 use Rattle.pyver_projects.specs.declared.document_kind.DocumentKind.TheVariants.{Lock, Project}

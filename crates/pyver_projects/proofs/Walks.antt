@@ -16,7 +16,7 @@ use Rattle.toml.specs.Data.{Data}
 use Rattle.toml.specs.View.{items_of, members_view}
 use Rattle.toml.specs.declared.value.Value.{Value}
 use Rattle.std.specs.declared.alloc.Global.{Global}
-use Rattle.pyver_projects.specs.ProjectStrings.{LockedPackage, items_list, members_list}
+use Rattle.pyver_projects.specs.ProjectStrings.{Inclusion, includes, includes_by, includes_within, LockedPackage, items_list, members_list}
 use Rattle.std.proofs.lemmas.List.Sums.{sum_by-append}
 use Rattle.std.proofs.lemmas.Slice.Eq.{bytes_eq-Decides, ends_is}
 use Rattle.pyver_findings.proofs.Grouping.{swap}
@@ -26,7 +26,7 @@ use Rattle.pyver_findings.specs.Demands.{Demand}
 use Rattle.pyver_projects.specs.Comparing.{accepts_version, excluded, has_name, is_allowed, locked_line, outside}
 use Rattle.pyver_findings.specs.FileLines.{FileLine}
 use Rattle.pyver_projects.specs.KnownEnvironments.{ReadCondition}
-use Rattle.pyver_projects.specs.Meanings.{IsConditionReading, IsLockedReading, IsVersionReading, LockedReading, package_line, Inclusion, includes, includes_by, includes_within}
+use Rattle.pyver_projects.specs.Meanings.{IsConditionReading, IsLockedReading, IsVersionReading, LockedReading, package_line}
 use Rattle.std.proofs.lemmas.Bool.Decides.{Decides-eqb}
 use Rattle.std.proofs.lemmas.Str.Pattern.{NoCharPasses-char, drop_at_char, ends_text}
 use Rattle.std.specs.Str.{NoCharPasses}

@@ -19,9 +19,10 @@ use Rattle.pyver_findings.specs.Exports.{AreDemandsOf, is_export, is_of_uv_lock}
 use Rattle.pyver_findings.specs.Views.{demand_of, file_of}
 use Rattle.pyver_projects.specs.declared.export_comparison.Export.{Export as ExportValue}
 use Rattle.pyver_projects.specs.KnownEnvironments.{environment_name, is_left_out_in, known_environments, python_record, python_text}
-use Rattle.pyver_projects.specs.Meanings.{Document, DocumentReading, IsBroken, IsDocumentReading, IsLock, IsProject, LockedReading, StringReading}
-use Rattle.pyver_projects.specs.ProjectStrings.{Constraint, ContentHash, Dependencies, Entry, Extra, Group, LockParts, Section, inside, key_line, key_path, listed, number_or_one, text_in}
+use Rattle.pyver_projects.specs.Meanings.{Document, DocumentReading, ExtraReading, IsBroken, IsDocumentReading, IsLock, IsProject, LockedReading, StringReading}
+use Rattle.pyver_projects.specs.ProjectStrings.{Inclusion, includes, inclusions_by, Constraint, ContentHash, Dependencies, Entry, Extra, Group, LockParts, Section, inside, key_line, key_path, listed, number_or_one, text_in}
 use Rattle.pyver_projects.specs.ContentHashes.{is_stale}
+use Rattle.pyver_projects.specs.PackageRequirements.{extra_key}
 use Rattle.pyver_projects.specs.declared.locked_package.HashRule.{HashRule}
 use Rattle.pyver_projects.specs.declared.locked_package.HashRule.TheVariants as rule
 use Rattle.toml.specs.Data.{Data, Members, as_str, get_member}
@@ -115,9 +116,26 @@ partly_locked parts line (y ∷ taken) = lack_finding line (find (leaves_out_all
 abbrev pub taken_packages : List LockedReading → Demand → List LockedReading
 taken_packages ys a = filter (may_take a.specifiers) (filter (has_name a) ys)
 
--- the lock has no package of the name of the requirement, or, if that has no marker, in some environment none that it may take
+-- the keys of the extras that the requirement asks for
+abbrev pub demand_keys : Demand → List (List ℕ)
+demand_keys a = map (extra_key a.name) a.extras
+
+-- each of these is there
+abbrev pub has_keys : List (List ℕ) → List (List ℕ) → Bool
+has_keys found keys = list_all (λ (k : List ℕ). list_any (bytes_eq k) found) keys
+
+-- the lock, which has a package for each of these extras, has none for one that the requirement asks for
+abbrev pub lacks_extra : Option (List (List ℕ)) → Demand → List Finding
+lacks_extra None a = []
+lacks_extra (Some found) a = if has_keys found (demand_keys a) then [] else NoRequirement a.line (codes "the lock does not have this extra of the package") 0 ∷ []
+
+-- where it has packages of the name
+abbrev pub without_extra : LockParts → List LockedReading → Demand → List Finding
+without_extra parts ys a = if list_any (has_name a) ys then lacks_extra parts.packaged a else []
+
+-- the lock has no package of the name of the requirement, or none for an extra; or, if that has no marker, in some environment none that it may take
 abbrev pub unlocked : LockParts → List LockedReading → Demand → List Finding
-unlocked parts ys a = absent ys a ++ (if is_none a.marker then partly_locked parts a.line (taken_packages ys a) else [])
+unlocked parts ys a = absent ys a ++ (without_extra parts ys a ++ (if is_none a.marker then partly_locked parts a.line (taken_packages ys a) else []))
 
 -- a tool that builds or installs, which older releases of Poetry do not lock
 abbrev pub is_installer : List ℕ → Bool
@@ -125,19 +143,19 @@ is_installer name = bytes_eq name (codes "setuptools") || (bytes_eq name (codes 
 
 abbrev pub is_project_reading : DocumentReading → Bool
 is_project_reading (IsProject t together names overridden xs) = true
-is_project_reading (IsLock parts python ys ms es fs) = false
+is_project_reading (IsLock parts python ys ms os es fs) = false
 is_project_reading (IsBroken f) = false
 
 -- the names of a project
 abbrev pub names_read : DocumentReading → List (List ℕ)
 names_read (IsProject t together names overridden xs) = names
-names_read (IsLock parts python ys ms es fs) = []
+names_read (IsLock parts python ys ms os es fs) = []
 names_read (IsBroken f) = []
 
 -- the names that a project overrides
 abbrev pub overrides_read : DocumentReading → List (List ℕ)
 overrides_read (IsProject t together names overridden xs) = overridden
-overrides_read (IsLock parts python ys ms es fs) = []
+overrides_read (IsLock parts python ys ms os es fs) = []
 overrides_read (IsBroken f) = []
 
 -- what is not asked of a lock though a package requires it: that it has a package of the name; or anything
@@ -169,7 +187,7 @@ module _ (excused : List ℕ → Excuse) where
   -- the report of a document by itself: the strings or the packages count as lines
   abbrev pub own_report : DocumentReading → Report
   own_report (IsProject t together names overridden xs) = record { findings = flat_map invalid_string xs; ignored = []; lines = length xs; files = 1; left_out = flat_map left_out_string xs }
-  own_report (IsLock parts python ys ms es fs) = record { findings = flat_map invalid_package ys ++ (flat_map invalid_in fs ++ flat_map (unmet parts ys) ms); ignored = []; lines = length ys; files = 1; left_out = flat_map left_out_in ms }
+  own_report (IsLock parts python ys ms os es fs) = record { findings = flat_map invalid_package ys ++ (flat_map invalid_in fs ++ flat_map (unmet parts ys) ms); ignored = []; lines = length ys; files = 1; left_out = flat_map left_out_in ms }
   own_report (IsBroken f) = record { findings = f ∷ []; ignored = []; lines = 0; files = 1; left_out = [] }
 
   -- a report, and after it those of documents
@@ -254,9 +272,39 @@ module _ (kind : LockKind) (parts : LockParts) (names : List (List ℕ)) where
     abbrev pub compared : List LockedReading → StringReading → List Finding
     compared ys x = if is_locked near x.section then flat_map (compared_demand ys x.section) (demands_in x.meaning) else []
 
+-- what the requirement of an extra asks for
+abbrev pub extra_asks : ExtraReading → List Inclusion
+extra_asks o = flat_map (λ (a : Demand). inclusions_by (Some o.key) (demand_keys a)) (demands_in o.meaning)
+
+-- extras that strings of a project ask for, beside a lock of this kind with these parts, in one folder with it or not
+module _ (kind : LockKind) (parts : LockParts) (excused : List ℕ → Excuse) (near : Bool) where
+  -- the requirement always asks, and the lock is to have what it asks for
+  abbrev pub asks_for_extras : Section → Demand → Bool
+  asks_for_extras section a = is_none a.marker && (not (is_overridden excused section a.name) && is_needed kind parts.names section)
+
+  -- its extras, under no key
+  abbrev pub demand_asks : Section → Demand → List Inclusion
+  demand_asks section a = if asks_for_extras section a then inclusions_by (Some []) (demand_keys a) else []
+
+  -- those of a string that counts beside the lock
+  abbrev pub asked_in : StringReading → List Inclusion
+  asked_in x = if is_locked near x.section then flat_map (demand_asks x.section) (demands_in x.meaning) else []
+
+  -- which extras strings ask for, and which these require
+  abbrev pub project_asks : List StringReading → List ExtraReading → List Inclusion
+  project_asks xs os = flat_map asked_in xs ++ flat_map extra_asks os
+
+  -- what is lacked and excluded of what is required for an extra, if it is asked for
+  abbrev pub unmet_extra : List Inclusion → List LockedReading → ExtraReading → List Finding
+  unmet_extra is ys o = if includes is [] o.key then unmet excused parts ys o.meaning else []
+
+  -- for all extras that strings ask for
+  abbrev pub unmet_extras : List LockedReading → List ExtraReading → List StringReading → List Finding
+  unmet_extras ys os xs = flat_map (unmet_extra (project_asks xs os) ys) os
+
 -- the first document beside the second, of this kind, in one folder with it or not, if that is a project and this a lock
 abbrev pub found_beside : (List ℕ → Excuse) → Bool → DocumentKind → DocumentReading → DocumentReading → List Finding
-found_beside excused near (Lock kind) (IsProject t together names overridden xs) (IsLock parts python ys ms es fs) = flat_map (compared kind parts names excused near ys) xs
+found_beside excused near (Lock kind) (IsProject t together names overridden xs) (IsLock parts python ys ms os es fs) = flat_map (compared kind parts names excused near ys) xs ++ unmet_extras kind parts excused near ys os xs
 found_beside excused near kind x y = []
 
 -- ---- the hash of a project in its lock
@@ -299,9 +347,13 @@ has_each list other = list_all (λ (s : Spec). list_any (same_specifier s) other
 abbrev pub same_list : List Spec → List Spec → Bool
 same_list list other = has_each list other && has_each other list
 
--- the second, in the lock, is for the first, of the project: it has the name, and the list unless it has a source of its own. Markers are not compared
+-- the extras are the same, whatever the order
+abbrev pub same_extras : List (List ℕ) → List (List ℕ) → Bool
+same_extras extras other = has_keys other extras && has_keys extras other
+
+-- the second, in the lock, is for the first, of the project: it has the name, the extras, and the list unless it has a source of its own. Markers are not compared
 abbrev pub is_same_requirement : Demand → Demand → Bool
-is_same_requirement a e = bytes_eq a.name e.name && (is_some e.marker || same_list a.specifiers e.specifiers)
+is_same_requirement a e = bytes_eq a.name e.name && (same_extras a.extras e.extras && (is_some e.marker || same_list a.specifiers e.specifiers))
 
 abbrev pub is_in_lock : Demand → LineMeaning → Bool
 is_in_lock a m = list_any (is_same_requirement a) (demands_in m)
@@ -386,7 +438,7 @@ python_difference lock None locked = []
 
 -- the first document, if it is a project, does not have the hash of the second, if this is a lock, in this file, or other versions of Python or requirements
 abbrev pub stale_beside : File → DocumentReading → DocumentReading → List Finding
-stale_beside lock (IsProject t together names overridden xs) (IsLock parts python ys ms es fs) =
+stale_beside lock (IsProject t together names overridden xs) (IsLock parts python ys ms os es fs) =
     stale_by lock t parts.hash ++ (python_difference lock (project_python xs) python ++ (if is_plain_for_uv t then differing names xs es else []))
 stale_beside lock x y = []
 
@@ -497,7 +549,7 @@ pub record Export : Type 0 where
 
 -- what is found of an export beside a document of this kind, if that is a lock
 abbrev pub pins_beside : Export → DocumentKind → DocumentReading → List Finding
-pins_beside e kind (IsLock parts python ys ms es fs) = flat_map (pin_beside (is_made_of kind e.file) ys) e.demands
+pins_beside e kind (IsLock parts python ys ms os es fs) = flat_map (pin_beside (is_made_of kind e.file) ys) e.demands
 pins_beside e kind (IsProject t together names overridden xs) = []
 pins_beside e kind (IsBroken f) = []
 

@@ -1,7 +1,7 @@
 -- The kinds of documents, by their paths and by words, and what a parsed one has to check: the strings of `pyproject.toml` or a Pipfile, and the versions of a
 -- lock.
 use Rattle.std.specs.Prelude.{Bool, false, true, List, None, Option, Some, [], bytes_eq, codes, count_by, get_or, if◌then◌else◌, is_none, is_some, length, map, nat_eq, nat_lt, not, option_and_then, option_map, option_to_list, ℕ, ◌&&◌, ◌++◌, ◌+◌, ◌==◌, ◌||◌, ◌∷◌}
-use Rattle.std.specs.List.{ends_with, flat_map, list_any, starts_with}
+use Rattle.std.specs.List.{ends_with, filter, flat_map, list_any, starts_with}
 use Rattle.std.specs.Option.{option_map_or, option_or, unwrap_or}
 use Rattle.pep440_pick.specs.Names.{is_name, is_name_byte, normal}
 use Rattle.pep440_pick.specs.RequirementReading.{name_of}
@@ -13,8 +13,8 @@ use Rattle.toml.specs.Data.{Data, Members, as_array, as_bool, as_str, as_table, 
 use Rattle.pyver_projects.specs.ContentHashes.{lock_hash}
 use Rattle.pyver_projects.specs.KnownEnvironments.{is_false}
 use Rattle.pyver_projects.specs.LockedFiles.{array_faults, files_from, last_section, counted_names, has_markers, locked_python, package_condition, package_faults, package_name_in, document_faults, member_packages}
-use Rattle.pyver_projects.specs.PackageRequirements.{entries_from, is_conditional, is_own_package, string_extras, lacks, plain_list, poetry_list, requirement_text, requirements_from, both_markers, marked_text, platform_marker, python_marker}
-use Rattle.pyver_projects.specs.ProjectStrings.{Build, Constraint, Dependencies, Entry, Environment, Extra, Group, Include, Invalid, LockContents, LockFault, LockParts, LockedPackage, OwnExtras, PackageCondition, ProjectString, Python, Section, Unread, Version, after_blanks, header_lines, entries, inside, is_array_or_none, is_table_or_none, key_path, listed, text_in, is_text_or_none}
+use Rattle.pyver_projects.specs.PackageRequirements.{asked_keys, entries_from, extra_key, extras_from, extras_text, is_conditional, is_own_package, string_extras, lacks, plain_list, poetry_list, requirement_text, requirements_from, both_markers, marked_text, platform_marker, python_marker}
+use Rattle.pyver_projects.specs.ProjectStrings.{Inclusion, LockedExtra, LockedRequirement, includes, inclusions_by, texts_listed, Build, Constraint, Dependencies, Entry, Environment, Extra, Group, Include, Invalid, LockContents, LockFault, LockParts, LockedPackage, OwnExtras, PackageCondition, ProjectString, Python, Section, Unread, Version, after_blanks, header_lines, entries, inside, is_array_or_none, is_table_or_none, key_path, listed, text_in, is_text_or_none}
 use Rattle.pyver_findings.specs.NamedFiles.{folder}
 use Rattle.pyver_findings.specs.declared.cause.Cause.{Cause}
 use Rattle.pyver_findings.specs.declared.cause.Cause.TheVariants as cause
@@ -201,13 +201,13 @@ is_package_name name = is_name name && not (bytes_eq name (codes "python"))
 abbrev pub unread : Cause → List ProjectString
 unread c = record { section = Unread c; text = [] } ∷ []
 
--- the entry of this name with this list and this marker, as a requirement of PEP 508
-abbrev pub listed_source : EntryTool → List ℕ → List ℕ → List ℕ → Option (List ℕ) → List ProjectString
-listed_source tool table name marker None = unread cause.OtherSyntax
-listed_source tool table name marker (Some list) = record { section = Entry tool table name; text = marked_text (requirement_text name (entry_specifiers tool list)) marker } ∷ []
+-- the entry of this name with these extras, this list and this marker, as a requirement of PEP 508
+abbrev pub listed_source : EntryTool → List ℕ → List ℕ → List (List ℕ) → List ℕ → Option (List ℕ) → List ProjectString
+listed_source tool table name extras marker None = unread cause.OtherSyntax
+listed_source tool table name extras marker (Some list) = record { section = Entry tool table name; text = marked_text (requirement_text (name ++ extras_text extras) (entry_specifiers tool list)) marker } ∷ []
 
 abbrev pub entry_source : EntryTool → List ℕ → List ℕ → Data → List ProjectString
-entry_source tool table name d = listed_source tool table name (entry_marker tool d) (entry_list tool d)
+entry_source tool table name d = listed_source tool table name (texts_listed (get (codes "extras") d)) (entry_marker tool d) (entry_list tool d)
 
 -- what an array of entries asks for, or another value, which is one ("Multiple constraints dependencies")
 abbrev pub each_source : EntryTool → List ℕ → List ℕ → Data → List ProjectString
@@ -448,15 +448,21 @@ abbrev pub package_parts : LockKind → List Data → List (List ℕ)
 package_parts Poetry packages = flat_map (λ (d : Data). names_listed (get (codes "groups") d)) packages
 package_parts kind packages = []
 
--- the strings in an array
-abbrev pub texts_listed : Option Data → List (List ℕ)
-texts_listed value = flat_map (λ (d : Data). option_to_list (as_str d)) (listed value)
-
 -- for which Pythons a lock of uv says that the project in its folder is, if this is one of its packages and it has no other members
 abbrev pub own_python : LockKind → Members → List Data → Option (List ℕ)
 own_python Uv document packages = if list_any is_own_package packages && is_none (inside (codes "members") (get_member (codes "manifest") document))
     then text_in (get_member (codes "requires-python") document) else None
 own_python kind document packages = None
+
+-- the keys of the extras of a package with this name, if it has one
+abbrev pub package_keys : Option (List ℕ) → Data → List (List ℕ)
+package_keys None d = []
+package_keys (Some name) d = map (extra_key (normal name)) (names_listed (get (codes "extras") d))
+
+-- those that a lock of PDM has packages for
+abbrev pub packaged_extras : LockKind → List Data → Option (List (List ℕ))
+packaged_extras Pdm packages = Some (flat_map (λ (d : Data). package_keys (text_in (get (codes "name") d)) d) packages)
+packaged_extras kind packages = None
 
 -- the parts of a lock with this text and these packages. Only one of PEP 751 has extras and groups for markers, and environments
 abbrev pub lock_parts : LockKind → List ℕ → Members → List Data → LockParts
@@ -467,7 +473,24 @@ lock_parts kind text document packages = record {
   environments = texts_listed (get_member (codes "environments") document);
   hash = lock_hash kind text document;
   python = own_python kind document packages;
+  packaged = packaged_extras kind packages;
 }
+
+-- which extras requirements ask for, under no key; and which the requirements of extras, under the keys of these
+abbrev pub lock_asks : List LockedRequirement → List LockedExtra → List Inclusion
+lock_asks qs os = flat_map (λ (q : LockedRequirement). inclusions_by (Some []) (asked_keys q)) qs ++ flat_map (λ (o : LockedExtra). inclusions_by (Some o.key) (asked_keys o.requirement)) os
+
+-- it is for an extra that is asked for
+abbrev pub is_asked : List Inclusion → LockedExtra → Bool
+is_asked is o = includes is [] o.key
+
+-- those, and what is required for the extras that they ask for
+abbrev pub with_asked : List LockedRequirement → List LockedExtra → List LockedRequirement
+with_asked qs os = qs ++ map (λ (o : LockedExtra). o.requirement) (filter (is_asked (lock_asks qs os)) os)
+
+-- what is required for other extras
+abbrev pub not_asked : List LockedRequirement → List LockedExtra → List LockedExtra
+not_asked qs os = filter (λ (o : LockedExtra). not (is_asked (lock_asks qs os) o)) os
 
 -- what the tables of packages of a lock of this kind have, each with its line, beside these parts and faults, that have markers or not, for these
 -- Pythons, and are looked at beside those with these names
@@ -475,7 +498,8 @@ abbrev pub table_contents : LockKind → LockParts → List LockFault → Bool �
 table_contents kind parts found marked python names tables = record {
   parts = parts;
   packages = flat_map (package_from python) tables;
-  requirements = flat_map (requirements_from kind parts) tables;
+  requirements = with_asked (flat_map (requirements_from kind parts) tables) (flat_map (extras_from parts) tables);
+  optional = not_asked (flat_map (requirements_from kind parts) tables) (flat_map (extras_from parts) tables);
   entries = flat_map (entries_from kind) tables;
   files = flat_map files_from tables;
   faults = found ++ flat_map (package_faults kind marked names) tables;
@@ -535,7 +559,7 @@ toml_contents kind key header text = option_map (contents kind header text key) 
 
 -- what `Pipfile.lock` with this text has: only packages
 abbrev pub pipfile_contents : List ℕ → JsonData → LockContents
-pipfile_contents text document = record { parts = record { names = []; extras = []; groups = []; environments = []; hash = None; python = None }; packages = member_packages text document; requirements = []; entries = []; files = []; faults = document_faults text document }
+pipfile_contents text document = record { parts = record { names = []; extras = []; groups = []; environments = []; hash = None; python = None; packaged = None }; packages = member_packages text document; requirements = []; optional = []; entries = []; files = []; faults = document_faults text document }
 
 -- what a lock with this text has, if it is TOML, or JSON, of a known format
 abbrev pub locked : LockKind → List ℕ → Option LockContents

@@ -23,8 +23,8 @@ use Rattle.toml.specs.Data.{Members}
 use Rattle.toml.specs.Parse.{parse_document}
 use Rattle.pyver_projects.specs.Documents.{extra_names, has_group_tool, locked, overridden_names, project_names, sources, group_names}
 use Rattle.pyver_projects.specs.KnownEnvironments.{ReadCondition}
-use Rattle.pyver_projects.specs.PackageRequirements.{package_text, requirement_text}
-use Rattle.pyver_projects.specs.ProjectStrings.{Build, Constraint, Dependencies, Entry, Environment, Extra, Group, Include, Invalid, LockContents, LockFault, LockParts, LockedFile, LockedPackage, LockedRequirement, OwnExtras, PackageCondition, ProjectString, Python, Section, Unread, Version, string_number, last_bytes, line_after, line_at}
+use Rattle.pyver_projects.specs.PackageRequirements.{extras_text, package_text, requirement_text}
+use Rattle.pyver_projects.specs.ProjectStrings.{Inclusion, includes, inclusions_by, Build, Constraint, Dependencies, Entry, Environment, Extra, Group, Include, Invalid, LockContents, LockFault, LockParts, LockedFile, LockedExtra, LockedPackage, LockedRequirement, OwnExtras, PackageCondition, ProjectString, Python, Section, Unread, Version, string_number, last_bytes, line_after, line_at}
 use Rattle.pyver_projects.specs.declared.document_kind.DocumentKind.{DocumentKind}
 use Rattle.pyver_projects.specs.declared.project.EntryTool.{EntryTool}
 use Rattle.pyver_projects.specs.declared.project.EntryTool.TheVariants as of_entries
@@ -32,11 +32,6 @@ use Rattle.pyver_projects.specs.declared.document_kind.DocumentKind.TheVariants.
 use Rattle.pyver_findings.specs.Reports.{demands_in}
 
 -- ---- groups and extras that include others
-
--- one group includes another, or one extra: both names in their normal form
-pub record Inclusion : Type 0 where
-  pub group : List ℕ
-  pub included : List ℕ
 
 -- the inclusion of a section
 abbrev pub inclusion : Section → List Inclusion
@@ -64,11 +59,6 @@ pub record Groups : Type 0 where
 abbrev pub inclusions : List Section → List Inclusion
 inclusions sections = flat_map inclusion sections
 
--- the extra, if there is one, includes these
-abbrev pub inclusions_by : Option (List ℕ) → List (List ℕ) → List Inclusion
-inclusions_by None extras = []
-inclusions_by (Some asker) extras = map (λ (e : List ℕ). record { group = asker; included = e }) extras
-
 -- which extra includes which, by a section
 abbrev pub extra_inclusion : Section → List Inclusion
 extra_inclusion (OwnExtras asker extras) = inclusions_by asker extras
@@ -81,19 +71,6 @@ extra_inclusions sections = flat_map extra_inclusion sections
 -- the groups of `pyproject.toml`, and its extras
 abbrev pub groups : Members → Groups
 groups document = record { names = group_names document; inclusions = inclusions (map (λ (s : ProjectString). s.section) (sources document)); extras = extra_names document }
-
--- it includes the group, and has this property
-abbrev pub includes_by : (List ℕ → Bool) → List ℕ → Inclusion → Bool
-includes_by has name i = bytes_eq name i.included && has i.group
-
--- the first group is the second, or includes it by at most so many steps
-abbrev pub includes_within : List Inclusion → List ℕ → ℕ → List ℕ → Bool
-includes_within is group zero name = bytes_eq name group
-includes_within is group (suc n) name = includes_within is group n name || list_any (includes_by (includes_within is group n) name) is
-
--- the first group is the second, or includes it, itself or through others
-abbrev pub includes : List Inclusion → List ℕ → List ℕ → Bool
-includes is group name = includes_within is group (length is) name
 
 -- the name of a group on this line, which is invalid for this reason
 abbrev pub no_group : FileLine → List ℕ → LineMeaning
@@ -229,7 +206,7 @@ IsLockedReading file p y = IsConditionReading p.condition y.condition × IsVersi
 
 -- a requirement as a line of the file with this name
 abbrev pub requirement_line : List ℕ → LockedRequirement → FileLine
-requirement_line file q = record { file = file; number = q.line; text = q.requirer ++ (codes " requires " ++ requirement_text q.name q.list); comment = [] }
+requirement_line file q = record { file = file; number = q.line; text = q.requirer ++ (codes " requires " ++ requirement_text (q.name ++ extras_text q.extras) q.list); comment = [] }
 
 -- the marker under which it counts: a reference has that of the package, which it does not repeat
 abbrev pub reference_marker : Bool → Option (List ℕ)
@@ -238,8 +215,16 @@ reference_marker false = None
 
 -- what it is: a name with a list, or left out, if the list is none of PEP 440
 abbrev pub IsRequirementReading : List ℕ → LockedRequirement → LineMeaning → Type 0
-IsRequirementReading file q x = ((list : List Spec) × DerivesList q.list list × (x ≡ Asks (line_demand (requirement_line file q) (reference_marker q.is_reference) (record { name = q.name; extras = []; specifiers = list }))))
+IsRequirementReading file q x = ((list : List Spec) × DerivesList q.list list × (x ≡ Asks (line_demand (requirement_line file q) (reference_marker q.is_reference) (record { name = q.name; extras = q.extras; specifiers = list }))))
     ⊎ ((f : PieceRejection) × RejectsList q.list f × (x ≡ LeftOut cause.OtherSyntax))
+
+-- a requirement for an extra: the key of this, and what it is
+pub record ExtraReading : Type 0 where
+  pub key : List ℕ
+  pub meaning : LineMeaning
+
+abbrev pub IsExtraReading : List ℕ → LockedExtra → ExtraReading → Type 0
+IsExtraReading file o x = (x.key ≡ o.key) × IsRequirementReading file o.requirement x.meaning
 
 -- ---- files of locked packages
 
@@ -281,11 +266,11 @@ pub record Document : Type 0 where
   pub file : File
 
 -- a document that was read: of a project whether its groups hold together with its dependencies, its names, those that it overrides, and its strings; the parts of a lock,
--- for which versions of Python it says that its project is, its packages, what they require and what the lock says that its project requires, and what is
--- wrong with their files and beside one another; or why it was not read
+-- for which versions of Python it says that its project is, its packages, what they require, what they require for other extras than their requirements ask
+-- for, and what the lock says that its project requires, and what is wrong with their files and beside one another; or why it was not read
 pub data DocumentReading : Type 0 where
   IsProject : Members → Bool → (names overridden : List (List ℕ)) → List StringReading → DocumentReading
-  IsLock : (parts : LockParts) → (python : Option Segments) → List LockedReading → (requirements entries faults : List LineMeaning) → DocumentReading
+  IsLock : (parts : LockParts) → (python : Option Segments) → List LockedReading → (requirements : List LineMeaning) → List ExtraReading → (entries faults : List LineMeaning) → DocumentReading
   IsBroken : Finding → DocumentReading
 
 -- what a project with this table is
@@ -299,8 +284,8 @@ AreLockedPythons (Some text) p = AreVersions text p
 
 -- what a lock is that has this
 abbrev pub IsLockReading : List ℕ → LockContents → DocumentReading → Type 0
-IsLockReading file l x = (p : Option Segments) × AreLockedPythons l.parts.python p × (ys : List LockedReading) × (ms es fs : List LineMeaning) × AllZip (IsLockedReading file) l.packages ys × AllZip (IsRequirementReading file) l.requirements ms
-    × AllZip (IsRequirementReading file) l.entries es × AllZip (IsFileReading file) l.files fs × (x ≡ IsLock l.parts p ys ms es (fs ++ map (fault_meaning file) l.faults))
+IsLockReading file l x = (p : Option Segments) × AreLockedPythons l.parts.python p × (ys : List LockedReading) × (ms : List LineMeaning) × (os : List ExtraReading) × (es fs : List LineMeaning) × AllZip (IsLockedReading file) l.packages ys × AllZip (IsRequirementReading file) l.requirements ms
+    × AllZip (IsExtraReading file) l.optional os × AllZip (IsRequirementReading file) l.entries es × AllZip (IsFileReading file) l.files fs × (x ≡ IsLock l.parts p ys ms os es (fs ++ map (fault_meaning file) l.faults))
 
 -- the line of a position in the file
 abbrev pub position_line : File → ℕ → FileLine
@@ -336,5 +321,5 @@ IsSoundString x = All IsSound (demands_in x.meaning)
 -- and the lists of a project
 abbrev pub IsSoundDocument : DocumentReading → Type 0
 IsSoundDocument (IsProject t together names overridden xs) = All IsSoundString xs
-IsSoundDocument (IsLock parts python ys ms es fs) = ⊤
+IsSoundDocument (IsLock parts python ys ms os es fs) = ⊤
 IsSoundDocument (IsBroken f) = ⊤

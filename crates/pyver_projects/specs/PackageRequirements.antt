@@ -1,10 +1,10 @@
 -- What locked packages require of one another.
-use Rattle.std.specs.Prelude.{ℕ, ◌&&◌, ◌||◌, List, [], ◌∷◌, ◌++◌, Bool, false, true, Option, Some, None, bytes_eq, codes, drop, if◌then◌else◌, is_none, is_some, nat_eq, nat_lt, not, option_map, count_by, map, ◌==◌}
+use Rattle.std.specs.Prelude.{ℕ, ◌&&◌, ◌||◌, List, [], ◌∷◌, ◌++◌, Bool, false, true, Option, Some, None, bytes_eq, codes, drop, if◌then◌else◌, is_none, is_some, option_and_then, nat_eq, nat_lt, not, option_map, count_by, map, ◌==◌}
 use Rattle.std.specs.List.{flat_map, list_any, starts_with, list_all, slice_split}
 use Rattle.std.specs.Option.{option_map_or, unwrap_or}
-use Rattle.pep440_pick.specs.Names.{is_name, is_name_byte}
+use Rattle.pep440_pick.specs.Names.{is_name, is_name_byte, normal}
 use Rattle.pep440_pick.specs.RequirementGrammar.{has_byte}
-use Rattle.pep440_pick.specs.RequirementReading.{behind_name, listed_extras, split_at_byte}
+use Rattle.pep440_pick.specs.RequirementReading.{behind_name, listed_extras, split_at_byte, without_end}
 use Rattle.pep440_rs.specs.Blanks.{opens}
 use Rattle.pep440_version.specs.Changes.ChangeWords.{after}
 use Rattle.pep440_version.specs.Grammar.{starts}
@@ -13,7 +13,7 @@ use Rattle.pyver_requirements.specs.MarkerTerms.{joined_terms}
 use Rattle.pyver_requirements.specs.MarkerTokens.{is_operator_byte}
 use Rattle.toml.specs.Data.{Data, as_str, get}
 use Rattle.pyver_projects.specs.KnownEnvironments.{holds_everywhere}
-use Rattle.pyver_projects.specs.ProjectStrings.{LockParts, LockedRequirement, entries, inside, listed, text_in}
+use Rattle.pyver_projects.specs.ProjectStrings.{LockParts, LockedExtra, LockedRequirement, entries, inside, listed, text_in, texts_listed}
 use Rattle.pyver_projects.specs.declared.document_kind.LockKind.{LockKind}
 use Rattle.pyver_projects.specs.declared.document_kind.LockKind.TheVariants.{Pylock, Uv}
 
@@ -148,6 +148,15 @@ marked_text requirement (b ∷ marker) = requirement ++ (codes "; " ++ (b ∷ ma
 
 -- ----
 
+-- the key of an extra of a package, by the normal forms of both names
+abbrev pub extra_key : List ℕ → List ℕ → List ℕ
+extra_key name extra = name ++ (codes "[" ++ extra)
+
+-- the extras, in brackets, if there are some
+abbrev pub extras_text : List (List ℕ) → List ℕ
+extras_text [] = []
+extras_text (e ∷ extras) = codes "[" ++ (joined_terms (codes ",") (e ∷ extras) ++ codes "]")
+
 -- a name, and a list if that is not empty
 abbrev pub requirement_text : List ℕ → List ℕ → List ℕ
 requirement_text name [] = name
@@ -174,23 +183,23 @@ abbrev pub is_plain_string : List ℕ → Bool
 is_plain_string text = is_name (lead is_name_byte text) && not (is_conditional text)
 
 module _ (line : ℕ) (requirer : List ℕ) where
-  -- a requirement of this name with this list
-  abbrev pub requirement : List ℕ → List ℕ → LockedRequirement
-  requirement name list = record { line = line; requirer = requirer; name = name; list = list; is_reference = false }
+  -- a requirement of this name with these extras and this list
+  abbrev pub requirement : List ℕ → List (List ℕ) → List ℕ → LockedRequirement
+  requirement name extras list = record { line = line; requirer = requirer; name = name; extras = extras; list = list; is_reference = false }
 
-  -- a requirement of this name, if it has a list
-  abbrev pub requirement_in : List ℕ → Option (List ℕ) → List LockedRequirement
-  requirement_in name None = []
-  requirement_in name (Some list) = requirement name (poetry_list list) ∷ []
+  -- a requirement of this name with these extras, if it has a list
+  abbrev pub requirement_in : List ℕ → List (List ℕ) → Option (List ℕ) → List LockedRequirement
+  requirement_in name extras None = []
+  requirement_in name extras (Some list) = requirement name extras (poetry_list list) ∷ []
 
-  -- a requirement with this list, if it has a name
-  abbrev pub named_requirement : Option (List ℕ) → List ℕ → List LockedRequirement
-  named_requirement None list = []
-  named_requirement (Some name) list = requirement name list ∷ []
+  -- a requirement with these extras and this list, if it has a name
+  abbrev pub named_requirement : Option (List ℕ) → List (List ℕ) → List ℕ → List LockedRequirement
+  named_requirement None extras list = []
+  named_requirement (Some name) extras list = requirement name extras list ∷ []
 
   -- PDM's requirement: a string, unless it has a marker or a URL
   abbrev pub string_requirement : List ℕ → List LockedRequirement
-  string_requirement text = if is_plain_string text then requirement (lead is_name_byte text) (past_extras (past is_name_byte text)) ∷ [] else []
+  string_requirement text = if is_plain_string text then requirement (lead is_name_byte text) (string_extras text) (past_extras (past is_name_byte text)) ∷ [] else []
 
   abbrev pub requirement_of_text : Option (List ℕ) → List LockedRequirement
   requirement_of_text None = []
@@ -199,12 +208,12 @@ module _ (line : ℕ) (requirer : List ℕ) where
   -- an item of uv's `requires-dist`, or of an array `dependencies`, unless it has a marker
   abbrev pub item_requirements : Data → List LockedRequirement
   item_requirements d = requirement_of_text (as_str d)
-      ++ (if lacks (codes "marker") d then named_requirement (text_in (get (codes "name") d)) (unwrap_or (text_in (get (codes "specifier") d)) []) else [])
+      ++ (if lacks (codes "marker") d then named_requirement (text_in (get (codes "name") d)) (texts_listed (get (codes "extra") d)) (unwrap_or (text_in (get (codes "specifier") d)) []) else [])
 
   -- Poetry's requirement of this name: a list, or a table with one, unless it has markers or is optional
   abbrev pub version_requirements : List ℕ → Data → List LockedRequirement
-  version_requirements name d = requirement_in name (as_str d)
-      ++ (if lacks (codes "markers") d && lacks (codes "optional") d then requirement_in name (text_in (get (codes "version") d)) else [])
+  version_requirements name d = requirement_in name [] (as_str d)
+      ++ (if lacks (codes "markers") d && lacks (codes "optional") d then requirement_in name (texts_listed (get (codes "extras") d)) (text_in (get (codes "version") d)) else [])
 
   -- a member of Poetry's `dependencies`: such a requirement, or an array of them
   abbrev pub member_requirements : List ℕ × Data → List LockedRequirement
@@ -213,7 +222,7 @@ module _ (line : ℕ) (requirer : List ℕ) where
   -- a reference to a package, if it has a name
   abbrev pub reference_to : Option (List ℕ) → List LockedRequirement
   reference_to None = []
-  reference_to (Some name) = record { line = line; requirer = requirer; name = name; list = []; is_reference = true } ∷ []
+  reference_to (Some name) = record { line = line; requirer = requirer; name = name; extras = []; list = []; is_reference = true } ∷ []
 
   abbrev pub reference : Data → List LockedRequirement
   reference d = reference_to (text_in (get (codes "name") d))
@@ -253,6 +262,47 @@ requirements_by kind line (Some name) d = table_requirements line (package_text 
 abbrev pub requirements_from : LockKind → LockParts → ℕ × Data → List LockedRequirement
 requirements_from kind parts e = if is_unconditional parts e.1 then requirements_by kind e.0 (text_in (get (codes "name") e.1)) e.1 else []
 
+-- ---- what packages require for their extras
+
+-- the string of a requirement in an array of Poetry's extras: a name, extras, and a list in parentheses
+abbrev pub without_parentheses : List ℕ → List ℕ
+without_parentheses list = unwrap_or (option_and_then (without_end 41) (after (codes " (") list)) list
+
+module _ (line : ℕ) (requirer : List ℕ) where
+  -- a requirement for the extra with this key
+  abbrev pub for_extra : List ℕ → LockedRequirement → LockedExtra
+  for_extra key q = record { key = key; requirement = q }
+
+  -- such a string, unless it has a marker or a URL
+  abbrev pub extra_string : List ℕ → List ℕ → List LockedExtra
+  extra_string key text = if is_plain_string text then for_extra key (requirement line requirer (lead is_name_byte text) (string_extras text) (poetry_list (without_parentheses (past_extras (past is_name_byte text))))) ∷ [] else []
+
+  -- an item of an array of Poetry's or uv's extras: a string, or a table without a marker
+  abbrev pub extra_items : List ℕ → Data → List LockedExtra
+  extra_items key d = option_map_or (extra_string key) (as_str d) []
+      ++ (if lacks (codes "marker") d then map (for_extra key) (named_requirement line requirer (text_in (get (codes "name") d)) (texts_listed (get (codes "extra") d)) []) else [])
+
+  -- what the package with this name requires for an extra
+  abbrev pub extra_requirements : List ℕ → List ℕ × Data → List LockedExtra
+  extra_requirements name e = flat_map (extra_items (extra_key (normal name) (normal e.0))) (listed (Some e.1))
+
+  -- for all extras, of Poetry and of uv
+  abbrev pub all_extras : List ℕ → Data → List LockedExtra
+  all_extras name d = flat_map (extra_requirements name) (entries (get (codes "extras") d)) ++ flat_map (extra_requirements name) (entries (get (codes "optional-dependencies") d))
+
+-- of a package with this name, if it has one
+abbrev pub extras_by : ℕ → Option (List ℕ) → Data → List LockedExtra
+extras_by line None d = []
+extras_by line (Some name) d = all_extras line (package_text name (text_in (get (codes "version") d))) name d
+
+-- of the package on this line, if it is locked for each environment
+abbrev pub extras_from : LockParts → ℕ × Data → List LockedExtra
+extras_from parts e = if is_unconditional parts e.1 then extras_by e.0 (text_in (get (codes "name") e.1)) e.1 else []
+
+-- the keys of the extras that a requirement asks for
+abbrev pub asked_keys : LockedRequirement → List (List ℕ)
+asked_keys q = map (λ (e : List ℕ). extra_key (normal q.name) (normal e)) q.extras
+
 -- ---- what uv writes that the project in the folder of its lock requires: each requirement of its dependencies and extras, and of each group with what
 -- that includes (uv, "Project structure", "The lockfile")
 
@@ -267,7 +317,7 @@ has_own_source d = is_some (get (codes "git") d) || (is_some (get (codes "url") 
 module _ (line : ℕ) (requirer : List ℕ) where
   abbrev pub named_entry : Data → Option (List ℕ) → List LockedRequirement
   named_entry d None = []
-  named_entry d (Some name) = record { line = line; requirer = requirer; name = name; list = unwrap_or (text_in (get (codes "specifier") d)) []; is_reference = has_own_source d } ∷ []
+  named_entry d (Some name) = record { line = line; requirer = requirer; name = name; extras = texts_listed (get (codes "extras") d); list = unwrap_or (text_in (get (codes "specifier") d)) []; is_reference = has_own_source d } ∷ []
 
   -- an item, if it has a name. Of one with a source of its own uv compares no list
   abbrev pub entry : Data → List LockedRequirement

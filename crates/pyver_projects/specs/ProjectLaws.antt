@@ -1,6 +1,6 @@
 -- What holds of reports of documents: each finding is right; where there is none, each requirement contains a locked version of its
 -- name; there is one report.
-use Rattle.std.specs.Prelude.{◌≡◌, ◌≢◌, ◌⊎◌, ◌&&◌, ◌||◌, ℕ, ◌+◌, List, [], ◌∷◌, Bool, false, true, IsTrue, if◌then◌else◌, None, Option, Some, bytes_eq, codes, length, nat_lt}
+use Rattle.std.specs.Prelude.{◌≡◌, ◌≢◌, ◌⊎◌, ◌&&◌, ◌||◌, ℕ, ◌+◌, List, [], ◌∷◌, Bool, false, true, IsTrue, if◌then◌else◌, None, Option, Some, bytes_eq, codes, length, nat_lt, map}
 use Rattle.std.specs.List.{All, AllZip, Contains, filter, flat_map, list_any}
 use Rattle.std.specs.Str.{IsUtf8}
 use Rattle.pep440_pick.specs.Names.{normal, same_name}
@@ -30,13 +30,14 @@ use Rattle.pyver_requirements.specs.MarkerGrammar.{DenotesMarker, Marker}
 use Rattle.toml.specs.Data.{Members}
 use Rattle.toml.specs.Parse.{parse_document}
 use Rattle.pyver_findings.specs.Exports.{is_export}
-use Rattle.pyver_projects.specs.Comparing.{IsDocumentsReport, is_beside, is_installer, is_locked, is_needed, is_plain_for_uv, lack_in, leaves_out, python_finding, python_minors, same_list, stale_finding, unentered_reason, unrequired_reason, IsExportsReport, counts_for, is_made_of}
+use Rattle.pyver_projects.specs.Comparing.{Excuse, IsDocumentsReport, has_keys, project_asks, same_extras, is_beside, is_installer, is_locked, is_needed, is_plain_for_uv, lack_in, leaves_out, python_finding, python_minors, same_list, stale_finding, unentered_reason, unrequired_reason, IsExportsReport, counts_for, is_made_of}
 use Rattle.pyver_findings.specs.NamedFiles.{folder}
 use Rattle.pyver_projects.specs.ContentHashes.{hash_of, hashed_texts, is_known_text}
 use Rattle.pyver_projects.specs.Documents.{has_group_tool, locked, overridden_names, project_names, sources}
-use Rattle.pyver_projects.specs.Meanings.{groups, AreLockedPythons, Inclusion, extra_inclusions, Document, IsSectionMeaning, IsStringReading, StringReading, fault_meaning, file_meaning, is_of_version, package_line, requirement_line, string_line}
+use Rattle.pyver_projects.specs.Meanings.{ExtraReading, IsExtraReading, groups, AreLockedPythons, extra_inclusions, Document, IsSectionMeaning, IsStringReading, StringReading, fault_meaning, file_meaning, is_of_version, package_line, requirement_line, string_line}
 use Rattle.pyver_projects.specs.KnownEnvironments.{is_for, known_environment, known_environments, python_record}
-use Rattle.pyver_projects.specs.ProjectStrings.{ContentHash, LockContents, LockFault, LockParts, LockedFile, LockedPackage, LockedRequirement, PackageCondition, ProjectString, Section}
+use Rattle.pyver_projects.specs.ProjectStrings.{Inclusion, includes, ContentHash, LockContents, LockFault, LockParts, LockedFile, LockedExtra, LockedPackage, LockedRequirement, PackageCondition, ProjectString, Section}
+use Rattle.pyver_projects.specs.PackageRequirements.{extra_key}
 use Rattle.pyver_projects.specs.Together.{has_extra, has_group, holds_in, is_replaced, is_standard, part_demands, project_domain, project_python, section_part}
 use Rattle.pyver_projects.specs.declared.document_kind.DocumentKind.{DocumentKind}
 use Rattle.pyver_projects.specs.declared.document_kind.DocumentKind.TheVariants.{Lock, Project}
@@ -107,6 +108,10 @@ CannotMeet parts name list k p = (same_name name p.name ≡ false) ⊎ (IsOutsid
 -- the package meets it there
 abbrev pub MeetsIn : LockParts → List ℕ → List Spec → KnownEnvironment → LockedPackage → Type 0
 MeetsIn parts name list k p = IsTrue (same_name name p.name) × (¬ IsOutsideList list p) × (¬ IsLeftOut parts k p)
+
+-- the keys of the extras that it asks for
+abbrev pub needed_keys : Needed → List (List ℕ)
+needed_keys n = map (extra_key (normal n.name)) (map normal n.extras)
 
 -- the string is this requirement, and has no marker and no URL
 abbrev pub AlwaysAsks : ProjectString → Needed → Type 0
@@ -239,6 +244,23 @@ pub record IsExcluded (documents : List Document) (f : Finding) : Type 0 where
   pub known : HasLock documents kind lock contents
   pub outside : IsOutside lock.name contents.packages needed.name needed.specifiers (string_line file string) f
 
+-- a project asks for the extra with this key in a lock with this, itself or through what other extras require, where no project overrides what it asks for
+pub record IsAskedExtra (documents : List Document) (kind : LockKind) (lock : File) (l : LockContents) (key : List ℕ) : Type 0 where
+  pub file : File
+  pub table : Members
+  pub near : Bool
+  pub excused : List ℕ → Excuse
+  pub strings : List StringReading
+  pub extras : List ExtraReading
+  pub has : HasProject documents file table
+  pub read : AllZip (IsStringReading (groups table) file) (sources table) strings
+  pub required : AllZip (IsExtraReading lock.name) l.optional extras
+  pub asks : IsTrue (includes (project_asks kind l.parts excused near strings extras) [] key)
+
+-- a package of a lock requires it: itself, for an extra that another one asks for, or for one that a project does
+abbrev pub IsRequired : List Document → LockKind → File → LockContents → LockedRequirement → Type 0
+IsRequired documents kind lock l q = Contains l.requirements q ⊎ ((o : LockedExtra) × Contains l.optional o × (o.requirement ≡ q) × IsAskedExtra documents kind lock l o.key)
+
 -- the list of a requirement of a package contains no version of a package of its name in the same lock
 pub record IsUnmet (documents : List Document) (f : Finding) : Type 0 where
   pub lock : File
@@ -247,7 +269,7 @@ pub record IsUnmet (documents : List Document) (f : Finding) : Type 0 where
   pub requirement : LockedRequirement
   pub list : List Spec
   pub known : HasLock documents kind lock contents
-  pub within : Contains contents.requirements requirement
+  pub within : IsRequired documents kind lock contents requirement
   pub read : DerivesList requirement.list list
   pub outside : IsOutside lock.name contents.packages requirement.name list (requirement_line lock.name requirement) f
 
@@ -258,7 +280,7 @@ pub record IsAbsent (documents : List Document) (f : Finding) : Type 0 where
   pub contents : LockContents
   pub requirement : LockedRequirement
   pub known : HasLock documents kind lock contents
-  pub within : Contains contents.requirements requirement
+  pub within : IsRequired documents kind lock contents requirement
   pub none : All (λ (p : LockedPackage). same_name requirement.name p.name ≡ false) contents.packages
   pub is : f ≡ NoRequirement (requirement_line lock.name requirement) (codes "the lock has no package of this name") 0
 
@@ -290,10 +312,29 @@ pub record IsPartlyAbsent (documents : List Document) (f : Finding) : Type 0 whe
   pub requirement : LockedRequirement
   pub list : List Spec
   pub known : HasLock documents kind lock contents
-  pub within : Contains contents.requirements requirement
+  pub within : IsRequired documents kind lock contents requirement
   pub read : DerivesList requirement.list list
   pub always : requirement.is_reference ≡ false
   pub lack : IsLack contents.parts contents.packages requirement.name list (requirement_line lock.name requirement) f
+
+-- on this line a project that needs it, or a package of a lock with this, asks for it
+abbrev pub AsksOn : List Document → LockKind → File → LockContents → Needed → FileLine → Type 0
+AsksOn documents kind lock l n line = ((file : File) × (s : ProjectString) × HasString documents file s × (is_needed kind l.parts.names s.section ≡ true) × AlwaysAsks s n × (line ≡ string_line file s))
+    ⊎ ((q : LockedRequirement) × (list : List Spec) × IsRequired documents kind lock l q × (n ≡ record { name = q.name; extras = q.extras; specifiers = list }) × (line ≡ requirement_line lock.name q))
+
+-- a lock that has a package for each of its extras has none for one that a requirement asks for
+pub record IsExtraAbsent (documents : List Document) (f : Finding) : Type 0 where
+  pub lock : File
+  pub kind : LockKind
+  pub contents : LockContents
+  pub needed : Needed
+  pub line : FileLine
+  pub keys : List (List ℕ)
+  pub known : HasLock documents kind lock contents
+  pub asks : AsksOn documents kind lock contents needed line
+  pub packaged : contents.parts.packaged ≡ Some keys
+  pub none : has_keys keys (needed_keys needed) ≡ false
+  pub is : f ≡ NoRequirement line (codes "the lock does not have this extra of the package") 0
 
 -- a lock does not have the hash of the project in its folder
 pub record IsStale (documents : List Document) (f : Finding) : Type 0 where
@@ -338,9 +379,9 @@ pub record IsOtherPython (documents : List Document) (f : Finding) : Type 0 wher
 abbrev pub Requires : ProjectString → Needed → Type 0
 Requires s n = IsPlain (line_parts s.text).requirement × DerivesRequirement (line_parts s.text).requirement n × ((m : Option (List ℕ)) × HasMarker (line_parts s.text) m) × ((line_parts s.text).url ≡ None)
 
--- what a lock says that its project requires is this requirement: it has the name, and the list unless it has a source of its own
+-- what a lock says that its project requires is this requirement: it has the name, the extras, and the list unless it has a source of its own
 abbrev pub IsEntryFor : Needed → LockedRequirement → Type 0
-IsEntryFor n q = (list : List Spec) × DerivesList q.list list × IsTrue (same_name n.name q.name && (q.is_reference || same_list n.specifiers list))
+IsEntryFor n q = (list : List Spec) × DerivesList q.list list × IsTrue (same_name n.name q.name && (same_extras (map normal n.extras) (map normal q.extras) && (q.is_reference || same_list n.specifiers list)))
 
 -- a project and the lock in its folder, which says what the project requires
 pub record AreTogether (documents : List Document) (file : File) (t : Members) (lock : File) (kind : LockKind) (l : LockContents) : Type 0 where
@@ -385,7 +426,7 @@ pub record IsUnrequired (documents : List Document) (f : Finding) : Type 0 where
 -- the finding is right
 abbrev pub IsDocumentFinding : List Document → Finding → Type 0
 IsDocumentFinding documents f = IsInvalidString documents f
-    ⊎ (IsInvalidPackage documents f ⊎ (IsUnread documents f ⊎ (IsMissing documents f ⊎ (IsExcluded documents f ⊎ (IsConflict documents f ⊎ (IsUnmet documents f ⊎ (IsAbsent documents f ⊎ (IsOtherFile documents f ⊎ (IsLockFault documents f ⊎ (IsPartlyMissing documents f ⊎ (IsPartlyAbsent documents f ⊎ (IsStale documents f ⊎ (IsUnentered documents f ⊎ (IsUnrequired documents f ⊎ IsOtherPython documents f))))))))))))))
+    ⊎ (IsInvalidPackage documents f ⊎ (IsUnread documents f ⊎ (IsMissing documents f ⊎ (IsExcluded documents f ⊎ (IsConflict documents f ⊎ (IsUnmet documents f ⊎ (IsAbsent documents f ⊎ (IsOtherFile documents f ⊎ (IsLockFault documents f ⊎ (IsPartlyMissing documents f ⊎ (IsPartlyAbsent documents f ⊎ (IsStale documents f ⊎ (IsUnentered documents f ⊎ (IsUnrequired documents f ⊎ (IsOtherPython documents f ⊎ IsExtraAbsent documents f)))))))))))))))
 
 -- each finding is right
 abbrev pub DocumentFindingsHold : Type 0

@@ -1,7 +1,7 @@
 -- What documents have: values of TOML that are tables, arrays or strings; strings that are to be requirements, lists of specifiers or versions,
 -- and locked packages; and where they stand.
-use Rattle.std.specs.Prelude.{Bool, List, None, Option, Some, [], bytes_eq, codes, count_by, drop, if◌then◌else◌, length, nat_eq, nat_lt, not, take, true, ℕ, ◌%◌, ◌&&◌, ◌++◌, ◌+◌, ◌==◌, ◌||◌, ◌∷◌, ◌≡◌, is_some, option_and_then}
-use Rattle.std.specs.List.{filter, prefix_len, starts_with, suffix_len}
+use Rattle.std.specs.Prelude.{Bool, List, None, Option, Some, [], bytes_eq, codes, count_by, drop, if◌then◌else◌, length, map, nat_eq, nat_lt, not, suc, take, true, zero, ℕ, ◌%◌, ◌&&◌, ◌++◌, ◌+◌, ◌==◌, ◌||◌, ◌∷◌, ◌≡◌, is_some, option_and_then, option_to_list}
+use Rattle.std.specs.List.{filter, flat_map, list_any, prefix_len, starts_with, suffix_len}
 use Rattle.std.specs.Option.{option_or}
 use Rattle.std.specs.BTreeMap.{get_by}
 use Rattle.std.specs.Cmp.Lexicographic.{slice_cmp}
@@ -48,6 +48,10 @@ text_in value = option_and_then as_str value
 abbrev pub is_some_or : {X : Type 0} → (Data → Option X) → Option Data → Bool
 is_some_or read None = true
 is_some_or read (Some d) = is_some (read d)
+
+-- the strings in an array
+abbrev pub texts_listed : Option Data → List (List ℕ)
+texts_listed value = flat_map (λ (d : Data). option_to_list (as_str d)) (listed value)
 
 -- the value is an array, if there is one
 abbrev pub is_array_or_none : Option Data → Bool
@@ -97,14 +101,21 @@ pub record LockedPackage : Type 0 where
   pub version : Option (List ℕ)
   pub condition : Option PackageCondition
 
--- a requirement of a locked package: the number of the line and the name and version of that package, the name that it requires, the list of
--- specifiers as it is written, and whether it only refers to another package, which may have a marker (PEP 751, `packages.dependencies`)
+-- a requirement of a locked package: the number of the line and the name and version of that package, the name that it requires, the extras that it asks
+-- for and the list of specifiers as they are written, and whether it only refers to another package, which may have a marker (PEP 751,
+-- `packages.dependencies`)
 pub record LockedRequirement : Type 0 where
   pub line : ℕ
   pub requirer : List ℕ
   pub name : List ℕ
+  pub extras : List (List ℕ)
   pub list : List ℕ
   pub is_reference : Bool
+
+-- a requirement that a locked package has for one of its extras, and the key of both
+pub record LockedExtra : Type 0 where
+  pub key : List ℕ
+  pub requirement : LockedRequirement
 
 -- a file of a locked package, in whose name a version stands: the number of the line of that package, its name and its version, the name of
 -- the file, and the version in it, as they are written
@@ -128,7 +139,8 @@ pub record ContentHash : Type 0 where
 
 -- the parts of a project that a lock has, in normal form: the names of its groups and extras, with `default` for the dependencies; and what `extras` and
 -- `dependency_groups` are in its markers where all that it has is installed; and the markers of the environments that it is for, or none (PEP 751,
--- "Installation"); the hash of the project, if it is known what is hashed; and for which versions of Python the lock says that the project in its folder is
+-- "Installation"); the hash of the project, if it is known what is hashed; for which versions of Python the lock says that the project in its folder is; and
+-- the keys of all extras that it has packages for, if it has a package for each
 pub record LockParts : Type 0 where
   pub names : List (List ℕ)
   pub extras : List (List ℕ)
@@ -136,15 +148,45 @@ pub record LockParts : Type 0 where
   pub environments : List (List ℕ)
   pub hash : Option ContentHash
   pub python : Option (List ℕ)
+  pub packaged : Option (List (List ℕ))
 
--- what is read of a lock: `entries` are what it says that the project in its folder requires
+-- what is read of a lock: what packages require, also for the extras that their requirements ask for, and for other extras; `entries` are what it says that
+-- the project in its folder requires
 pub record LockContents : Type 0 where
   pub parts : LockParts
   pub packages : List LockedPackage
   pub requirements : List LockedRequirement
+  pub optional : List LockedExtra
   pub entries : List LockedRequirement
   pub files : List LockedFile
   pub faults : List LockFault
+
+-- ---- what includes others
+
+-- one group includes another, or one extra: both names in their normal form, or keys of extras of packages
+pub record Inclusion : Type 0 where
+  pub group : List ℕ
+  pub included : List ℕ
+
+-- this one includes these, if there is one
+abbrev pub inclusions_by : Option (List ℕ) → List (List ℕ) → List Inclusion
+inclusions_by None extras = []
+inclusions_by (Some asker) extras = map (λ (e : List ℕ). record { group = asker; included = e }) extras
+
+-- it includes the group, and has this property
+abbrev pub includes_by : (List ℕ → Bool) → List ℕ → Inclusion → Bool
+includes_by has name i = bytes_eq name i.included && has i.group
+
+-- the first group is the second, or includes it by at most so many steps
+abbrev pub includes_within : List Inclusion → List ℕ → ℕ → List ℕ → Bool
+includes_within is group zero name = bytes_eq name group
+includes_within is group (suc n) name = includes_within is group n name || list_any (includes_by (includes_within is group n) name) is
+
+-- the first group is the second, or includes it, itself or through others
+abbrev pub includes : List Inclusion → List ℕ → List ℕ → Bool
+includes is group name = includes_within is group (length is) name
+
+-- ---- strings in documents
 
 -- a quote of TOML or JSON: `"` or `'`
 abbrev pub is_string_quote : ℕ → Bool

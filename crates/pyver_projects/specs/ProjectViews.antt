@@ -2,9 +2,9 @@
 -- by the groups that have them, places of groups, packages by names, and names of projects.
 use Rattle.std.specs.Prelude.{map, option_map, option_to_list, string_bytes, Bool, List, None, Option, Some, [], bytes_eq, count_by, if◌then◌else◌, is_some, nat_eq, nat_lt, not, ℕ, ◌||◌, ◌≡◌}
 use Rattle.pyver_findings.specs.Views.{file_line_of, file_of, finding_of, line_meaning_of}
-use Rattle.pyver_projects.specs.Meanings.{Inclusion, Groups, Document, DocumentReading, IsBroken, IsLock, IsProject, LockedReading, StringReading}
+use Rattle.pyver_projects.specs.Meanings.{ExtraReading, Groups, Document, DocumentReading, IsBroken, IsLock, IsProject, LockedReading, StringReading}
 use Rattle.pyver_projects.specs.KnownEnvironments.{ReadCondition}
-use Rattle.pyver_projects.specs.ProjectStrings.{Build, Constraint, ContentHash, Dependencies, Entry, Environment, Extra, Group, Include, Invalid, KeyLine, LockContents, LockFault, LockParts, LockedFile, LockedPackage, LockedRequirement, OwnExtras, PackageCondition, Section, Python, ProjectString, Unread, Version}
+use Rattle.pyver_projects.specs.ProjectStrings.{Inclusion, Build, Constraint, ContentHash, Dependencies, Entry, Environment, Extra, Group, Include, Invalid, KeyLine, LockContents, LockFault, LockParts, LockedFile, LockedExtra, LockedPackage, LockedRequirement, OwnExtras, PackageCondition, Section, Python, ProjectString, Unread, Version}
 use Rattle.pyver_projects.specs.declared.document_kind.Document.{Document as DocumentValue}
 use Rattle.pyver_projects.specs.declared.document_reading.DocumentReading.{DocumentReading as DocumentReadingValue}
 use Rattle.pyver_projects.specs.declared.document_reading.ReadDocument.{ReadDocument as ReadDocumentValue}
@@ -15,6 +15,8 @@ use Rattle.pyver_projects.specs.declared.locked_package.PackageCondition.{Packag
 use Rattle.pyver_projects.specs.declared.known_environment.ReadCondition.{ReadCondition as ReadConditionValue}
 use Rattle.pyver_projects.specs.declared.locked_package.ContentHash.{ContentHash as HashValue}
 use Rattle.pyver_projects.specs.declared.locked_package.LockFault.{LockFault as FaultValue}
+use Rattle.pyver_projects.specs.declared.locked_package.LockedExtra.{LockedExtra as ExtraValue}
+use Rattle.pyver_projects.specs.declared.document_reading.ExtraReading.{ExtraReading as ExtraReadingValue}
 use Rattle.pyver_projects.specs.declared.locked_package.LockParts.{LockParts as PartsValue}
 use Rattle.pyver_projects.specs.declared.locked_package.LockedFile.{LockedFile as FileValue}
 use Rattle.pyver_projects.specs.declared.locked_package.LockedPackage.{LockedPackage as LockedValue}
@@ -72,7 +74,10 @@ abbrev pub locked_of : LockedValue → LockedPackage
 locked_of l = record { line = l.line; name = string_bytes l.name; version = option_map string_bytes l.version; condition = option_map condition_of_package l.condition }
 
 abbrev pub requirement_of : RequirementValue → LockedRequirement
-requirement_of q = record { line = q.line; requirer = q.requirer.items; name = string_bytes q.name; list = string_bytes q.list; is_reference = q.is_reference }
+requirement_of q = record { line = q.line; requirer = q.requirer.items; name = string_bytes q.name; extras = map string_bytes q.extras.items; list = string_bytes q.list; is_reference = q.is_reference }
+
+abbrev pub locked_extra_of : ExtraValue → LockedExtra
+locked_extra_of o = record { key = o.key.items; requirement = requirement_of o.requirement }
 
 abbrev pub locked_file_of : FileValue → LockedFile
 locked_file_of f = record { line = f.line; name = string_bytes f.name; version = string_bytes f.version; file = string_bytes f.file; written = string_bytes f.written }
@@ -84,13 +89,16 @@ abbrev pub content_hash_of : HashValue → ContentHash
 content_hash_of h = record { rule = h.rule; value = h.value.items }
 
 abbrev pub parts_of : PartsValue → LockParts
-parts_of p = record { names = map (λ n. n.items) p.names.items; extras = map (λ n. n.items) p.extras.items; groups = map (λ n. n.items) p.groups.items; environments = map (λ t. t.items) p.environments.items; hash = option_map content_hash_of p.hash; python = option_map string_bytes p.python }
+parts_of p = record { names = map (λ n. n.items) p.names.items; extras = map (λ n. n.items) p.extras.items; groups = map (λ n. n.items) p.groups.items; environments = map (λ t. t.items) p.environments.items; hash = option_map content_hash_of p.hash; python = option_map string_bytes p.python; packaged = option_map (λ keys. map (λ k. k.items) keys.items) p.packaged }
 
 abbrev pub contents_of : ContentsValue → LockContents
-contents_of l = record { parts = parts_of l.parts; packages = map locked_of l.packages.items; requirements = map requirement_of l.requirements.items; entries = map requirement_of l.entries.items; files = map locked_file_of l.files.items; faults = map fault_of l.faults.items }
+contents_of l = record { parts = parts_of l.parts; packages = map locked_of l.packages.items; requirements = map requirement_of l.requirements.items; optional = map locked_extra_of l.optional.items; entries = map requirement_of l.entries.items; files = map locked_file_of l.files.items; faults = map fault_of l.faults.items }
 
 abbrev pub string_reading_of : StringReadingValue → StringReading
 string_reading_of x = record { section = section_of x.section; meaning = line_meaning_of x.meaning; python = x.python }
+
+abbrev pub extra_reading_of : ExtraReadingValue → ExtraReading
+extra_reading_of x = record { key = x.key.items; meaning = line_meaning_of x.meaning }
 
 abbrev pub locked_reading_of : LockedReadingValue → LockedReading
 locked_reading_of y = record { line = file_line_of y.line; name = y.name.items; condition = option_map read_condition_of y.condition; version = y.version; invalid = option_map finding_of y.invalid }
@@ -100,7 +108,7 @@ document_of d = record { kind = d.kind; file = file_of d.file }
 
 abbrev pub document_reading_of : DocumentReadingValue → DocumentReading
 document_reading_of (reading.Project p) = IsProject (table_view p.table) p.together (option_to_list (option_map (λ n. n.items) p.name)) (map (λ n. n.items) p.overridden.items) (map string_reading_of p.strings.items)
-document_reading_of (reading.Lock l) = IsLock (parts_of l.parts) l.python (map locked_reading_of l.packages.items) (map line_meaning_of l.requirements.items) (map line_meaning_of l.entries.items) (map line_meaning_of l.faults.items)
+document_reading_of (reading.Lock l) = IsLock (parts_of l.parts) l.python (map locked_reading_of l.packages.items) (map line_meaning_of l.requirements.items) (map extra_reading_of l.optional.items) (map line_meaning_of l.entries.items) (map line_meaning_of l.faults.items)
 document_reading_of (reading.Broken f) = IsBroken (finding_of f)
 
 -- what a document was read as

@@ -11,8 +11,8 @@ use Rattle.pyver_findings.specs.MarkedConflicts.{FindsOfEach, FindsOfNames}
 use Rattle.pyver_findings.specs.Reports.{demands_in}
 use Rattle.pyver_findings.specs.declared.cause.Cause.{Cause}
 use Rattle.pyver_markers.specs.Conditions.{Domain}
-use Rattle.pyver_projects.specs.Meanings.{Inclusion, extra_inclusions, includes, inclusions, StringReading}
-use Rattle.pyver_projects.specs.ProjectStrings.{Build, Constraint, Dependencies, Entry, Environment, Extra, Group, Include, Invalid, OwnExtras, Python, Section, Unread, Version}
+use Rattle.pyver_projects.specs.Meanings.{extra_inclusions, inclusions, StringReading}
+use Rattle.pyver_projects.specs.ProjectStrings.{Inclusion, includes, Build, Constraint, Dependencies, Entry, Environment, Extra, Group, Include, Invalid, OwnExtras, Python, Section, Unread, Version}
 
 -- ---- parts of a project
 

@@ -1,8 +1,8 @@
 //! What strings of a project and documents are to the check.
 ghost use Rattle.std.specs.Prelude.{◌≡◌, IfOk, IfSome, Some, map, option_map, string_bytes, is_none, false};
 ghost use Rattle.pyver_projects.specs.Documents.{locked, toml_contents};
-ghost use Rattle.pyver_projects.specs.Meanings.{AreLockedPythons, ArePythons, AreVersions, IsBrokenReading, IsContentsReading, IsDocumentReading, IsEntryMeaning, IsFilledMeaning, IsLockReading, IsOwnMeaning, IsProjectReading, IsTextReading, IsSectionMeaning, IsStringReading, IsVersionMeaning, if_it_has, list_versions, include_meaning, no_group};
-ghost use Rattle.pyver_projects.specs.ProjectViews.{contents_of, document_of, document_reading_of, HasGroups, groups_of, project_string_of, section_of, string_reading_of};
+ghost use Rattle.pyver_projects.specs.Meanings.{AreLockedPythons, ArePythons, AreVersions, IsBrokenReading, IsContentsReading, IsDocumentReading, IsEntryMeaning, IsExtraReading, IsFilledMeaning, IsLockReading, IsOwnMeaning, IsProjectReading, IsTextReading, IsSectionMeaning, IsStringReading, IsVersionMeaning, if_it_has, list_versions, include_meaning, no_group};
+ghost use Rattle.pyver_projects.specs.ProjectViews.{contents_of, document_of, document_reading_of, extra_reading_of, locked_extra_of, HasGroups, groups_of, project_string_of, section_of, string_reading_of};
 ghost use Rattle.pyver_projects.specs.declared.document_kind.DocumentKind.TheVariants as of_kind;
 ghost use Rattle.pyver_projects.specs.declared.document_kind.LockKind.TheVariants as lock_kind;
 ghost use Rattle.pyver_projects.specs.declared.project.EntryTool.TheVariants as of_entries;
@@ -21,9 +21,9 @@ ghost use Rattle.pyver_projects.specs.ProjectStrings.{HasPlaces};
 use crate::document_kind::{Document, DocumentKind, LockKind};
 use crate::groups::{Groups, group_names, has_group_tool, string_inclusions};
 use crate::lock_faults::project_name;
-use crate::locked_package::{LockContents, LockParts};
+use crate::locked_package::{LockContents, LockParts, LockedExtra};
 use crate::locked_reading::{
-    LockedReading, push_faults, read_files, read_packages, read_requirements,
+    LockedReading, push_faults, read_files, read_packages, read_requirement, read_requirements,
 };
 use crate::own_extras::{extra_names, project_strings};
 use crate::pipfile_lock::pipfile_contents;
@@ -63,10 +63,19 @@ pub(crate) struct LockReading {
     pub(crate) packages: Vec<LockedReading>,
     // What the packages require of one another.
     pub(crate) requirements: Vec<LineMeaning>,
+    // What they require for other extras than these ask for.
+    pub(crate) optional: Vec<ExtraReading>,
     // What the lock says that the project in its folder requires.
     pub(crate) entries: Vec<LineMeaning>,
     // What is wrong with their files, and with them beside one another.
     pub(crate) faults: Vec<LineMeaning>,
+}
+
+// A requirement for an extra: the key of this, and what it is.
+#[derive(Drop)]
+pub(crate) struct ExtraReading {
+    pub(crate) key: Vec<u8>,
+    pub(crate) meaning: LineMeaning,
 }
 
 // A document that was read.
@@ -118,6 +127,31 @@ fn read_project(
     }))
 }
 
+// What a requirement for an extra is.
+fn read_extra(alloc: Global, file: &[u8], extra: &LockedExtra) -> Result<ExtraReading, AllocError>
+    ensures { IfOk result (λ x. IsExtraReading file.now (locked_extra_of extra.now) (extra_reading_of x)) }
+{
+    Ok(ExtraReading {
+        key: extra.key.clone()?,
+        meaning: read_requirement(alloc, file, &extra.requirement)?,
+    })
+}
+
+// What the requirements for extras are.
+fn read_extras(
+    alloc: Global,
+    file: &[u8],
+    extras: &[LockedExtra],
+) -> Result<Vec<ExtraReading>, AllocError>
+    ensures { IfOk result (λ xs. AllZip (IsExtraReading file.now) (map locked_extra_of extras.now) (map extra_reading_of xs.items)) }
+{
+    let mut readings = Vec::new(alloc);
+    for extra in extras {
+        readings.push(read_extra(alloc, file, extra)?)?;
+    }
+    Ok(readings)
+}
+
 // What a lock with this name is, which has this.
 fn read_lock(
     alloc: Global,
@@ -129,6 +163,7 @@ fn read_lock(
     let python = parse_locked_pythons(alloc, &contents.parts.python)?;
     let packages = read_packages(alloc, name, contents.packages.as_slice())?;
     let requirements = read_requirements(alloc, name, contents.requirements.as_slice())?;
+    let optional = read_extras(alloc, name, contents.optional.as_slice())?;
     let entries = read_requirements(alloc, name, contents.entries.as_slice())?;
     let mut faults = read_files(alloc, name, contents.files.as_slice())?;
     push_faults(alloc, &mut faults, name, contents.faults.as_slice())?;
@@ -137,6 +172,7 @@ fn read_lock(
         python,
         packages,
         requirements,
+        optional,
         entries,
         faults,
     }))

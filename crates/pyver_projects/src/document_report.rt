@@ -139,6 +139,7 @@ fn report_lock(
         python: _python,
         packages,
         requirements,
+        optional: _optional,
         entries: _entries,
         faults,
     } = lock;

@@ -15,10 +15,11 @@ use crate::content_hash::key_line;
 use crate::document_kind::LockKind;
 use crate::document_reading::{ProjectReading, StringReading};
 use crate::groups::has_tool;
+use crate::extra_comparison::has_keys;
 use crate::lock_comparison::is_project_name;
 use crate::locked_package::{LockedRequirement, package_text};
 use crate::package_requirements::text_or_empty;
-use crate::table::{inside, items, table, text, top};
+use crate::table::{inside, items, listed_strings, table, text, top};
 use crate::together::{is_standard, project_python};
 use pep440_rs::{Version, VersionSpecifier};
 use pep440_sets::VersionSet;
@@ -66,6 +67,7 @@ fn push_entry(
         line,
         requirer: Vec::from_slice(alloc, requirer)?,
         name: String::from_str(alloc, name)?,
+        extras: listed_strings(alloc, item.get("extras"))?,
         list: String::from_str(alloc, list)?,
         is_reference: has_own_source(item),
     })?;
@@ -217,11 +219,18 @@ fn same_list(list: &[VersionSpecifier], other: &[VersionSpecifier]) -> bool
     has_each(list, other) && has_each(other, list)
 }
 
+fn same_extras(extras: &[Vec<u8>], other: &[Vec<u8>]) -> bool
+    ensures { result ≡ same_extras (map (λ e. e.items) extras.now) (map (λ e. e.items) other.now) }
+{
+    has_keys(other, extras) && has_keys(extras, other)
+}
+
 // The second, in the lock, is for the first, of the project.
 fn is_same_requirement(demand: &Demand, entry: &Demand) -> bool
     ensures { result ≡ is_same_requirement (demand_of demand.now) (demand_of entry.now) }
 {
     demand.name.as_slice() == entry.name.as_slice()
+        && same_extras(demand.extras.as_slice(), entry.extras.as_slice())
         && (entry.marker.is_some()
             || same_list(demand.specifiers.as_slice(), entry.specifiers.as_slice()))
 }

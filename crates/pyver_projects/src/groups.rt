@@ -2,10 +2,10 @@
 ghost use Rattle.std.specs.Prelude.{◌≡◌, ◌++◌, IfOk, bytes_eq, map, ◌∷◌, [], List, ℕ, if◌then◌else◌, count_by, nat_lt, ◌&&◌};
 ghost use Rattle.std.specs.List.{flat_map, list_any, filter, list_all};
 ghost use Rattle.pyver_projects.specs.Documents.{entry_names, group_names, has_group_tool, has_tool};
-ghost use Rattle.pyver_projects.specs.Meanings.{extra_inclusion, extra_inclusions, has_extras, includes, inclusion, inclusions, includes_by};
+ghost use Rattle.pyver_projects.specs.Meanings.{extra_inclusion, extra_inclusions, has_extras, inclusion, inclusions};
 ghost use Rattle.pyver_projects.specs.ProjectViews.{HasGroups, IsInclusionIndex, IsNameIndex, IsGroupOrder, groups_of, inclusions_of, indexed_names, is_repeated, inclusion_of, project_string_of, section_of, string_reading_of, stands_before, rank_of, GainsNames, IsFound, KeepsFound, has_key};
 ghost use Rattle.pyver_projects.specs.Together.{sections};
-ghost use Rattle.pyver_projects.specs.ProjectStrings.{members_list};
+ghost use Rattle.pyver_projects.specs.ProjectStrings.{includes, includes_by, inclusions_by, members_list};
 ghost use Rattle.toml.specs.View.{table_view};
 ghost use Rattle.std.specs.HashMap.{get_by};
 ghost use Rattle.std.specs.Option.{option_map_or};
@@ -52,15 +52,16 @@ fn push_inclusion(inclusions: &mut Vec<Inclusion>, section: &Section) -> Result<
     Ok(())
 }
 
-fn push_extras(
+// Adds that the first includes each of these.
+pub(crate) fn push_inclusions_by(
     inclusions: &mut Vec<Inclusion>,
     asker: &Vec<u8>,
-    extras: &[Vec<u8>],
+    names: &[Vec<u8>],
 ) -> Result<(), AllocError>
-    ensures { IfOk result (λ _. map inclusion_of inclusions.new.items ≡ map inclusion_of inclusions.old.items ++ map (λ (e : List ℕ). record { group = asker.now.items; included = e }) (map (λ e. e.items) extras.now)) }
+    ensures { IfOk result (λ _. map inclusion_of inclusions.new.items ≡ map inclusion_of inclusions.old.items ++ inclusions_by (Some asker.now.items) (map (λ n. n.items) names.now)) }
 {
-    for extra in extras {
-        inclusions.push(new_inclusion(asker, extra)?)?;
+    for name in names {
+        inclusions.push(new_inclusion(asker, name)?)?;
     }
     Ok(())
 }
@@ -72,7 +73,7 @@ fn push_extra_inclusion(
     ensures { IfOk result (λ _. map inclusion_of inclusions.new.items ≡ map inclusion_of inclusions.old.items ++ extra_inclusion (section_of section.now)) }
 {
     if let Section::OwnExtras(Some(asker), extras) = section {
-        push_extras(inclusions, asker, extras.as_slice())?;
+        push_inclusions_by(inclusions, asker, extras.as_slice())?;
     }
     Ok(())
 }

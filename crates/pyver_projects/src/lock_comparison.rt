@@ -12,6 +12,7 @@ ghost use Rattle.std.specs.Option.{option_map_or};
 use crate::content_hash::{in_one_folder, push_stale_in_pair};
 use crate::document_kind::{Document, DocumentKind, LockKind, is_beside};
 use crate::document_reading::{DocumentReading, ReadDocument, StringReading};
+use crate::extra_comparison::{push_unmet_extras, push_without_extra};
 use crate::known_environment::{KnownEnvironment, known_environments};
 use crate::known_projects::{KnownProjects, is_installer};
 use crate::lock_faults::is_listed_part;
@@ -92,14 +93,14 @@ impl<'a> PackageIndex<'a> {
 
 // A lock beside a project.
 #[derive(Drop)]
-struct IndexedLock<'a> {
-    kind: LockKind,
+pub(crate) struct IndexedLock<'a> {
+    pub(crate) kind: LockKind,
     // The name of the project beside it, in its normal form.
     project: &'a Option<Vec<u8>>,
     // In one folder with it.
-    near: bool,
-    projects: &'a KnownProjects,
-    packages: PackageIndex<'a>,
+    pub(crate) near: bool,
+    pub(crate) projects: &'a KnownProjects,
+    pub(crate) packages: PackageIndex<'a>,
 }
 
 fn locks_groups(kind: LockKind) -> bool
@@ -147,7 +148,7 @@ fn is_of_other_tool(kind: LockKind, section: &Section) -> bool
 
 // A lock with these groups has what this part of the project needs.
 #[tactic(auto, using(pyver_findings::proofs::Steps::any_viewed))]
-fn is_needed(kind: LockKind, parts: &[Vec<u8>], section: &Section) -> bool
+pub(crate) fn is_needed(kind: LockKind, parts: &[Vec<u8>], section: &Section) -> bool
     ensures { result ≡ is_needed kind (map (λ n. n.items) parts.now) (section_of section.now) }
 {
     match section {
@@ -168,7 +169,7 @@ fn leaves_out(kind: LockKind, parts: &[Vec<u8>], section: &Section) -> bool
 }
 
 // A lock, in one folder with the project or not, may have what the part needs.
-fn is_locked(near: bool, section: &Section) -> bool
+pub(crate) fn is_locked(near: bool, section: &Section) -> bool
     ensures { result ≡ is_locked near (section_of section.now) }
 {
     match section {
@@ -180,7 +181,7 @@ fn is_locked(near: bool, section: &Section) -> bool
 }
 
 // A project overrides the name, and so what tables of the standard require of it.
-fn is_overridden(projects: &KnownProjects, section: &Section, name: &[u8]) -> bool
+pub(crate) fn is_overridden(projects: &KnownProjects, section: &Section, name: &[u8]) -> bool
     ensures { result ≡ is_overridden (excuses projects.now) (section_of section.now) name.now }
 {
     is_standard(section) && projects.overrides(name)
@@ -289,7 +290,7 @@ pub(crate) fn push_all_excluded(
 }
 
 // Some package has the name of the requirement.
-fn has_package(demand: &Demand, packages: &PackageIndex<'_>) -> bool
+pub(crate) fn has_package(demand: &Demand, packages: &PackageIndex<'_>) -> bool
     requires { IsIndex packages.now }
     ensures { result ≡ list_any (has_name (demand_of demand.now)) (packages_of packages.now) }
 {
@@ -463,7 +464,8 @@ fn push_lack_of_name(
     }
 }
 
-// Adds that the lock has no package of the name of the requirement, or, if that has no marker, in some environment none that it may take.
+// Adds that the lock has no package of the name of the requirement, or none for an extra; or, if that has no marker, in some environment none that it may
+// take.
 fn push_absence_or_lack(
     alloc: Global,
     findings: &mut Vec<Finding>,
@@ -474,6 +476,7 @@ fn push_absence_or_lack(
     ensures { IfOk result (λ _. map finding_of findings.new.items ≡ map finding_of findings.old.items ++ unlocked (index_parts packages.now) (packages_of packages.now) (demand_of demand.now)) }
 {
     push_absent(alloc, findings, packages, demand)?;
+    push_without_extra(alloc, findings, packages, demand)?;
     if demand.marker.is_none() {
         push_lack_of_name(alloc, findings, packages, demand)?;
     }
@@ -516,7 +519,7 @@ fn push_unmet_demand(
 }
 
 // Adds what a requirement of a package lacks and excludes in its own lock.
-fn push_unmet(
+pub(crate) fn push_unmet(
     alloc: Global,
     findings: &mut Vec<Finding>,
     projects: &KnownProjects,
@@ -704,6 +707,7 @@ fn push_beside<'a>(
     let DocumentReading::Lock(lock) = other else {
         return Ok(());
     };
+    let optional = lock.optional.as_slice();
     let packages = PackageIndex::new(alloc, &lock.parts, lock.packages.as_slice())?;
     let lock = IndexedLock {
         kind,
@@ -712,7 +716,9 @@ fn push_beside<'a>(
         projects,
         packages,
     };
-    push_all_compared(alloc, findings, &lock, project.strings.as_slice())
+    let strings = project.strings.as_slice();
+    push_all_compared(alloc, findings, &lock, strings)?;
+    push_unmet_extras(alloc, findings, &lock, optional, strings)
 }
 
 // What is found in the first document beside the second, if this counts for it, of these documents.

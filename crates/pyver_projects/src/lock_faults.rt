@@ -1,13 +1,13 @@
 //! The names of projects, the groups of locks, and what is wrong with locked packages of one name.
 ghost use Rattle.std.specs.Prelude.{◌≡◌, ◌&&◌, ◌++◌, IfOk, ◌∷◌, [], Some, bytes_eq, codes, is_none, map, option_map, option_to_list, string_bytes};
-ghost use Rattle.pyver_projects.specs.PackageRequirements.{is_own_package, poetry_list};
-ghost use Rattle.pyver_projects.specs.ProjectStrings.{inside};
+ghost use Rattle.pyver_projects.specs.PackageRequirements.{extra_key, is_own_package, poetry_list};
+ghost use Rattle.pyver_projects.specs.ProjectStrings.{inside, text_in};
 ghost use Rattle.std.specs.List.{flat_map, list_any};
-ghost use Rattle.pyver_projects.specs.Documents.{has_default, is_new_group, lock_parts, named_parts, names_listed, own_python, part_names, with_default, package_parts, project_names, written_name};
+ghost use Rattle.pyver_projects.specs.Documents.{has_default, is_new_group, lock_parts, named_parts, names_listed, own_python, package_keys, packaged_extras, part_names, with_default, package_parts, project_names, written_name};
 ghost use Rattle.pyver_projects.specs.LockedFiles.{ambiguous, ambiguous_by, ambiguous_fault, ambiguous_item, ambiguous_name, fault_unless, faults_beside, text_faults, value_faults, counted_names, is_for_extras, has_markers, is_shared, is_uv, locked_python, package_condition, target_python, written_marker, marked_name, marked_names, marker_text, package_faults, package_name_in, twin_fault, twin_in, twins};
 ghost use Rattle.pyver_projects.specs.ProjectViews.{IsNameIndex, condition_of_package, indexed_names, fault_of, parts_of};
 ghost use Rattle.pyver_projects.specs.declared.document_kind.LockKind.TheVariants as lock_kind;
-ghost use Rattle.toml.specs.Data.{as_str, get_member};
+ghost use Rattle.toml.specs.Data.{Data, as_str, get, get_member};
 ghost use Rattle.toml.specs.View.{table_view, view};
 
 use crate::content_hash::lock_hash;
@@ -17,6 +17,7 @@ use crate::groups::NameIndex;
 use crate::locked_package::{
     LockFault, LockParts, PackageCondition, copy_text, first_of, package_text,
 };
+use crate::package_extras::extra_key;
 use crate::package_requirements::{lacks, poetry_list};
 use crate::table::{inside, is_table_or_none, is_text_or_none, items, text, top};
 use pyver_findings::normalize_name;
@@ -359,6 +360,62 @@ fn own_python(
     }
 }
 
+// Adds the keys of these extras of the package, whose names are in their normal forms.
+fn push_keys(
+    alloc: Global,
+    keys: &mut Vec<Vec<u8>>,
+    name: &[u8],
+    extras: &[Vec<u8>],
+) -> Result<(), AllocError>
+    ensures { IfOk result (λ _. map (λ k. k.items) keys.new.items ≡ map (λ k. k.items) keys.old.items ++ map (extra_key name.now) (map (λ e. e.items) extras.now)) }
+{
+    for extra in extras {
+        keys.push(extra_key(alloc, name, extra.as_slice())?)?;
+    }
+    Ok(())
+}
+
+// Adds the keys of the extras of the package, if it has a name.
+fn push_package_keys(
+    alloc: Global,
+    keys: &mut Vec<Vec<u8>>,
+    package: &Value,
+) -> Result<(), AllocError>
+    ensures { IfOk result (λ _. map (λ k. k.items) keys.new.items ≡ map (λ k. k.items) keys.old.items ++ package_keys (text_in (get (codes "name") (view package.now))) (view package.now)) }
+{
+    let Some(name) = text(package.get("name")) else {
+        return Ok(());
+    };
+    let name = normalize_name(alloc, name)?;
+    let extras = listed_names(alloc, package.get("extras"))?;
+    push_keys(alloc, keys, name.as_slice(), extras.as_slice())
+}
+
+// The keys of the extras of all packages.
+fn all_package_keys(alloc: Global, packages: &[Value]) -> Result<Vec<Vec<u8>>, AllocError>
+    ensures { IfOk result (λ keys. map (λ k. k.items) keys.items ≡ flat_map (λ (d : Data). package_keys (text_in (get (codes "name") d)) d) (map view packages.now)) }
+{
+    let mut keys = Vec::new(alloc);
+    for package in packages {
+        push_package_keys(alloc, &mut keys, package)?;
+    }
+    Ok(keys)
+}
+
+// Those that a lock of PDM has packages for.
+fn packaged_extras(
+    alloc: Global,
+    kind: LockKind,
+    packages: &[Value],
+) -> Result<Option<Vec<Vec<u8>>>, AllocError>
+    ensures { IfOk result (λ found. option_map (λ keys. map (λ k. k.items) keys.items) found ≡ packaged_extras kind (map view packages.now)) }
+{
+    match kind {
+        LockKind::Pdm => Ok(Some(all_package_keys(alloc, packages)?)),
+        _ => Ok(None),
+    }
+}
+
 // The parts of a lock of this kind with these packages.
 pub(crate) fn lock_parts(
     alloc: Global,
@@ -377,6 +434,7 @@ pub(crate) fn lock_parts(
     let environments = listed_texts(alloc, items(top(document, "environments")))?;
     let hash = lock_hash(alloc, kind, text, document)?;
     let python = own_python(alloc, kind, document, packages)?;
+    let packaged = packaged_extras(alloc, kind, packages)?;
     Ok(LockParts {
         names,
         extras,
@@ -384,6 +442,7 @@ pub(crate) fn lock_parts(
         environments,
         hash,
         python,
+        packaged,
     })
 }
 

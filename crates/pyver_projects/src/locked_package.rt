@@ -40,10 +40,20 @@ pub(crate) struct LockedRequirement {
     pub(crate) requirer: Vec<u8>,
     // The name that it requires.
     pub(crate) name: String,
+    // The extras that it asks for, as they are written.
+    pub(crate) extras: Vec<String>,
     // The list of specifiers; empty if it has none.
     pub(crate) list: String,
     // It only refers to a package, which may have a marker.
     pub(crate) is_reference: bool,
+}
+
+// A requirement that a package in a lock has for one of its extras.
+#[derive(Drop)]
+pub(crate) struct LockedExtra {
+    // The name of the package and the extra, in their normal forms, with `[` between.
+    pub(crate) key: Vec<u8>,
+    pub(crate) requirement: LockedRequirement,
 }
 
 // A file of a package in a lock, in whose name a version stands.
@@ -106,6 +116,8 @@ pub(crate) struct LockParts {
     pub(crate) hash: Option<ContentHash>,
     // For which versions of Python it says that the project in its folder is.
     pub(crate) python: Option<String>,
+    // The keys of all extras that it has packages for, if it has a package for each.
+    pub(crate) packaged: Option<Vec<Vec<u8>>>,
 }
 
 // What is read of a lock.
@@ -113,7 +125,10 @@ pub(crate) struct LockParts {
 pub(crate) struct LockContents {
     pub(crate) parts: LockParts,
     pub(crate) packages: Vec<LockedPackage>,
+    // What the packages require, also for the extras that these ask for.
     pub(crate) requirements: Vec<LockedRequirement>,
+    // What they require for other extras.
+    pub(crate) optional: Vec<LockedExtra>,
     // What it says that the project in its folder requires.
     pub(crate) entries: Vec<LockedRequirement>,
     pub(crate) files: Vec<LockedFile>,

@@ -21,6 +21,7 @@ use crate::known_environment::ReadCondition;
 use crate::locked_package::{
     LockFault, LockedFile, LockedPackage, LockedRequirement, PackageCondition, package_text,
 };
+use crate::package_extras::name_with_extras;
 use crate::package_requirements::requirement_text;
 use pep440_pick::Requirement;
 use pep440_rs::{Version, VersionParseError, VersionSpecifier, VersionSpecifiers};
@@ -314,7 +315,9 @@ fn requirement_line(
 {
     let mut text = Vec::from_slice(alloc, requirement.requirer.as_slice())?;
     text.extend_from_slice(b" requires ")?;
-    let required = requirement_text(alloc, requirement.name.as_str(), requirement.list.as_str())?;
+    let extras = requirement.extras.as_slice();
+    let name = name_with_extras(alloc, requirement.name.as_str(), extras)?;
+    let required = requirement_text(alloc, name.as_str(), requirement.list.as_str())?;
     text.extend_from_slice(required.as_bytes())?;
     Ok(FileLine {
         file: Vec::from_slice(alloc, file)?,
@@ -342,12 +345,12 @@ fn ask(
     requirement: &LockedRequirement,
     specifiers: VersionSpecifiers,
 ) -> Result<LineMeaning, AllocError>
-    ensures { IfOk result (λ x. line_meaning_of x ≡ Asks (line_demand (requirement_line file.now (requirement_of requirement.now)) (reference_marker requirement.now.is_reference) (record { name = string_bytes requirement.now.name; extras = []; specifiers = specifiers }))) }
+    ensures { IfOk result (λ x. line_meaning_of x ≡ Asks (line_demand (requirement_line file.now (requirement_of requirement.now)) (reference_marker requirement.now.is_reference) (record { name = string_bytes requirement.now.name; extras = map string_bytes requirement.now.extras.items; specifiers = specifiers }))) }
 {
     let line = requirement_line(alloc, file, requirement)?;
     let asked = Requirement {
         name: requirement.name.clone()?,
-        extras: Vec::new(alloc),
+        extras: requirement.extras.clone()?,
         specifiers,
     };
     let marker = reference_marker(alloc, requirement.is_reference);
@@ -355,7 +358,7 @@ fn ask(
 }
 
 // What the requirement is.
-fn read_requirement(
+pub(crate) fn read_requirement(
     alloc: Global,
     file: &[u8],
     requirement: &LockedRequirement,

@@ -15,8 +15,8 @@ ghost use Rattle.toml.specs.View.{table_view, view};
 use crate::document_kind::LockKind;
 use crate::known_environment::holds_everywhere;
 use crate::locked_package::{LockParts, LockedRequirement, package_text, split_at_byte};
-use crate::own_extras::is_conditional;
-use crate::table::{inside, items, table, text};
+use crate::own_extras::{is_conditional, string_extras};
+use crate::table::{inside, items, listed_strings, table, text};
 use pep440_pick::is_name;
 use std::alloc::{AllocError, Global};
 use toml::{Table, Value};
@@ -27,24 +27,24 @@ pub(crate) fn lacks(value: &Value, key: &str) -> bool
     value.get(key).is_none()
 }
 
-fn push_requirement(
+pub(crate) fn new_requirement(
     alloc: Global,
-    found: &mut Vec<LockedRequirement>,
     line: u64,
     requirer: &[u8],
     name: &str,
+    extras: Vec<String>,
     list: &str,
-) -> Result<(), AllocError>
-    ensures { IfOk result (λ _. map requirement_of found.new.items ≡ map requirement_of found.old.items ++ requirement line requirer.now name.now list.now ∷ []) }
+) -> Result<LockedRequirement, AllocError>
+    ensures { IfOk result (λ q. requirement_of q ≡ requirement line requirer.now name.now (map string_bytes extras.items) list.now) }
 {
-    found.push(LockedRequirement {
+    Ok(LockedRequirement {
         line,
         requirer: Vec::from_slice(alloc, requirer)?,
         name: String::from_str(alloc, name)?,
+        extras,
         list: String::from_str(alloc, list)?,
         is_reference: false,
-    })?;
-    Ok(())
+    })
 }
 
 // ---- Poetry's lists of specifiers
@@ -264,17 +264,17 @@ fn push_list(
     line: u64,
     requirer: &[u8],
     name: &str,
+    extras: Vec<String>,
     list: Option<&str>,
 ) -> Result<(), AllocError>
-    ensures { IfOk result (λ _. map requirement_of found.new.items ≡ map requirement_of found.old.items ++ requirement_in line requirer.now name.now (option_map (λ t. t.now) list.entry)) }
+    ensures { IfOk result (λ _. map requirement_of found.new.items ≡ map requirement_of found.old.items ++ requirement_in line requirer.now name.now (map string_bytes extras.items) (option_map (λ t. t.now) list.entry)) }
 {
-    match list {
-        Some(list) => {
-            let list = poetry_list(alloc, list)?;
-            push_requirement(alloc, found, line, requirer, name, list.as_str())
-        }
-        None => Ok(()),
+    if let Some(list) = list {
+        let list = poetry_list(alloc, list)?;
+        let list = list.as_str();
+        found.push(new_requirement(alloc, line, requirer, name, extras, list)?)?;
     }
+    Ok(())
 }
 
 fn push_named(
@@ -283,14 +283,15 @@ fn push_named(
     line: u64,
     requirer: &[u8],
     name: Option<&str>,
+    extras: Vec<String>,
     list: &str,
 ) -> Result<(), AllocError>
-    ensures { IfOk result (λ _. map requirement_of found.new.items ≡ map requirement_of found.old.items ++ named_requirement line requirer.now (option_map (λ t. t.now) name.entry) list.now) }
+    ensures { IfOk result (λ _. map requirement_of found.new.items ≡ map requirement_of found.old.items ++ named_requirement line requirer.now (option_map (λ t. t.now) name.entry) (map string_bytes extras.items) list.now) }
 {
-    match name {
-        Some(name) => push_requirement(alloc, found, line, requirer, name, list),
-        None => Ok(()),
+    if let Some(name) = name {
+        found.push(new_requirement(alloc, line, requirer, name, extras, list)?)?;
     }
+    Ok(())
 }
 
 pub(crate) fn text_or_empty(text: Option<&str>) -> &str
@@ -330,7 +331,7 @@ fn opens_bracket(rest: &[u8]) -> bool
 }
 
 // What follows the extras of a name, if it has some.
-fn past_extras(rest: &str) -> &str
+pub(crate) fn past_extras(rest: &str) -> &str
     ensures { result.now ≡ past_extras rest.now }
 {
     if !opens_bracket(rest.as_bytes()) {
@@ -342,7 +343,7 @@ fn past_extras(rest: &str) -> &str
     }
 }
 
-fn is_plain_string(text: &str, name: &str) -> bool
+pub(crate) fn is_plain_string(text: &str, name: &str) -> bool
     requires { name.now ≡ lead is_name_byte text.now }
     ensures { result ≡ is_plain_string text.now }
 {
@@ -363,7 +364,10 @@ fn push_string(
     if !is_plain_string(text, name) {
         return Ok(());
     }
-    push_requirement(alloc, found, line, requirer, name, past_extras(rest))
+    let extras = string_extras(alloc, text)?;
+    let list = past_extras(rest);
+    found.push(new_requirement(alloc, line, requirer, name, extras, list)?)?;
+    Ok(())
 }
 
 // Adds the requirement of this string, if there is one.
@@ -397,8 +401,9 @@ fn push_item(
         return Ok(());
     }
     let name = text(item.get("name"));
+    let extras = listed_strings(alloc, item.get("extra"))?;
     let list = text_or_empty(text(item.get("specifier")));
-    push_named(alloc, found, line, requirer, name, list)
+    push_named(alloc, found, line, requirer, name, extras, list)
 }
 
 fn push_items(
@@ -427,10 +432,12 @@ fn push_version(
 ) -> Result<(), AllocError>
     ensures { IfOk result (λ _. map requirement_of found.new.items ≡ map requirement_of found.old.items ++ version_requirements line requirer.now name.now (view value.now)) }
 {
-    push_list(alloc, found, line, requirer, name, value.as_str())?;
+    let none = Vec::new(alloc);
+    push_list(alloc, found, line, requirer, name, none, value.as_str())?;
     if lacks(value, "markers") && lacks(value, "optional") {
+        let extras = listed_strings(alloc, value.get("extras"))?;
         let list = text(value.get("version"));
-        push_list(alloc, found, line, requirer, name, list)?;
+        push_list(alloc, found, line, requirer, name, extras, list)?;
     }
     Ok(())
 }
@@ -520,6 +527,7 @@ fn push_reference(
         line,
         requirer: Vec::from_slice(alloc, requirer)?,
         name: String::from_str(alloc, name)?,
+        extras: Vec::new(alloc),
         list: String::new(alloc),
         is_reference: true,
     })?;
@@ -626,7 +634,7 @@ fn is_everywhere(
 }
 
 // The package is locked for each environment.
-fn is_unconditional(alloc: Global, parts: &LockParts, table: &Value) -> Result<bool, AllocError>
+pub(crate) fn is_unconditional(alloc: Global, parts: &LockParts, table: &Value) -> Result<bool, AllocError>
     ensures { IfOk result (λ b. b ≡ is_unconditional (parts_of parts.now) (view table.now)) }
 {
     if !lacks(table, "markers") || !lacks(table, "resolution-markers") {

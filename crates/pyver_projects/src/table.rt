@@ -1,9 +1,11 @@
 //! Values in a table of a TOML document.
 ghost use Rattle.std.specs.Prelude.{◌≡◌, map, option_and_then, option_map};
-ghost use Rattle.pyver_projects.specs.ProjectStrings.{inside, is_array_or_none, is_table_or_none, is_text_or_none, listed, text_in};
-ghost use Rattle.toml.specs.Data.{as_array, as_table, get_member};
+ghost use Rattle.std.specs.Prelude.{◌++◌, IfOk, option_to_list, string_bytes};
+ghost use Rattle.pyver_projects.specs.ProjectStrings.{inside, is_array_or_none, is_table_or_none, is_text_or_none, listed, text_in, texts_listed};
+ghost use Rattle.toml.specs.Data.{as_array, as_str, as_table, get_member};
 ghost use Rattle.toml.specs.View.{array_view, table_view, view};
 
+use std::alloc::{AllocError, Global};
 use toml::value::Array;
 use toml::{Table, Value};
 
@@ -63,6 +65,30 @@ pub(crate) fn text(value: Option<&Value>) -> Option<&str>
         Some(value) => value.as_str(),
         None => None,
     }
+}
+
+// Adds the string, if it is one.
+fn push_string(alloc: Global, strings: &mut Vec<String>, item: &Value) -> Result<(), AllocError>
+    ensures { IfOk result (λ _. map string_bytes strings.new.items ≡ map string_bytes strings.old.items ++ option_to_list (as_str (view item.now))) }
+{
+    if let Some(text) = item.as_str() {
+        strings.push(String::from_str(alloc, text)?)?;
+    }
+    Ok(())
+}
+
+// The strings in the array, if there is one.
+pub(crate) fn listed_strings(
+    alloc: Global,
+    value: Option<&Value>,
+) -> Result<Vec<String>, AllocError>
+    ensures { IfOk result (λ strings. map string_bytes strings.items ≡ texts_listed (option_map (λ v. view v.now) value.entry)) }
+{
+    let mut strings = Vec::new(alloc);
+    for item in items(value) {
+        push_string(alloc, &mut strings, item)?;
+    }
+    Ok(strings)
 }
 
 // The value is an array, if there is one.

@@ -17,6 +17,7 @@ use crate::locked_package::{
     LockContents, LockFault, LockParts, LockedPackage, PackageCondition, copy_text,
     push_locked_files,
 };
+use crate::package_extras::{push_package_extras, take_asked};
 use crate::package_requirements::push_requirements;
 use crate::place::header_lines;
 use crate::table::{is_array_or_none, items, text, top};
@@ -83,6 +84,7 @@ fn read_tables(
 {
     let mut packages = Vec::new(alloc);
     let mut requirements = Vec::new(alloc);
+    let mut extras = Vec::new(alloc);
     let mut entries = Vec::new(alloc);
     let mut files = Vec::new(alloc);
     let mut faults = faults;
@@ -90,14 +92,17 @@ fn read_tables(
         let line = line_or_one(lines, index);
         push_item(alloc, &mut packages, &counted.python, line, item)?;
         push_requirements(alloc, &mut requirements, counted.kind, &parts, line, item)?;
+        push_package_extras(alloc, &mut extras, &parts, line, item)?;
         push_own_entries(alloc, &mut entries, counted.kind, line, item)?;
         push_locked_files(alloc, &mut files, line, item)?;
         push_package_faults(alloc, &mut faults, counted, line, item)?;
     }
+    let optional = take_asked(alloc, &mut requirements, extras)?;
     Ok(LockContents {
         parts,
         packages,
         requirements,
+        optional,
         entries,
         files,
         faults,

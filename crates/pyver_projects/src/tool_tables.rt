@@ -15,13 +15,14 @@ ghost use Rattle.toml.specs.Data.{Data, as_bool, as_str};
 ghost use Rattle.toml.specs.View.{table_view, view};
 
 use crate::groups::table_names;
+use crate::package_extras::name_with_extras;
 use crate::package_requirements::{plain_list, poetry_list, requirement_text, split_name};
 use crate::place::{after_blanks, key_path};
 use crate::poetry_marker::{entry_marker, has_conditions, is_operator_byte};
 use crate::project::{
     EntryTool, ProjectString, Section, push_array, push_invalid, push_string, push_table_fault,
 };
-use crate::table::{inside, items, table, text, top};
+use crate::table::{inside, items, listed_strings, table, text, top};
 use pep440_pick::is_name;
 use pyver_findings::{Cause, normalize_name};
 use std::alloc::{AllocError, Global};
@@ -128,23 +129,25 @@ fn marked_text(requirement: String, marker: &str) -> Result<String, AllocError>
     Ok(text)
 }
 
-// Adds the entry of this name with this list and this marker, or that it is not read.
+// Adds the entry of this name with these extras, this list and this marker, or that it is not read.
 fn push_listed(
     alloc: Global,
     sources: &mut Vec<ProjectString>,
     tool: EntryTool,
     table: &[u8],
     name: &str,
+    extras: &[String],
     marker: &str,
     list: Option<&str>,
 ) -> Result<(), AllocError>
-    ensures { IfOk result (λ _. map project_string_of sources.new.items ≡ map project_string_of sources.old.items ++ listed_source tool table.now name.now marker.now (option_map (λ t. t.now) list.entry)) }
+    ensures { IfOk result (λ _. map project_string_of sources.new.items ≡ map project_string_of sources.old.items ++ listed_source tool table.now name.now (map string_bytes extras.now) marker.now (option_map (λ t. t.now) list.entry)) }
 {
     let Some(list) = list else {
         return push_unread(alloc, sources, Cause::OtherSyntax);
     };
     let list = entry_specifiers(alloc, tool, list)?;
-    let text = requirement_text(alloc, name, list.as_str())?;
+    let full_name = name_with_extras(alloc, name, extras)?;
+    let text = requirement_text(alloc, full_name.as_str(), list.as_str())?;
     let text = marked_text(text, marker)?;
     let section = entry_section(alloc, tool, table, name)?;
     push_string(alloc, sources, section, text.as_str())
@@ -160,6 +163,7 @@ fn push_entry(
 ) -> Result<(), AllocError>
     ensures { IfOk result (λ _. map project_string_of sources.new.items ≡ map project_string_of sources.old.items ++ entry_source tool table.now name.now (view entry.now)) }
 {
+    let extras = listed_strings(alloc, entry.get("extras"))?;
     let marker = entry_marker(alloc, tool, entry)?;
     push_listed(
         alloc,
@@ -167,6 +171,7 @@ fn push_entry(
         tool,
         table,
         name,
+        extras.as_slice(),
         marker.as_str(),
         entry_list(tool, entry),
     )

@@ -4,7 +4,7 @@ use Rattle.std.specs.List.{list_any}
 use Rattle.std.specs.Map.{lookup}
 use Rattle.pyver_findings.proofs.SmallestLists.{is_nil}
 use Rattle.pyver_projects.proofs.Walks.{IsWalked, all_reached, at_start, one_step}
-use Rattle.pyver_projects.specs.Meanings.{includes_by, includes_within}
+use Rattle.pyver_projects.specs.ProjectStrings.{includes_by, includes_within}
 use Rattle.pyver_projects.specs.ProjectViews.{has_key, inclusions_of, inclusion_of}
 use Rattle.pyver_projects.proofs.groups.included_groups.Goals as goal
 

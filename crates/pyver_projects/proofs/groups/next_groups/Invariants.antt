@@ -1,6 +1,6 @@
 use Rattle.std.proofs.Common.{◌≡◌, ◌||◌, List, ℕ, bytes_eq, drop, map}
 use Rattle.std.specs.List.{list_any}
-use Rattle.pyver_projects.specs.Meanings.{includes_by}
+use Rattle.pyver_projects.specs.ProjectStrings.{includes_by}
 use Rattle.pyver_projects.specs.ProjectViews.{IsFound, has_key, inclusions_of}
 use Rattle.pyver_projects.proofs.groups.next_groups.Given as goal
 

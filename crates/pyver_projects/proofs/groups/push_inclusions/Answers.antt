@@ -1,6 +1,6 @@
 use Rattle.std.proofs.Common.{◌||◌, ◌∙◌, Bor, ap, bytes_eq}
 use Rattle.pyver_projects.proofs.Walks.{push_step}
-use Rattle.pyver_projects.specs.Meanings.{Inclusion}
+use Rattle.pyver_projects.specs.ProjectStrings.{Inclusion}
 use Rattle.pyver_projects.specs.ProjectViews.{has_key, inclusion_of}
 use Rattle.pyver_projects.specs.declared.groups.Inclusion.{Inclusion as InclusionValue}
 use Rattle.pyver_projects.proofs.groups.push_inclusions.Goals as goal

@@ -2,7 +2,7 @@ use Rattle.std.proofs.Common.{◌≡◌, ◌&&◌, ◌||◌, ◌∙◌, Bor, Lis
 use Rattle.std.proofs.lemmas.Result.{IfOk-weaker}
 use Rattle.std.specs.List.{list_any}
 use Rattle.pyver_projects.proofs.Walks.{of_group, or_false}
-use Rattle.pyver_projects.specs.Meanings.{Inclusion}
+use Rattle.pyver_projects.specs.ProjectStrings.{Inclusion}
 use Rattle.pyver_projects.specs.ProjectViews.{has_key, inclusions_of, inclusion_of}
 use Rattle.pyver_projects.specs.declared.groups.Inclusion.{Inclusion as InclusionValue}
 use Rattle.pyver_projects.proofs.groups.push_of_group.Goals as goal

@@ -1,5 +1,5 @@
 use Rattle.pyver_findings.proofs.Grouping.{grouped_more}
-use Rattle.pyver_projects.specs.Meanings.{Inclusion}
+use Rattle.pyver_projects.specs.ProjectStrings.{Inclusion}
 use Rattle.pyver_projects.specs.ProjectViews.{inclusion_of}
 use Rattle.pyver_projects.proofs.groups.InclusionIndex.new.Goals as goal
 

@@ -2,7 +2,7 @@ use Rattle.std.proofs.Common.{◌≡◌, List, [], ℕ, bytes_eq, map, take}
 use Rattle.std.specs.HashMap.{get_by}
 use Rattle.std.specs.List.{filter}
 use Rattle.std.specs.Option.{option_map_or}
-use Rattle.pyver_projects.specs.Meanings.{Inclusion}
+use Rattle.pyver_projects.specs.ProjectStrings.{Inclusion}
 use Rattle.pyver_projects.specs.ProjectViews.{inclusion_of}
 use Rattle.pyver_projects.proofs.groups.InclusionIndex.new.Given as goal
 

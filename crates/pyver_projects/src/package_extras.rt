@@ -1,0 +1,391 @@
+//! What locked packages require for their extras, and which of these are asked for.
+ghost use Rattle.std.specs.Prelude.{◌≡◌, ◌++◌, ◌∷◌, [], Bool, IfOk, List, Some, codes, false, map, not, option_map, string_bytes, true, ℕ};
+ghost use Rattle.std.specs.List.{filter, flat_map};
+ghost use Rattle.std.specs.Option.{option_map_or, unwrap_or};
+ghost use Rattle.pep440_pick.specs.Names.{normal};
+ghost use Rattle.pep440_pick.specs.RequirementReading.{without_end};
+ghost use Rattle.pep440_version.specs.Changes.ChangeWords.{after};
+ghost use Rattle.pyver_projects.specs.Documents.{is_asked, lock_asks, not_asked, with_asked};
+ghost use Rattle.pyver_projects.specs.PackageRequirements.{all_extras, asked_keys, extra_items, extra_key, extra_requirements, extra_string, extras_by, extras_from, extras_text, without_parentheses};
+ghost use Rattle.pyver_projects.specs.ProjectStrings.{LockedExtra, LockedRequirement, entries, inclusions_by, listed, members_list};
+ghost use Rattle.pyver_projects.specs.ProjectViews.{has_key, inclusion_of, locked_extra_of, parts_of, requirement_of};
+ghost use Rattle.std.specs.Borrow.{Bor};
+ghost use Rattle.toml.specs.Data.{as_str};
+ghost use Rattle.toml.specs.View.{table_view, view};
+
+use crate::groups::{Inclusion, InclusionIndex, included_groups, push_inclusions_by};
+use crate::locked_package::{LockParts, LockedExtra, LockedRequirement, package_text};
+use crate::own_extras::string_extras;
+use crate::package_requirements::{
+    is_plain_string, is_unconditional, lacks, new_requirement, past_extras, poetry_list, split_name,
+};
+use crate::table::{items, listed_strings, table, text};
+use pyver_findings::normalize_name;
+use std::alloc::{AllocError, Global};
+use std::collections::HashMap;
+use toml::{Table, Value};
+
+// ---- keys
+
+// The key of an extra of a package, by the normal forms of both names.
+pub(crate) fn extra_key(alloc: Global, name: &[u8], extra: &[u8]) -> Result<Vec<u8>, AllocError>
+    ensures { IfOk result (λ key. key.items ≡ extra_key name.now extra.now) }
+{
+    let mut key = Vec::from_slice(alloc, name)?;
+    key.push(b'[')?;
+    key.extend_from_slice(extra)?;
+    Ok(key)
+}
+
+// The keys of the extras that a requirement asks for.
+fn asked_keys(
+    alloc: Global,
+    requirement: &LockedRequirement,
+) -> Result<Vec<Vec<u8>>, AllocError>
+    ensures { IfOk result (λ keys. map (λ k. k.items) keys.items ≡ asked_keys (requirement_of requirement.now)) }
+{
+    let name = normalize_name(alloc, requirement.name.as_str())?;
+    let mut keys = Vec::new(alloc);
+    for extra in &requirement.extras {
+        let extra = normalize_name(alloc, extra.as_str())?;
+        keys.push(extra_key(alloc, name.as_slice(), extra.as_slice())?)?;
+    }
+    Ok(keys)
+}
+
+// ---- what packages require for extras
+
+// The list of a string of Poetry, which may be in parentheses.
+fn without_parentheses(list: &str) -> &str
+    ensures { result.now ≡ without_parentheses list.now }
+{
+    let Some(open) = strip_opening(list) else {
+        return list;
+    };
+    match strip_closing(open) {
+        Some(inside) => inside,
+        None => list,
+    }
+}
+
+fn strip_opening(list: &str) -> Option<&str>
+    ensures { option_map (λ t. t.now) result ≡ after (codes " (") list.now }
+{
+    list.strip_prefix(" (")
+}
+
+fn strip_closing(list: &str) -> Option<&str>
+    ensures { option_map (λ t. t.now) result ≡ without_end 41 list.now }
+{
+    list.strip_suffix(')')
+}
+
+fn push_for_extra(
+    alloc: Global,
+    found: &mut Vec<LockedExtra>,
+    key: &[u8],
+    requirement: LockedRequirement,
+) -> Result<(), AllocError>
+    ensures { IfOk result (λ _. map locked_extra_of found.new.items ≡ map locked_extra_of found.old.items ++ record { key = key.now; requirement = requirement_of requirement } ∷ []) }
+{
+    let key = Vec::from_slice(alloc, key)?;
+    found.push(LockedExtra { key, requirement })?;
+    Ok(())
+}
+
+// Adds the requirement of the string, unless it has a marker or a URL.
+fn push_string(
+    alloc: Global,
+    found: &mut Vec<LockedExtra>,
+    line: u64,
+    requirer: &[u8],
+    key: &[u8],
+    text: &str,
+) -> Result<(), AllocError>
+    ensures { IfOk result (λ _. map locked_extra_of found.new.items ≡ map locked_extra_of found.old.items ++ extra_string line requirer.now key.now text.now) }
+{
+    let (name, rest) = split_name(text);
+    if !is_plain_string(text, name) {
+        return Ok(());
+    }
+    let extras = string_extras(alloc, text)?;
+    let list = poetry_list(alloc, without_parentheses(past_extras(rest)))?;
+    let requirement = new_requirement(alloc, line, requirer, name, extras, list.as_str())?;
+    push_for_extra(alloc, found, key, requirement)
+}
+
+fn push_text(
+    alloc: Global,
+    found: &mut Vec<LockedExtra>,
+    line: u64,
+    requirer: &[u8],
+    key: &[u8],
+    text: Option<&str>,
+) -> Result<(), AllocError>
+    ensures { IfOk result (λ _. map locked_extra_of found.new.items ≡ map locked_extra_of found.old.items ++ option_map_or (extra_string line requirer.now key.now) (option_map (λ t. t.now) text.entry) []) }
+{
+    match text {
+        Some(text) => push_string(alloc, found, line, requirer, key, text),
+        None => Ok(()),
+    }
+}
+
+// Adds what an item of an array of extras requires: a string of Poetry, or a table of uv without a marker.
+fn push_item(
+    alloc: Global,
+    found: &mut Vec<LockedExtra>,
+    line: u64,
+    requirer: &[u8],
+    key: &[u8],
+    item: &Value,
+) -> Result<(), AllocError>
+    ensures { IfOk result (λ _. map locked_extra_of found.new.items ≡ map locked_extra_of found.old.items ++ extra_items line requirer.now key.now (view item.now)) }
+{
+    push_text(alloc, found, line, requirer, key, item.as_str())?;
+    if !lacks(item, "marker") {
+        return Ok(());
+    }
+    let Some(name) = text(item.get("name")) else {
+        return Ok(());
+    };
+    let extras = listed_strings(alloc, item.get("extra"))?;
+    let requirement = new_requirement(alloc, line, requirer, name, extras, "")?;
+    push_for_extra(alloc, found, key, requirement)
+}
+
+fn push_items(
+    alloc: Global,
+    found: &mut Vec<LockedExtra>,
+    line: u64,
+    requirer: &[u8],
+    key: &[u8],
+    list: &[Value],
+) -> Result<(), AllocError>
+    ensures { IfOk result (λ _. map locked_extra_of found.new.items ≡ map locked_extra_of found.old.items ++ flat_map (extra_items line requirer.now key.now) (map view list.now)) }
+{
+    for item in list {
+        push_item(alloc, found, line, requirer, key, item)?;
+    }
+    Ok(())
+}
+
+// Adds what the package with this name, in its normal form, requires for the extra.
+fn push_extra(
+    alloc: Global,
+    found: &mut Vec<LockedExtra>,
+    line: u64,
+    requirer: &[u8],
+    name: &[u8],
+    extra: &String,
+    value: &Value,
+) -> Result<(), AllocError>
+    ensures { IfOk result (λ _. map locked_extra_of found.new.items ≡ map locked_extra_of found.old.items ++ flat_map (extra_items line requirer.now (extra_key name.now (normal (string_bytes extra.now)))) (listed (Some (view value.now)))) }
+{
+    let extra = normalize_name(alloc, extra.as_str())?;
+    let key = extra_key(alloc, name, extra.as_slice())?;
+    push_items(alloc, found, line, requirer, key.as_slice(), items(Some(value)))
+}
+
+fn push_extras(
+    alloc: Global,
+    found: &mut Vec<LockedExtra>,
+    line: u64,
+    requirer: &[u8],
+    name: &str,
+    extras: &Table,
+) -> Result<(), AllocError>
+    ensures { IfOk result (λ _. map locked_extra_of found.new.items ≡ map locked_extra_of found.old.items ++ flat_map (extra_requirements line requirer.now name.now) (members_list (table_view extras.now))) }
+{
+    let name = normalize_name(alloc, name)?;
+    for (extra, value) in extras.iter() {
+        push_extra(alloc, found, line, requirer, name.as_slice(), extra, value)?;
+    }
+    Ok(())
+}
+
+// Adds what it requires for each extra of the table, if there is one.
+fn push_table(
+    alloc: Global,
+    found: &mut Vec<LockedExtra>,
+    line: u64,
+    requirer: &[u8],
+    name: &str,
+    value: Option<&Value>,
+) -> Result<(), AllocError>
+    ensures { IfOk result (λ _. map locked_extra_of found.new.items ≡ map locked_extra_of found.old.items ++ flat_map (extra_requirements line requirer.now name.now) (entries (option_map (λ v. view v.now) value.entry))) }
+{
+    match table(value) {
+        Some(extras) => push_extras(alloc, found, line, requirer, name, extras),
+        None => Ok(()),
+    }
+}
+
+fn push_by(
+    alloc: Global,
+    found: &mut Vec<LockedExtra>,
+    line: u64,
+    name: Option<&str>,
+    package: &Value,
+) -> Result<(), AllocError>
+    ensures { IfOk result (λ _. map locked_extra_of found.new.items ≡ map locked_extra_of found.old.items ++ extras_by line (option_map (λ t. t.now) name.entry) (view package.now)) }
+{
+    let Some(name) = name else {
+        return Ok(());
+    };
+    let requirer = package_text(alloc, name, text(package.get("version")))?;
+    let requirer = requirer.as_slice();
+    push_table(alloc, found, line, requirer, name, package.get("extras"))?;
+    let extras = package.get("optional-dependencies");
+    push_table(alloc, found, line, requirer, name, extras)
+}
+
+// Adds what the package on this line requires for its extras, if it is locked for each environment.
+pub(crate) fn push_package_extras(
+    alloc: Global,
+    found: &mut Vec<LockedExtra>,
+    parts: &LockParts,
+    line: u64,
+    package: &Value,
+) -> Result<(), AllocError>
+    ensures { IfOk result (λ _. map locked_extra_of found.new.items ≡ map locked_extra_of found.old.items ++ extras_from (parts_of parts.now) (line, view package.now)) }
+{
+    if !is_unconditional(alloc, parts, package)? {
+        return Ok(());
+    }
+    push_by(alloc, found, line, text(package.get("name")), package)
+}
+
+// ---- which are asked for
+
+fn push_asks(
+    alloc: Global,
+    asks: &mut Vec<Inclusion>,
+    asker: &Vec<u8>,
+    requirement: &LockedRequirement,
+) -> Result<(), AllocError>
+    ensures { IfOk result (λ _. map inclusion_of asks.new.items ≡ map inclusion_of asks.old.items ++ inclusions_by (Some asker.now.items) (asked_keys (requirement_of requirement.now))) }
+{
+    let keys = asked_keys(alloc, requirement)?;
+    push_inclusions_by(asks, asker, keys.as_slice())
+}
+
+// What requirements ask for, under no key.
+fn requirement_asks(
+    alloc: Global,
+    requirements: &[LockedRequirement],
+) -> Result<Vec<Inclusion>, AllocError>
+    ensures { IfOk result (λ is. map inclusion_of is.items ≡ flat_map (λ (q : LockedRequirement). inclusions_by (Some []) (asked_keys q)) (map requirement_of requirements.now)) }
+{
+    let none = Vec::new(alloc);
+    let mut asks = Vec::new(alloc);
+    for requirement in requirements {
+        push_asks(alloc, &mut asks, &none, requirement)?;
+    }
+    Ok(asks)
+}
+
+// Adds what the requirements of extras ask for, under the keys of these.
+fn push_extra_asks(
+    alloc: Global,
+    asks: &mut Vec<Inclusion>,
+    extras: &[LockedExtra],
+) -> Result<(), AllocError>
+    ensures { IfOk result (λ _. map inclusion_of asks.new.items ≡ map inclusion_of asks.old.items ++ flat_map (λ (o : LockedExtra). inclusions_by (Some o.key) (asked_keys o.requirement)) (map locked_extra_of extras.now)) }
+{
+    for extra in extras {
+        push_asks(alloc, asks, &extra.key, &extra.requirement)?;
+    }
+    Ok(())
+}
+
+// Which extras are asked for.
+fn lock_asks(
+    alloc: Global,
+    requirements: &[LockedRequirement],
+    extras: &[LockedExtra],
+) -> Result<Vec<Inclusion>, AllocError>
+    ensures { IfOk result (λ is. map inclusion_of is.items ≡ lock_asks (map requirement_of requirements.now) (map locked_extra_of extras.now)) }
+{
+    let mut asks = requirement_asks(alloc, requirements)?;
+    push_extra_asks(alloc, &mut asks, extras)?;
+    Ok(asks)
+}
+
+// Adds to the first what is required for an extra with one of these keys, and to the second what is required for others.
+fn push_asked(
+    requirements: &mut Vec<LockedRequirement>,
+    optional: &mut Vec<LockedExtra>,
+    keys: &HashMap<&[u8], ()>,
+    extras: Vec<LockedExtra>,
+) -> Result<(), AllocError>
+    ensures asked { IfOk result (λ _. map requirement_of requirements.new.items ≡ map requirement_of requirements.old.items ++ map (λ (o : LockedExtra). o.requirement) (filter (λ (o : LockedExtra). has_key keys.now o.key) (map locked_extra_of extras.items))) }
+    ensures others { IfOk result (λ _. map locked_extra_of optional.new.items ≡ map locked_extra_of optional.old.items ++ filter (λ (o : LockedExtra). not (has_key keys.now o.key)) (map locked_extra_of extras.items)) }
+{
+    for extra in extras {
+        if keys.contains_key(extra.key.as_slice()) {
+            let LockedExtra {
+                key: _key,
+                requirement,
+            } = extra;
+            requirements.push(requirement)?;
+        } else {
+            optional.push(extra)?;
+        }
+    }
+    Ok(())
+}
+
+// Adds to the requirements those of the extras that are asked for, and returns those of the others.
+pub(crate) fn take_asked(
+    alloc: Global,
+    requirements: &mut Vec<LockedRequirement>,
+    extras: Vec<LockedExtra>,
+) -> Result<Vec<LockedExtra>, AllocError>
+    ensures asked { IfOk result (λ _. map requirement_of requirements.new.items ≡ with_asked (map requirement_of requirements.old.items) (map locked_extra_of extras.items)) }
+    ensures others { IfOk result (λ optional. map locked_extra_of optional.items ≡ not_asked (map requirement_of requirements.old.items) (map locked_extra_of extras.items)) }
+{
+    let asks = lock_asks(alloc, requirements.as_slice(), extras.as_slice())?;
+    let index = InclusionIndex::new(alloc, asks.as_slice())?;
+    let keys = included_groups(alloc, &index, b"")?;
+    let mut optional = Vec::new(alloc);
+    push_asked(requirements, &mut optional, &keys, extras)?;
+    Ok(optional)
+}
+
+// ---- their text
+
+fn push_more_extras(text: &mut String, extras: &[String]) -> Result<(), AllocError>
+    ensures { IfOk result (λ _. string_bytes text.new ≡ string_bytes text.old ++ flat_map (λ e. codes "," ++ e) (map string_bytes extras.now)) }
+{
+    for extra in extras {
+        text.push_str(",")?;
+        text.push_str(extra.as_str())?;
+    }
+    Ok(())
+}
+
+// Adds the extras, in brackets, if there are some.
+fn push_extras_text(text: &mut String, extras: &[String]) -> Result<(), AllocError>
+    ensures { IfOk result (λ _. string_bytes text.new ≡ string_bytes text.old ++ extras_text (map string_bytes extras.now)) }
+{
+    let [first, more @ ..] = extras else {
+        return Ok(());
+    };
+    text.push_str("[")?;
+    text.push_str(first.as_str())?;
+    push_more_extras(text, more)?;
+    text.push_str("]")
+}
+
+// The name with the extras.
+pub(crate) fn name_with_extras(
+    alloc: Global,
+    name: &str,
+    extras: &[String],
+) -> Result<String, AllocError>
+    ensures { IfOk result (λ text. string_bytes text ≡ name.now ++ extras_text (map string_bytes extras.now)) }
+{
+    let mut text = String::from_str(alloc, name)?;
+    push_extras_text(&mut text, extras)?;
+    Ok(text)
+}
