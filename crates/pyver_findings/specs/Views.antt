@@ -47,8 +47,12 @@ position_of p = record { file = p.file.items; line = p.line; column = p.column }
 abbrev pub named_file_of : NamedFileValue → NamedFile
 named_file_of f = record { name = f.name.items; position = option_map position_of f.position }
 
+-- names, in order
+unfoldable pub names_of : List (Vec ℕ) → List (List ℕ)
+names_of names = map (λ n. n.items) names
+
 abbrev pub demand_of : DemandValue → Demand
-demand_of a = record { line = file_line_of a.line; name = a.name.items; extras = map (λ e. e.items) a.extras.items; marker = option_map (λ m. m.items) a.marker; pinned = a.pinned; specifiers = a.specifiers }
+demand_of a = record { line = file_line_of a.line; name = a.name.items; extras = names_of a.extras.items; marker = option_map (λ m. m.items) a.marker; pinned = a.pinned; specifiers = a.specifiers }
 
 -- those that these references point to
 abbrev pub demands_at : List (Bor DemandValue) → List Demand

@@ -42,6 +42,7 @@ impl Demand {
     /// What the line asks for under this marker, or always.
     ///
     /// Allocates.
+    #[tactic(auto, unfolding(crate::specs::Views::names_of))]
     pub fn new(
         alloc: Global,
         line: &FileLine,
