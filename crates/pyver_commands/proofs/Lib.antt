@@ -1,11 +1,5 @@
-pub mod InputLines
+pub mod InputOutput
 pub mod Filtering
-pub mod SourceFilters
-pub mod Keeping
 pub mod SourceReads
-pub mod Sorting
-pub mod NewestAnswers
-pub mod CommonRanges
-pub mod MarkerExtents
-pub mod Bumping
-pub mod Outputs
+pub mod OrderedLines
+pub mod CommandLaws

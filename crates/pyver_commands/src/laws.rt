@@ -17,7 +17,7 @@ pub fn common_ranges()
     ensures status { NoVersionHasItsStatus }
 {}
 
-#[tactic(auto, using(crate::proofs::MarkerExtents::holds_or_not))]
+#[tactic(auto, using(crate::proofs::CommandLaws::holds_or_not))]
 /// `marker` never prints an environment for words for which it also prints `nowhere`.
 pub fn marker_extents()
     ensures { HoldsOrNot }

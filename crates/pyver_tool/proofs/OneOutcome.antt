@@ -11,9 +11,8 @@ use Rattle.pep440_version.proofs.Rejections.ExactlyOne.{not_both, one_refusal}
 use Rattle.pep440_version.specs.ErrorTexts.{rejection_text}
 use Rattle.pyver_commands.specs.WholeInputs.{BumpsOnly}
 use Rattle.pyver_commands.specs.Bumps.{Bumps, bump_outcome}
-use Rattle.pyver_commands.proofs.NewestAnswers.{one_newest}
-use Rattle.pyver_commands.proofs.Sorting.{one_sorted}
-use Rattle.pyver_commands.proofs.CommonRanges.{one_printed}
+use Rattle.pyver_commands.proofs.OrderedLines.{one_newest, one_sorted}
+use Rattle.pyver_commands.proofs.CommandLaws.{one_printed}
 use Rattle.pyver_commands.specs.CommonRanges.{FindsCommon, ListReading, PrintsLists, ReadsMembers, list_reading, members_in, messages_in}
 use Rattle.pyver_commands.specs.Comparisons.{Compares, comparison_outcome}
 use Rattle.pyver_commands.specs.Sources.ReadLines.{field, Entry, Header, IsEntry, IsRead, LineReading, ReadLine, ReadsBytes, ReadsField, ReadsPart}
