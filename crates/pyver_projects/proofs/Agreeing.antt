@@ -28,9 +28,9 @@ use Rattle.std.proofs.lemmas.Grind.{flat_map-append}
 use Rattle.std.proofs.lemmas.List.Folds.{list_any-append, list_any_at}
 use Rattle.std.proofs.lemmas.List.Elements.{All-contains_itself, All-head, All-tail, All-cons, All-contains, All-filter, All-nil, All-weaker}
 use Rattle.pep440_pick.specs.Names.{normal}
-use Rattle.pyver_projects.specs.Comparing.{FindsOfReading, absent, beside_all, compared, compared_demand, differing, documents_report, excluded, Excuse, excluded_in, first_difference, found_beside, found_in_pair, invalid_package, is_beside, is_in_one, in_one_folder, is_excused, is_installer, is_locked, is_overridden, is_plain_for_uv, is_project_reading, lacking, leaves_out, missing, names_read, overrides_read, own_report, partly_locked, python_difference, python_minors, stale_beside, stale_by, stale_finding, stale_in_pair, taken_packages, unlocked, unmet, unmet_demand, with_found, with_own_reports}
+use Rattle.pyver_projects.specs.Comparing.{unmet_extras, without_extra, FindsOfReading, absent, beside_all, compared, compared_demand, differing, documents_report, excluded, Excuse, excluded_in, first_difference, found_beside, found_in_pair, invalid_package, is_beside, is_in_one, in_one_folder, is_excused, is_installer, is_locked, is_overridden, is_plain_for_uv, is_project_reading, lacking, leaves_out, missing, names_read, overrides_read, own_report, partly_locked, python_difference, python_minors, stale_beside, stale_by, stale_finding, stale_in_pair, taken_packages, unlocked, unmet, unmet_demand, with_found, with_own_reports}
 use Rattle.pyver_projects.specs.Documents.{has_group_tool, overridden_names, project_names, sources}
-use Rattle.pyver_projects.specs.Meanings.{extra_inclusions, groups, AreLockedPythons, inclusions, Document, DocumentReading, IsDocumentReading, IsFileReading, IsBroken, IsLock, IsLockReading, IsProject, IsRequirementReading, IsStringReading, LockedReading, StringReading, fault_meaning, file_meaning, is_of_version, reference_marker, requirement_line, string_line, IsSoundString}
+use Rattle.pyver_projects.specs.Meanings.{ExtraReading, extra_inclusions, groups, AreLockedPythons, inclusions, Document, DocumentReading, IsDocumentReading, IsFileReading, IsBroken, IsLock, IsLockReading, IsProject, IsRequirementReading, IsStringReading, LockedReading, StringReading, fault_meaning, file_meaning, is_of_version, reference_marker, requirement_line, string_line, IsSoundString}
 use Rattle.pyver_projects.specs.ProjectLaws.{AllAlone, AllContained, AllEntered, AllFresh, AllMet, AllOfOnePython, AllOfVersion, AllPresent, AllRequired, AreTogether, HasContents, HasLock, HasProject, HasTable, IsPart, extras_of, replaces, NoFindingImpliesContained, NoFindingImpliesSatisfiable}
 use Rattle.pyver_projects.specs.ProjectStrings.{Inclusion, ContentHash, ProjectString, LockContents, LockFault, LockParts, LockedFile, LockedRequirement, Section, Build, Dependencies, Environment, Extra, Group}
 use Rattle.pyver_projects.specs.KnownEnvironments.{python_record}
@@ -125,7 +125,7 @@ module _ (documents : List Document) (zs : List DocumentReading) (h : AllZip IsD
       let (x, (a, in_x, is_x), rx) = beside_pair IsDocumentReading documents zs project k inside at h in
       let (y, (b, in_y, is_y), ry) = beside_pair IsDocumentReading documents zs locked m below there h in
       let (xs, g, is_project) = project_read file t x table rx in
-      let (python, pythons, ys, ms, es, fs, q, required, entered, files, is_lock) = lock_read lock kind l y other ry in
+      let (python, pythons, ys, ms, os, es, fs, q, required, optional, entered, files, is_lock) = lock_read lock kind l y other ry in
       let nothing : stale_in_pair (project, x) (locked, y) ≡ [] =
       left_nil (stale_in_pair (project, x) (locked, y)) (found_beside (is_excused zs) (in_one_folder project locked) (Lock kind) x y)
       (counted (is_beside documents project locked) (stale_in_pair (project, x) (locked, y) ++ found_beside (is_excused zs) (in_one_folder project locked) (Lock kind) x y) beside
@@ -182,13 +182,13 @@ all_required documents zs h found file lock kind l t q list are beside within re
     required (groups t) file lock (project_names t) (sources t) l.entries xs g es entries nothing q list within read plain other
 
 -- a requirement asks for its list
-asks_for : (file : List ℕ) (q : LockedRequirement) (list : List Spec) (m : LineMeaning) → DerivesList q.list list → IsRequirementReading file q m → m ≡ Asks (line_demand (requirement_line file q) (reference_marker q.is_reference) (record { name = q.name; extras = []; specifiers = list }))
+asks_for : (file : List ℕ) (q : LockedRequirement) (list : List Spec) (m : LineMeaning) → DerivesList q.list list → IsRequirementReading file q m → m ≡ Asks (line_demand (requirement_line file q) (reference_marker q.is_reference) (record { name = q.name; extras = q.extras; specifiers = list }))
 asks_for file q list m d (inl (other, e, is)) =
-    is ∙ ap (λ (l : List Spec). Asks (line_demand (requirement_line file q) (reference_marker q.is_reference) (record { name = q.name; extras = []; specifiers = l }))) (one_list q.list other list e d)
+    is ∙ ap (λ (l : List Spec). Asks (line_demand (requirement_line file q) (reference_marker q.is_reference) (record { name = q.name; extras = q.extras; specifiers = l }))) (one_list q.list other list e d)
 asks_for file q list m d (inr (f, r, is)) = absurd (not_both_list q.list list f d r)
 
 -- none of the documents that were read names this
-module _ (documents : List Document) (name : List ℕ) (named : DocumentReading → List (List ℕ)) (of_lock : (parts : LockParts) (python : Option Segments) (ys : List LockedReading) (ms es fs : List LineMeaning) → named (IsLock parts python ys ms es fs) ≡ []) (of_broken : (f : Finding) → named (IsBroken f) ≡ [])
+module _ (documents : List Document) (name : List ℕ) (named : DocumentReading → List (List ℕ)) (of_lock : (parts : LockParts) (python : Option Segments) (ys : List LockedReading) (ms : List LineMeaning) (os : List ExtraReading) (es fs : List LineMeaning) → named (IsLock parts python ys ms os es fs) ≡ []) (of_broken : (f : Finding) → named (IsBroken f) ≡ [])
     (others : (other : File) (u : Members) (xs : List StringReading) → HasProject documents other u → list_any (bytes_eq name) (named (IsProject u (has_group_tool u) (project_names u) (overridden_names u) xs)) ≡ false) where
   abbrev OtherNames : DocumentReading → Type 0
   OtherNames x = list_any (bytes_eq name) (named x) ≡ false
@@ -203,7 +203,7 @@ module _ (documents : List Document) (name : List ℕ) (named : DocumentReading 
   not_named kind file x known (inl (none, (position, is))) = told_so x _ is (broken_so _)
   not_named Project file x known (inr (text, inl (t, e, (xs, h, is)))) = told_so x _ is (others file t xs (known, (text, e)))
   not_named Project file x known (inr (text, inr (none, (position, reason, is)))) = told_so x _ is (broken_so _)
-  not_named (Lock kind) file x known (inr (text, inl (l, e, (python, pythons, ys, ms, es, fs, g, h, entered, k, is)))) = told_so x _ is (ap (list_any (bytes_eq name)) (of_lock l.parts python ys ms es _))
+  not_named (Lock kind) file x known (inr (text, inl (l, e, (python, pythons, ys, ms, os, es, fs, g, h, optional, entered, k, is)))) = told_so x _ is (ap (list_any (bytes_eq name)) (of_lock l.parts python ys ms os es _))
   not_named (Lock kind) file x known (inr (text, inr (none, (position, reason, is)))) = told_so x _ is (broken_so _)
 
   none_named_so : (zs : List DocumentReading) → All OtherNames zs → list_any (bytes_eq name) (flat_map named zs) ≡ false
@@ -218,7 +218,7 @@ module _ (documents : List Document) (name : List ℕ) (named : DocumentReading 
 -- no project overrides this name
 not_overridden : (documents : List Document) (name : List ℕ) (zs : List DocumentReading) → AllZip IsDocumentReading documents zs
     → ((other : File) (u : Members) → HasProject documents other u → list_any (bytes_eq name) (overridden_names u) ≡ false) → (is_excused zs name).overrides ≡ false
-not_overridden documents name zs h others = nowhere_named documents name overrides_read (λ parts python ys ms es fs. refl) (λ f. refl) (λ other u xs known. others other u known) zs h
+not_overridden documents name zs h others = nowhere_named documents name overrides_read (λ parts python ys ms os es fs. refl) (λ f. refl) (λ other u xs known. others other u known) zs h
 
 -- no project replaces what the string requires
 not_replaced : (documents : List Document) (s : ProjectString) (n : Needed) (zs : List DocumentReading) → AllZip IsDocumentReading documents zs
@@ -236,12 +236,13 @@ all_contained documents zs h found file lock kind l s p n v (t, ((k, inside, at)
     let (x, (a, in_x, is_x), rx) = beside_pair IsDocumentReading documents zs project k inside at h in
     let (y, (b, in_y, is_y), ry) = beside_pair IsDocumentReading documents zs locked m below there h in
     let (xs, g, is_project) = project_read file t x table rx in
-    let (python, pythons, ys, ms, es, fs, q, required, entered, files, is_lock) = lock_read lock kind l y other ry in
+    let (python, pythons, ys, ms, os, es, fs, q, required, optional, entered, files, is_lock) = lock_read lock kind l y other ry in
     let nothing : found_beside (is_excused zs) near (Lock kind) x y ≡ [] =
     right_nil (stale_in_pair (project, x) (locked, y)) (found_beside (is_excused zs) near (Lock kind) x y)
     (counted (is_beside documents project locked) (stale_in_pair (project, x) (locked, y) ++ found_beside (is_excused zs) near (Lock kind) x y) beside
     (nil_at (found_in_pair (is_excused zs) documents (project, x)) pairs (locked, y) b in_y is_y (nil_at (beside_all (is_excused zs) documents pairs) pairs (project, x) a in_x is_x found))) in
-    let compares : flat_map (compared kind l.parts (project_names t) (is_excused zs) near ys) xs ≡ [] = (λ e. found_beside (is_excused zs) near (Lock kind) (sym is_project e) (sym is_lock e)) ∙ nothing in
+    let compares : flat_map (compared kind l.parts (project_names t) (is_excused zs) near ys) xs ≡ [] =
+    left_nil (flat_map (compared kind l.parts (project_names t) (is_excused zs) near ys) xs) (unmet_extras kind l.parts (is_excused zs) near ys os xs) ((λ e. found_beside (is_excused zs) near (Lock kind) (sym is_project e) (sym is_lock e)) ∙ nothing) in
     let (z, (c, in_z, is_z), rz) = beside_it (IsStringReading (groups t) file) (sources t) xs s i within here g in
     let meaning = asks_always (string_line file s) n asks.0 asks.1 asks.2 asks.3 (groups t) s.text near s.section z.meaning counts rz.1 in
     let asked = line_demand (string_line file s) None n in
@@ -258,17 +259,17 @@ not_excused documents name zs h others file t ((k, inside, at), table) unlike =
     let (x, (j, in_x, is_x), r) = beside_it IsDocumentReading documents zs (record { kind = Project; file = file }) k inside at h in
     let (xs, g, is) = project_read file t x table r in
     let there : list_any is_project_reading zs ≡ true = list_any_at is_project_reading zs j x in_x (ap is_project_reading (is_x ∙ is)) in
-    let named : list_any (bytes_eq name) (flat_map names_read zs) ≡ false = nowhere_named documents name names_read (λ parts python ys ms es fs. refl) (λ f. refl) (λ other u xs known. others other u known) zs h in
+    let named : list_any (bytes_eq name) (flat_map names_read zs) ≡ false = nowhere_named documents name names_read (λ parts python ys ms os es fs. refl) (λ f. refl) (λ other u xs known. others other u known) zs h in
     λ i. unlike i || (not (there i) || named i)
 
 all_met : (documents : List Document) (zs : List DocumentReading) → AllZip IsDocumentReading documents zs → flat_map (λ x. (own_report (is_excused zs) x).findings) zs ≡ [] → AllMet documents
 all_met documents zs h own lock kind l q p list v ((m, below, there), other) (i, within, here) (j, under, this) d kept locks =
     let (y, (b, in_y, is_y), ry) = beside_it IsDocumentReading documents zs (record { kind = Lock kind; file = lock }) m below there h in
-    let (python, pythons, ys, ms, es, fs, packages, requirements, entered, files, is_lock) = lock_read lock kind l y other ry in
+    let (python, pythons, ys, ms, os, es, fs, packages, requirements, optional, entered, files, is_lock) = lock_read lock kind l y other ry in
     let faults = fs ++ map (fault_meaning lock.name) l.faults in
     let nothing : flat_map invalid_package ys ++ (flat_map invalid_in faults ++ flat_map (unmet (is_excused zs) l.parts ys) ms) ≡ [] = ap (λ (e : DocumentReading). (own_report (is_excused zs) e).findings) (sym is_lock) ∙ nil_at (λ x. (own_report (is_excused zs) x).findings) zs y b in_y is_y own in
     let (z, (c, in_z, is_z), rz) = beside_it (IsRequirementReading lock.name) l.requirements ms q i within here requirements in
-    let n : Needed = record { name = q.name; extras = []; specifiers = list } in
+    let n : Needed = record { name = q.name; extras = q.extras; specifiers = list } in
     let asked = line_demand (requirement_line lock.name q) (reference_marker q.is_reference) n in
     let met : unmet (is_excused zs) l.parts ys (Asks asked) ≡ [] =
     ap (unmet (is_excused zs) l.parts ys) (sym (asks_for lock.name q list z d rz)) ∙ nil_at (unmet (is_excused zs) l.parts ys) ms z c in_z is_z (right_nil (flat_map invalid_in faults) (flat_map (unmet (is_excused zs) l.parts ys) ms) (right_nil (flat_map invalid_package ys) (flat_map invalid_in faults ++ flat_map (unmet (is_excused zs) l.parts ys) ms) nothing)) in
@@ -279,11 +280,11 @@ all_met documents zs h own lock kind l q p list v ((m, below, there), other) (i,
 all_present : (documents : List Document) (zs : List DocumentReading) → AllZip IsDocumentReading documents zs → flat_map (λ x. (own_report (is_excused zs) x).findings) zs ≡ [] → AllPresent documents
 all_present documents zs h own lock file kind l t q list ((m, below, there), other) (i, within, here) d project others unlike =
     let (y, (b, in_y, is_y), ry) = beside_it IsDocumentReading documents zs (record { kind = Lock kind; file = lock }) m below there h in
-    let (python, pythons, ys, ms, es, fs, packages, requirements, entered, files, is_lock) = lock_read lock kind l y other ry in
+    let (python, pythons, ys, ms, os, es, fs, packages, requirements, optional, entered, files, is_lock) = lock_read lock kind l y other ry in
     let faults = fs ++ map (fault_meaning lock.name) l.faults in
     let nothing : flat_map invalid_package ys ++ (flat_map invalid_in faults ++ flat_map (unmet (is_excused zs) l.parts ys) ms) ≡ [] = ap (λ (e : DocumentReading). (own_report (is_excused zs) e).findings) (sym is_lock) ∙ nil_at (λ x. (own_report (is_excused zs) x).findings) zs y b in_y is_y own in
     let (z, (c, in_z, is_z), rz) = beside_it (IsRequirementReading lock.name) l.requirements ms q i within here requirements in
-    let n : Needed = record { name = q.name; extras = []; specifiers = list } in
+    let n : Needed = record { name = q.name; extras = q.extras; specifiers = list } in
     let asked = line_demand (requirement_line lock.name q) (reference_marker q.is_reference) n in
     let met : unmet (is_excused zs) l.parts ys (Asks asked) ≡ [] =
     ap (unmet (is_excused zs) l.parts ys) (sym (asks_for lock.name q list z d rz)) ∙ nil_at (unmet (is_excused zs) l.parts ys) ms z c in_z is_z (right_nil (flat_map invalid_in faults) (flat_map (unmet (is_excused zs) l.parts ys) ms) (right_nil (flat_map invalid_package ys) (flat_map invalid_in faults ++ flat_map (unmet (is_excused zs) l.parts ys) ms) nothing)) in
@@ -293,7 +294,7 @@ all_present documents zs h own lock file kind l t q list ((m, below, there), oth
     let none : excluded asked ys ≡ [] = right_nil (lacking (is_excused zs) l.parts ys asked) (excluded asked ys) unmet_first in
     let always : q.is_reference ≡ false → unlocked l.parts ys (line_demand (requirement_line lock.name q) None n) ≡ [] =
     λ is. ap (λ b. unlocked l.parts ys (line_demand (requirement_line lock.name q) (reference_marker b) n)) (sym is) ∙ has_all in (
-      some_named lock.name l.packages (requirement_line lock.name q) n ys packages (left_nil (absent ys asked) (if is_none asked.marker then partly_locked l.parts asked.line (taken_packages ys asked) else []) has_all),
+      some_named lock.name l.packages (requirement_line lock.name q) n ys packages (left_nil (absent ys asked) (without_extra l.parts ys asked ++ (if is_none asked.marker then partly_locked l.parts asked.line (taken_packages ys asked) else [])) has_all),
       (λ k is inside. met_everywhere lock.name l.packages (requirement_line lock.name q) n ys packages l.parts (always is) none k inside),
     )
 
@@ -317,7 +318,7 @@ same_as_package file f m r q false d e (inl (s, p, g, h, is)) none same =
 all_of_version : (documents : List Document) (zs : List DocumentReading) → AllZip IsDocumentReading documents zs → flat_map (λ x. (own_report (is_excused zs) x).findings) zs ≡ [] → AllOfVersion documents
 all_of_version documents zs h own lock kind l f r q ((m, below, there), other) (i, within, here) d e =
     let (y, (b, in_y, is_y), ry) = beside_it IsDocumentReading documents zs (record { kind = Lock kind; file = lock }) m below there h in
-    let (python, pythons, ys, ms, es, fs, packages, requirements, entered, files, is_lock) = lock_read lock kind l y other ry in
+    let (python, pythons, ys, ms, os, es, fs, packages, requirements, optional, entered, files, is_lock) = lock_read lock kind l y other ry in
     let faults = fs ++ map (fault_meaning lock.name) l.faults in
     let nothing : flat_map invalid_package ys ++ (flat_map invalid_in faults ++ flat_map (unmet (is_excused zs) l.parts ys) ms) ≡ [] = ap (λ (e : DocumentReading). (own_report (is_excused zs) e).findings) (sym is_lock) ∙ nil_at (λ x. (own_report (is_excused zs) x).findings) zs y b in_y is_y own in
     let (z, (c, in_z, is_z), rz) = beside_it (IsFileReading lock.name) l.files fs f i within here files in
@@ -332,7 +333,7 @@ no_fault file (f ∷ fs) none = cc none
 all_alone : (documents : List Document) (zs : List DocumentReading) → AllZip IsDocumentReading documents zs → flat_map (λ x. (own_report (is_excused zs) x).findings) zs ≡ [] → AllAlone documents
 all_alone documents zs h own lock kind l ((m, below, there), other) =
     let (y, (b, in_y, is_y), ry) = beside_it IsDocumentReading documents zs (record { kind = Lock kind; file = lock }) m below there h in
-    let (python, pythons, ys, ms, es, fs, packages, requirements, entered, files, is_lock) = lock_read lock kind l y other ry in
+    let (python, pythons, ys, ms, os, es, fs, packages, requirements, optional, entered, files, is_lock) = lock_read lock kind l y other ry in
     let faults = fs ++ map (fault_meaning lock.name) l.faults in
     let nothing : flat_map invalid_package ys ++ (flat_map invalid_in faults ++ flat_map (unmet (is_excused zs) l.parts ys) ms) ≡ [] = ap (λ (e : DocumentReading). (own_report (is_excused zs) e).findings) (sym is_lock) ∙ nil_at (λ x. (own_report (is_excused zs) x).findings) zs y b in_y is_y own in
     no_fault lock.name l.faults (back_nil fs (map (fault_meaning lock.name) l.faults) (left_nil (flat_map invalid_in faults) (flat_map (unmet (is_excused zs) l.parts ys) ms) (right_nil (flat_map invalid_package ys) (flat_map invalid_in faults ++ flat_map (unmet (is_excused zs) l.parts ys) ms) nothing)))

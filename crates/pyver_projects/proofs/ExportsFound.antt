@@ -36,7 +36,7 @@ use Rattle.pyver_projects.specs.declared.document_kind.LockKind.{LockKind}
 
 -- a requirement is excluded as one of its name and list without a marker is
 excluded_as : (a : Demand) (n : Needed) (ys : List LockedReading) → normal n.name ≡ a.name → n.specifiers ≡ a.specifiers → excluded a ys ≡ excluded (line_demand a.line None n) ys
-excluded_as a n ys called list = λ i. excluded (record { line = a.line; name = sym called i; marker = None; pinned = a.pinned; specifiers = sym list i }) ys
+excluded_as a n ys called list = λ i. excluded (record { line = a.line; name = sym called i; extras = a.extras; marker = None; pinned = a.pinned; specifiers = sym list i }) ys
 
 -- and so it is named
 named_as : (a : Demand) (n : Needed) (ys : List LockedReading) → normal n.name ≡ a.name → list_any (has_name (line_demand a.line None n)) ys ≡ list_any (has_name a) ys
@@ -108,7 +108,7 @@ module _ (files : List File) (documents : List Document) where
     beside_right Project other x at counts (inr (text, inr (none, (position, reason, is)))) = subst (λ (y : DocumentReading). All Right (pins_beside e Project y)) (sym is) (All-nil Right)
     beside_right (Lock kind) other x at counts (inr (text, inr (none, (position, reason, is)))) = subst (λ (y : DocumentReading). All Right (pins_beside e (Lock kind) y)) (sym is) (All-nil Right)
     beside_right Project other x at counts (inr (text, inl (t, parsed, (xs, h, is)))) = subst (λ (y : DocumentReading). All Right (pins_beside e Project y)) (sym is) (All-nil Right)
-    beside_right (Lock kind) other x at counts (inr (text, inl (u, parsed, (python, pythons, ys, ms, es, fs, h, required, entered, found, is)))) =
+    beside_right (Lock kind) other x at counts (inr (text, inl (u, parsed, (python, pythons, ys, ms, os, es, fs, h, required, optional, entered, found, is)))) =
         subst (λ (y : DocumentReading). All Right (pins_beside e (Lock kind) y)) (sym is)
         (all_flat Right (pin_beside (is_made_of (Lock kind) e.file) ys) e.demands
         (All-weaker (IsAsked pip_parts (file_lines e.file)) (λ a. All Right (pin_beside (is_made_of (Lock kind) e.file) ys a))
@@ -218,7 +218,7 @@ module _ (documents : List Document) (e : Export) (has : HasDemands e) where
       × (is_made_of (Lock kind) e.file ≡ true → (p : LockedPackage) × Contains l.packages p × (same_name n.name p.name ≡ true))
   of_lock lock kind l line n x at pin_of (inside, (text, parsed)) (inl (bad, told)) none = absurd (bad text)
   of_lock lock kind l line n x at pin_of (inside, (text, parsed)) (inr (again, inr (unread, broken))) none = let same : None ≡ Some l = sym unread ∙ parsed in cc same
-  of_lock lock kind l line n x at pin_of (inside, (text, parsed)) (inr (again, inl (u, other, (python, pythons, ys, ms, es, fs, h, required, entered, found, is)))) none =
+  of_lock lock kind l line n x at pin_of (inside, (text, parsed)) (inr (again, inl (u, other, (python, pythons, ys, ms, os, es, fs, h, required, optional, entered, found, is)))) none =
       let equal : Some u ≡ Some l = sym other ∙ parsed in
       let contents : u ≡ l = cc equal in
       let k : AllZip (IsLockedReading lock.name) l.packages ys = subst (λ (c : LockContents). AllZip (IsLockedReading lock.name) c.packages ys) contents h in

@@ -26,13 +26,13 @@ use Rattle.pyver_projects.proofs.Walks.{all_flat, left_false, pairs_each, right_
 use Rattle.pyver_findings.specs.NamedFiles.{folder}
 use Rattle.std.proofs.lemmas.Slice.Eq.{bytes_eq-Decides}
 use Rattle.pyver_projects.specs.ContentHashes.{hash_of, hashed_texts, is_known_text, is_stale, may_have}
-use Rattle.pyver_projects.specs.Comparing.{Excuse, FindsOfReading, absent, beside_all, compared, compared_demand, differing, documents_report, excluded, excluded_in, first_difference, found_beside, found_in_pair, has_name, invalid_package, invalid_string, is_beside, is_excused, is_in_one, is_installer, is_locked, is_needed, is_overridden, is_plain_for_uv, in_one_folder, lacking, leaves_out, own_report, partly_locked, python_difference, python_finding, python_minors, stale_beside, stale_by, stale_finding, stale_in_pair, taken_packages, unlocked, unmet, unmet_demand, with_own_reports}
+use Rattle.pyver_projects.specs.Comparing.{has_keys, lacks_extra, project_asks, unmet_extra, unmet_extras, without_extra, Excuse, FindsOfReading, absent, beside_all, compared, compared_demand, differing, documents_report, excluded, excluded_in, first_difference, found_beside, found_in_pair, has_name, invalid_package, invalid_string, is_beside, is_excused, is_in_one, is_installer, is_locked, is_needed, is_overridden, is_plain_for_uv, in_one_folder, lacking, leaves_out, own_report, partly_locked, python_difference, python_finding, python_minors, stale_beside, stale_by, stale_finding, stale_in_pair, taken_packages, unlocked, unmet, unmet_demand, with_own_reports}
 use Rattle.pyver_projects.specs.Documents.{has_group_tool, locked, overridden_names, project_names, sources}
-use Rattle.pyver_projects.specs.Meanings.{AreLockedPythons, Groups, extra_inclusions, groups, inclusions, Document, DocumentReading, IsBroken, IsBrokenReading, IsDocumentReading, IsFileReading, IsLock, IsLockedReading, IsProject, IsRequirementReading, IsSectionMeaning, IsSoundDocument, IsSoundString, IsStringReading, IsVersionReading, LockedReading, StringReading, fault_meaning, file_meaning, is_of_version, left_out_if_none, package_line, reference_marker, requirement_line, string_line, position_line}
+use Rattle.pyver_projects.specs.Meanings.{ExtraReading, IsExtraReading, AreLockedPythons, Groups, extra_inclusions, groups, inclusions, Document, DocumentReading, IsBroken, IsBrokenReading, IsDocumentReading, IsFileReading, IsLock, IsLockedReading, IsProject, IsRequirementReading, IsSectionMeaning, IsSoundDocument, IsSoundString, IsStringReading, IsVersionReading, LockedReading, StringReading, fault_meaning, file_meaning, is_of_version, left_out_if_none, package_line, reference_marker, requirement_line, string_line, position_line}
 use Rattle.pyver_projects.proofs.Once.{AsksFor, differing_right, of_section}
 use Rattle.pyver_projects.proofs.LockedPackages.{IsLackHere, IsOutsideHere, excluded_right, found_so, none_named, partly_right}
-use Rattle.pyver_projects.specs.ProjectLaws.{AlwaysAsks, AreTogether, DocumentFindingsHold, HasLock, HasOtherHash, HasPackage, HasProject, IsDocumentFinding, IsReadable, IsReadableAs, IsRightPart, extras_of, line_in_part, part_lines}
-use Rattle.pyver_projects.specs.ProjectStrings.{Inclusion, Build, Constraint, ContentHash, Dependencies, Entry, Environment, Extra, Group, Include, Invalid, LockContents, LockFault, LockParts, LockedFile, LockedPackage, LockedRequirement, OwnExtras, ProjectString, Python, Section, Unread, Version, last_bytes}
+use Rattle.pyver_projects.specs.ProjectLaws.{AsksOn, IsRequired, needed_keys, AlwaysAsks, AreTogether, DocumentFindingsHold, HasLock, HasOtherHash, HasPackage, HasProject, IsDocumentFinding, IsReadable, IsReadableAs, IsRightPart, extras_of, line_in_part, part_lines}
+use Rattle.pyver_projects.specs.ProjectStrings.{LockedExtra, includes, Inclusion, Build, Constraint, ContentHash, Dependencies, Entry, Environment, Extra, Group, Include, Invalid, LockContents, LockFault, LockParts, LockedFile, LockedPackage, LockedRequirement, OwnExtras, ProjectString, Python, Section, Unread, Version, last_bytes}
 use Rattle.pyver_projects.specs.KnownEnvironments.{python_record}
 use Rattle.pyver_projects.specs.declared.document_kind.DocumentKind.{DocumentKind}
 use Rattle.pyver_projects.specs.declared.document_kind.DocumentKind.TheVariants.{Lock, Project}
@@ -227,7 +227,38 @@ module _ (documents : List Document) where
   unless_right true fs k = All-nil Right
   unless_right false fs k = k
 
-  absent_right : (lock : File) (kind : LockKind) (l : LockContents) → HasLock documents kind lock l → (q : LockedRequirement) → Contains l.requirements q → (ys : List LockedReading) → AllZip (IsLockedReading lock.name) l.packages ys
+  when_right : (b : Bool) (fs : List Finding) → All Right fs → All Right (if b then fs else [])
+  when_right true fs k = k
+  when_right false fs k = All-nil Right
+
+  -- an extra that a requirement asks for
+  extra_right : (lock : File) (kind : LockKind) (l : LockContents) → HasLock documents kind lock l → (n : Needed) (line : FileLine) (m : Option (List ℕ)) → AsksOn documents kind lock l n line → (ys : List LockedReading)
+      → All Right (without_extra l.parts ys (line_demand line m n))
+  extra_right lock kind l known n line m asks ys = when_right (list_any (has_name (line_demand line m n)) ys) (lacks_extra l.parts.packaged (line_demand line m n)) (lacked l.parts.packaged refl)
+    where
+      by_keys : (keys : List (List ℕ)) → l.parts.packaged ≡ Some keys → (b : Bool) → has_keys keys (needed_keys n) ≡ b → All Right (if b then [] else NoRequirement line (codes "the lock does not have this extra of the package") 0 ∷ [])
+      by_keys keys packaged true e = All-nil Right
+      by_keys keys packaged false e =
+          All-cons Right (NoRequirement line (codes "the lock does not have this extra of the package") 0) []
+          (inr (inr (inr (inr (inr (inr (inr (inr (inr (inr (inr (inr (inr (inr (inr (inr (record {
+            lock = lock;
+            kind = kind;
+            contents = l;
+            needed = n;
+            line = line;
+            keys = keys;
+            known = known;
+            asks = asks;
+            packaged = packaged;
+            none = e;
+            is = refl;
+          }))))))))))))))))) (All-nil Right)
+
+      lacked : (found : Option (List (List ℕ))) → l.parts.packaged ≡ found → All Right (lacks_extra found (line_demand line m n))
+      lacked None packaged = All-nil Right
+      lacked (Some keys) packaged = by_keys keys packaged (has_keys keys (needed_keys n)) refl
+
+  absent_right : (lock : File) (kind : LockKind) (l : LockContents) → HasLock documents kind lock l → (q : LockedRequirement) → IsRequired documents kind lock l q → (ys : List LockedReading) → AllZip (IsLockedReading lock.name) l.packages ys
       → (n : Needed) (b : Bool) → n.name ≡ q.name → list_any (has_name (line_demand (requirement_line lock.name q) None n)) ys ≡ b
       → All Right (if b then [] else NoRequirement (requirement_line lock.name q) (codes "the lock has no package of this name") 0 ∷ [])
   absent_right lock kind l known q at ys h n true named e = All-nil Right
@@ -274,12 +305,12 @@ module _ (documents : List Document) where
       All-cons Right _ [] (inr (inr (inr (inr (inr (inr (inr (inr (inr (inl (record { lock = lock; kind = kind; contents = l; fault = q; known = known; within = at; is = refl }))))))))))) (All-nil Right)
 
   -- a requirement of a package that does not only refer to another one
-  lack_right : (lock : File) (kind : LockKind) (l : LockContents) → HasLock documents kind lock l → (q : LockedRequirement) → Contains l.requirements q → (ys : List LockedReading) → AllZip (IsLockedReading lock.name) l.packages ys
+  lack_right : (lock : File) (kind : LockKind) (l : LockContents) → HasLock documents kind lock l → (q : LockedRequirement) → IsRequired documents kind lock l q → (ys : List LockedReading) → AllZip (IsLockedReading lock.name) l.packages ys
       → (list : List Spec) → DerivesList q.list list → (b : Bool) → q.is_reference ≡ b
-      → All Right (if is_none (reference_marker b) then partly_locked l.parts (requirement_line lock.name q) (taken_packages ys (line_demand (requirement_line lock.name q) None (record { name = q.name; extras = []; specifiers = list }))) else [])
+      → All Right (if is_none (reference_marker b) then partly_locked l.parts (requirement_line lock.name q) (taken_packages ys (line_demand (requirement_line lock.name q) None (record { name = q.name; extras = q.extras; specifiers = list }))) else [])
   lack_right lock kind l known q at ys h list read true is = All-nil Right
   lack_right lock kind l known q at ys h list read false is =
-      let n : Needed = record { name = q.name; extras = []; specifiers = list } in
+      let n : Needed = record { name = q.name; extras = q.extras; specifiers = list } in
       let line = requirement_line lock.name q in
       All-weaker (IsLackHere lock.name l.packages line n l.parts) Right
       (λ f lack. inr (inr (inr (inr (inr (inr (inr (inr (inr (inr (inr (inl (record {
@@ -297,11 +328,11 @@ module _ (documents : List Document) where
       (partly_locked l.parts line (taken_packages ys (line_demand line None n))) (partly_right lock.name l.packages line n ys h l.parts)
 
   -- a requirement of a package
-  of_requirement : (lock : File) (kind : LockKind) (l : LockContents) → HasLock documents kind lock l → (q : LockedRequirement) → Contains l.requirements q → (ys : List LockedReading) → AllZip (IsLockedReading lock.name) l.packages ys
+  of_requirement : (lock : File) (kind : LockKind) (l : LockContents) → HasLock documents kind lock l → (q : LockedRequirement) → IsRequired documents kind lock l q → (ys : List LockedReading) → AllZip (IsLockedReading lock.name) l.packages ys
       → (excused : List ℕ → Excuse) (m : LineMeaning) → IsRequirementReading lock.name q m → All Right (unmet excused l.parts ys m)
   of_requirement lock kind l known q at ys h excused m (inr (f, r, is)) = subst (λ (x : LineMeaning). All Right (unmet excused l.parts ys x)) (sym is) (All-nil Right)
   of_requirement lock kind l known q at ys h excused m (inl (list, read, is)) =
-      let n : Needed = record { name = q.name; extras = []; specifiers = list } in
+      let n : Needed = record { name = q.name; extras = q.extras; specifiers = list } in
       let line = requirement_line lock.name q in
       let asked = line_demand line (reference_marker q.is_reference) n in
       subst (λ (x : LineMeaning). All Right (unmet excused l.parts ys x)) (sym is)
@@ -309,8 +340,10 @@ module _ (documents : List Document) where
       (unless_right (excused asked.name).overrides (lacking excused l.parts ys asked ++ excluded asked ys)
       (All-append Right (lacking excused l.parts ys asked) (excluded asked ys)
       (unless_right (excused asked.name).lacks (unlocked l.parts ys asked)
-      (All-append Right (absent ys asked) (if is_none asked.marker then partly_locked l.parts line (taken_packages ys asked) else [])
-      (absent_right lock kind l known q at ys h n (list_any (has_name asked) ys) refl refl) (lack_right lock kind l known q at ys h list read q.is_reference refl)))
+      (All-append Right (absent ys asked) (without_extra l.parts ys asked ++ (if is_none asked.marker then partly_locked l.parts line (taken_packages ys asked) else []))
+      (absent_right lock kind l known q at ys h n (list_any (has_name asked) ys) refl refl)
+      (All-append Right (without_extra l.parts ys asked) (if is_none asked.marker then partly_locked l.parts line (taken_packages ys asked) else [])
+      (extra_right lock kind l known n line (reference_marker q.is_reference) (inr (q, list, at, refl, refl)) ys) (lack_right lock kind l known q at ys h list read q.is_reference refl))))
       (All-weaker (IsOutsideHere lock.name l.packages line n) Right
       (λ f out. inr (inr (inr (inr (inr (inr (inl (record { lock = lock; kind = kind; contents = l; requirement = q; list = list; known = known; within = at; read = read; outside = out })))))))) (excluded asked ys)
       (excluded_right lock.name l.packages line n ys h)))) (All-nil Right))
@@ -334,7 +367,7 @@ module _ (documents : List Document) where
       subst (λ (y : DocumentReading). All Right (own_report excused y).findings) (sym is)
       (all_flat Right invalid_string xs
       (zip_each (IsStringReading (groups t) file) (Contains (sources t)) (λ z. All Right (invalid_string z)) (λ s z at r. of_string file t s z.meaning (known, (text, e)) at r.1) (sources t) xs (All-contains_itself (sources t)) h))
-  of_document excused (Lock kind) file x known (inr (text, inl (l, e, (python, pythons, ys, ms, es, fs, g, h, entered, k, is)))) =
+  of_document excused (Lock kind) file x known (inr (text, inl (l, e, (python, pythons, ys, ms, os, es, fs, g, h, optional, entered, k, is)))) =
       let faults = fs ++ map (fault_meaning file.name) l.faults in
       subst (λ (y : DocumentReading). All Right (own_report excused y).findings) (sym is)
       (All-append Right (flat_map invalid_package ys) (flat_map invalid_in faults ++ flat_map (unmet excused l.parts ys) ms)
@@ -347,7 +380,7 @@ module _ (documents : List Document) where
       (All-map (λ m. All Right (invalid_in m)) (fault_meaning file.name) l.faults
       (All-weaker (Contains l.faults) (λ q. All Right (invalid_in (fault_meaning file.name q))) (λ q at. of_fault file kind l (known, (text, e)) q at) l.faults (All-contains_itself l.faults)))))
       (all_flat Right (unmet excused l.parts ys) ms
-      (zip_each (IsRequirementReading file.name) (Contains l.requirements) (λ m. All Right (unmet excused l.parts ys m)) (λ q m at r. of_requirement file kind l (known, (text, e)) q at ys g excused m r) l.requirements ms (All-contains_itself l.requirements) h))))
+      (zip_each (IsRequirementReading file.name) (Contains l.requirements) (λ m. All Right (unmet excused l.parts ys m)) (λ q m at r. of_requirement file kind l (known, (text, e)) q (inl at) ys g excused m r) l.requirements ms (All-contains_itself l.requirements) h))))
 
   -- ---- a project beside a lock
 
@@ -402,7 +435,10 @@ module _ (documents : List Document) where
 
           missing_right : (b : Bool) → is_needed kind u.parts.names s.section ≡ b → All Right (if b then unlocked u.parts ys asked else [])
           missing_right false needs = All-nil Right
-          missing_right true needs = All-append Right (absent ys asked) (partly_locked u.parts (string_line file s) (taken_packages ys asked)) (absent_here (list_any (has_name asked) ys) needs refl) (partly_missing needs)
+          missing_right true needs =
+              All-append Right (absent ys asked) (without_extra u.parts ys asked ++ partly_locked u.parts (string_line file s) (taken_packages ys asked)) (absent_here (list_any (has_name asked) ys) needs refl)
+              (All-append Right (without_extra u.parts ys asked) (partly_locked u.parts (string_line file s) (taken_packages ys asked))
+              (extra_right lock kind u other n (string_line file s) None (inl (file, s, (t, known, at), needs, asks, refl)) ys) (partly_missing needs))
 
           excluded_here : (b : Bool) → leaves_out kind u.parts.names s.section ≡ b → All Right (if b then [] else excluded asked ys)
           excluded_here true within = All-nil Right
@@ -441,9 +477,30 @@ module _ (documents : List Document) where
         compared_right x (same, is, python) =
             subst (λ section. All Right (if is_locked near section then flat_map (compared_demand kind u.parts (project_names t) excused near ys section) (demands_in x.meaning) else [])) (sym same) (by_section (is_locked near s.section) x.meaning is)
 
-    pub pair_right : (xs : List StringReading) (ys : List LockedReading) → AllZip (IsStringReading (groups t) file) (sources t) xs → AllZip (IsLockedReading lock.name) u.packages ys → All Right (flat_map (compared kind u.parts (project_names t) excused near ys) xs)
-    pair_right xs ys g h =
+    -- what is required for an extra that the project asks for
+    module _ (xs : List StringReading) (ys : List LockedReading) (os : List ExtraReading) (g : AllZip (IsStringReading (groups t) file) (sources t) xs) (h : AllZip (IsLockedReading lock.name) u.packages ys) (k : AllZip (IsExtraReading lock.name) u.optional os) where
+      abbrev asks : List Inclusion
+      asks = project_asks kind u.parts excused near xs os
+
+      when_asked : (o : LockedExtra) (x : ExtraReading) → Contains u.optional o → IsExtraReading lock.name o x → (b : Bool) → includes asks [] x.key ≡ b → All Right (if b then unmet excused u.parts ys x.meaning else [])
+      when_asked o x at (key, is) false e = All-nil Right
+      when_asked o x at (key, is) true e =
+          of_requirement lock kind u other o.requirement
+          (inr (o, at, refl, record { file = file; table = t; near = near; excused = excused; strings = xs; extras = os; has = known; read = g; required = k; asks = ap (includes asks []) (sym key) ∙ e })) ys h excused x.meaning is
+
+      pub extras_right : All Right (unmet_extras kind u.parts excused near ys os xs)
+      extras_right =
+          all_flat Right (unmet_extra kind u.parts excused near (includes asks []) ys) os
+          (zip_each (IsExtraReading lock.name) (Contains u.optional) (λ x. All Right (unmet_extra kind u.parts excused near (includes asks []) ys x)) (λ o x at r. when_asked o x at r (includes asks [] x.key) refl) u.optional os (All-contains_itself u.optional) k)
+
+    pub strings_right : (xs : List StringReading) (ys : List LockedReading) → AllZip (IsStringReading (groups t) file) (sources t) xs → AllZip (IsLockedReading lock.name) u.packages ys → All Right (flat_map (compared kind u.parts (project_names t) excused near ys) xs)
+    strings_right xs ys g h =
         all_flat Right (compared kind u.parts (project_names t) excused near ys) xs (zip_each (IsStringReading (groups t) file) (Contains (sources t)) (λ x. All Right (compared kind u.parts (project_names t) excused near ys x)) (λ s x at r. compared_right s at ys h x r) (sources t) xs (All-contains_itself (sources t)) g)
+
+    pub pair_right : (xs : List StringReading) (ys : List LockedReading) (os : List ExtraReading) → AllZip (IsStringReading (groups t) file) (sources t) xs → AllZip (IsLockedReading lock.name) u.packages ys → AllZip (IsExtraReading lock.name) u.optional os
+        → All Right (flat_map (compared kind u.parts (project_names t) excused near ys) xs ++ unmet_extras kind u.parts excused near ys os xs)
+    pair_right xs ys os g h k =
+        All-append Right (flat_map (compared kind u.parts (project_names t) excused near ys) xs) (unmet_extras kind u.parts excused near ys os xs) (strings_right xs ys g h) (extras_right xs ys os g h k)
 
   -- ---- a document beside another
 
@@ -456,9 +513,9 @@ module _ (documents : List Document) where
     nothing_beside Project t together names overridden xs f = All-nil Right
     nothing_beside (Lock kind) t together names overridden xs f = All-nil Right
 
-    nothing_of_lock : (kind : DocumentKind) (parts : LockParts) (python : Option Segments) (ys : List LockedReading) (ms es fs : List LineMeaning) (y : DocumentReading) → All Right (found_beside excused near kind (IsLock parts python ys ms es fs) y)
-    nothing_of_lock Project parts python ys ms es fs y = All-nil Right
-    nothing_of_lock (Lock kind) parts python ys ms es fs y = All-nil Right
+    nothing_of_lock : (kind : DocumentKind) (parts : LockParts) (python : Option Segments) (ys : List LockedReading) (ms : List LineMeaning) (os : List ExtraReading) (es fs : List LineMeaning) (y : DocumentReading) → All Right (found_beside excused near kind (IsLock parts python ys ms os es fs) y)
+    nothing_of_lock Project parts python ys ms os es fs y = All-nil Right
+    nothing_of_lock (Lock kind) parts python ys ms os es fs y = All-nil Right
 
     broken_right : (kind : DocumentKind) (file : File) (x y : DocumentReading) → IsBrokenReading file x → All Right (found_beside excused near kind x y)
     broken_right kind file x y (position, reason, is) = subst (λ (z : DocumentReading). All Right (found_beside excused near kind z y)) (sym is) (nothing_broken kind (NoRequirement (position_line file position) reason (last_bytes (take position file.text))) y)
@@ -474,15 +531,15 @@ module _ (documents : List Document) where
       beside_project Project other y at (inr (text, inr (none, broken))) = beside_broken Project other y broken
       beside_project (Lock kind) other y at (inr (text, inr (none, broken))) = beside_broken (Lock kind) other y broken
       beside_project Project other y at (inr (text, inl (u, e, (zs, h, is)))) = subst (λ (z : DocumentReading). All Right (found_beside excused near Project (IsProject t (has_group_tool t) (project_names t) (overridden_names t) xs) z)) (sym is) (All-nil Right)
-      beside_project (Lock kind) other y at (inr (text, inl (u, e, (python, pythons, ys, ms, es, fs, h, required, entered, files, is)))) =
-          subst (λ (z : DocumentReading). All Right (found_beside excused near (Lock kind) (IsProject t (has_group_tool t) (project_names t) (overridden_names t) xs) z)) (sym is) (pair_right excused near file other kind t u known (at, (text, e)) xs ys g h)
+      beside_project (Lock kind) other y at (inr (text, inl (u, e, (python, pythons, ys, ms, os, es, fs, h, required, optional, entered, files, is)))) =
+          subst (λ (z : DocumentReading). All Right (found_beside excused near (Lock kind) (IsProject t (has_group_tool t) (project_names t) (overridden_names t) xs) z)) (sym is) (pair_right excused near file other kind t u known (at, (text, e)) xs ys os g h optional)
 
     beside_right : (kind : DocumentKind) (file : File) (other : Document) (x y : DocumentReading) → Contains documents (record { kind = kind; file = file }) → Contains documents other → IsDocumentReading (record { kind = kind; file = file }) x
         → IsDocumentReading other y → All Right (found_beside excused near other.kind x y)
     beside_right kind file other x y known at (inl (none, (position, told))) r = broken_right other.kind file x y (position, _, told)
     beside_right Project file other x y known at (inr (text, inr (none, broken))) r = broken_right other.kind file x y broken
     beside_right (Lock kind) file other x y known at (inr (text, inr (none, broken))) r = broken_right other.kind file x y broken
-    beside_right (Lock kind) file other x y known at (inr (text, inl (t, e, (python, pythons, ys, ms, es, fs, g, h, entered, k, is)))) r = subst (λ (z : DocumentReading). All Right (found_beside excused near other.kind z y)) (sym is) (nothing_of_lock other.kind t.parts python ys ms es (fs ++ map (fault_meaning file.name) t.faults) y)
+    beside_right (Lock kind) file other x y known at (inr (text, inl (t, e, (python, pythons, ys, ms, os, es, fs, g, h, optional, entered, k, is)))) r = subst (λ (z : DocumentReading). All Right (found_beside excused near other.kind z y)) (sym is) (nothing_of_lock other.kind t.parts python ys ms os es (fs ++ map (fault_meaning file.name) t.faults) y)
     beside_right Project file other x y known at (inr (text, inl (t, e, (xs, h, is)))) r =
         subst (λ (z : DocumentReading). All Right (found_beside excused near other.kind z y)) (sym is) (beside_project file t (known, (text, e)) xs h other.kind other.file y at r)
 
@@ -536,7 +593,7 @@ module _ (documents : List Document) where
   module _ (file lock : File) (kind : LockKind) (t : Members) (l : LockContents) (known : HasProject documents file t) (has : HasLock documents kind lock l) (near : folder file.name ≡ folder lock.name) (xs : List StringReading) (g : AllZip (IsStringReading (groups t) file) (sources t) xs) (python : Option Segments) (pythons : AreLockedPythons l.parts.python python) where
     first_right : (own locked : Segments) → project_python xs ≡ Some own → python ≡ Some locked → (found : Option ℕ) → find (is_in_one own locked) python_minors ≡ found → All Right (first_difference lock found)
     first_right own locked of_project of_lock None found = All-nil Right
-    first_right own locked of_project of_lock (Some k) found = All-cons Right (python_finding lock k) [] (inr (inr (inr (inr (inr (inr (inr (inr (inr (inr (inr (inr (inr (inr (inr (record {
+    first_right own locked of_project of_lock (Some k) found = All-cons Right (python_finding lock k) [] (inr (inr (inr (inr (inr (inr (inr (inr (inr (inr (inr (inr (inr (inr (inr (inl (record {
       file = file;
       table = t;
       lock = lock;
@@ -551,7 +608,7 @@ module _ (documents : List Document) where
       have = record { readings = xs; read = g; project = of_project; lock = subst (AreLockedPythons l.parts.python) of_lock pythons };
       differ = one_differs (contains record_cmp own (python_record k)) (contains record_cmp locked (python_record k)) (found_so (is_in_one own locked) python_minors k found);
       is = refl;
-    })))))))))))))))) (All-nil Right)
+    }))))))))))))))))) (All-nil Right)
 
     difference_right : (own locked : Option Segments) → project_python xs ≡ own → python ≡ locked → All Right (python_difference lock own locked)
     difference_right (Some own) (Some locked) of_project of_lock = first_right own locked of_project of_lock (find (is_in_one own locked) python_minors) refl
@@ -580,7 +637,7 @@ module _ (documents : List Document) where
     project_fresh Project lock y near at (inr (text, inr (none, broken))) = fresh_broken lock y broken
     project_fresh (Lock kind) lock y near at (inr (text, inr (none, broken))) = fresh_broken lock y broken
     project_fresh Project lock y near at (inr (text, inl (u, e, (zs, h, is)))) = subst (IsRightBeside lock) (sym is) (All-nil Right)
-    project_fresh (Lock kind) lock y near at (inr (text, inl (u, e, (python, pythons, ys, ms, es, fs, h, required, entered, files, is)))) =
+    project_fresh (Lock kind) lock y near at (inr (text, inl (u, e, (python, pythons, ys, ms, os, es, fs, h, required, optional, entered, files, is)))) =
         subst (IsRightBeside lock) (sym is)
         (All-append Right (stale_by lock t u.parts.hash) (python_difference lock (project_python xs) python ++ (if is_plain_for_uv t then differing (project_names t) xs es else [])) (stale_right file lock kind t u known (at, (text, e)) near u.parts.hash refl)
         (All-append Right (python_difference lock (project_python xs) python) (if is_plain_for_uv t then differing (project_names t) xs es else [])
@@ -595,7 +652,7 @@ module _ (documents : List Document) where
   fresh_right kind file other x y near known at (inl (none, (position, told))) r = broken_fresh other.file file x y (position, _, told)
   fresh_right Project file other x y near known at (inr (text, inr (none, broken))) r = broken_fresh other.file file x y broken
   fresh_right (Lock kind) file other x y near known at (inr (text, inr (none, broken))) r = broken_fresh other.file file x y broken
-  fresh_right (Lock kind) file other x y near known at (inr (text, inl (t, e, (python, pythons, ys, ms, es, fs, g, h, entered, k, is)))) r = subst (λ (z : DocumentReading). All Right (stale_beside other.file z y)) (sym is) (All-nil Right)
+  fresh_right (Lock kind) file other x y near known at (inr (text, inl (t, e, (python, pythons, ys, ms, os, es, fs, g, h, optional, entered, k, is)))) r = subst (λ (z : DocumentReading). All Right (stale_beside other.file z y)) (sym is) (All-nil Right)
   fresh_right Project file other x y near known at (inr (text, inl (t, e, (xs, h, is)))) r =
       subst (λ (z : DocumentReading). All Right (stale_beside other.file z y)) (sym is) (project_fresh file t (known, (text, e)) xs h other.kind other.file y near at r)
 
@@ -643,7 +700,7 @@ module _ (documents : List Document) where
   reading_conflicts kind file x known (inl (none, (position, told))) fs cs finds = broken_conflicts file x (position, _, told) fs cs finds
   reading_conflicts Project file x known (inr (text, inr (none, broken))) fs cs finds = broken_conflicts file x broken fs cs finds
   reading_conflicts (Lock kind) file x known (inr (text, inr (none, broken))) fs cs finds = broken_conflicts file x broken fs cs finds
-  reading_conflicts (Lock kind) file x known (inr (text, inl (t, e, (python, pythons, ys, ms, es, files, g, h, entered, k, is)))) fs cs finds = none_found fs (subst (λ (z : DocumentReading). FindsOfReading z fs cs) is finds).0
+  reading_conflicts (Lock kind) file x known (inr (text, inl (t, e, (python, pythons, ys, ms, os, es, files, g, h, optional, entered, k, is)))) fs cs finds = none_found fs (subst (λ (z : DocumentReading). FindsOfReading z fs cs) is finds).0
   reading_conflicts Project file x known (inr (text, inl (t, e, (xs, h, is)))) fs cs finds =
       conflicts_hold (IsDocumentFinding documents) file t
       (λ part f right. inr (inr (inr (inr (inr (inl (record { file = file; table = t; part = part; has = (known, (text, e)); right = right }))))))) xs h fs cs (subst (λ (z : DocumentReading). FindsOfReading z fs cs) is finds)
@@ -665,7 +722,7 @@ sound_document (Lock kind) file x (inr (text, inr (none, broken))) = sound_broke
 sound_document Project file x (inr (text, inl (t, e, (xs, h, is)))) =
     subst (λ (y : DocumentReading). IsSoundDocument y) (sym is)
     (zip_each (IsStringReading (groups t) file) (Contains (sources t)) IsSoundString (λ s z known r. sound_string (groups t) file s z r) (sources t) xs (All-contains_itself (sources t)) h)
-sound_document (Lock kind) file x (inr (text, inl (l, e, (python, pythons, ys, ms, es, fs, g, h, entered, k, is)))) = subst (λ (y : DocumentReading). IsSoundDocument y) (sym is) tt
+sound_document (Lock kind) file x (inr (text, inl (l, e, (python, pythons, ys, ms, os, es, fs, g, h, optional, entered, k, is)))) = subst (λ (y : DocumentReading). IsSoundDocument y) (sym is) tt
 
 pub sound_documents : (documents : List Document) (xs : List DocumentReading) → AllZip IsDocumentReading documents xs → All IsSoundDocument xs
 sound_documents documents xs h = zip_each IsDocumentReading (Contains documents) IsSoundDocument (λ d x known r. sound_document d.kind d.file x r) documents xs (All-contains_itself documents) h

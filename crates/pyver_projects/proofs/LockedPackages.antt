@@ -1,6 +1,6 @@
 -- The variables of known environments, markers that do not hold there, and packages that a lock leaves out there; requirements beside the packages of a
 -- lock, which exclude them, or which none of them meets.
-use Rattle.std.proofs.Common.{◌≡◌, ◌==◌, ◌∙◌, ◌&&◌, ◌||◌, ℕ, Bor, List, [], ◌∷◌, Bool, true, false, Option, Some, None, IfOk, Result, Ok, Err, ap, arith, cond, is_none, length, map, option_map, refl, subst, suc, sym, zero, get_or, if◌then◌else◌, inl, inr, ◌<◌, drop, ◌+◌}
+use Rattle.std.proofs.Common.{◌≡◌, ◌++◌, ◌==◌, ◌∙◌, ◌&&◌, ◌||◌, ℕ, Bor, List, [], ◌∷◌, Bool, true, false, Option, Some, None, IfOk, Result, Ok, Err, ap, arith, cond, is_none, length, map, option_map, refl, subst, suc, sym, zero, get_or, if◌then◌else◌, inl, inr, ◌<◌, drop, ◌+◌}
 use Rattle.std.proofs.lemmas.Bool.{true≢false}
 use Rattle.std.proofs.lemmas.List.{drop_more}
 use Rattle.std.specs.List.{AllZip, Contains, find, list_all, list_any, All, filter, flat_map}
@@ -16,7 +16,7 @@ use Rattle.pyver_requirements.proofs.MarkerStepReadings.{steps_are_read}
 use Rattle.pyver_requirements.specs.MarkerGrammar.{DenotesMarker, Marker}
 use Rattle.pyver_requirements.specs.MarkerSteps.{Misfit, Step, marker_steps, steps}
 use Rattle.pyver_findings.specs.FileLines.{FileLine, Conflicting, Finding}
-use Rattle.pyver_projects.specs.Comparing.{lack_finding, leaves_out_all, partly_locked, absent, accepts_version, excluded, has_name, is_allowed, lack_in, may_take, named_line, outside, taken_packages, unlocked}
+use Rattle.pyver_projects.specs.Comparing.{without_extra, lack_finding, leaves_out_all, partly_locked, absent, accepts_version, excluded, has_name, is_allowed, lack_in, may_take, named_line, outside, taken_packages, unlocked}
 use Rattle.pyver_projects.specs.KnownEnvironments.{ReadCondition, is_false, is_for, is_left_out_in, known_environments, known_environment, python_record, read_value, marker_value, with_names}
 use Rattle.pyver_projects.specs.Meanings.{LockedReading, IsConditionReading, IsLockedReading, IsVersionReading, package_line}
 use Rattle.pyver_projects.specs.ProjectViews.{locked_reading_of, read_condition_of}
@@ -472,7 +472,7 @@ module _ (lock : List ℕ) (ps : List LockedPackage) (line : FileLine) (n : Need
     -- where nothing is lacking or excluded, some package meets the requirement in each environment
     pub met_everywhere : (parts : LockParts) → unlocked parts ys always ≡ [] → excluded always ys ≡ [] → (k : KnownEnvironment) → Contains known_environments k → (p : LockedPackage) × Contains ps p × MeetsIn parts n.name n.specifiers k p
     met_everywhere parts locked none k inside =
-        let present = left_nil (absent ys always) (partly_locked parts line (taken_packages ys always)) locked in
-        let there = right_nil (absent ys always) (partly_locked parts line (taken_packages ys always)) locked in
+        let present = left_nil (absent ys always) (without_extra parts ys always ++ partly_locked parts line (taken_packages ys always)) locked in
+        let there = right_nil (without_extra parts ys always) (partly_locked parts line (taken_packages ys always)) (right_nil (absent ys always) (without_extra parts ys always ++ partly_locked parts line (taken_packages ys always)) locked) in
         let some : list_any (may_take n.specifiers) (filter (has_name always) ys) ≡ true = any-both (has_name always) (may_take n.specifiers) ys ∙ some_taken present none in
         not_all_out parts k ps ys h (met_in parts (taken_packages ys always) k (λ nil. filter_some (may_take n.specifiers) (filter (has_name always) ys) some nil) there inside)

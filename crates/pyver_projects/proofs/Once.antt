@@ -24,12 +24,12 @@ use Rattle.pyver_findings.specs.LineMeanings.{Asks, IsNone, LineMeaning, list_me
 use Rattle.pyver_requirements.specs.LineParts.{line_parts, LineParts}
 use Rattle.toml.specs.Data.{Members}
 use Rattle.pyver_projects.proofs.Walks.{zip_once, all_flat, beside_it, beside_some, left_false, left_nil, nil_at, right_false, right_nil, zip_each}
-use Rattle.pyver_projects.specs.Comparing.{FindsOfReading, documents_report, with_found, differing, is_in_lock, is_in_project, is_same_requirement, same_list, unentered, unentered_in, unentered_reason, unmatched, unrequired, unrequired_in, unrequired_reason}
+use Rattle.pyver_projects.specs.Comparing.{same_extras, FindsOfReading, documents_report, with_found, differing, is_in_lock, is_in_project, is_same_requirement, same_list, unentered, unentered_in, unentered_reason, unmatched, unrequired, unrequired_in, unrequired_reason}
 use Rattle.pyver_projects.specs.Documents.{has_group_tool, overridden_names, project_names, sources}
-use Rattle.pyver_projects.specs.Meanings.{Groups, extra_inclusions, groups, has_extras, if_it_has, inclusions, AreLockedPythons, ArePythons, AreVersions, IsFilledMeaning, left_out_if_none, DocumentReading, IsBroken, IsConditionReading, IsDocumentReading, IsFileReading, IsLock, IsLockReading, IsLockedReading, IsProject, IsProjectReading, IsRequirementReading, reference_marker, IsSectionMeaning, IsStringReading, IsVersionReading, LockedReading, StringReading, fault_meaning, file_meaning, is_of_version, package_line, requirement_line, string_line, list_versions, no_group}
+use Rattle.pyver_projects.specs.Meanings.{ExtraReading, IsExtraReading, Groups, extra_inclusions, groups, has_extras, if_it_has, inclusions, AreLockedPythons, ArePythons, AreVersions, IsFilledMeaning, left_out_if_none, DocumentReading, IsBroken, IsConditionReading, IsDocumentReading, IsFileReading, IsLock, IsLockReading, IsLockedReading, IsProject, IsProjectReading, IsRequirementReading, reference_marker, IsSectionMeaning, IsStringReading, IsVersionReading, LockedReading, StringReading, fault_meaning, file_meaning, is_of_version, package_line, requirement_line, string_line, list_versions, no_group}
 use Rattle.pyver_projects.specs.KnownEnvironments.{ReadCondition}
 use Rattle.pyver_projects.specs.ProjectLaws.{DocumentReportsOnce, IsReadable, IsReadableAs, IsEntryFor, IsOtherString, Requires}
-use Rattle.pyver_projects.specs.ProjectStrings.{Build, Constraint, Dependencies, Entry, Environment, Extra, Group, Include, Invalid, LockContents, LockedFile, LockedPackage, LockedRequirement, OwnExtras, PackageCondition, Section, Python, ProjectString, Unread, Version}
+use Rattle.pyver_projects.specs.ProjectStrings.{LockedExtra, Build, Constraint, Dependencies, Entry, Environment, Extra, Group, Include, Invalid, LockContents, LockedFile, LockedPackage, LockedRequirement, OwnExtras, PackageCondition, Section, Python, ProjectString, Unread, Version}
 use Rattle.pyver_projects.specs.declared.document_kind.DocumentKind.{DocumentKind}
 use Rattle.pyver_projects.specs.declared.document_kind.DocumentKind.TheVariants.{Lock, Project}
 use Rattle.pyver_findings.proofs.MarkedConflicts.{IsOnce, IsTold, each_once, each_told, names_once, names_tell, no_causes}
@@ -132,10 +132,16 @@ one_project file t x y (xs, g, a) (ys, h, b) =
 
 one_requirement : (file : List ℕ) (q : LockedRequirement) (x y : LineMeaning) → IsRequirementReading file q x → IsRequirementReading file q y → x ≡ y
 one_requirement file q x y (inl (l, d, a)) (inl (m, e, b)) =
-    a ∙ ap (λ (list : List Spec). Asks (line_demand (requirement_line file q) (reference_marker q.is_reference) (record { name = q.name; extras = []; specifiers = list }))) (one_list q.list l m d e) ∙ sym b
+    a ∙ ap (λ (list : List Spec). Asks (line_demand (requirement_line file q) (reference_marker q.is_reference) (record { name = q.name; extras = q.extras; specifiers = list }))) (one_list q.list l m d e) ∙ sym b
 one_requirement file q x y (inl (l, d, a)) (inr (f, r, b)) = absurd (not_both_list q.list l f d r)
 one_requirement file q x y (inr (f, r, a)) (inl (l, d, b)) = absurd (not_both_list q.list l f d r)
 one_requirement file q x y (inr (f, r, a)) (inr (g, s, b)) = a ∙ sym b
+
+one_extra : (file : List ℕ) (o : LockedExtra) (x y : ExtraReading) → IsExtraReading file o x → IsExtraReading file o y → x ≡ y
+one_extra file o x y (k, a) (l, b) =
+    let keys = k ∙ sym l in
+    let meanings = one_requirement file o.requirement x.meaning y.meaning a b in
+    λ j. record { key = keys j; meaning = meanings j }
 
 one_file : (file : List ℕ) (f : LockedFile) (x y : LineMeaning) → IsFileReading file f x → IsFileReading file f y → x ≡ y
 one_file file f x y (inl (r, q, d, e, a)) (inl (s, p, g, h, b)) =
@@ -147,13 +153,14 @@ one_file file f x y (inr (inr (j, k), a)) (inl (r, q, d, e, b)) = absurd (not_bo
 one_file file f x y (inr (none, a)) (inr (other, b)) = a ∙ sym b
 
 one_lock : (file : List ℕ) (l : LockContents) (x y : DocumentReading) → IsLockReading file l x → IsLockReading file l y → x ≡ y
-one_lock file l x y (p, c, ys, ms, es, fs, g, h, n, i, a) (q, d, zs, ns, ds, gs, j, k, o, m, b) =
+one_lock file l x y (p, c, ys, ms, os, es, fs, g, h, u, n, i, a) (q, d, zs, ns, ps, ds, gs, j, k, v, o, m, b) =
     let pythons = one_locked_set l.parts.python p q c d in
     let packages = zip_once (IsLockedReading file) (Contains l.packages) (λ p v w known q r. one_package file p v w q r) l.packages ys zs (All-contains_itself l.packages) g j in
     let requirements = zip_once (IsRequirementReading file) (Contains l.requirements) (λ p v w known q r. one_requirement file p v w q r) l.requirements ms ns (All-contains_itself l.requirements) h k in
+    let extras = zip_once (IsExtraReading file) (Contains l.optional) (λ p v w known q r. one_extra file p v w q r) l.optional os ps (All-contains_itself l.optional) u v in
     let entries = zip_once (IsRequirementReading file) (Contains l.entries) (λ p v w known q r. one_requirement file p v w q r) l.entries es ds (All-contains_itself l.entries) n o in
     let files = zip_once (IsFileReading file) (Contains l.files) (λ p v w known q r. one_file file p v w q r) l.files fs gs (All-contains_itself l.files) i m in
-    a ∙ (λ n. IsLock l.parts (pythons n) (packages n) (requirements n) (entries n) (files n ++ map (fault_meaning file) l.faults)) ∙ sym b
+    a ∙ (λ n. IsLock l.parts (pythons n) (packages n) (requirements n) (extras n) (entries n) (files n ++ map (fault_meaning file) l.faults)) ∙ sym b
 
 pub one_document : (kind : DocumentKind) (file : File) (x y : DocumentReading) → IsReadableAs kind file → IsDocumentReading (record { kind = kind; file = file }) x → IsDocumentReading (record { kind = kind; file = file }) y → x ≡ y
 one_document Project file x y (t, (text, e)) (inl (none, a)) b = absurd (none text)
@@ -180,7 +187,7 @@ part_told together overridden xs part fs cs finds = names_tell (project_domain x
 
 reading_told : (x : DocumentReading) (fs : List Finding) (cs : List Cause) → FindsOfReading x fs cs → IsTold cs
 reading_told (IsProject t together names overridden xs) fs cs (found, finds, is) = each_told (FindsOfPart together overridden xs) (part_told together overridden xs) (parts xs) found cs finds
-reading_told (IsLock parts python ys ms es files) fs cs (is, also) = inl also
+reading_told (IsLock parts python ys ms os es files) fs cs (is, also) = inl also
 reading_told (IsBroken f) fs cs (is, also) = inl also
 
 alike : (f g : Finding) → same_finding f g ≡ same_finding (without_environment f) (without_environment g)
@@ -211,7 +218,7 @@ reading_once (IsProject t together names overridden xs) fs gs (found, finds, is)
     ap (map without_environment) is ∙ new_alike [] found
     ∙ ap (with_new same_finding []) (each_once (FindsOfPart together overridden xs) (λ part. names_once (project_domain xs) (part_demands together overridden (inclusions (sections xs)) (extra_inclusions (sections xs)) part xs)) (parts xs) found others finds also)
     ∙ sym (new_alike [] others) ∙ ap (map without_environment) (sym so)
-reading_once (IsLock parts python ys ms es files) fs gs (is, _) (so, _) = ap (map without_environment) (is ∙ sym so)
+reading_once (IsLock parts python ys ms os es files) fs gs (is, _) (so, _) = ap (map without_environment) (is ∙ sym so)
 reading_once (IsBroken f) fs gs (is, _) (so, _) = ap (map without_environment) (is ∙ sym so)
 
 in_report : (a r : Report) (fs : List Finding) (cs : List Cause) → r ≡ with_found a fs cs → Contains (a.left_out ++ cs) cause.Undecided → IsUndecided r
@@ -370,14 +377,14 @@ or_no false = refl
 
 module _ (lock : List ℕ) (q : LockedRequirement) where
   abbrev entry_demand : List Spec → Demand
-  entry_demand list = line_demand (requirement_line lock q) (reference_marker q.is_reference) (record { name = q.name; extras = []; specifiers = list })
+  entry_demand list = line_demand (requirement_line lock q) (reference_marker q.is_reference) (record { name = q.name; extras = q.extras; specifiers = list })
 
   abbrev is_of : Needed → List Spec → Bool
-  is_of n list = same_name n.name q.name && (q.is_reference || same_list n.specifiers list)
+  is_of n list = same_name n.name q.name && (same_extras (map normal n.extras) (map normal q.extras) && (q.is_reference || same_list n.specifiers list))
 
   module _ (line : FileLine) (m : Option (List ℕ)) (n : Needed) where
     same_so : (list : List Spec) → is_same_requirement (line_demand line m n) (entry_demand list) ≡ is_of n list
-    same_so list = ap (λ b. same_name n.name q.name && (b || same_list n.specifiers list)) (reference q.is_reference)
+    same_so list = ap (λ b. same_name n.name q.name && (same_extras (map normal n.extras) (map normal q.extras) && (b || same_list n.specifiers list))) (reference q.is_reference)
 
     in_lock_so : (list : List Spec) (x : LineMeaning) → x ≡ Asks (entry_demand list) → is_in_lock (line_demand line m n) x ≡ is_of n list
     in_lock_so list x is = ap (is_in_lock (line_demand line m n)) is ∙ or_no (is_same_requirement (line_demand line m n) (entry_demand list)) ∙ same_so list

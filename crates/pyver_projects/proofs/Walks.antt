@@ -1,4 +1,5 @@
 -- Lists beside lists, lists that are made of each element, strings that are read one after another, and names that are known, repeated or those of packages.
+use Rattle.std.specs.Global.{Vec}
 use Rattle.std.proofs.Common.{Bool, Err, IfOk, IfSome, List, None, Ok, Option, Result, Some, String, [], ap, arith, false, get_or, if◌then◌else◌, inr, is_none, length, map, refl, subst, suc, sym, take, take_all, true, zero, inl, ℕ, ◌++◌, ◌+◌, ◌-◌, ◌<◌, ◌||◌, ◌∙◌, ◌∷◌, ◌≡◌, ◌≤◌, ◌⊎◌, Bor, Vec, bytes_eq, cond, count_by, is_some, nat_eq, nat_lt, not, ◌&&◌, ◌==◌, drop, option_map}
 use Rattle.std.proofs.lemmas.Bool.{true≢false, and_parts, false_from_ne_true, or_left, or_right}
 use Rattle.std.proofs.lemmas.List.Elements.{All-append, All-cons, All-head, All-nil, All-tail, All-contains, All-contains_itself, All-weaker}
@@ -122,6 +123,19 @@ folder_is (b ∷ rest) = by (folder_is rest) (has_slash (b ∷ rest))
         let less : suc (length rest) - length (last_section rest) ≡ suc (length rest - length (last_section rest)) = omega (arith, section_fits rest) in
         ap (λ n. take n (b ∷ rest)) less ∙ ap (λ front. b ∷ front) is
     by is false = let none : suc (length rest) - suc (length rest) ≡ 0 = omega arith in ap (λ n. take n (b ∷ rest)) none
+
+-- copies of strings of bytes are the same strings
+pub same_bytes : (xs ys : List ℕ) → AllZip (λ x y. y ≡ x) xs ys → ys ≡ xs
+same_bytes [] [] h = refl
+same_bytes [] (y ∷ ys) h = absurd h
+same_bytes (x ∷ xs) [] h = absurd h
+same_bytes (x ∷ xs) (y ∷ ys) (r, h) = λ j. r j ∷ same_bytes xs ys h j
+
+pub same_names : (R : Vec ℕ → Vec ℕ → Type 0) → ((v w : Vec ℕ) → R v w → w.items ≡ v.items) → (xs ys : List (Vec ℕ)) → AllZip R xs ys → map (λ (v : Vec ℕ). v.items) ys ≡ map (λ (v : Vec ℕ). v.items) xs
+same_names R f [] [] h = refl
+same_names R f [] (y ∷ ys) h = absurd h
+same_names R f (x ∷ xs) [] h = absurd h
+same_names R f (x ∷ xs) (y ∷ ys) (r, h) = λ j. f x y r j ∷ same_names R f xs ys h j
 
 -- a name is among one name
 pub or_none : (b : Bool) → b ≡ (b || false)

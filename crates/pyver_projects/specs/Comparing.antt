@@ -124,10 +124,14 @@ demand_keys a = map (extra_key a.name) a.extras
 abbrev pub has_keys : List (List ℕ) → List (List ℕ) → Bool
 has_keys found keys = list_all (λ (k : List ℕ). list_any (bytes_eq k) found) keys
 
+-- the lock has each extra that the requirement asks for, or not
+abbrev pub extra_fault : Bool → Demand → List Finding
+extra_fault has a = if has then [] else NoRequirement a.line (codes "the lock does not have this extra of the package") 0 ∷ []
+
 -- the lock, which has a package for each of these extras, has none for one that the requirement asks for
 abbrev pub lacks_extra : Option (List (List ℕ)) → Demand → List Finding
 lacks_extra None a = []
-lacks_extra (Some found) a = if has_keys found (demand_keys a) then [] else NoRequirement a.line (codes "the lock does not have this extra of the package") 0 ∷ []
+lacks_extra (Some found) a = extra_fault (has_keys found (demand_keys a)) a
 
 -- where it has packages of the name
 abbrev pub without_extra : LockParts → List LockedReading → Demand → List Finding
@@ -294,13 +298,13 @@ module _ (kind : LockKind) (parts : LockParts) (excused : List ℕ → Excuse) (
   abbrev pub project_asks : List StringReading → List ExtraReading → List Inclusion
   project_asks xs os = flat_map asked_in xs ++ flat_map extra_asks os
 
-  -- what is lacked and excluded of what is required for an extra, if it is asked for
-  abbrev pub unmet_extra : List Inclusion → List LockedReading → ExtraReading → List Finding
-  unmet_extra is ys o = if includes is [] o.key then unmet excused parts ys o.meaning else []
+  -- what is lacked and excluded of what is required for an extra, if it has such a key
+  abbrev pub unmet_extra : (List ℕ → Bool) → List LockedReading → ExtraReading → List Finding
+  unmet_extra has ys o = if has o.key then unmet excused parts ys o.meaning else []
 
   -- for all extras that strings ask for
   abbrev pub unmet_extras : List LockedReading → List ExtraReading → List StringReading → List Finding
-  unmet_extras ys os xs = flat_map (unmet_extra (project_asks xs os) ys) os
+  unmet_extras ys os xs = flat_map (unmet_extra (includes (project_asks xs os) []) ys) os
 
 -- the first document beside the second, of this kind, in one folder with it or not, if that is a project and this a lock
 abbrev pub found_beside : (List ℕ → Excuse) → Bool → DocumentKind → DocumentReading → DocumentReading → List Finding
@@ -507,7 +511,7 @@ documents_report documents xs = with_findings (with_own_reports (is_excused xs) 
 -- of a project the requirements that hold together and have no version in common
 abbrev pub FindsOfReading : DocumentReading → List Finding → List Cause → Type 0
 FindsOfReading (IsProject t together names overridden xs) fs cs = FindsOfParts together overridden xs fs cs
-FindsOfReading (IsLock parts python ys ms es files) fs cs = FindsNothing fs cs
+FindsOfReading (IsLock parts python ys ms os es files) fs cs = FindsNothing fs cs
 FindsOfReading (IsBroken f) fs cs = FindsNothing fs cs
 
 -- a report with more findings and causes

@@ -1,7 +1,7 @@
 -- The kinds of documents, by their paths and by words, and what a parsed one has to check: the strings of `pyproject.toml` or a Pipfile, and the versions of a
 -- lock.
 use Rattle.std.specs.Prelude.{Bool, false, true, List, None, Option, Some, [], bytes_eq, codes, count_by, get_or, if◌then◌else◌, is_none, is_some, length, map, nat_eq, nat_lt, not, option_and_then, option_map, option_to_list, ℕ, ◌&&◌, ◌++◌, ◌+◌, ◌==◌, ◌||◌, ◌∷◌}
-use Rattle.std.specs.List.{ends_with, filter, flat_map, list_any, starts_with}
+use Rattle.std.specs.List.{ends_with, flat_map, list_any, starts_with}
 use Rattle.std.specs.Option.{option_map_or, option_or, unwrap_or}
 use Rattle.pep440_pick.specs.Names.{is_name, is_name_byte, normal}
 use Rattle.pep440_pick.specs.RequirementReading.{name_of}
@@ -476,21 +476,36 @@ lock_parts kind text document packages = record {
   packaged = packaged_extras kind packages;
 }
 
--- which extras requirements ask for, under no key; and which the requirements of extras, under the keys of these
-abbrev pub lock_asks : List LockedRequirement → List LockedExtra → List Inclusion
-lock_asks qs os = flat_map (λ (q : LockedRequirement). inclusions_by (Some []) (asked_keys q)) qs ++ flat_map (λ (o : LockedExtra). inclusions_by (Some o.key) (asked_keys o.requirement)) os
+-- which extras a requirement asks for, under no key
+abbrev pub plain_asks : LockedRequirement → List Inclusion
+plain_asks q = inclusions_by (Some []) (asked_keys q)
 
--- it is for an extra that is asked for
-abbrev pub is_asked : List Inclusion → LockedExtra → Bool
-is_asked is o = includes is [] o.key
+-- which the requirement of an extra asks for, under the key of this
+abbrev pub optional_asks : LockedExtra → List Inclusion
+optional_asks o = inclusions_by (Some o.key) (asked_keys o.requirement)
+
+abbrev pub lock_asks : List LockedRequirement → List LockedExtra → List Inclusion
+lock_asks qs os = flat_map plain_asks qs ++ flat_map optional_asks os
+
+-- what is required for an extra with such a key
+abbrev pub asked_requirement : (List ℕ → Bool) → LockedExtra → List LockedRequirement
+asked_requirement has o = if has o.key then o.requirement ∷ [] else []
+
+-- or for another
+abbrev pub other_extra : (List ℕ → Bool) → LockedExtra → List LockedExtra
+other_extra has o = if has o.key then [] else o ∷ []
+
+-- the extra is asked for
+abbrev pub is_asked : List LockedRequirement → List LockedExtra → List ℕ → Bool
+is_asked qs os = includes (lock_asks qs os) []
 
 -- those, and what is required for the extras that they ask for
 abbrev pub with_asked : List LockedRequirement → List LockedExtra → List LockedRequirement
-with_asked qs os = qs ++ map (λ (o : LockedExtra). o.requirement) (filter (is_asked (lock_asks qs os)) os)
+with_asked qs os = qs ++ flat_map (asked_requirement (is_asked qs os)) os
 
 -- what is required for other extras
 abbrev pub not_asked : List LockedRequirement → List LockedExtra → List LockedExtra
-not_asked qs os = filter (λ (o : LockedExtra). not (is_asked (lock_asks qs os) o)) os
+not_asked qs os = flat_map (other_extra (is_asked qs os)) os
 
 -- what the tables of packages of a lock of this kind have, each with its line, beside these parts and faults, that have markers or not, for these
 -- Pythons, and are looked at beside those with these names

@@ -1,10 +1,10 @@
 -- What locked packages require of one another.
-use Rattle.std.specs.Prelude.{ℕ, ◌&&◌, ◌||◌, List, [], ◌∷◌, ◌++◌, Bool, false, true, Option, Some, None, bytes_eq, codes, drop, if◌then◌else◌, is_none, is_some, option_and_then, nat_eq, nat_lt, not, option_map, count_by, map, ◌==◌}
+use Rattle.std.specs.Prelude.{ℕ, ◌&&◌, ◌||◌, List, [], ◌∷◌, ◌++◌, Bool, false, true, Option, Some, None, bytes_eq, codes, if◌then◌else◌, is_none, is_some, nat_eq, nat_lt, not, option_map, count_by, map, ◌==◌}
 use Rattle.std.specs.List.{flat_map, list_any, starts_with, list_all, slice_split}
 use Rattle.std.specs.Option.{option_map_or, unwrap_or}
 use Rattle.pep440_pick.specs.Names.{is_name, is_name_byte, normal}
 use Rattle.pep440_pick.specs.RequirementGrammar.{has_byte}
-use Rattle.pep440_pick.specs.RequirementReading.{behind_name, listed_extras, split_at_byte, without_end}
+use Rattle.pep440_pick.specs.RequirementReading.{behind_name, listed_extras, split_at_byte}
 use Rattle.pep440_rs.specs.Blanks.{opens}
 use Rattle.pep440_version.specs.Changes.ChangeWords.{after}
 use Rattle.pep440_version.specs.Grammar.{starts}
@@ -168,7 +168,7 @@ past_extras rest = if opens 91 rest then unwrap_or (option_map (λ p. p.1) (spli
 
 -- what stands in the brackets with which this begins
 abbrev pub in_brackets : List ℕ → List ℕ
-in_brackets rest = if opens 91 rest then option_map_or (λ p. p.0) (split_at_byte 93 (drop 1 rest)) [] else []
+in_brackets rest = option_map_or (λ inner. (option_map_or (λ p. p.0) (split_at_byte 93 inner) [])) (after (codes "[") rest) []
 
 -- the extras behind the name that a string begins with (PEP 508, "Extras")
 abbrev pub string_extras : List ℕ → List (List ℕ)
@@ -264,9 +264,9 @@ requirements_from kind parts e = if is_unconditional parts e.1 then requirements
 
 -- ---- what packages require for their extras
 
--- the string of a requirement in an array of Poetry's extras: a name, extras, and a list in parentheses
+-- the list in a string of Poetry's extras, which stands in parentheses
 abbrev pub without_parentheses : List ℕ → List ℕ
-without_parentheses list = unwrap_or (option_and_then (without_end 41) (after (codes " (") list)) list
+without_parentheses list = option_map_or (λ inner. (cut_at 41 inner).0) (after (codes " (") list) list
 
 module _ (line : ℕ) (requirer : List ℕ) where
   -- a requirement for the extra with this key
@@ -282,13 +282,13 @@ module _ (line : ℕ) (requirer : List ℕ) where
   extra_items key d = option_map_or (extra_string key) (as_str d) []
       ++ (if lacks (codes "marker") d then map (for_extra key) (named_requirement line requirer (text_in (get (codes "name") d)) (texts_listed (get (codes "extra") d)) []) else [])
 
-  -- what the package with this name requires for an extra
+  -- what the package with this name, in its normal form, requires for an extra
   abbrev pub extra_requirements : List ℕ → List ℕ × Data → List LockedExtra
-  extra_requirements name e = flat_map (extra_items (extra_key (normal name) (normal e.0))) (listed (Some e.1))
+  extra_requirements name e = flat_map (extra_items (extra_key name (normal e.0))) (listed (Some e.1))
 
   -- for all extras, of Poetry and of uv
   abbrev pub all_extras : List ℕ → Data → List LockedExtra
-  all_extras name d = flat_map (extra_requirements name) (entries (get (codes "extras") d)) ++ flat_map (extra_requirements name) (entries (get (codes "optional-dependencies") d))
+  all_extras name d = flat_map (extra_requirements (normal name)) (entries (get (codes "extras") d)) ++ flat_map (extra_requirements (normal name)) (entries (get (codes "optional-dependencies") d))
 
 -- of a package with this name, if it has one
 abbrev pub extras_by : ℕ → Option (List ℕ) → Data → List LockedExtra

@@ -2,7 +2,7 @@
 ghost use Rattle.std.specs.Prelude.{◌≡◌, ◌∷◌, ◌++◌, [], IfOk, if◌then◌else◌, map, option_map, option_to_list};
 ghost use Rattle.std.specs.List.{find, flat_map, list_any};
 ghost use Rattle.pyver_findings.specs.Views.{demand_of, file_line_of, file_of, finding_of, line_meaning_of};
-ghost use Rattle.pyver_projects.specs.Comparing.{differing, first_difference, has_dynamic, has_each, is_dynamic, is_in_lock, is_in_one, is_in_project, is_plain_for_uv, is_same_requirement, locked_demands, python_difference, python_finding, python_line, python_minors, same_list, same_specifier, unentered, unentered_in, unmatched, unrequired, unrequired_in};
+ghost use Rattle.pyver_projects.specs.Comparing.{same_extras, differing, first_difference, has_dynamic, has_each, is_dynamic, is_in_lock, is_in_one, is_in_project, is_plain_for_uv, is_same_requirement, locked_demands, python_difference, python_finding, python_line, python_minors, same_list, same_specifier, unentered, unentered_in, unmatched, unrequired, unrequired_in};
 ghost use Rattle.pyver_projects.specs.PackageRequirements.{entries_from, entry, group_entries, has_folder, has_own_source, is_dot, is_own_package, metadata_entries};
 ghost use Rattle.pyver_projects.specs.ProjectStrings.{entries, listed, members_list};
 ghost use Rattle.pyver_projects.specs.ProjectViews.{requirement_of, string_reading_of};
@@ -226,6 +226,7 @@ fn same_extras(extras: &[Vec<u8>], other: &[Vec<u8>]) -> bool
 }
 
 // The second, in the lock, is for the first, of the project.
+#[tactic(auto, unfolding(pyver_findings::specs::Views::names_of))]
 fn is_same_requirement(demand: &Demand, entry: &Demand) -> bool
     ensures { result ≡ is_same_requirement (demand_of demand.now) (demand_of entry.now) }
 {

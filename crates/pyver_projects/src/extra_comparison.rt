@@ -1,9 +1,8 @@
 //! Extras that requirements ask for, beside a lock.
-ghost use Rattle.std.specs.Prelude.{◌≡◌, ◌++◌, [], IfOk, Some, if◌then◌else◌, map};
-ghost use Rattle.std.specs.List.{flat_map};
+ghost use Rattle.std.specs.Prelude.{◌≡◌, ◌++◌, IfOk, Some, bytes_eq, map};
+ghost use Rattle.std.specs.List.{flat_map, list_any};
 ghost use Rattle.pyver_findings.specs.Views.{demand_of, finding_of};
-ghost use Rattle.pyver_projects.specs.Comparing.{asked_in, asks_for_extras, demand_asks, demand_keys, extra_asks, has_keys, lacks_extra, project_asks, unmet, unmet_extras, without_extra};
-ghost use Rattle.pyver_projects.specs.Meanings.{ExtraReading};
+ghost use Rattle.pyver_projects.specs.Comparing.{asked_in, asks_for_extras, demand_asks, demand_keys, extra_asks, extra_fault, has_keys, lacks_extra, project_asks, unmet_extra, unmet_extras, without_extra};
 ghost use Rattle.pyver_projects.specs.ProjectViews.{IsIndex, excuses, extra_reading_of, has_key, inclusion_of, index_parts, packages_of, section_of, string_reading_of};
 
 use crate::document_reading::{ExtraReading, StringReading};
@@ -19,6 +18,7 @@ use std::alloc::{AllocError, Global};
 use std::collections::HashMap;
 
 // The keys of the extras that the requirement asks for.
+#[tactic(auto, unfolding(pyver_findings::specs::Views::names_of))]
 fn demand_keys(alloc: Global, demand: &Demand) -> Result<Vec<Vec<u8>>, AllocError>
     ensures { IfOk result (λ keys. map (λ k. k.items) keys.items ≡ demand_keys (demand_of demand.now)) }
 {
@@ -29,13 +29,19 @@ fn demand_keys(alloc: Global, demand: &Demand) -> Result<Vec<Vec<u8>>, AllocErro
     Ok(keys)
 }
 
-// Each of these is there.
 #[tactic(auto, using(pyver_findings::proofs::Steps::any_viewed))]
+fn has_key(found: &[Vec<u8>], key: &[u8]) -> bool
+    ensures { result ≡ list_any (bytes_eq key.now) (map (λ k. k.items) found.now) }
+{
+    contains_name(found, key)
+}
+
+// Each of these is there.
 pub(crate) fn has_keys(found: &[Vec<u8>], keys: &[Vec<u8>]) -> bool
     ensures { result ≡ has_keys (map (λ k. k.items) found.now) (map (λ k. k.items) keys.now) }
 {
     for key in keys {
-        if !contains_name(found, key.as_slice()) {
+        if !has_key(found, key.as_slice()) {
             return false;
         }
     }
@@ -43,6 +49,31 @@ pub(crate) fn has_keys(found: &[Vec<u8>], keys: &[Vec<u8>]) -> bool
 }
 
 // ---- a lock that has a package for each extra
+
+// It has each extra that the requirement asks for.
+fn has_extras(alloc: Global, found: &[Vec<u8>], demand: &Demand) -> Result<bool, AllocError>
+    ensures { IfOk result (λ b. b ≡ has_keys (map (λ k. k.items) found.now) (demand_keys (demand_of demand.now))) }
+{
+    let keys = demand_keys(alloc, demand)?;
+    Ok(has_keys(found, keys.as_slice()))
+}
+
+// Adds that the lock does not have an extra, unless it has all.
+fn push_extra_fault(
+    alloc: Global,
+    findings: &mut Vec<Finding>,
+    has: bool,
+    demand: &Demand,
+) -> Result<(), AllocError>
+    ensures { IfOk result (λ _. map finding_of findings.new.items ≡ map finding_of findings.old.items ++ extra_fault has (demand_of demand.now)) }
+{
+    if has {
+        return Ok(());
+    }
+    let reason = String::from_str(alloc, "the lock does not have this extra of the package")?;
+    findings.push(Finding::NoRequirement(demand.line.clone()?, reason, 0))?;
+    Ok(())
+}
 
 fn push_lacked_extra(
     alloc: Global,
@@ -52,13 +83,8 @@ fn push_lacked_extra(
 ) -> Result<(), AllocError>
     ensures { IfOk result (λ _. map finding_of findings.new.items ≡ map finding_of findings.old.items ++ lacks_extra (Some (map (λ k. k.items) found.now)) (demand_of demand.now)) }
 {
-    let keys = demand_keys(alloc, demand)?;
-    if has_keys(found, keys.as_slice()) {
-        return Ok(());
-    }
-    let reason = String::from_str(alloc, "the lock does not have this extra of the package")?;
-    findings.push(Finding::NoRequirement(demand.line.clone()?, reason, 0))?;
-    Ok(())
+    let has = has_extras(alloc, found, demand)?;
+    push_extra_fault(alloc, findings, has, demand)
 }
 
 // Adds that the lock has packages of the name of the requirement, but none for an extra that it asks for.
@@ -193,7 +219,7 @@ fn push_unmet_extra(
     extra: &ExtraReading,
 ) -> Result<(), AllocError>
     requires { IsIndex lock.now.packages }
-    ensures { IfOk result (λ _. map finding_of findings.new.items ≡ map finding_of findings.old.items ++ (if has_key keys.now (extra_reading_of extra.now).key then unmet (excuses lock.now.projects.now) (index_parts lock.now.packages) (packages_of lock.now.packages) (extra_reading_of extra.now).meaning else [])) }
+    ensures { IfOk result (λ _. map finding_of findings.new.items ≡ map finding_of findings.old.items ++ unmet_extra lock.now.kind (index_parts lock.now.packages) (excuses lock.now.projects.now) lock.now.near (has_key keys.now) (packages_of lock.now.packages) (extra_reading_of extra.now)) }
 {
     if !keys.contains_key(extra.key.as_slice()) {
         return Ok(());
@@ -209,7 +235,7 @@ fn push_all_unmet_extras(
     extras: &[ExtraReading],
 ) -> Result<(), AllocError>
     requires { IsIndex lock.now.packages }
-    ensures { IfOk result (λ _. map finding_of findings.new.items ≡ map finding_of findings.old.items ++ flat_map (λ (o : ExtraReading). if has_key keys.now o.key then unmet (excuses lock.now.projects.now) (index_parts lock.now.packages) (packages_of lock.now.packages) o.meaning else []) (map extra_reading_of extras.now)) }
+    ensures { IfOk result (λ _. map finding_of findings.new.items ≡ map finding_of findings.old.items ++ flat_map (unmet_extra lock.now.kind (index_parts lock.now.packages) (excuses lock.now.projects.now) lock.now.near (has_key keys.now) (packages_of lock.now.packages)) (map extra_reading_of extras.now)) }
 {
     for extra in extras {
         push_unmet_extra(alloc, findings, lock, keys, extra)?;

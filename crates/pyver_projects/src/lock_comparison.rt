@@ -3,15 +3,15 @@ ghost use Rattle.std.specs.Prelude.{◌≡◌, ◌++◌, [], IfOk, if◌then◌e
 ghost use Rattle.std.specs.List.{flat_map, find, list_any, filter};
 ghost use Rattle.pyver_findings.specs.Reports.{demands_in};
 ghost use Rattle.pyver_findings.specs.Views.{demand_of, file_line_of, finding_of, line_meaning_of};
-ghost use Rattle.pyver_projects.specs.Comparing.{unmet_demand, absent, found_beside, found_in_pair, beside_all, compared, compared_demand, accepts_version, excluded, excluded_in, leaves_out, names_groups, locks_extras, locks_groups, has_name, is_installer, is_of_other_tool, is_overridden, is_locked, locks_entries, is_needed, lack_finding, lack_in, lacking, leaves_out_all, locked_line, may_take, missing, outside, partly_locked, taken_packages, unlocked, unmet};
+ghost use Rattle.pyver_projects.specs.Comparing.{unmet_demand, absent, found_beside, found_in_pair, beside_all, compared, compared_demand, accepts_version, excluded, excluded_in, leaves_out, names_groups, locks_extras, locks_groups, has_name, is_installer, is_of_other_tool, is_overridden, is_locked, locks_entries, is_needed, lack_finding, lack_in, lacking, leaves_out_all, locked_line, may_take, missing, outside, partly_locked, taken_packages, unlocked, unmet, unmet_extras};
 ghost use Rattle.pyver_projects.specs.KnownEnvironments.{known_environments};
-ghost use Rattle.pyver_projects.specs.ProjectViews.{IsIndex, excuses, index_parts, packages_of, parts_of, document_of, document_reading_of, locked_reading_of, read_pair, section_of, string_reading_of};
+ghost use Rattle.pyver_projects.specs.ProjectViews.{IsIndex, excuses, index_parts, packages_of, parts_of, document_of, document_reading_of, extra_reading_of, locked_reading_of, read_pair, section_of, string_reading_of};
 ghost use Rattle.std.specs.HashMap.{get_by};
 ghost use Rattle.std.specs.Option.{option_map_or};
 
 use crate::content_hash::{in_one_folder, push_stale_in_pair};
 use crate::document_kind::{Document, DocumentKind, LockKind, is_beside};
-use crate::document_reading::{DocumentReading, ReadDocument, StringReading};
+use crate::document_reading::{DocumentReading, ExtraReading, ReadDocument, StringReading};
 use crate::extra_comparison::{push_unmet_extras, push_without_extra};
 use crate::known_environment::{KnownEnvironment, known_environments};
 use crate::known_projects::{KnownProjects, is_installer};
@@ -686,6 +686,21 @@ fn push_all_compared(
     Ok(())
 }
 
+// Adds what is found of the strings of a project, and of the extras that they ask for.
+fn push_compared_strings(
+    alloc: Global,
+    findings: &mut Vec<Finding>,
+    lock: &IndexedLock<'_>,
+    strings: &[StringReading],
+    optional: &[ExtraReading],
+) -> Result<(), AllocError>
+    requires { IsIndex lock.now.packages }
+    ensures { IfOk result (λ _. map finding_of findings.new.items ≡ map finding_of findings.old.items ++ (flat_map (compared lock.now.kind (index_parts lock.now.packages) (option_to_list (option_map (λ n. n.items) lock.now.project.now)) (excuses lock.now.projects.now) lock.now.near (packages_of lock.now.packages)) (map string_reading_of strings.now) ++ unmet_extras lock.now.kind (index_parts lock.now.packages) (excuses lock.now.projects.now) lock.now.near (packages_of lock.now.packages) (map extra_reading_of optional.now) (map string_reading_of strings.now))) }
+{
+    push_all_compared(alloc, findings, lock, strings)?;
+    push_unmet_extras(alloc, findings, lock, optional, strings)
+}
+
 // What is found in the first document beside the second, of this kind, in one folder with it or not.
 fn push_beside<'a>(
     alloc: Global,
@@ -716,9 +731,7 @@ fn push_beside<'a>(
         projects,
         packages,
     };
-    let strings = project.strings.as_slice();
-    push_all_compared(alloc, findings, &lock, strings)?;
-    push_unmet_extras(alloc, findings, &lock, optional, strings)
+    push_compared_strings(alloc, findings, &lock, project.strings.as_slice(), optional)
 }
 
 // What is found in the first document beside the second, if this counts for it, of these documents.

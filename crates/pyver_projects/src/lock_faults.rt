@@ -379,15 +379,15 @@ fn push_keys(
 fn push_package_keys(
     alloc: Global,
     keys: &mut Vec<Vec<u8>>,
-    package: &Value,
+    item: &Value,
 ) -> Result<(), AllocError>
-    ensures { IfOk result (λ _. map (λ k. k.items) keys.new.items ≡ map (λ k. k.items) keys.old.items ++ package_keys (text_in (get (codes "name") (view package.now))) (view package.now)) }
+    ensures { IfOk result (λ _. map (λ k. k.items) keys.new.items ≡ map (λ k. k.items) keys.old.items ++ package_keys (text_in (get (codes "name") (view item.now))) (view item.now)) }
 {
-    let Some(name) = text(package.get("name")) else {
+    let Some(name) = text(item.get("name")) else {
         return Ok(());
     };
     let name = normalize_name(alloc, name)?;
-    let extras = listed_names(alloc, package.get("extras"))?;
+    let extras = listed_names(alloc, item.get("extras"))?;
     push_keys(alloc, keys, name.as_slice(), extras.as_slice())
 }
 
@@ -396,8 +396,8 @@ fn all_package_keys(alloc: Global, packages: &[Value]) -> Result<Vec<Vec<u8>>, A
     ensures { IfOk result (λ keys. map (λ k. k.items) keys.items ≡ flat_map (λ (d : Data). package_keys (text_in (get (codes "name") d)) d) (map view packages.now)) }
 {
     let mut keys = Vec::new(alloc);
-    for package in packages {
-        push_package_keys(alloc, &mut keys, package)?;
+    for item in packages {
+        push_package_keys(alloc, &mut keys, item)?;
     }
     Ok(keys)
 }

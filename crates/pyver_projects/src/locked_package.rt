@@ -135,6 +135,12 @@ pub(crate) struct LockContents {
     pub(crate) faults: Vec<LockFault>,
 }
 
+pub(crate) fn copy_strings(strings: &Vec<String>) -> Result<Vec<String>, AllocError>
+    ensures { IfOk result (λ copy. map string_bytes copy.items ≡ map string_bytes strings.now.items) }
+{
+    Ok(strings.clone()?)
+}
+
 // The name and the version.
 pub(crate) fn package_text(
     alloc: Global,

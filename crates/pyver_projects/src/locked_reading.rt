@@ -18,9 +18,7 @@ ghost use Rattle.pyver_projects.specs.PackageRequirements.{requirement_text};
 
 use crate::document_reading::version_reason;
 use crate::known_environment::ReadCondition;
-use crate::locked_package::{
-    LockFault, LockedFile, LockedPackage, LockedRequirement, PackageCondition, package_text,
-};
+use crate::locked_package::{LockFault, LockedFile, LockedPackage, LockedRequirement, PackageCondition, copy_strings, package_text};
 use crate::package_extras::name_with_extras;
 use crate::package_requirements::requirement_text;
 use pep440_pick::Requirement;
@@ -350,7 +348,7 @@ fn ask(
     let line = requirement_line(alloc, file, requirement)?;
     let asked = Requirement {
         name: requirement.name.clone()?,
-        extras: requirement.extras.clone()?,
+        extras: copy_strings(&requirement.extras)?,
         specifiers,
     };
     let marker = reference_marker(alloc, requirement.is_reference);

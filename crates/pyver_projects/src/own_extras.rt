@@ -1,15 +1,16 @@
 //! Extras of a project that it asks for itself.
-ghost use Rattle.std.specs.Prelude.{◌≡◌, IfOk, bytes_eq, codes, drop, false, if◌then◌else◌, None, Some, map, option_map, option_to_list, string_bytes};
+ghost use Rattle.std.specs.Prelude.{◌≡◌, IfOk, bytes_eq, codes, false, map, option_copied, option_map, option_to_list, string_bytes};
 ghost use Rattle.std.specs.Option.{option_map_or};
 ghost use Rattle.pep440_pick.specs.Names.{normal};
 ghost use Rattle.pep440_pick.specs.RequirementReading.{name_of};
-ghost use Rattle.pep440_rs.specs.Blanks.{opens};
+ghost use Rattle.pep440_version.specs.Changes.ChangeWords.{after};
+ghost use Rattle.pep440_version.specs.Reading.{past};
+ghost use Rattle.std.specs.Char.{is_ascii_whitespace};
 ghost use Rattle.pyver_projects.specs.Documents.{asker_in, asks_itself, extra_names, has_dynamic_extras, own_names, own_section, own_string, sources};
 ghost use Rattle.pyver_projects.specs.PackageRequirements.{in_brackets, is_conditional, string_extras};
-ghost use Rattle.pyver_projects.specs.ProjectStrings.{ProjectString};
 ghost use Rattle.pyver_projects.specs.ProjectViews.{project_string_of, section_of};
 ghost use Rattle.std.specs.List.{list_any};
-ghost use Rattle.toml.specs.Data.{Data, as_str};
+ghost use Rattle.toml.specs.Data.{as_str};
 ghost use Rattle.toml.specs.View.{table_view, view};
 
 use crate::lock_comparison::is_project_name;
@@ -26,9 +27,16 @@ use toml::{Table, Value};
 
 // What follows the bracket with which this begins.
 fn strip_bracket(rest: &str) -> Option<&str>
-    ensures { option_map (λ t. t.now) result ≡ (if opens 91 rest.now then Some (drop 1 rest.now) else None) }
+    ensures { option_copied result ≡ after (codes "[") rest.now }
 {
-    rest.strip_prefix('[')
+    rest.strip_prefix("[")
+}
+
+// What follows blanks.
+fn skip_blanks(text: &str) -> &str
+    ensures { result.now ≡ past is_ascii_whitespace text.now }
+{
+    text.trim_ascii_start()
 }
 
 // What stands in the brackets with which this begins.
@@ -48,8 +56,8 @@ fn in_brackets(rest: &str) -> &str
 pub(crate) fn string_extras(alloc: Global, text: &str) -> Result<Vec<String>, AllocError>
     ensures { IfOk result (λ extras. map string_bytes extras.items ≡ string_extras text.now) }
 {
-    let (_, rest) = split_name(text.trim_ascii_start());
-    copy_extras(alloc, in_brackets(rest.trim_ascii_start()))
+    let (_, rest) = split_name(skip_blanks(text));
+    copy_extras(alloc, in_brackets(skip_blanks(rest)))
 }
 
 // The string has a marker or a URL.
@@ -64,7 +72,7 @@ pub(crate) fn is_conditional(text: &str) -> bool
 fn begins_with_name(alloc: Global, name: &Option<Vec<u8>>, text: &str) -> Result<bool, AllocError>
     ensures { IfOk result (λ b. b ≡ list_any (bytes_eq (normal (name_of text.now))) (option_to_list (option_map (λ n. n.items) name.now))) }
 {
-    let (found, _) = split_name(text.trim_ascii_start());
+    let (found, _) = split_name(skip_blanks(text));
     let found = normalize_name(alloc, found)?;
     Ok(is_project_name(name, found.as_slice()))
 }
@@ -143,6 +151,21 @@ fn own_name(alloc: Global, document: &Table) -> Result<Option<Vec<u8>>, AllocErr
     project_name(alloc, document)
 }
 
+// The strings, of a project that asks itself by this name.
+fn own_strings(
+    alloc: Global,
+    name: &Option<Vec<u8>>,
+    strings: Vec<ProjectString>,
+) -> Result<Vec<ProjectString>, AllocError>
+    ensures { IfOk result (λ found. map project_string_of found.items ≡ map (own_string (option_to_list (option_map (λ n. n.items) name.now))) (map project_string_of strings.items)) }
+{
+    let mut found = Vec::new(alloc);
+    for string in strings {
+        found.push(own_string(alloc, name, string)?)?;
+    }
+    Ok(found)
+}
+
 // The strings of `pyproject.toml`, or of a Pipfile.
 pub(crate) fn project_strings(
     alloc: Global,
@@ -151,10 +174,8 @@ pub(crate) fn project_strings(
     ensures { IfOk result (λ found. map project_string_of found.items ≡ sources (table_view document.now)) }
 {
     let name = own_name(alloc, document)?;
-    let mut found = Vec::new(alloc);
-    for string in written_strings(alloc, document)? {
-        found.push(own_string(alloc, &name, string)?)?;
-    }
+    let written = written_strings(alloc, document)?;
+    let found = own_strings(alloc, &name, written)?;
     Ok(found)
 }
 

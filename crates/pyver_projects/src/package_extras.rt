@@ -1,23 +1,20 @@
 //! What locked packages require for their extras, and which of these are asked for.
-ghost use Rattle.std.specs.Prelude.{◌≡◌, ◌++◌, ◌∷◌, [], Bool, IfOk, List, Some, codes, false, map, not, option_map, string_bytes, true, ℕ};
-ghost use Rattle.std.specs.List.{filter, flat_map};
-ghost use Rattle.std.specs.Option.{option_map_or, unwrap_or};
+ghost use Rattle.std.specs.Prelude.{◌≡◌, ◌++◌, ◌∷◌, [], IfOk, Some, codes, map, option_copied, option_map, string_bytes};
+ghost use Rattle.std.specs.List.{flat_map};
+ghost use Rattle.std.specs.Option.{option_map_or};
 ghost use Rattle.pep440_pick.specs.Names.{normal};
-ghost use Rattle.pep440_pick.specs.RequirementReading.{without_end};
 ghost use Rattle.pep440_version.specs.Changes.ChangeWords.{after};
-ghost use Rattle.pyver_projects.specs.Documents.{is_asked, lock_asks, not_asked, with_asked};
-ghost use Rattle.pyver_projects.specs.PackageRequirements.{all_extras, asked_keys, extra_items, extra_key, extra_requirements, extra_string, extras_by, extras_from, extras_text, without_parentheses};
-ghost use Rattle.pyver_projects.specs.ProjectStrings.{LockedExtra, LockedRequirement, entries, inclusions_by, listed, members_list};
+ghost use Rattle.pyver_projects.specs.Documents.{asked_requirement, lock_asks, not_asked, optional_asks, other_extra, plain_asks, with_asked};
+ghost use Rattle.pyver_projects.specs.PackageRequirements.{asked_keys, extra_items, extra_key, extra_requirements, extra_string, extras_by, extras_from, extras_text, without_parentheses};
+ghost use Rattle.pyver_projects.specs.ProjectStrings.{entries, inclusions_by, members_list};
 ghost use Rattle.pyver_projects.specs.ProjectViews.{has_key, inclusion_of, locked_extra_of, parts_of, requirement_of};
-ghost use Rattle.std.specs.Borrow.{Bor};
-ghost use Rattle.toml.specs.Data.{as_str};
 ghost use Rattle.toml.specs.View.{table_view, view};
 
 use crate::groups::{Inclusion, InclusionIndex, included_groups, push_inclusions_by};
 use crate::locked_package::{LockParts, LockedExtra, LockedRequirement, package_text};
 use crate::own_extras::string_extras;
 use crate::package_requirements::{
-    is_plain_string, is_unconditional, lacks, new_requirement, past_extras, poetry_list, split_name,
+    cut_at, is_plain_string, is_unconditional, lacks, new_requirement, past_extras, poetry_list, split_name,
 };
 use crate::table::{items, listed_strings, table, text};
 use pyver_findings::normalize_name;
@@ -55,29 +52,21 @@ fn asked_keys(
 
 // ---- what packages require for extras
 
-// The list of a string of Poetry, which may be in parentheses.
+fn strip_opening(list: &str) -> Option<&str>
+    ensures { option_copied result ≡ after (codes " (") list.now }
+{
+    list.strip_prefix(" (")
+}
+
+// The list in a string of Poetry's extras, which stands in parentheses.
 fn without_parentheses(list: &str) -> &str
     ensures { result.now ≡ without_parentheses list.now }
 {
     let Some(open) = strip_opening(list) else {
         return list;
     };
-    match strip_closing(open) {
-        Some(inside) => inside,
-        None => list,
-    }
-}
-
-fn strip_opening(list: &str) -> Option<&str>
-    ensures { option_map (λ t. t.now) result ≡ after (codes " (") list.now }
-{
-    list.strip_prefix(" (")
-}
-
-fn strip_closing(list: &str) -> Option<&str>
-    ensures { option_map (λ t. t.now) result ≡ without_end 41 list.now }
-{
-    list.strip_suffix(')')
+    let (inside, _) = cut_at(open, ')');
+    inside
 }
 
 fn push_for_extra(
@@ -179,7 +168,7 @@ fn push_extra(
     extra: &String,
     value: &Value,
 ) -> Result<(), AllocError>
-    ensures { IfOk result (λ _. map locked_extra_of found.new.items ≡ map locked_extra_of found.old.items ++ flat_map (extra_items line requirer.now (extra_key name.now (normal (string_bytes extra.now)))) (listed (Some (view value.now)))) }
+    ensures { IfOk result (λ _. map locked_extra_of found.new.items ≡ map locked_extra_of found.old.items ++ extra_requirements line requirer.now name.now (string_bytes extra.now, view value.now)) }
 {
     let extra = normalize_name(alloc, extra.as_str())?;
     let key = extra_key(alloc, name, extra.as_slice())?;
@@ -191,14 +180,13 @@ fn push_extras(
     found: &mut Vec<LockedExtra>,
     line: u64,
     requirer: &[u8],
-    name: &str,
+    name: &[u8],
     extras: &Table,
 ) -> Result<(), AllocError>
     ensures { IfOk result (λ _. map locked_extra_of found.new.items ≡ map locked_extra_of found.old.items ++ flat_map (extra_requirements line requirer.now name.now) (members_list (table_view extras.now))) }
 {
-    let name = normalize_name(alloc, name)?;
     for (extra, value) in extras.iter() {
-        push_extra(alloc, found, line, requirer, name.as_slice(), extra, value)?;
+        push_extra(alloc, found, line, requirer, name, extra, value)?;
     }
     Ok(())
 }
@@ -209,7 +197,7 @@ fn push_table(
     found: &mut Vec<LockedExtra>,
     line: u64,
     requirer: &[u8],
-    name: &str,
+    name: &[u8],
     value: Option<&Value>,
 ) -> Result<(), AllocError>
     ensures { IfOk result (λ _. map locked_extra_of found.new.items ≡ map locked_extra_of found.old.items ++ flat_map (extra_requirements line requirer.now name.now) (entries (option_map (λ v. view v.now) value.entry))) }
@@ -225,17 +213,19 @@ fn push_by(
     found: &mut Vec<LockedExtra>,
     line: u64,
     name: Option<&str>,
-    package: &Value,
+    item: &Value,
 ) -> Result<(), AllocError>
-    ensures { IfOk result (λ _. map locked_extra_of found.new.items ≡ map locked_extra_of found.old.items ++ extras_by line (option_map (λ t. t.now) name.entry) (view package.now)) }
+    ensures { IfOk result (λ _. map locked_extra_of found.new.items ≡ map locked_extra_of found.old.items ++ extras_by line (option_map (λ t. t.now) name.entry) (view item.now)) }
 {
     let Some(name) = name else {
         return Ok(());
     };
-    let requirer = package_text(alloc, name, text(package.get("version")))?;
+    let requirer = package_text(alloc, name, text(item.get("version")))?;
     let requirer = requirer.as_slice();
-    push_table(alloc, found, line, requirer, name, package.get("extras"))?;
-    let extras = package.get("optional-dependencies");
+    let name = normalize_name(alloc, name)?;
+    let name = name.as_slice();
+    push_table(alloc, found, line, requirer, name, item.get("extras"))?;
+    let extras = item.get("optional-dependencies");
     push_table(alloc, found, line, requirer, name, extras)
 }
 
@@ -245,14 +235,14 @@ pub(crate) fn push_package_extras(
     found: &mut Vec<LockedExtra>,
     parts: &LockParts,
     line: u64,
-    package: &Value,
+    item: &Value,
 ) -> Result<(), AllocError>
-    ensures { IfOk result (λ _. map locked_extra_of found.new.items ≡ map locked_extra_of found.old.items ++ extras_from (parts_of parts.now) (line, view package.now)) }
+    ensures { IfOk result (λ _. map locked_extra_of found.new.items ≡ map locked_extra_of found.old.items ++ extras_from (parts_of parts.now) (line, view item.now)) }
 {
-    if !is_unconditional(alloc, parts, package)? {
+    if !is_unconditional(alloc, parts, item)? {
         return Ok(());
     }
-    push_by(alloc, found, line, text(package.get("name")), package)
+    push_by(alloc, found, line, text(item.get("name")), item)
 }
 
 // ---- which are asked for
@@ -274,7 +264,7 @@ fn requirement_asks(
     alloc: Global,
     requirements: &[LockedRequirement],
 ) -> Result<Vec<Inclusion>, AllocError>
-    ensures { IfOk result (λ is. map inclusion_of is.items ≡ flat_map (λ (q : LockedRequirement). inclusions_by (Some []) (asked_keys q)) (map requirement_of requirements.now)) }
+    ensures { IfOk result (λ is. map inclusion_of is.items ≡ flat_map plain_asks (map requirement_of requirements.now)) }
 {
     let none = Vec::new(alloc);
     let mut asks = Vec::new(alloc);
@@ -290,7 +280,7 @@ fn push_extra_asks(
     asks: &mut Vec<Inclusion>,
     extras: &[LockedExtra],
 ) -> Result<(), AllocError>
-    ensures { IfOk result (λ _. map inclusion_of asks.new.items ≡ map inclusion_of asks.old.items ++ flat_map (λ (o : LockedExtra). inclusions_by (Some o.key) (asked_keys o.requirement)) (map locked_extra_of extras.now)) }
+    ensures { IfOk result (λ _. map inclusion_of asks.new.items ≡ map inclusion_of asks.old.items ++ flat_map optional_asks (map locked_extra_of extras.now)) }
 {
     for extra in extras {
         push_asks(alloc, asks, &extra.key, &extra.requirement)?;
@@ -311,26 +301,39 @@ fn lock_asks(
     Ok(asks)
 }
 
-// Adds to the first what is required for an extra with one of these keys, and to the second what is required for others.
+// Adds to the first what is required for the extra, if it has one of these keys, or it to the second.
 fn push_asked(
+    requirements: &mut Vec<LockedRequirement>,
+    optional: &mut Vec<LockedExtra>,
+    keys: &HashMap<&[u8], ()>,
+    extra: LockedExtra,
+) -> Result<(), AllocError>
+    ensures asked { IfOk result (λ _. map requirement_of requirements.new.items ≡ map requirement_of requirements.old.items ++ asked_requirement (has_key keys.now) (locked_extra_of extra)) }
+    ensures others { IfOk result (λ _. map locked_extra_of optional.new.items ≡ map locked_extra_of optional.old.items ++ other_extra (has_key keys.now) (locked_extra_of extra)) }
+{
+    if !keys.contains_key(extra.key.as_slice()) {
+        optional.push(extra)?;
+        return Ok(());
+    }
+    let LockedExtra {
+        key: _key,
+        requirement,
+    } = extra;
+    requirements.push(requirement)?;
+    Ok(())
+}
+
+fn push_all_asked(
     requirements: &mut Vec<LockedRequirement>,
     optional: &mut Vec<LockedExtra>,
     keys: &HashMap<&[u8], ()>,
     extras: Vec<LockedExtra>,
 ) -> Result<(), AllocError>
-    ensures asked { IfOk result (λ _. map requirement_of requirements.new.items ≡ map requirement_of requirements.old.items ++ map (λ (o : LockedExtra). o.requirement) (filter (λ (o : LockedExtra). has_key keys.now o.key) (map locked_extra_of extras.items))) }
-    ensures others { IfOk result (λ _. map locked_extra_of optional.new.items ≡ map locked_extra_of optional.old.items ++ filter (λ (o : LockedExtra). not (has_key keys.now o.key)) (map locked_extra_of extras.items)) }
+    ensures asked { IfOk result (λ _. map requirement_of requirements.new.items ≡ map requirement_of requirements.old.items ++ flat_map (asked_requirement (has_key keys.now)) (map locked_extra_of extras.items)) }
+    ensures others { IfOk result (λ _. map locked_extra_of optional.new.items ≡ map locked_extra_of optional.old.items ++ flat_map (other_extra (has_key keys.now)) (map locked_extra_of extras.items)) }
 {
     for extra in extras {
-        if keys.contains_key(extra.key.as_slice()) {
-            let LockedExtra {
-                key: _key,
-                requirement,
-            } = extra;
-            requirements.push(requirement)?;
-        } else {
-            optional.push(extra)?;
-        }
+        push_asked(requirements, optional, keys, extra)?;
     }
     Ok(())
 }
@@ -348,7 +351,7 @@ pub(crate) fn take_asked(
     let index = InclusionIndex::new(alloc, asks.as_slice())?;
     let keys = included_groups(alloc, &index, b"")?;
     let mut optional = Vec::new(alloc);
-    push_asked(requirements, &mut optional, &keys, extras)?;
+    push_all_asked(requirements, &mut optional, &keys, extras)?;
     Ok(optional)
 }
 

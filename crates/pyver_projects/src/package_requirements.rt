@@ -77,7 +77,7 @@ fn is_zero(number: &str) -> bool
 }
 
 // The text up to the first such character, and what follows this.
-fn cut_at(text: &str, character: char) -> (&str, &str)
+pub(crate) fn cut_at(text: &str, character: char) -> (&str, &str)
     requires { character < 128 }
     ensures { (result.0.now, result.1.now) ≡ cut_at character text.now }
 {

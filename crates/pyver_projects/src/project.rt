@@ -61,6 +61,21 @@ pub(crate) struct ProjectString {
     pub(crate) text: String,
 }
 
+pub(crate) fn copy_name(name: &Option<Vec<u8>>) -> Result<Option<Vec<u8>>, AllocError>
+    ensures { IfOk result (λ copy. option_map (λ n. n.items) copy ≡ option_map (λ n. n.items) name.now) }
+{
+    match name {
+        Some(name) => Ok(Some(name.clone()?)),
+        None => Ok(None),
+    }
+}
+
+pub(crate) fn copy_names(names: &Vec<Vec<u8>>) -> Result<Vec<Vec<u8>>, AllocError>
+    ensures { IfOk result (λ copy. map (λ n. n.items) copy.items ≡ map (λ n. n.items) names.now.items) }
+{
+    Ok(names.clone()?)
+}
+
 impl Clone for Section {
     ghost is_clone = { λ section copy. section_of copy ≡ section_of section };
 
@@ -72,7 +87,9 @@ impl Clone for Section {
             Section::Include(group, included) => {
                 Ok(Section::Include(group.clone()?, included.clone()?))
             }
-            Section::OwnExtras(asker, extras) => Ok(Section::OwnExtras(asker.clone()?, extras.clone()?)),
+            Section::OwnExtras(asker, extras) => {
+                Ok(Section::OwnExtras(copy_name(asker)?, copy_names(extras)?))
+            }
             Section::Invalid(table, reason) => Ok(Section::Invalid(table.clone()?, *reason)),
             Section::Entry(tool, table, name) => {
                 Ok(Section::Entry(*tool, table.clone()?, name.clone()?))

@@ -12,7 +12,7 @@ ghost use Rattle.pyver_projects.specs.Together.{FindsOfPart, FindsOfParts, all_d
 use crate::document_reading::StringReading;
 use crate::groups::{InclusionIndex, extra_inclusions, included_groups, inclusions};
 use crate::known_projects::contains_name;
-use crate::project::Section;
+use crate::project::{Section, copy_name, copy_names};
 use pep440_sets::VersionSet;
 use pyver_findings::{Cause, Demand, FileLine, Finding, LineMeaning, push_conflicts};
 use pyver_markers::Domain;
@@ -166,23 +166,15 @@ fn holds_in(together: bool, names: &PartNames<'_>, section: &Section) -> bool
 
 // ---- requirements of a part
 
-fn copy_marker(marker: &Option<Vec<u8>>) -> Result<Option<Vec<u8>>, AllocError>
-    ensures { IfOk result (λ copy. option_map (λ m. m.items) copy ≡ option_map (λ m. m.items) marker.now) }
-{
-    match marker {
-        Some(marker) => Ok(Some(marker.clone()?)),
-        None => Ok(None),
-    }
-}
-
+#[tactic(auto, unfolding(pyver_findings::specs::Views::names_of))]
 fn copy_demand(demand: &Demand) -> Result<Demand, AllocError>
     ensures { IfOk result (λ copy. demand_of copy ≡ demand_of demand.now) }
 {
     Ok(Demand {
         line: demand.line.clone()?,
         name: demand.name.clone()?,
-        extras: demand.extras.clone()?,
-        marker: copy_marker(&demand.marker)?,
+        extras: copy_names(&demand.extras)?,
+        marker: copy_name(&demand.marker)?,
         pinned: demand.pinned,
         specifiers: demand.specifiers.clone()?,
     })
@@ -386,13 +378,13 @@ fn push_part_conflicts(
 }
 
 // What is wrong with the requirements of each of the parts together.
-fn conflicts_of_parts(
+fn conflicts_of_parts<'a>(
     alloc: Global,
     left_out: &mut Vec<Cause>,
     together: bool,
-    overridden: &[Vec<u8>],
+    overridden: &'a [Vec<u8>],
     parts: &[Section],
-    strings: &[StringReading],
+    strings: &'a [StringReading],
 ) -> Result<Vec<Finding>, AllocError>
     requires { All IsSoundString (map string_reading_of strings.now) }
     ensures { IfOk result (λ found. AddsFound (FindsOfEach (FindsOfPart together (map (λ n. n.items) overridden.now) (map string_reading_of strings.now)) (map section_of parts.now)) [] found.items left_out.old.items left_out.new.items) }

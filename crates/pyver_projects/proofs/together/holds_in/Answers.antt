@@ -11,4 +11,4 @@ returns-in-Group c =
 pub returns-in-Extra : goal.returns-in-Extra
 returns-in-Extra c =
     let names = c.args.names.now in
-    c.contains_key-in-Extra.ensures ∙ ap (has_key names.extras) c.as_slice-in-Extra.ensures.value ∙ ap (λ s. holds_in c.args.together (has_key names.groups) (has_key names.extras) (section_of names.part.now) (section_of s)) (sym c.in-Extra.is)
+    c.contains_key.ensures ∙ ap (has_key names.extras) c.as_slice.ensures.value ∙ ap (λ s. holds_in c.args.together (has_key names.groups) (has_key names.extras) (section_of names.part.now) (section_of s)) (sym c.in-Extra.is)
