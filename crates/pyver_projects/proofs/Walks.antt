@@ -1,5 +1,5 @@
 -- Lists beside lists, lists that are made of each element, strings that are read one after another, and names that are known, repeated or those of packages.
-use Rattle.std.specs.Global.{Vec}
+use Rattle.std.specs.Global.{Vec as ByteVec}
 use Rattle.std.proofs.Common.{Bool, Err, IfOk, IfSome, List, None, Ok, Option, Result, Some, String, [], ap, arith, false, get_or, if◌then◌else◌, inr, is_none, length, map, refl, subst, suc, sym, take, take_all, true, zero, inl, ℕ, ◌++◌, ◌+◌, ◌-◌, ◌<◌, ◌||◌, ◌∙◌, ◌∷◌, ◌≡◌, ◌≤◌, ◌⊎◌, Bor, Vec, bytes_eq, cond, count_by, is_some, nat_eq, nat_lt, not, ◌&&◌, ◌==◌, drop, option_map}
 use Rattle.std.proofs.lemmas.Bool.{true≢false, and_parts, false_from_ne_true, or_left, or_right}
 use Rattle.std.proofs.lemmas.List.Elements.{All-append, All-cons, All-head, All-nil, All-tail, All-contains, All-contains_itself, All-weaker}
@@ -131,7 +131,7 @@ same_bytes [] (y ∷ ys) h = absurd h
 same_bytes (x ∷ xs) [] h = absurd h
 same_bytes (x ∷ xs) (y ∷ ys) (r, h) = λ j. r j ∷ same_bytes xs ys h j
 
-pub same_names : (R : Vec ℕ → Vec ℕ → Type 0) → ((v w : Vec ℕ) → R v w → w.items ≡ v.items) → (xs ys : List (Vec ℕ)) → AllZip R xs ys → map (λ (v : Vec ℕ). v.items) ys ≡ map (λ (v : Vec ℕ). v.items) xs
+pub same_names : (R : ByteVec ℕ → ByteVec ℕ → Type 0) → ((v w : ByteVec ℕ) → R v w → w.items ≡ v.items) → (xs ys : List (ByteVec ℕ)) → AllZip R xs ys → map (λ (v : ByteVec ℕ). v.items) ys ≡ map (λ (v : ByteVec ℕ). v.items) xs
 same_names R f [] [] h = refl
 same_names R f [] (y ∷ ys) h = absurd h
 same_names R f (x ∷ xs) [] h = absurd h

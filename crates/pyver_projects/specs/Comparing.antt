@@ -124,9 +124,16 @@ demand_keys a = map (extra_key a.name) a.extras
 abbrev pub has_keys : List (List ℕ) → List (List ℕ) → Bool
 has_keys found keys = list_all (λ (k : List ℕ). list_any (bytes_eq k) found) keys
 
+-- a requirement that is not there, for this reason
+abbrev pub unmatched : List ℕ → Demand → Finding
+unmatched reason a = NoRequirement a.line reason 0
+
+abbrev pub missing_extra_reason : List ℕ
+missing_extra_reason = codes "the lock does not have this extra of the package"
+
 -- the lock has each extra that the requirement asks for, or not
 abbrev pub extra_fault : Bool → Demand → List Finding
-extra_fault has a = if has then [] else NoRequirement a.line (codes "the lock does not have this extra of the package") 0 ∷ []
+extra_fault has a = if has then [] else unmatched missing_extra_reason a ∷ []
 
 -- the lock, which has a package for each of these extras, has none for one that the requirement asks for
 abbrev pub lacks_extra : Option (List (List ℕ)) → Demand → List Finding
@@ -368,10 +375,6 @@ locked_demands x = if is_standard x.section then demands_in x.meaning else []
 
 abbrev pub is_in_project : Demand → StringReading → Bool
 is_in_project e x = list_any (λ (a : Demand). is_same_requirement a e) (locked_demands x)
-
--- a requirement that is not there, for this reason
-abbrev pub unmatched : List ℕ → Demand → Finding
-unmatched reason a = NoRequirement a.line reason 0
 
 abbrev pub unentered_reason : List ℕ
 unentered_reason = codes "the lock is out of date: it does not have this requirement"

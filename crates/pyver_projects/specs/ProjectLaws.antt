@@ -30,7 +30,7 @@ use Rattle.pyver_requirements.specs.MarkerGrammar.{DenotesMarker, Marker}
 use Rattle.toml.specs.Data.{Members}
 use Rattle.toml.specs.Parse.{parse_document}
 use Rattle.pyver_findings.specs.Exports.{is_export}
-use Rattle.pyver_projects.specs.Comparing.{Excuse, IsDocumentsReport, has_keys, project_asks, same_extras, is_beside, is_installer, is_locked, is_needed, is_plain_for_uv, lack_in, leaves_out, python_finding, python_minors, same_list, stale_finding, unentered_reason, unrequired_reason, IsExportsReport, counts_for, is_made_of}
+use Rattle.pyver_projects.specs.Comparing.{Excuse, IsDocumentsReport, has_keys, missing_extra_reason, project_asks, same_extras, is_beside, is_installer, is_locked, is_needed, is_plain_for_uv, lack_in, leaves_out, python_finding, python_minors, same_list, stale_finding, unentered_reason, unrequired_reason, IsExportsReport, counts_for, is_made_of}
 use Rattle.pyver_findings.specs.NamedFiles.{folder}
 use Rattle.pyver_projects.specs.ContentHashes.{hash_of, hashed_texts, is_known_text}
 use Rattle.pyver_projects.specs.Documents.{has_group_tool, locked, overridden_names, project_names, sources}
@@ -334,7 +334,7 @@ pub record IsExtraAbsent (documents : List Document) (f : Finding) : Type 0 wher
   pub asks : AsksOn documents kind lock contents needed line
   pub packaged : contents.parts.packaged ≡ Some keys
   pub none : has_keys keys (needed_keys needed) ≡ false
-  pub is : f ≡ NoRequirement line (codes "the lock does not have this extra of the package") 0
+  pub is : f ≡ NoRequirement line missing_extra_reason 0
 
 -- a lock does not have the hash of the project in its folder
 pub record IsStale (documents : List Document) (f : Finding) : Type 0 where

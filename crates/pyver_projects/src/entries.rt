@@ -296,7 +296,7 @@ fn is_required(entry: &Demand, strings: &[StringReading]) -> bool
 }
 
 // Adds that the requirement is not there, for this reason.
-fn push_unmatched(
+pub(crate) fn push_unmatched(
     alloc: Global,
     findings: &mut Vec<Finding>,
     reason: &str,

@@ -6,6 +6,7 @@ ghost use Rattle.pyver_projects.specs.Comparing.{asked_in, asks_for_extras, dema
 ghost use Rattle.pyver_projects.specs.ProjectViews.{IsIndex, excuses, extra_reading_of, has_key, inclusion_of, index_parts, packages_of, section_of, string_reading_of};
 
 use crate::document_reading::{ExtraReading, StringReading};
+use crate::entries::push_unmatched;
 use crate::groups::{Inclusion, InclusionIndex, included_groups, push_inclusions_by};
 use crate::known_projects::contains_name;
 use crate::lock_comparison::{
@@ -70,9 +71,8 @@ fn push_extra_fault(
     if has {
         return Ok(());
     }
-    let reason = String::from_str(alloc, "the lock does not have this extra of the package")?;
-    findings.push(Finding::NoRequirement(demand.line.clone()?, reason, 0))?;
-    Ok(())
+    let reason = "the lock does not have this extra of the package";
+    push_unmatched(alloc, findings, reason, demand)
 }
 
 fn push_lacked_extra(

@@ -11,7 +11,9 @@ ghost use Rattle.std.specs.Option.{option_map_or};
 
 use crate::content_hash::{in_one_folder, push_stale_in_pair};
 use crate::document_kind::{Document, DocumentKind, LockKind, is_beside};
-use crate::document_reading::{DocumentReading, ExtraReading, ReadDocument, StringReading};
+use crate::document_reading::{
+    DocumentReading, ExtraReading, LockReading, ProjectReading, ReadDocument, StringReading,
+};
 use crate::extra_comparison::{push_unmet_extras, push_without_extra};
 use crate::known_environment::{KnownEnvironment, known_environments};
 use crate::known_projects::{KnownProjects, is_installer};
@@ -701,6 +703,33 @@ fn push_compared_strings(
     push_unmet_extras(alloc, findings, lock, optional, strings)
 }
 
+// What is found in the project beside the lock of this kind.
+fn push_beside_lock<'a>(
+    alloc: Global,
+    findings: &mut Vec<Finding>,
+    projects: &'a KnownProjects,
+    near: bool,
+    kind: LockKind,
+    project: &'a ProjectReading,
+    lock: &'a LockReading,
+) -> Result<(), AllocError>
+    ensures { IfOk result (λ _. map finding_of findings.new.items ≡ map finding_of findings.old.items ++ (flat_map (compared kind (parts_of lock.now.parts) (option_to_list (option_map (λ n. n.items) project.now.name)) (excuses projects.now) near (map locked_reading_of lock.now.packages.items)) (map string_reading_of project.now.strings.items)
+        ++ unmet_extras kind (parts_of lock.now.parts) (excuses projects.now) near (map locked_reading_of lock.now.packages.items) (map extra_reading_of lock.now.optional.items) (map string_reading_of project.now.strings.items))) }
+{
+    let strings = project.strings.as_slice();
+    let optional = lock.optional.as_slice();
+    let found = lock.packages.as_slice();
+    let packages = PackageIndex::new(alloc, &lock.parts, found)?;
+    let lock = IndexedLock {
+        kind,
+        project: &project.name,
+        near,
+        projects,
+        packages,
+    };
+    push_compared_strings(alloc, findings, &lock, strings, optional)
+}
+
 // What is found in the first document beside the second, of this kind, in one folder with it or not.
 fn push_beside<'a>(
     alloc: Global,
@@ -722,16 +751,7 @@ fn push_beside<'a>(
     let DocumentReading::Lock(lock) = other else {
         return Ok(());
     };
-    let optional = lock.optional.as_slice();
-    let packages = PackageIndex::new(alloc, &lock.parts, lock.packages.as_slice())?;
-    let lock = IndexedLock {
-        kind,
-        project: &project.name,
-        near,
-        projects,
-        packages,
-    };
-    push_compared_strings(alloc, findings, &lock, project.strings.as_slice(), optional)
+    push_beside_lock(alloc, findings, projects, near, kind, project, lock)
 }
 
 // What is found in the first document beside the second, if this counts for it, of these documents.

@@ -23,11 +23,11 @@ use std::collections::HashMap;
 
 // The strings of a project, which groups and which extras include which, whether groups hold together with the dependencies, and the names that it overrides.
 #[derive(Drop)]
-struct ProjectParts<'a> {
+struct ProjectParts<'a, 'b, 'c> {
     together: bool,
     overridden: &'a [Vec<u8>],
-    inclusions: InclusionIndex<'a>,
-    extras: InclusionIndex<'a>,
+    inclusions: InclusionIndex<'b>,
+    extras: InclusionIndex<'c>,
     strings: &'a [StringReading],
 }
 
@@ -226,7 +226,7 @@ fn push_string_demand(
 
 fn push_in_part(
     demands: &mut Vec<Demand>,
-    project: &ProjectParts<'_>,
+    project: &ProjectParts<'_, '_, '_>,
     names: &PartNames<'_>,
     string: &StringReading,
 ) -> Result<(), AllocError>
@@ -241,7 +241,7 @@ fn push_in_part(
 // The requirements of the part.
 fn demands_of_part(
     alloc: Global,
-    project: &ProjectParts<'_>,
+    project: &ProjectParts<'_, '_, '_>,
     names: &PartNames<'_>,
 ) -> Result<Vec<Demand>, AllocError>
     ensures { IfOk result (λ demands. map demand_of demands.items ≡ flat_map (demand_in_part project.now.together (map (λ n. n.items) project.now.overridden.now) (has_key names.now.groups) (has_key names.now.extras) (section_of names.now.part.now)) (map string_reading_of project.now.strings.now)) }
@@ -256,7 +256,7 @@ fn demands_of_part(
 // The requirements of the part.
 fn part_demands(
     alloc: Global,
-    project: &ProjectParts<'_>,
+    project: &ProjectParts<'_, '_, '_>,
     part: &Section,
 ) -> Result<Vec<Demand>, AllocError>
     requires groups { IsInclusionIndex project.now.inclusions }
@@ -361,7 +361,7 @@ fn push_part_conflicts(
     alloc: Global,
     findings: &mut Vec<Finding>,
     left_out: &mut Vec<Cause>,
-    project: &ProjectParts<'_>,
+    project: &ProjectParts<'_, '_, '_>,
     part: &Section,
 ) -> Result<(), AllocError>
     requires sound { All IsSoundString (map string_reading_of project.now.strings.now) }
