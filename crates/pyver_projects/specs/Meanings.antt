@@ -1,5 +1,5 @@
 -- What a string of `pyproject.toml`, a locked package and a document are to the check; and groups (PEP 735) and extras (PEP 621) that include others.
-use Rattle.std.specs.Prelude.{◌≡◌, ◌⊎◌, ℕ, ◌+◌, List, [], ◌++◌, Bool, true, false, Option, Some, None, codes, if◌then◌else◌, length, map, ⊤, ◌-◌, drop, take, ◌||◌, ◌&&◌, suc, zero, ◌∷◌, bytes_eq}
+use Rattle.std.specs.Prelude.{◌≡◌, ◌⊎◌, ℕ, ◌+◌, List, [], ◌++◌, Bool, true, false, Option, Some, None, codes, if◌then◌else◌, length, map, ⊤, ◌-◌, drop, take, ◌∷◌, bytes_eq}
 use Rattle.std.specs.List.{AllZip, All, flat_map, list_all, list_any}
 use Rattle.std.specs.Str.{IsUtf8}
 use Rattle.pep440_pick.specs.Names.{normal}

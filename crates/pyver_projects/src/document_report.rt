@@ -289,23 +289,26 @@ pub(crate) fn read_documents<'a>(
 /// What is wrong in the documents. First what is wrong in each by itself, in order: tables, arrays or strings of a project that are none,
 /// strings that are no requirement, no list of specifiers or no version, a list that no version satisfies, groups (PEP 735) with the
 /// normal name of another, with an item that is neither a string nor a table of `include-group` only, or that include a group that does
-/// not exist or that includes them in turn, versions of a lock that are none, and a document that is not TOML, or JSON, in UTF-8. After
+/// not exist or that includes them in turn, strings of dependencies, extras and groups that ask for an extra of the project itself that it does not have,
+/// by its table or Poetry's, unless `optional-dependencies` is dynamic, versions of a lock that are none, and a document that is not TOML, or JSON, in UTF-8. After
 /// the packages of a lock the files of those from an index in whose
 /// names is a version (PEP 427, "File name convention"; PEP 625, "Specification") that `==` with the package's does not match, of those that
 /// follow one another with one version the first; the packages of one name with the same marker or none (PEP 751 ("Specification"),
 /// `poetry.lock` from format 2.1 on and `pdm.lock` with at most one target have one), and in `uv.lock` each dependency without a source on a name
 /// of more than one package; packages that are no array of tables, or in `Pipfile.lock` no object of objects, and names and versions
-/// that are no strings; and for each requirement of a package, beside projects, whether no package has its name, or the first environment
+/// that are no strings; and for each requirement of a package, beside projects, whether no package has its name, or `pdm.lock` none for an extra that it asks
+/// for, or the first environment
 /// in which the lock leaves out all packages that it may take, unless that is one of them, setuptools, distribute, pip or wheel, and the locked
 /// versions of its name, if it contains none.
 /// Then what is wrong in each project beside each lock in its folder, or in the nearest above that has one of its kind, and beside each
 /// lock for which that is no project: in one folder whether `metadata.content-hash` of `poetry.lock`, `metadata.content_hash` of `pdm.lock`, or
 /// `tool.pdm.hashes` of `pylock.toml`, is the hash of the project, on the line of that key; in one folder, where `uv.lock` has that project as a package and names
 /// no members, the first of CPython 3.0 to 3.20 that only one of both `requires-python` contains, on the line of the lock's; where it says what the project requires, for
-/// each requirement of the project of dependencies, extras and groups whether the lock has one with its name and list, and for each of the lock, on the line of
-/// its package, whether the project has; for each requirement, in order, whether the lock lacks a package of its name, or such an environment,
-/// and the lines of the locked versions of its name with the line of the requirement, if it contains none. Then the requirements of each project that hold
-/// together and have no version in common, as `pyver_findings` reports them, each once: `project.dependencies`; these with each extra; each group with
+/// each requirement of the project of dependencies, extras and groups whether the lock has one with its name, its extras and its list, and for each of the lock, on the line of
+/// its package, whether the project has; for each requirement, in order, whether the lock lacks a package of its name or for an extra, or such an environment,
+/// and the lines of the locked versions of its name with the line of the requirement, if it contains none; and the same for what packages require for the
+/// extras that the project asks for. Then the requirements of each project that hold
+/// together and have no version in common, as `pyver_findings` reports them, each once: `project.dependencies`; these with each extra and those that it asks the project for, always, itself or through others; each group with
 /// all that it includes, and with these if there is a table `tool.uv` or `tool.poetry`; what the build requires; and each environment of `tool.hatch.envs`. With
 /// the dependencies hold `tool.uv.constraint-dependencies` and `override-dependencies`; a requirement of dependencies, extras and groups for a name that the project
 /// overrides does not count. Those with markers are reported in an environment with a version of Python that `project.requires-python` contains, if that is a list without `===`.
@@ -317,7 +320,8 @@ pub(crate) fn read_documents<'a>(
 /// versions of its packages, in `Pipfile.lock` of the members of `default` and of those of `develop` that are not there with the same
 /// version. Their requirements are the names in uv's `metadata.requires-dist`, each with its `specifier`, those in an array
 /// `dependencies`, or its strings, as PDM writes them, there or, in `pylock.toml`, at `tool.pdm`, and those in Poetry's table `dependencies` with their lists; one that PEP 440 does
-/// not know, as `^1.0`, is left out. An array `dependencies` in `pylock.toml` only refers to packages, wherever these are (PEP 751, `packages.dependencies`). The names of a project are `project.name` and `tool.poetry.name`. The files of packages are `files`,
+/// not know, as `^1.0`, is left out. For an extra that a requirement asks for they require what stands in Poetry's table `extras` and uv's `optional-dependencies`, also
+/// through other extras. `pdm.lock` has a package for the `extras` that are asked for ("Lock file" of PDM). An array `dependencies` in `pylock.toml` only refers to packages, wherever these are (PEP 751, `packages.dependencies`). The names of a project are `project.name` and `tool.poetry.name`. The files of packages are `files`,
 /// `wheels` and `sdist`, each named by its `file`, `name`, `url` or `path`. Other values of other types in a lock are passed over. Extras and groups come in the order of
 /// their names. A string has the number of the first line on which it stands in quotes, a package of `Pipfile.lock` the number of the first line with its name in quotes, another
 /// package, with what it requires, the number of its header. Either has 1 without one. Each string and each package counts as a line.

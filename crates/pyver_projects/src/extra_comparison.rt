@@ -224,7 +224,13 @@ fn push_unmet_extra(
     if !keys.contains_key(extra.key.as_slice()) {
         return Ok(());
     }
-    push_unmet(alloc, findings, lock.projects, &lock.packages, &extra.meaning)
+    push_unmet(
+        alloc,
+        findings,
+        lock.projects,
+        &lock.packages,
+        &extra.meaning,
+    )
 }
 
 fn push_all_unmet_extras(

@@ -376,11 +376,7 @@ fn push_keys(
 }
 
 // Adds the keys of the extras of the package, if it has a name.
-fn push_package_keys(
-    alloc: Global,
-    keys: &mut Vec<Vec<u8>>,
-    item: &Value,
-) -> Result<(), AllocError>
+fn push_package_keys(alloc: Global, keys: &mut Vec<Vec<u8>>, item: &Value) -> Result<(), AllocError>
     ensures { IfOk result (λ _. map (λ k. k.items) keys.new.items ≡ map (λ k. k.items) keys.old.items ++ package_keys (text_in (get (codes "name") (view item.now))) (view item.now)) }
 {
     let Some(name) = text(item.get("name")) else {

@@ -18,7 +18,10 @@ ghost use Rattle.pyver_projects.specs.PackageRequirements.{requirement_text};
 
 use crate::document_reading::version_reason;
 use crate::known_environment::ReadCondition;
-use crate::locked_package::{LockFault, LockedFile, LockedPackage, LockedRequirement, PackageCondition, copy_strings, package_text};
+use crate::locked_package::{
+    LockFault, LockedFile, LockedPackage, LockedRequirement, PackageCondition, copy_strings,
+    package_text,
+};
 use crate::package_extras::name_with_extras;
 use crate::package_requirements::requirement_text;
 use pep440_pick::Requirement;

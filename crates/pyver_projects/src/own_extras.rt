@@ -185,7 +185,10 @@ pub(crate) fn extra_names(alloc: Global, document: &Table) -> Result<Vec<Vec<u8>
     ensures { IfOk result (λ names. map (λ n. n.items) names.items ≡ extra_names (table_view document.now)) }
 {
     let poetry = inside(top(document, "tool"), "poetry");
-    let mut names = names_in(alloc, inside(top(document, "project"), "optional-dependencies"))?;
+    let mut names = names_in(
+        alloc,
+        inside(top(document, "project"), "optional-dependencies"),
+    )?;
     let mut more = names_in(alloc, inside(poetry, "extras"))?;
     names.append(&mut more)?;
     Ok(names)

@@ -14,7 +14,8 @@ use crate::groups::{Inclusion, InclusionIndex, included_groups, push_inclusions_
 use crate::locked_package::{LockParts, LockedExtra, LockedRequirement, package_text};
 use crate::own_extras::string_extras;
 use crate::package_requirements::{
-    cut_at, is_plain_string, is_unconditional, lacks, new_requirement, past_extras, poetry_list, split_name,
+    cut_at, is_plain_string, is_unconditional, lacks, new_requirement, past_extras, poetry_list,
+    split_name,
 };
 use crate::table::{items, listed_strings, table, text};
 use pyver_findings::normalize_name;
@@ -35,10 +36,7 @@ pub(crate) fn extra_key(alloc: Global, name: &[u8], extra: &[u8]) -> Result<Vec<
 }
 
 // The keys of the extras that a requirement asks for.
-fn asked_keys(
-    alloc: Global,
-    requirement: &LockedRequirement,
-) -> Result<Vec<Vec<u8>>, AllocError>
+fn asked_keys(alloc: Global, requirement: &LockedRequirement) -> Result<Vec<Vec<u8>>, AllocError>
     ensures { IfOk result (λ keys. map (λ k. k.items) keys.items ≡ asked_keys (requirement_of requirement.now)) }
 {
     let name = normalize_name(alloc, requirement.name.as_str())?;
@@ -172,7 +170,14 @@ fn push_extra(
 {
     let extra = normalize_name(alloc, extra.as_str())?;
     let key = extra_key(alloc, name, extra.as_slice())?;
-    push_items(alloc, found, line, requirer, key.as_slice(), items(Some(value)))
+    push_items(
+        alloc,
+        found,
+        line,
+        requirer,
+        key.as_slice(),
+        items(Some(value)),
+    )
 }
 
 fn push_extras(

@@ -634,7 +634,11 @@ fn is_everywhere(
 }
 
 // The package is locked for each environment.
-pub(crate) fn is_unconditional(alloc: Global, parts: &LockParts, table: &Value) -> Result<bool, AllocError>
+pub(crate) fn is_unconditional(
+    alloc: Global,
+    parts: &LockParts,
+    table: &Value,
+) -> Result<bool, AllocError>
     ensures { IfOk result (λ b. b ≡ is_unconditional (parts_of parts.now) (view table.now)) }
 {
     if !lacks(table, "markers") || !lacks(table, "resolution-markers") {

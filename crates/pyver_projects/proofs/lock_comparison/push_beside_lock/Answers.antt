@@ -12,7 +12,7 @@ returns c =
     let names = option_to_list (option_map (λ n. n.items) c.args.project.now.name) in
     let excused = excuses c.args.projects.now in
     subst (λ (p : LockParts × List LockedReading × List StringReading × List ExtraReading). IfOk c.push_compared_strings.result (λ x. map finding_of c.push_compared_strings.new.findings.items
-        ≡ map finding_of c.args.findings.now.items ++ (flat_map (compared c.args.kind p.0 names excused c.args.near p.1) p.2 ++ unmet_extras c.args.kind p.0 excused c.args.near p.1 p.3 p.2)))
+    ≡ map finding_of c.args.findings.now.items ++ (flat_map (compared c.args.kind p.0 names excused c.args.near p.1) p.2 ++ unmet_extras c.args.kind p.0 excused c.args.near p.1 p.3 p.2)))
     (λ j. (
       c.in_ok-packages.ensures.parts j,
       (c.in_ok-packages.ensures.packages ∙ ap (map locked_reading_of) c.as_slice-found.ensures.value) j,
