@@ -26,7 +26,7 @@ use Rattle.toml.specs.Data.{Members}
 use Rattle.pyver_projects.proofs.Walks.{zip_once, all_flat, beside_it, beside_some, left_false, left_nil, nil_at, right_false, right_nil, zip_each}
 use Rattle.pyver_projects.specs.Comparing.{same_extras, FindsOfReading, documents_report, with_found, differing, is_in_lock, is_in_project, is_same_requirement, same_list, unentered, unentered_in, unentered_reason, unmatched, unrequired, unrequired_in, unrequired_reason}
 use Rattle.pyver_projects.specs.Documents.{has_group_tool, overridden_names, project_names, sources}
-use Rattle.pyver_projects.specs.Meanings.{ExtraReading, IsExtraReading, Groups, extra_inclusions, groups, has_extras, if_it_has, inclusions, AreLockedPythons, ArePythons, AreVersions, IsFilledMeaning, left_out_if_none, DocumentReading, IsBroken, IsConditionReading, IsDocumentReading, IsFileReading, IsLock, IsLockReading, IsLockedReading, IsProject, IsProjectReading, IsRequirementReading, reference_marker, IsSectionMeaning, IsStringReading, IsVersionReading, LockedReading, StringReading, fault_meaning, file_meaning, is_of_version, package_line, requirement_line, string_line, list_versions, no_group}
+use Rattle.pyver_projects.specs.Meanings.{ExtraReading, IsExtraReading, Groups, extra_inclusions, groups, has_each_extra, if_it_has, inclusions, AreLockedPythons, ArePythons, AreVersions, IsFilledMeaning, left_out_if_none, DocumentReading, IsBroken, IsConditionReading, IsDocumentReading, IsFileReading, IsLock, IsLockReading, IsLockedReading, IsProject, IsProjectReading, IsRequirementReading, reference_marker, IsSectionMeaning, IsStringReading, IsVersionReading, LockedReading, StringReading, fault_meaning, file_meaning, is_of_version, package_line, requirement_line, string_line, list_versions, no_group}
 use Rattle.pyver_projects.specs.KnownEnvironments.{ReadCondition}
 use Rattle.pyver_projects.specs.ProjectLaws.{DocumentReportsOnce, IsReadable, IsReadableAs, IsEntryFor, IsOtherString, Requires}
 use Rattle.pyver_projects.specs.ProjectStrings.{LockedExtra, Build, Constraint, Dependencies, Entry, Environment, Extra, Group, Include, Invalid, LockContents, LockedFile, LockedPackage, LockedRequirement, OwnExtras, PackageCondition, Section, Python, ProjectString, Unread, Version}
@@ -60,7 +60,7 @@ one_meaning all line text (Entry of_entries.Poetry table name) x y (m, a, v) (n,
 one_meaning all line text (Entry of_entries.Pipenv table name) x y a b = one_parts line (line_parts line.text) x y a b
 one_meaning all line text (Unread c) x y a b = a ∙ sym b
 one_meaning all line text Constraint x y a b = one_parts line (line_parts line.text) x y a b
-one_meaning all line text (OwnExtras asker extras) x y (m, a, v) (n, b, w) = v ∙ ap (if_it_has (has_extras all.extras extras) line) (one_parts line (line_parts line.text) m n a b) ∙ sym w
+one_meaning all line text (OwnExtras asker extras) x y (m, a, v) (n, b, w) = v ∙ ap (if_it_has (has_each_extra all.extras extras) line) (one_parts line (line_parts line.text) m n a b) ∙ sym w
 one_meaning all line text (Environment table) x y a b = one_filled line text x y a b
 one_meaning all line text Build x y a b = one_parts line (line_parts line.text) x y a b
 one_meaning all line text Python x y (inl (l, d, a)) (inl (m, e, b)) = a ∙ ap (list_meaning line) (one_list text l m d e) ∙ sym b
@@ -324,7 +324,7 @@ of_section all line text a (Entry of_entries.Poetry table name) (m, is, e) = of_
 of_section all line text a (Entry of_entries.Pipenv table name) is = of_parts line (line_parts line.text) a is
 of_section all line text a (Unread c) is = cc is
 of_section all line text a Constraint is = of_parts line (line_parts line.text) a is
-of_section all line text a (OwnExtras asker extras) (m, is, e) = of_own line a (has_extras all.extras extras) m is e
+of_section all line text a (OwnExtras asker extras) (m, is, e) = of_own line a (has_each_extra all.extras extras) m is e
 of_section all line text a (Environment table) is = of_filled line text a is
 of_section all line text a Build is = of_parts line (line_parts line.text) a is
 

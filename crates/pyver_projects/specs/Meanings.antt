@@ -83,8 +83,8 @@ include_meaning all line group included = if list_any (bytes_eq included) all.na
     else no_group line (codes "there is no group of this name")
 
 -- each of these is an extra of the project
-abbrev pub has_extras : List (List ℕ) → List (List ℕ) → Bool
-has_extras all extras = list_all (λ (e : List ℕ). list_any (bytes_eq e) all) extras
+abbrev pub has_each_extra : List (List ℕ) → List (List ℕ) → Bool
+has_each_extra all extras = list_all (λ (e : List ℕ). list_any (bytes_eq e) all) extras
 
 -- what a line is that asks for extras of the project itself, if it has them or not
 abbrev pub if_it_has : Bool → FileLine → LineMeaning → LineMeaning
@@ -121,7 +121,7 @@ IsFilledMeaning line text x = ((has_byte 123 text ≡ true) × (x ≡ LeftOut ca
 
 -- what a line is that asks a project with these groups for extras of its own: a requirement, of extras that it has
 abbrev pub IsOwnMeaning : Groups → List (List ℕ) → FileLine → LineMeaning → Type 0
-IsOwnMeaning all extras line x = (m : LineMeaning) × IsPartsMeaning line (line_parts line.text) m × (x ≡ if_it_has (has_extras all.extras extras) line m)
+IsOwnMeaning all extras line x = (m : LineMeaning) × IsPartsMeaning line (line_parts line.text) m × (x ≡ if_it_has (has_each_extra all.extras extras) line m)
 
 -- what the string of this line, which is this text, is in this section of a project with these groups
 abbrev pub IsSectionMeaning : Groups → Section → FileLine → List ℕ → LineMeaning → Type 0

@@ -503,7 +503,7 @@ fn parse_own(
     ensures { IfOk result (λ x. IsOwnMeaning (groups_of groups.now) (map (λ e. e.items) extras.now) (file_line_of line.now) (line_meaning_of x)) }
 {
     let meaning = parse_requirement(alloc, line)?;
-    if_it_has(alloc, groups.has_extras(extras), line, meaning)
+    if_it_has(alloc, groups.has_each_extra(extras), line, meaning)
 }
 
 // What the string of this line, which is this text, is in this section of a project with these groups.

@@ -52,7 +52,7 @@ pub(crate) fn has_keys(found: &[Vec<u8>], keys: &[Vec<u8>]) -> bool
 // ---- a lock that has a package for each extra
 
 // It has each extra that the requirement asks for.
-fn has_extras(alloc: Global, found: &[Vec<u8>], demand: &Demand) -> Result<bool, AllocError>
+fn has_each_extra(alloc: Global, found: &[Vec<u8>], demand: &Demand) -> Result<bool, AllocError>
     ensures { IfOk result (λ b. b ≡ has_keys (map (λ k. k.items) found.now) (demand_keys (demand_of demand.now))) }
 {
     let keys = demand_keys(alloc, demand)?;
@@ -83,7 +83,7 @@ fn push_lacked_extra(
 ) -> Result<(), AllocError>
     ensures { IfOk result (λ _. map finding_of findings.new.items ≡ map finding_of findings.old.items ++ lacks_extra (Some (map (λ k. k.items) found.now)) (demand_of demand.now)) }
 {
-    let has = has_extras(alloc, found, demand)?;
+    let has = has_each_extra(alloc, found, demand)?;
     push_extra_fault(alloc, findings, has, demand)
 }
 

@@ -2,7 +2,7 @@
 ghost use Rattle.std.specs.Prelude.{◌≡◌, ◌++◌, IfOk, bytes_eq, map, ◌∷◌, [], List, ℕ, if◌then◌else◌, count_by, nat_lt, ◌&&◌};
 ghost use Rattle.std.specs.List.{flat_map, list_any, filter, list_all};
 ghost use Rattle.pyver_projects.specs.Documents.{entry_names, group_names, has_group_tool, has_tool};
-ghost use Rattle.pyver_projects.specs.Meanings.{extra_inclusion, extra_inclusions, has_extras, inclusion, inclusions};
+ghost use Rattle.pyver_projects.specs.Meanings.{extra_inclusion, extra_inclusions, has_each_extra, inclusion, inclusions};
 ghost use Rattle.pyver_projects.specs.ProjectViews.{HasGroups, IsInclusionIndex, IsNameIndex, IsGroupOrder, groups_of, inclusions_of, indexed_names, is_repeated, inclusion_of, project_string_of, section_of, string_reading_of, stands_before, rank_of, GainsNames, IsFound, KeepsFound, has_key};
 ghost use Rattle.pyver_projects.specs.Together.{sections};
 ghost use Rattle.pyver_projects.specs.ProjectStrings.{includes, includes_by, inclusions_by, members_list};
@@ -186,9 +186,9 @@ impl<'a> Groups<'a> {
     }
 
     // Each of these is an extra.
-    pub(crate) fn has_extras(&self, extras: &[Vec<u8>]) -> bool
+    pub(crate) fn has_each_extra(&self, extras: &[Vec<u8>]) -> bool
         requires { HasGroups self.now }
-        ensures { result ≡ has_extras (groups_of self.now).extras (map (λ e. e.items) extras.now) }
+        ensures { result ≡ has_each_extra (groups_of self.now).extras (map (λ e. e.items) extras.now) }
     {
         for extra in extras {
             if !self.extras.has(extra.as_slice()) {

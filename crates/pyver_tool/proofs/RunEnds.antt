@@ -13,7 +13,7 @@ use Rattle.pyver_commands.specs.Sources.{FailsReading, FindsOutput, Input, IsOut
 use Rattle.pyver_commands.specs.WholeInputs.{IsOutcomeOfInput}
 use Rattle.pyver_tool.specs.Checks.{CheckResult, Checks, ChecksGroup, ChecksGroups, FailsInCheck, FailsInGroup, FailsInGroups, summary, together_note}
 use Rattle.pyver_tool.specs.TaskViews.{AnswerEnds, EndsBy, FailsEarly, FailsInStream, FinishesTask, IsFailureOf, IsOutcomeOf, MayFailBy, TaskEnds}
-use Rattle.pyver_tool.specs.Tasks.{Check, IsOutcome, IsStream, NeedsInput, Task, names_of, Help, NameVersion, help_task, named_task, task_of, bump_operands, by_last}
+use Rattle.pyver_tool.specs.Tasks.{Check, IsOutcome, IsStream, NeedsInput, Task, names_read_by, Help, NameVersion, help_task, named_task, task_of, bump_operands, by_last}
 use Rattle.pyver_tool.specs.declared.check.CheckOptions.{CheckOptions}
 use Rattle.pyver_commands.specs.declared.answer.Answer.{Answer}
 use Rattle.pyver_commands.specs.declared.filter.FilterRule.{FilterRule}
@@ -124,7 +124,7 @@ module _ {R W E : Type 0} (files : List ℕ → KnownFile) (paths : List ℕ →
   pub ends_at_once : reader' ≡ reader → out' ≡ out → status ≡ 3 → WroteBeginning (error_contents err) (error_contents err') memory_message → TaskEnds files paths outputs remaining task reader reader' contents error_contents out out' err err' status
   ends_at_once same silent three errors = inr (record { begun = Nothing; message = memory_message; why = (run_failure.OutOfMemory, inl (refl, same), (three, refl)); begins = (silent, errors) })
 
-  module _ (names : List (List ℕ)) (needs : NeedsInput task) (same : names_of task ≡ names) where
+  module _ (names : List (List ℕ)) (needs : NeedsInput task) (same : names_read_by task ≡ names) where
     -- the answer to a question of all sources
     pub ends_by_whole : ¬ IsStream task → (answer : Result Answer RunFailure) (asked : Question) → ((input : Input) (o : Outcome) → IsOutcomeOfInput asked input o → IsOutcome task input o) → IfOk answer (λ a. IsOutcomeOfSources files remaining (IsOutcomeOfInput asked) names reader reader' (outcome_of a))
         → IfErr answer (FailsWithoutOutcome files remaining names reader reader') → AnswerEnds answer contents error_contents out out' err err' status → TaskEnds files paths outputs remaining task reader reader' contents error_contents out out' err err' status

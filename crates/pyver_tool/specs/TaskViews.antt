@@ -1,7 +1,7 @@
 -- What the program's commands say, and what they have to do once the words are read, apart from where they lie in memory.
 use Rattle.std.specs.Prelude.{Bool, Err, List, None, Ok, Option, Result, Some, [], map, option_map, string_bytes, ℕ, ◌≡◌, ◌⊎◌}
 use Rattle.pyver_tool.specs.SplitWords.{Awaits, End, Given, Missing, Named, Split, Unknown, UnknownWord, Whole, version_last_message}
-use Rattle.pyver_tool.specs.Tasks.{Check, Compare, Filter, Help, IsOutcome, IsStream, Marker, Match, Misused, NameVersion, NeedsInput, Newest, Range, Show, Sort, Task, bump_from_words, by_split, help_text, names_of, wrong_command, wrong_count, wrong_end, wrong_operator, wrong_option, wrong_part, wrong_value}
+use Rattle.pyver_tool.specs.Tasks.{Check, Compare, Filter, Help, IsOutcome, IsStream, Marker, Match, Misused, NameVersion, NeedsInput, Newest, Range, Show, Sort, Task, bump_from_words, by_split, help_text, names_read_by, wrong_command, wrong_count, wrong_end, wrong_operator, wrong_option, wrong_part, wrong_value}
 use Rattle.pyver_tool.specs.declared.command.Command.{Command}
 use Rattle.pyver_tool.specs.declared.words.Words.{Words}
 use Rattle.pyver_tool.specs.declared.misuse.Misuse.{Misuse}
@@ -45,24 +45,24 @@ module _ (Finishes : Outcome → Type 0) (Early : RunFailure → Type 0) (Within
 module _ {R : Type 0} (files : List ℕ → KnownFile) (paths : List ℕ → Option (List ℕ)) (outputs : List ℕ → Option Bool) (remaining : R → Option (List ℕ)) (task : Task) (reader reader' : R) where
   -- this source of a command that prints lines before all are read is also the output, or none is
   abbrev pub Meets : Option (List ℕ) → Type 0
-  Meets found = IsStream task → FindsOutput outputs (names_of task) found
+  Meets found = IsStream task → FindsOutput outputs (names_read_by task) found
 
   -- the outcome once all was read that the task needs, or all sources before a file that was not opened; or nothing was read, since a
   -- source is also the output
   abbrev pub FinishesTask : Outcome → Type 0
-  FinishesTask o = ((input : Input) × (NeedsInput task → Meets None × ReadsInput files remaining (names_of task) reader reader' input) × IsOutcome task input o)
+  FinishesTask o = ((input : Input) × (NeedsInput task → Meets None × ReadsInput files remaining (names_read_by task) reader reader' input) × IsOutcome task input o)
       ⊎ (((name : List ℕ) × IsStream task × NeedsInput task × Meets (Some name) × (o ≡ output_outcome name) × (reader' ≡ reader))
       ⊎ ((options : CheckOptions) × (names : List (List ℕ)) × (task ≡ Check options names) × Checks files paths remaining options names reader reader' o))
 
   -- there is no outcome: an allocation failed before anything was read, or reading stopped, or an allocation failed after it
   abbrev pub FailsEarly : RunFailure → Type 0
   FailsEarly why = ((why ≡ run_failure.OutOfMemory) × (reader' ≡ reader))
-      ⊎ ((NeedsInput task × FailsWithoutOutcome files remaining (names_of task) reader reader' why)
+      ⊎ ((NeedsInput task × FailsWithoutOutcome files remaining (names_read_by task) reader reader' why)
       ⊎ ((options : CheckOptions) × (names : List (List ℕ)) × (task ≡ Check options names) × FailsInCheck files paths remaining options names reader reader' why))
 
   -- a command that prints lines before all are read stopped, and this is the outcome of those that were read
   abbrev pub FailsInStream : Outcome → RunFailure → Type 0
-  FailsInStream o why = IsStream task × NeedsInput task × Meets None × FailsWithin files remaining (IsOutcome task) (names_of task) reader reader' o why
+  FailsInStream o why = IsStream task × NeedsInput task × Meets None × FailsWithin files remaining (IsOutcome task) (names_read_by task) reader reader' o why
 
   -- the run finishes or stops so
   abbrev pub TaskEnds : {W E : Type 0} → (W → Option (List ℕ)) → (E → Option (List ℕ)) → W → W → E → E → ℕ → Type 0
@@ -127,9 +127,9 @@ check_result_of c = record { report = report_of c.report; unopened = map unopene
 abbrev pub IsWork : Task → Work → Type 0
 IsWork task (work.Answer a) = (¬ NeedsInput task) × ((input : Input) → IsOutcome task input (outcome_of a))
 IsWork task (work.Filter rule names) =
-    NeedsInput task × IsStream task × (names_of task ≡ source_names (map string_bytes names.now)) × ((input : Input) (o : Outcome) → Filters rule input o → IsOutcome task input o)
+    NeedsInput task × IsStream task × (names_read_by task ≡ source_names (map string_bytes names.now)) × ((input : Input) (o : Outcome) → Filters rule input o → IsOutcome task input o)
 IsWork task (work.Whole question names) =
-    NeedsInput task × (¬ IsStream task) × (names_of task ≡ source_names (map string_bytes names.now)) × ((input : Input) (o : Outcome) → IsOutcomeOfInput question input o → IsOutcome task input o)
+    NeedsInput task × (¬ IsStream task) × (names_read_by task ≡ source_names (map string_bytes names.now)) × ((input : Input) (o : Outcome) → IsOutcomeOfInput question input o → IsOutcome task input o)
 IsWork task (work.Check options names) = task ≡ Check options (map string_bytes names.now)
 
 -- this is the outcome of the answer, if there is one

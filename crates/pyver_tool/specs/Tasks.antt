@@ -270,12 +270,12 @@ NeedsInput (Check options names) = ⊤
 NeedsInput _ = ⊥
 
 -- the names of the sources that are read, but those of `check`, which reads whole files
-abbrev pub names_of : Task → List (List ℕ)
-names_of (Filter options specifiers names) = source_names names
-names_of (Sort options names) = source_names names
-names_of (Newest options specifiers names) = source_names names
-names_of (Bump to parts None) = input_name ∷ []
-names_of _ = []
+abbrev pub names_read_by : Task → List (List ℕ)
+names_read_by (Filter options specifiers names) = source_names names
+names_read_by (Sort options names) = source_names names
+names_read_by (Newest options specifiers names) = source_names names
+names_read_by (Bump to parts None) = input_name ∷ []
+names_read_by _ = []
 
 -- lines are printed before all are read
 abbrev pub IsStream : Task → Type 0
