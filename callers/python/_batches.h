@@ -1,4 +1,129 @@
-/* Batches: what they read is held by objects of their own, so that other threads may run meanwhile, and change what was given. Now and then they
+/* Many items: how they are sorted, asked at once, and filtered. */
+
+/* ---- the sort of words, or of keys by their bytes, eight at a time: by radix, equal ones in the order given */
+
+/* A key of which no other one is a prefix. */
+typedef struct {
+    const uint8_t *bytes;
+    size_t length;
+} Key;
+
+/* An item by its index, and what it is sorted by: its word, or eight bytes of its key. */
+typedef struct {
+    uint64_t part;
+    size_t index;
+} Keyed;
+
+/* Keyed items that are equal up to a byte. */
+typedef struct {
+    size_t start;
+    size_t count;
+    size_t depth;
+} Run;
+
+enum { PART = sizeof(uint64_t), FEW_KEYS = 24, MANY_KEYS = 1 << 16, FEW_BITS = 8, MANY_BITS = 11 };
+
+/* Whether a long sort is to end, -1 or 0; asked now and then. */
+typedef int (*Pause)(void *);
+
+/* The bytes of the key from the depth on, the first one highest, with zeros behind its end. */
+static uint64_t load_part(const Key *key, size_t depth)
+{
+    uint64_t part = 0;
+    size_t length = key->length - depth < PART ? key->length - depth : PART;
+    for (size_t at = 0; at < length; at++)
+        part |= (uint64_t)key->bytes[depth + at] << (8 * (PART - 1 - at));
+    return part;
+}
+
+static void insert_by_part(Keyed *keyed, size_t count)
+{
+    for (size_t turn = 1; turn < count; turn++) {
+        Keyed moved = keyed[turn];
+        size_t at = turn;
+        for (; at && keyed[at - 1].part > moved.part; at--)
+            keyed[at] = keyed[at - 1];
+        keyed[at] = moved;
+    }
+}
+
+/* Moves all into the order of some bits of their parts. */
+static void distribute(const Keyed *from, Keyed *to, size_t count, int shift, int bits)
+{
+    size_t starts[(1 << MANY_BITS) + 1], mask = ((size_t)1 << bits) - 1;
+    memset(starts, 0, (mask + 2) * sizeof *starts);
+    for (size_t at = 0; at < count; at++)
+        starts[(from[at].part >> shift & mask) + 1]++;
+    for (size_t value = 1; value <= mask; value++)
+        starts[value] += starts[value - 1];
+    for (size_t at = 0; at < count; at++)
+        to[starts[from[at].part >> shift & mask]++] = from[at];
+}
+
+/* Sorts by parts: by all bits that are not the same in all, from the last one on. Returns which of both has the sorted ones, or NULL where it is to end. */
+static Keyed *sort_by_part(Keyed *keyed, Keyed *spare, size_t count, Pause pause, void *with)
+{
+    uint64_t varying = 0;
+    Keyed *from = keyed, *to = spare, *moved;
+    int bits = count < MANY_KEYS / 16 ? FEW_BITS : MANY_BITS;
+    if (count <= FEW_KEYS) {
+        insert_by_part(keyed, count);
+        return keyed;
+    }
+    for (size_t at = 1; at < count; at++)
+        varying |= keyed[at].part ^ keyed[0].part;
+    for (int shift = 0; shift < 64 && varying >> shift; shift += bits) {
+        while (!(varying >> shift & 1))
+            shift++;
+        distribute(from, to, count, shift, bits);
+        moved = from, from = to, to = moved;
+        if (count >= MANY_KEYS && pause(with))
+            return NULL;
+    }
+    return from;
+}
+
+/* Puts the runs of equal parts that are to be sorted further behind the others. */
+static size_t add_runs(const Keyed *keyed, const Key *keys, Run sorted, Run *runs, size_t pending)
+{
+    size_t end = sorted.start + sorted.count;
+    for (size_t start = sorted.start, next; start < end; start = next) {
+        for (next = start + 1; next < end && keyed[next].part == keyed[start].part;)
+            next++;
+        if (next - start > 1 && keys[keyed[start].index].length > sorted.depth + PART)
+            runs[pending++] = (Run){start, next - start, sorted.depth + PART};
+    }
+    return pending;
+}
+
+/* Sorts the items by their keys, with as much room beside them. Returns the sorted ones, or NULL where it is to end or there is no memory. */
+static Keyed *sort_by_keys(Keyed *keyed, Keyed *spare, const Key *keys, size_t count, Pause pause, void *with)
+{
+    Run *runs = malloc((count / 2 + 1) * sizeof *runs); /* those that wait have two items or more each */
+    size_t pending = count > 1, work = 0;
+    int is_done = runs != NULL;
+    if (runs)
+        runs[0] = (Run){0, count, 0};
+    while (is_done && pending) {
+        Run run = runs[--pending];
+        Keyed *start = keyed + run.start, *sorted;
+        for (size_t at = 0; at < run.count; at++)
+            start[at].part = load_part(&keys[start[at].index], run.depth);
+        sorted = sort_by_part(start, spare, run.count, pause, with);
+        if (sorted == spare)
+            memcpy(start, spare, run.count * sizeof *start);
+        pending = add_runs(keyed, keys, run, runs, pending);
+        work += run.count;
+        is_done = sorted && (work < MANY_KEYS || pause(with) == 0);
+        work %= MANY_KEYS;
+    }
+    free(runs);
+    return is_done ? keyed : NULL;
+}
+
+/* ---- batches */
+
+/* What they read is held by objects of their own, so that other threads may run meanwhile, and change what was given. Now and then they
    look whether the process was sent a signal, as by Ctrl-C, whose handler may raise an exception. */
 
 enum { CHUNK = 1 << 12, AHEAD = 16 };
@@ -411,4 +536,196 @@ static PyObject *sort_keys(PyObject *module, PyObject *given)
     PyMem_Free(keys);
     drop(&batch);
     return list;
+}
+
+/* ---- filters: the items that specifiers contain, each found when it is asked for, by the rule of 26 */
+
+typedef struct {
+    PyObject_HEAD
+    PyObject *items;   /* what is filtered, and once it was begun an iterator over it; NULL at the end */
+    PyObject *key;     /* what gives the version of an item, or NULL */
+    PyObject *later;   /* pre-releases that are given where nothing else is */
+    uint8_t *compiled; /* the list with its set: `few`, or a block of its own */
+    size_t length;
+    size_t count;
+    Early early;
+    char is_begun;
+    char is_found;  /* something was given that is no pre-release */
+    char gives_all; /* the items are those for later */
+    Words words;
+    uint8_t few[160];
+} Filter;
+
+static int filter_traverse(Filter *self, visitproc visit, void *arg)
+{
+    Py_VISIT(Py_TYPE((PyObject *)self));
+    Py_VISIT(self->items);
+    Py_VISIT(self->key);
+    Py_VISIT(self->later);
+    return 0;
+}
+
+static int filter_clear(Filter *self)
+{
+    Py_CLEAR(self->items);
+    Py_CLEAR(self->key);
+    Py_CLEAR(self->later);
+    return 0;
+}
+
+static void filter_free(Filter *self)
+{
+    PyTypeObject *type = Py_TYPE((PyObject *)self);
+    PyObject_GC_UnTrack(self);
+    filter_clear(self);
+    if (self->compiled != self->few)
+        free(self->compiled);
+    PyObject_GC_Del(self);
+    Py_DECREF(type);
+}
+
+/* The mark of what is given for a version; what is neither a version nor a str is none. -1 with an error. */
+static int mark_given(const Filter *self, PyObject *given)
+{
+    pep440_string list = {self->compiled, self->length}, text;
+    Held *version = (Held *)given;
+    PyObject *held;
+    uint8_t mark = PEP440_NOT_A_VERSION, status = PEP440_OUT_OF_MEMORY;
+    if (PyObject_TypeCheck(given, HeldType)) {
+        if (self->words.count > 0 && version->is_by_word && view_str(version->text, &text) == 0 &&
+            (mark = mark_word(&self->words, text, version->word)) != NO_MARK)
+            return mark;
+        if (version->compiled || compile_held(version) == 0)
+            status = mark_form(list, (pep440_string){version->compiled, version->length}, &mark);
+    } else if ((held = text_of(given, &text))) {
+        status = mark_text(list, &self->words, text, &mark);
+        Py_DECREF(held);
+    } else if (PyErr_ExceptionMatches(PyExc_TypeError)) {
+        PyErr_Clear();
+        status = PEP440_OK;
+    }
+    if (status == PEP440_OK)
+        return mark;
+    raise_by(status, NULL, NULL);
+    return -1;
+}
+
+/* The same of an item. */
+static int mark_of_item(const Filter *self, PyObject *item)
+{
+    PyObject *key, *given;
+    int mark;
+    if (!self->key)
+        return mark_given(self, item);
+    key = Py_NewRef(self->key);
+    given = PyObject_CallFunctionObjArgs(key, item, NULL);
+    mark = given ? mark_given(self, given) : -1;
+    Py_XDECREF(given);
+    Py_DECREF(key);
+    return mark;
+}
+
+/* Whether the item is given now. 1, 0, or -1 with an error. */
+static int is_given(Filter *self, PyObject *item)
+{
+    int mark = mark_of_item(self, item);
+    if (mark == PEP440_MATCH)
+        return self->is_found = 1;
+    if (mark != PEP440_PRERELEASE_MATCH || self->early == NO_EARLY)
+        return mark < 0 ? -1 : 0;
+    if (self->early == ALL_EARLY)
+        return 1;
+    if (self->is_found || (!self->later && !(self->later = PyList_New(0))))
+        return self->is_found ? 0 : -1;
+    return PyList_Append(self->later, item);
+}
+
+/* Begins with the items, or behind them with those for later. 0, or -1 with an error. */
+static int begin_items(Filter *self)
+{
+    PyObject *old = self->items, *given = self->is_begun ? self->is_found || self->gives_all ? NULL : self->later : old;
+    self->gives_all = self->is_begun;
+    self->is_begun = 1;
+    self->items = given ? PyObject_GetIter(given) : NULL;
+    Py_XDECREF(old);
+    return given && !self->items ? -1 : 0;
+}
+
+/* The next of the items, or NULL at their end or with an error. */
+static PyObject *next_item(Filter *self)
+{
+    PyObject *items = Py_NewRef(self->items), *item = PyIter_Next(items);
+    Py_DECREF(items);
+    if (item && look_at(++self->count) < 0)
+        Py_CLEAR(item);
+    return item;
+}
+
+static PyObject *filter_next(Filter *self)
+{
+    PyObject *item;
+    int given = 0;
+    if (!self->is_begun && begin_items(self) < 0)
+        return NULL;
+    while (self->items) {
+        item = next_item(self);
+        given = !item ? PyErr_Occurred() ? -1 : begin_items(self) : self->gives_all ? 1 : is_given(self, item);
+        if (item && given > 0)
+            return item;
+        Py_XDECREF(item);
+        if (given < 0)
+            Py_CLEAR(self->items);
+    }
+    return NULL;
+}
+
+static PyObject *filter_iterator(PyObject *self) { return Py_NewRef(self); }
+
+static PyType_Slot filter_slots[] = {{Py_tp_dealloc, filter_free}, {Py_tp_traverse, filter_traverse}, {Py_tp_clear, filter_clear},
+                                     {Py_tp_iter, filter_iterator}, {Py_tp_iternext, filter_next},     {0, NULL}};
+
+static PyType_Spec filter_spec = {"pep440_rattle._core.Filter", sizeof(Filter), 0,
+                                  Py_TPFLAGS_DEFAULT | Py_TPFLAGS_HAVE_GC | Py_TPFLAGS_DISALLOW_INSTANTIATION, filter_slots};
+
+static PyTypeObject *FilterType;
+
+/* A filter of the items. */
+static PyObject *make_filter(Specifiers *self, PyObject *items, PyObject *key, Early early)
+{
+    Filter *made = PyObject_GC_New(Filter, FilterType);
+    if (!made)
+        return NULL;
+    memset(&made->items, 0, offsetof(Filter, few) - offsetof(Filter, items));
+    made->compiled = keep(self->compiled, self->length, made->few, sizeof made->few);
+    made->length = self->length;
+    made->words = self->words;
+    made->items = Py_NewRef(items);
+    made->key = key == Py_None ? NULL : Py_NewRef(key);
+    made->early = early;
+    PyObject_GC_Track(made);
+    if (!made->compiled) {
+        Py_DECREF(made);
+        return PyErr_NoMemory();
+    }
+    return (PyObject *)made;
+}
+
+/* _filtered(items, prereleases, key), or None where Python is to compare, or strings that are no versions are contained, too. */
+static PyObject *filter_contained(PyObject *given, PyObject *const *args, Py_ssize_t count)
+{
+    Specifiers *self = (Specifiers *)given;
+    int by_python, early;
+    if (!has_count("_filtered", count, 3) || !is_read(self) || (by_python = is_changed(self)) < 0)
+        return NULL;
+    if (by_python || is_empty_set(self))
+        Py_RETURN_NONE;
+    early = early_of(self, args[1]);
+    if (early < 0)
+        return NULL;
+    /* a member's property may have had the specifiers read again */
+    if (!is_read(self) || (by_python = is_changed(self)) < 0 || compile_set_of(self) < 0)
+        return NULL;
+    if (by_python)
+        Py_RETURN_NONE;
+    return make_filter(self, args[0], args[2], (Early)early);
 }

@@ -26,14 +26,10 @@
 
 /* What they share comes first; each is included here alone. */
 #include "_strings.h"
-#include "_words.h"
 #include "_versions.h"
 #include "_specifiers.h"
-#include "_matching.h"
 #include "_sets.h"
-#include "_sorting.h"
 #include "_batches.h"
-#include "_filters.h"
 #include "_requirements.h"
 
 /* ---- the types of specifiers, and the module */
