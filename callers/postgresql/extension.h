@@ -137,14 +137,9 @@ bool read_list(Bytes text, const char *type, Node *context, Bytes *compiled);
 Cover cover_of(Bytes list);
 /* Whether the key lies in one of the intervals. */
 bool is_in_cover(const Cover *cover, Bytes key);
-/* The cover of a list that is that of the function's last call too, in memory that the function keeps; else NULL. */
-const Cover *known_cover(FmgrInfo *function, Bytes list);
 /* From the lowest key of a cover to the one above all of it; nothing lies in those of an empty cover. */
 KeyInterval ends_of_cover(const Cover *cover);
 struct varlena *make_bytea(Bytes bytes);
-/* Writes to the request how many rows the function that it asks about has, whose first argument is the version, or the list; of all, or of those between the
-   ends of the list's cover. */
-void estimate_call(SupportRequestSelectivity *request, bool version_is_first, bool is_between_ends);
 /* The hash of the bytes; with a seed, which is the second argument, the extended one. */
 Datum hash_of(Bytes bytes, FunctionCallInfo fcinfo);
 /* As keys are compared: byte by byte, then the shorter one first. -1, 0 or 1. */

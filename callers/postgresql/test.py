@@ -19,9 +19,8 @@ import time
 import test_hostile
 import test_plans
 import test_values
-from libpq import Refused
-from server import (FOLDER, HERE, INVALID_REGULAR_EXPRESSION, LISTS, NARROW, NO_INDEX, NO_TABLE, OUT_OF_MEMORY, PREFIX, PROGRAM, RECHECKED, ROWS, SMALL, STRINGS, USER, Server, both_ways, copied, fill,
-                    instructions, milliseconds, plan_of, version)
+from server import (FOLDER, HERE, INVALID_REGULAR_EXPRESSION, LISTS, NARROW, NO_INDEX, NO_TABLE, OUT_OF_MEMORY, PREFIX, PROGRAM, RECHECKED, ROWS, SMALL, STRINGS, USER, Refused, Server, both_ways, copied,
+                    fill, instructions, milliseconds, plan_of, version)
 from test_plans import EXCLUSION_VIOLATION
 from test_values import refused
 

@@ -3,8 +3,7 @@ import itertools
 import random
 import re
 
-from libpq import Connection, Refused
-from server import HERE, STRINGS
+from server import HERE, STRINGS, Connection, Refused
 from test_values import database
 
 CORRUPTED = "XX001"

@@ -8,8 +8,7 @@ import sys
 import time
 import unittest
 
-from libpq import Connection, Refused
-from server import FOLDER, HERE, LISTS, NO_TABLE, ROWS, SMALL, instructions, plan_of, processor_time, version
+from server import FOLDER, HERE, LISTS, NO_TABLE, ROWS, SMALL, Connection, Refused, instructions, plan_of, processor_time, version
 
 UNIQUE_VIOLATION, CANCELED, NO_PRIVILEGE = "23505", "57014", "42501"
 SPELLINGS = [">=1.0,<2.0", "<2.0 , >=1.0", ">=v1.0, <2.0"]  # of one list

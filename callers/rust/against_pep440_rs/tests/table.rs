@@ -4,8 +4,7 @@ use std::collections::BTreeSet;
 use std::fs;
 
 const README: &str = include_str!("../../pep440_rattle/README.md");
-const CALLS: &str =
-    concat!(include_str!("../src/views.rs"), include_str!("../src/main.rs"), include_str!("../src/departures.rs"));
+const CALLS: &str = concat!(include_str!("../src/views.rs"), include_str!("../src/main.rs"), include_str!("../src/lib.rs"));
 
 /// What is the same, in the form of the table's first cells.
 const SAME: &str = "

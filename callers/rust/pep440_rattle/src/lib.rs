@@ -35,6 +35,8 @@ extern crate std;
 mod bytes;
 mod calls;
 mod error;
+#[cfg(any(feature = "serde", feature = "tracing", feature = "version-ranges"))]
+mod features;
 mod key;
 mod lazy;
 mod operator;
@@ -42,20 +44,18 @@ mod parts;
 mod pattern;
 mod range;
 mod segment;
-#[cfg(feature = "serde")]
-mod serde;
 mod specifier;
 mod specifiers;
 #[cfg(test)]
 mod tests;
 mod version;
-#[cfg(feature = "version-ranges")]
-mod version_ranges;
 
 pub use error::{
     OperatorParseError, RangeError, VersionParseError, VersionPatternParseError, VersionSpecifierBuildError,
     VersionSpecifierParseError, VersionSpecifiersParseError,
 };
+#[cfg(feature = "version-ranges")]
+pub use features::ranges::{release_specifier_to_range, release_specifiers_to_ranges};
 pub use operator::Operator;
 pub use pattern::VersionPattern;
 pub use range::Segment;
@@ -63,24 +63,3 @@ pub use segment::{LocalSegment, Prerelease, PrereleaseKind};
 pub use specifier::VersionSpecifier;
 pub use specifiers::VersionSpecifiers;
 pub use version::{MIN_VERSION, MinVersion, Version};
-#[cfg(feature = "version-ranges")]
-pub use version_ranges::{release_specifier_to_range, release_specifiers_to_ranges};
-
-/// What is logged with the feature `tracing`, in the words of the ported crate.
-#[cfg(feature = "tracing")]
-mod logged {
-    use crate::{Operator, Version};
-    use core::ops::Bound;
-
-    /// Warns of each `===`.
-    pub(crate) fn exact_equality(operators: impl IntoIterator<Item = Operator>) {
-        for _ in operators.into_iter().filter(|operator| *operator == Operator::ExactEqual) {
-            tracing::warn!("Using arbitrary equality (`===`) is discouraged");
-        }
-    }
-
-    /// Warns of a gap that no specifier leaves out.
-    pub(crate) fn unsupported_gap(end: &Bound<Version>, start: &Bound<Version>) {
-        tracing::warn!("Ignoring unsupported gap in `requires-python` version: {end:?} -> {start:?}");
-    }
-}

@@ -130,7 +130,7 @@ impl FromStr for Operator {
     fn from_str(symbol: &str) -> Result<Operator, OperatorParseError> {
         let found = Operator::from_symbol(symbol);
         #[cfg(feature = "tracing")]
-        crate::logged::exact_equality(found);
+        crate::features::logged::exact_equality(found);
         found.ok_or_else(|| OperatorParseError::new(symbol))
     }
 }

@@ -216,7 +216,7 @@ impl VersionSpecifier {
     /// ```
     pub fn contains(&self, version: &Version) -> bool {
         #[cfg(feature = "tracing")]
-        crate::logged::exact_equality([self.operator]);
+        crate::features::logged::exact_equality([self.operator]);
         self.with_list(|list| version.is_in(list))
     }
 
@@ -376,7 +376,7 @@ impl FromStr for VersionSpecifier {
             return Err(VersionSpecifierParseError::new(specifier));
         };
         #[cfg(feature = "tracing")]
-        crate::logged::exact_equality([found.operator]);
+        crate::features::logged::exact_equality([found.operator]);
         Ok(found)
     }
 }

@@ -58,7 +58,7 @@ impl VersionSpecifiers {
     #[inline]
     pub fn contains(&self, version: &Version) -> bool {
         #[cfg(feature = "tracing")]
-        crate::logged::exact_equality(self.iter().map(|member| *member.operator()));
+        crate::features::logged::exact_equality(self.iter().map(|member| *member.operator()));
         version.is_in(self.compiled.get_or_init(|| bytes::list(&self.members)))
     }
 
@@ -136,7 +136,7 @@ impl VersionSpecifiers {
             let gap = from_gap(end, lower);
             #[cfg(feature = "tracing")]
             if gap.is_none() {
-                crate::logged::unsupported_gap(end, lower);
+                crate::features::logged::unsupported_gap(end, lower);
             }
             members.extend(gap);
             end = upper;
@@ -166,7 +166,7 @@ impl FromStr for VersionSpecifiers {
         let members = members.map_err(|_| VersionSpecifiersParseError::new(list))?;
         let list = VersionSpecifiers { members, compiled: Lazy::new() };
         #[cfg(feature = "tracing")]
-        crate::logged::exact_equality(list.iter().map(|member| *member.operator()));
+        crate::features::logged::exact_equality(list.iter().map(|member| *member.operator()));
         Ok(list)
     }
 }

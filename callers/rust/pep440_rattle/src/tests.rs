@@ -1,9 +1,12 @@
-//! Tests that call nothing of the library: compiled bytes as `crates/pep440_compiled/specs` defines them.
+//! Tests that call nothing of the library: compiled bytes as `crates/pep440_compiled/specs` defines them; and each public item is documented
+//! with an example.
 use crate::bytes;
 use crate::{LocalSegment, MIN_VERSION, Operator, Prerelease, PrereleaseKind, Version, VersionSpecifier, VersionSpecifiers};
 use alloc::borrow::ToOwned;
 use alloc::vec;
 use alloc::vec::Vec;
+use std::fs;
+use std::path::Path;
 
 fn compiled(version: &Version) -> Vec<u8> {
     version.with_compiled(<[u8]>::to_vec)
@@ -123,4 +126,30 @@ fn threads_share_parts() {
         });
         assert_eq!(*version.clone().into_parts().release, [1, 0]);
     }
+}
+
+const PUBLIC: [&str; 5] = ["pub fn ", "pub struct ", "pub enum ", "pub static ", "pub type "];
+
+/// The public items of a source that have no example, of which there must be more.
+fn lacking(source: &str) -> Vec<&str> {
+    let (mut found, mut has_example) = (Vec::new(), false);
+    for line in source.lines().map(str::trim_start) {
+        if line.starts_with("///") {
+            has_example |= line == "/// ```";
+        } else if !line.starts_with('#') {
+            found.extend(PUBLIC.iter().any(|word| line.starts_with(word)).then_some((line, has_example)));
+            has_example = false;
+        }
+    }
+    found.into_iter().filter(|(line, has_example)| !has_example && !line.contains('$')).map(|(line, _)| line).collect()
+}
+
+#[test]
+fn each_item_has_an_example() {
+    let sources = fs::read_dir(Path::new(env!("CARGO_MANIFEST_DIR")).join("src")).expect("the sources");
+    for path in sources.map(|entry| entry.expect("a source").path()) {
+        let source = fs::read_to_string(&path).expect("a source");
+        assert_eq!(lacking(&source), [""; 0], "{}", path.display());
+    }
+    assert_eq!(lacking("pub fn call() {}"), ["pub fn call() {}"]);
 }

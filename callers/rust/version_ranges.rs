@@ -1,4 +1,5 @@
-//! Sets of versions, as segments that ascend.
+//! Sets of versions, as segments that ascend. Stands in for the crate `version-ranges` where no registry is at hand: what `pep440_rattle` calls
+//! of it, and its tests.
 use std::ops::{Bound, RangeBounds};
 
 /// A set of versions.
