@@ -7,7 +7,7 @@ use Rattle.std.proofs.lemmas.List.Folds.{concat-append}
 use Rattle.std.proofs.Math.Seq.{take-nil}
 use Rattle.std.specs.Io.KnownBytes.{Appends, Consumes, IsAtEnd}
 use Rattle.std.specs.List.{AllZip, concat, filter, flat_map}
-use Rattle.pyver_commands.proofs.InputOutput.{all_append, cuts_all, cuts_more, filled_lines_from-append, filled_one, no_newline_none, some_line, filled_lines-last}
+use Rattle.pyver_commands.proofs.InputOutput.{all_append, cuts_all, cuts_more, filled_lines_from-append, filled_one, no_newline_none, some_line, filled_lines-last, no_lines}
 use Rattle.pyver_commands.specs.FilterSteps.{SplitsLines, Goes, Keeps, KeepsMore, SourceFinishes, SourceFails, Steps, StepsBy, Wrote, WroteSome, AllFinish, AllFail, FilterFinishes, FilterFails, FinishesBy, OneReads, OneIsUnopened, OneFails, WroteAll}
 use Rattle.pep440_rs.specs.LiteralMatching.{list_allows_literally}
 use Rattle.pyver_commands.specs.Filters.{is_printed, is_wanted, printed_lines, filter_outcome}
@@ -26,7 +26,6 @@ use Rattle.pyver_commands.specs.declared.filter.Selection.TheVariants as wanted
 use Rattle.pyver_commands.specs.declared.newest_lines.KeptLine.{KeptLine}
 use Rattle.pep440_version.specs.Record.{Record}
 use Rattle.std.proofs.lemmas.List.{drop_more, map-append, take_more}
-use Rattle.pyver_commands.proofs.OrderedLines.{no_lines}
 use Rattle.pyver_commands.specs.Sources.RunFailures.{IsRunFailureOf}
 use Rattle.pyver_commands.specs.Sources.{KnownFile, MayOpen, ReadsAll, ReadsSource, ReadsText, UnopenedSource, input_name, input_origin, is_input, is_none, last_name, source_names, unopened_message, unopened_status}
 use Rattle.pyver_commands.specs.declared.sources.open_failure.OpenFailure.{OpenFailure}

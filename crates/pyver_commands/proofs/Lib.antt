@@ -1,5 +1,4 @@
 pub mod InputOutput
 pub mod Filtering
 pub mod SourceReads
-pub mod OrderedLines
 pub mod CommandLaws

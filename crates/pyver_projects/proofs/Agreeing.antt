@@ -1,7 +1,9 @@
 -- Where nothing is found, each requirement contains a locked version of its name, and requirements that hold together have a version in common: all of
 -- them, and so those of each part.
-use Rattle.std.proofs.Common.{◌≡◌, ◌&&◌, ◌∙◌, ℕ, arith, suc, zero, List, [], ◌++◌, Bool, true, false, Some, None, refl, sym, ap, subst, inl, inr, if◌then◌else◌, bytes_eq, map, not, ◌∷◌, ◌||◌, Option, cond, is_none, is_some, length, nat_lt}
+use Rattle.std.proofs.Common.{◌≡◌, ◌&&◌, ◌∙◌, ℕ, arith, suc, zero, List, [], ◌++◌, Bool, true, false, Some, None, refl, sym, ap, subst, inl, inr, if◌then◌else◌, bytes_eq, map, not, ◌∷◌, ◌||◌, Option, cond, is_none, is_some, length, nat_lt, get_or, ◌<◌}
 use Rattle.std.specs.Prelude.{⊤}
+use Rattle.std.specs.Bool.{beq}
+use Rattle.std.specs.Cmp.{booleans_Decides}
 use Rattle.std.specs.List.{All, AllZip, Contains, find, flat_map, list_any, zip, filter}
 use Rattle.pep440_pick.specs.RequirementGrammar.{Needed}
 use Rattle.pep440_rs.proofs.Reading.OneMeaning.{not_both_list, one_list}
@@ -20,19 +22,19 @@ use Rattle.pyver_findings.specs.LineMeanings.{Asks, LineMeaning}
 use Rattle.pyver_findings.specs.Reports.{Report, demands_in, empty_report, invalid_in}
 use Rattle.toml.specs.Data.{Members}
 use Rattle.pyver_projects.proofs.LockedPackages.{some_named, met_everywhere, none_so, not_excluded}
-use Rattle.pyver_projects.proofs.Once.{entered, one_locked_set, one_string, required}
-use Rattle.pyver_projects.proofs.Holding.{asks_always, findings_of, each_flat, of_part_so, sections_same, sound_part, sound_string}
+use Rattle.pyver_projects.proofs.Once.{entered, one_extra, one_locked_set, one_string, required}
+use Rattle.pyver_projects.proofs.Holding.{asks_so, findings_of, each_flat, of_part_so, sections_same, sound_part, sound_string}
 use Rattle.pyver_projects.proofs.Walks.{beside_it, beside_pair, left_nil, nil_at, right_nil, zip_each, all_flat, zip_once}
 use Rattle.std.proofs.lemmas.Bool.{true≢false}
 use Rattle.std.proofs.lemmas.Grind.{flat_map-append}
 use Rattle.std.proofs.lemmas.List.Folds.{list_any-append, list_any_at}
 use Rattle.std.proofs.lemmas.List.Elements.{All-contains_itself, All-head, All-tail, All-cons, All-contains, All-filter, All-nil, All-weaker}
 use Rattle.pep440_pick.specs.Names.{normal}
-use Rattle.pyver_projects.specs.Comparing.{unmet_extras, without_extra, FindsOfReading, absent, beside_all, compared, compared_demand, differing, documents_report, excluded, Excuse, excluded_in, first_difference, found_beside, found_in_pair, invalid_package, is_beside, is_in_one, in_one_folder, is_excused, is_installer, is_locked, is_overridden, is_plain_for_uv, is_project_reading, lacking, leaves_out, missing, names_read, overrides_read, own_report, partly_locked, python_difference, python_minors, stale_beside, stale_by, stale_finding, stale_in_pair, taken_packages, unlocked, unmet, unmet_demand, with_found, with_own_reports}
+use Rattle.pyver_projects.specs.Comparing.{lacks_taken, project_asks, unmet_extra, unmet_extras, FindsOfReading, absent, beside_all, compared, compared_demand, differing, documents_report, excluded, Excuse, excluded_in, first_difference, found_beside, found_in_pair, invalid_package, is_asked_everywhere, is_beside, is_in_one, in_one_folder, is_excused, is_installer, is_locked, is_overridden, is_plain_for_uv, is_project_reading, lacking, leaves_out, missing, names_read, overrides_read, own_report, python_difference, python_minors, replaced_names, stale_beside, stale_by, stale_finding, stale_in_pair, taken_packages, unlocked, unmet, unmet_demand, with_found, with_own_reports}
 use Rattle.pyver_projects.specs.Documents.{has_group_tool, overridden_names, project_names, sources}
-use Rattle.pyver_projects.specs.Meanings.{ExtraReading, extra_inclusions, groups, AreLockedPythons, inclusions, Document, DocumentReading, IsDocumentReading, IsFileReading, IsBroken, IsLock, IsLockReading, IsProject, IsRequirementReading, IsStringReading, LockedReading, StringReading, fault_meaning, file_meaning, is_of_version, reference_marker, requirement_line, string_line, IsSoundString}
-use Rattle.pyver_projects.specs.ProjectLaws.{AllAlone, AllContained, AllEntered, AllFresh, AllMet, AllOfOnePython, AllOfVersion, AllPresent, AllRequired, AreTogether, HasContents, HasLock, HasProject, HasTable, IsPart, extras_of, replaces, NoFindingImpliesContained, NoFindingImpliesSatisfiable}
-use Rattle.pyver_projects.specs.ProjectStrings.{Inclusion, ContentHash, ProjectString, LockContents, LockFault, LockParts, LockedFile, LockedRequirement, Section, Build, Dependencies, Environment, Extra, Group}
+use Rattle.pyver_projects.specs.Meanings.{ExtraReading, IsExtraReading, IsLockedReading, extra_inclusions, groups, AreLockedPythons, inclusions, Document, DocumentReading, IsDocumentReading, IsFileReading, IsBroken, IsLock, IsLockReading, IsProject, IsRequirementReading, IsStringReading, LockedReading, StringReading, fault_meaning, file_meaning, is_of_version, reference_marker, requirement_line, string_line, IsSoundString}
+use Rattle.pyver_projects.specs.ProjectLaws.{ContainsVersion, IsPresent, AllExtrasMet, needed_by, AllAlone, AllContained, AllEntered, AllFresh, AllMet, AllOfOnePython, AllOfVersion, AllPresent, AllRequired, AreTogether, HasContents, HasLock, HasProject, HasTable, IsPart, extras_of, replaces, NoFindingImpliesContained, NoFindingImpliesSatisfiable}
+use Rattle.pyver_projects.specs.ProjectStrings.{Inclusion, includes, ContentHash, ProjectString, LockContents, LockFault, LockParts, LockedFile, LockedRequirement, Section, Build, Dependencies, Environment, Extra, Group}
 use Rattle.pyver_projects.specs.KnownEnvironments.{python_record}
 use Rattle.pyver_projects.specs.declared.document_kind.DocumentKind.{DocumentKind}
 use Rattle.pyver_projects.specs.declared.document_kind.DocumentKind.TheVariants.{Lock, Project}
@@ -115,7 +117,7 @@ module _ (documents : List Document) (zs : List DocumentReading) (h : AllZip IsD
   abbrev Nothing : Type 0
   Nothing = (xs : List StringReading) × (es : List LineMeaning) × AllZip (IsStringReading (groups t) file) (sources t) xs × AllZip (IsRequirementReading lock.name) l.entries es
       × (python : Option Segments) × AreLockedPythons l.parts.python python
-      × (stale_by lock t l.parts.hash ++ (python_difference lock (project_python xs) python ++ (if is_plain_for_uv t then differing (project_names t) xs es else [])) ≡ [])
+      × (stale_by lock t l.parts.hash ++ (python_difference lock (project_python xs) python ++ (if is_plain_for_uv t then differing (replaced_names t (project_names t)) xs es else [])) ≡ [])
 
   nothing_stale : HasProject documents file t → HasLock documents kind lock l → is_beside documents (record { kind = Project; file = file }) (record { kind = Lock kind; file = lock }) ≡ true → folder file.name ≡ folder lock.name → Nothing
   nothing_stale ((k, inside, at), table) ((m, below, there), other) beside near =
@@ -134,17 +136,17 @@ module _ (documents : List Document) (zs : List DocumentReading) (h : AllZip IsD
       (xs, es, g, entered, python, pythons, (λ e. stale_beside lock (sym is_project e) (sym is_lock e)) ∙ here)
 
   nothing_differs : AreTogether documents file t lock kind l → is_beside documents (record { kind = Project; file = file }) (record { kind = Lock kind; file = lock }) ≡ true
-      → (xs : List StringReading) × (es : List LineMeaning) × AllZip (IsStringReading (groups t) file) (sources t) xs × AllZip (IsRequirementReading lock.name) l.entries es × (differing (project_names t) xs es ≡ [])
+      → (xs : List StringReading) × (es : List LineMeaning) × AllZip (IsStringReading (groups t) file) (sources t) xs × AllZip (IsRequirementReading lock.name) l.entries es × (differing (replaced_names t (project_names t)) xs es ≡ [])
   nothing_differs are beside =
       let (xs, es, g, entered, python, pythons, nothing) = nothing_stale are.has are.known beside are.beside in
-      let requirements = if is_plain_for_uv t then differing (project_names t) xs es else [] in
+      let requirements = if is_plain_for_uv t then differing (replaced_names t (project_names t)) xs es else [] in
       let later : python_difference lock (project_python xs) python ++ requirements ≡ [] = right_nil (stale_by lock t l.parts.hash) (python_difference lock (project_python xs) python ++ requirements) nothing in
-      (xs, es, g, entered, counted (is_plain_for_uv t) (differing (project_names t) xs es) are.plain (right_nil (python_difference lock (project_python xs) python) requirements later))
+      (xs, es, g, entered, counted (is_plain_for_uv t) (differing (replaced_names t (project_names t)) xs es) are.plain (right_nil (python_difference lock (project_python xs) python) requirements later))
 
 all_fresh : (documents : List Document) (zs : List DocumentReading) → AllZip IsDocumentReading documents zs → flat_map (beside_all (is_excused zs) documents (zip documents zs)) (zip documents zs) ≡ [] → AllFresh documents
 all_fresh documents zs h found file lock kind l t hash has known beside near written =
     let (xs, es, g, entered, python, pythons, nothing) = nothing_stale documents zs h found file lock kind l t has known beside near in
-    let fresh : stale_by lock t l.parts.hash ≡ [] = left_nil (stale_by lock t l.parts.hash) (python_difference lock (project_python xs) python ++ (if is_plain_for_uv t then differing (project_names t) xs es else [])) nothing in
+    let fresh : stale_by lock t l.parts.hash ≡ [] = left_nil (stale_by lock t l.parts.hash) (python_difference lock (project_python xs) python ++ (if is_plain_for_uv t then differing (replaced_names t (project_names t)) xs es else [])) nothing in
     some_hash hash.value (hashed_texts hash.rule t) (not_stale lock hash (list_any (may_have hash.value) (hashed_texts hash.rule t)) (ap (stale_by lock t) (sym written) ∙ fresh))
 
 -- where none differs, both are the same
@@ -161,7 +163,7 @@ first_nil lock (Some k) e = cc e
 all_of_one_python : (documents : List Document) (zs : List DocumentReading) → AllZip IsDocumentReading documents zs → flat_map (beside_all (is_excused zs) documents (zip documents zs)) (zip documents zs) ≡ [] → AllOfOnePython documents
 all_of_one_python documents zs h found file lock kind l t own locked k has known beside near have within =
     let (xs, es, g, entered, python, pythons, nothing) = nothing_stale documents zs h found file lock kind l t has known beside near in
-    let requirements = if is_plain_for_uv t then differing (project_names t) xs es else [] in
+    let requirements = if is_plain_for_uv t then differing (replaced_names t (project_names t)) xs es else [] in
     let none : python_difference lock (project_python xs) python ≡ [] =
     left_nil (python_difference lock (project_python xs) python) requirements (right_nil (stale_by lock t l.parts.hash) (python_difference lock (project_python xs) python ++ requirements) nothing) in
     let one : xs ≡ have.readings = zip_once (IsStringReading (groups t) file) (Contains (sources t)) (λ s v w known n o. one_string (groups t) file s v w n o) (sources t) xs have.readings (All-contains_itself (sources t)) g have.read in
@@ -174,12 +176,12 @@ all_of_one_python documents zs h found file lock kind l t own locked k has known
 all_entered : (documents : List Document) (zs : List DocumentReading) → AllZip IsDocumentReading documents zs → flat_map (beside_all (is_excused zs) documents (zip documents zs)) (zip documents zs) ≡ [] → AllEntered documents
 all_entered documents zs h found file lock kind l t s n are beside some within counts requires other =
     let (xs, es, g, entries, nothing) = nothing_differs documents zs h found file lock kind l t are beside in
-    entered (groups t) file lock (project_names t) (sources t) l.entries xs g es entries nothing s n within some counts requires other
+    entered (groups t) file lock (replaced_names t (project_names t)) (sources t) l.entries xs g es entries nothing s n within some counts requires other
 
 all_required : (documents : List Document) (zs : List DocumentReading) → AllZip IsDocumentReading documents zs → flat_map (beside_all (is_excused zs) documents (zip documents zs)) (zip documents zs) ≡ [] → AllRequired documents
 all_required documents zs h found file lock kind l t q list are beside within read plain other =
     let (xs, es, g, entries, nothing) = nothing_differs documents zs h found file lock kind l t are beside in
-    required (groups t) file lock (project_names t) (sources t) l.entries xs g es entries nothing q list within read plain other
+    required (groups t) file lock (replaced_names t (project_names t)) (sources t) l.entries xs g es entries nothing q list within read plain other
 
 -- a requirement asks for its list
 asks_for : (file : List ℕ) (q : LockedRequirement) (list : List Spec) (m : LineMeaning) → DerivesList q.list list → IsRequirementReading file q m → m ≡ Asks (line_demand (requirement_line file q) (reference_marker q.is_reference) (record { name = q.name; extras = q.extras; specifiers = list }))
@@ -244,11 +246,12 @@ all_contained documents zs h found file lock kind l s p n v (t, ((k, inside, at)
     let compares : flat_map (compared kind l.parts (project_names t) (is_excused zs) near ys) xs ≡ [] =
     left_nil (flat_map (compared kind l.parts (project_names t) (is_excused zs) near ys) xs) (unmet_extras kind l.parts (is_excused zs) near ys os xs) ((λ e. found_beside (is_excused zs) near (Lock kind) (sym is_project e) (sym is_lock e)) ∙ nothing) in
     let (z, (c, in_z, is_z), rz) = beside_it (IsStringReading (groups t) file) (sources t) xs s i within here g in
-    let meaning = asks_always (string_line file s) n asks.0 asks.1 asks.2 asks.3 (groups t) s.text near s.section z.meaning counts rz.1 in
-    let asked = line_demand (string_line file s) None n in
+    let (plain, derives, (marker, has, everywhere), url) = asks in
+    let meaning = asks_so (string_line file s) n plain derives marker has url (groups t) s.text near s.section z.meaning counts rz.1 in
+    let asked = line_demand (string_line file s) marker n in
     let both : missing kind l.parts (project_names t) ys s.section asked ++ excluded_in kind l.parts (project_names t) ys s.section asked ≡ [] =
     not_lacking (is_overridden (is_excused zs) s.section asked.name) (missing kind l.parts (project_names t) ys s.section asked ++ excluded_in kind l.parts (project_names t) ys s.section asked) (not_replaced documents s n zs h kept (is_standard s.section) refl)
-    (not_compared kind l.parts (project_names t) (is_excused zs) near ys asked s.section z rz.0 meaning counts (nil_at (compared kind l.parts (project_names t) (is_excused zs) near ys) xs z c in_z is_z compares)) in
+    (counted (is_asked_everywhere s.section marker) _ everywhere (not_compared kind l.parts (project_names t) (is_excused zs) near ys asked s.section z rz.0 meaning counts (nil_at (compared kind l.parts (project_names t) (is_excused zs) near ys) xs z c in_z is_z compares))) in
     not_excluded lock.name l.packages (string_line file s) n ys q p j under this v locks
     (not_lacking (leaves_out kind l.parts.names s.section) (excluded asked ys) has_it (right_nil (missing kind l.parts (project_names t) ys s.section asked) (excluded_in kind l.parts (project_names t) ys s.section asked) both))
 
@@ -262,20 +265,49 @@ not_excused documents name zs h others file t ((k, inside, at), table) unlike =
     let named : list_any (bytes_eq name) (flat_map names_read zs) ≡ false = nowhere_named documents name names_read (λ parts python ys ms os es fs. refl) (λ f. refl) (λ other u xs known. others other u known) zs h in
     λ i. unlike i || (not (there i) || named i)
 
+-- what is required for a package is met where nothing is found of it
+module _ (documents : List Document) (zs : List DocumentReading) (h : AllZip IsDocumentReading documents zs) (lock : File) (l : LockContents) (ys : List LockedReading) (packages : AllZip (IsLockedReading lock.name) l.packages ys) where
+  module _ (q : LockedRequirement) (list : List Spec) (d : DerivesList q.list list) (z : LineMeaning) (r : IsRequirementReading lock.name q z) (met : unmet (is_excused zs) l.parts ys z ≡ [])
+      (kept : (other : File) (u : Members) → HasProject documents other u → list_any (bytes_eq (normal q.name)) (overridden_names u) ≡ false) where
+    abbrev n : Needed
+    n = needed_by q list
+
+    abbrev asked : Demand
+    asked = line_demand (requirement_line lock.name q) (reference_marker q.is_reference) n
+
+    both_nil : lacking (is_excused zs) l.parts ys asked ++ excluded asked ys ≡ []
+    both_nil =
+        not_lacking (is_excused zs asked.name).overrides (lacking (is_excused zs) l.parts ys asked ++ excluded asked ys) (not_overridden documents (normal q.name) zs h kept)
+        (left_nil (unmet_demand (is_excused zs) l.parts ys asked) [] (ap (unmet (is_excused zs) l.parts ys) (sym (asks_for lock.name q list z d r)) ∙ met))
+
+    contains_version : ContainsVersion l q list
+    contains_version p v (j, under, this) locks = not_excluded lock.name l.packages (requirement_line lock.name q) n ys packages p j under this v locks (right_nil (lacking (is_excused zs) l.parts ys asked) (excluded asked ys) both_nil)
+
+    is_present : (is_excused zs (normal q.name)).lacks ≡ false → IsPresent l q list
+    is_present unlike =
+        let has_all : unlocked l.parts ys asked ≡ [] = not_lacking (is_excused zs asked.name).lacks (unlocked l.parts ys asked) unlike (left_nil (lacking (is_excused zs) l.parts ys asked) (excluded asked ys) both_nil) in
+        let none : excluded asked ys ≡ [] = right_nil (lacking (is_excused zs) l.parts ys asked) (excluded asked ys) both_nil in
+        let always : q.is_reference ≡ false → unlocked l.parts ys (line_demand (requirement_line lock.name q) None n) ≡ [] =
+        λ is. ap (λ b. unlocked l.parts ys (line_demand (requirement_line lock.name q) (reference_marker b) n)) (sym is) ∙ has_all in (
+          some_named lock.name l.packages (requirement_line lock.name q) n ys packages (left_nil (absent ys asked) (lacks_taken l.parts asked (taken_packages ys asked)) has_all),
+          (λ k is inside. met_everywhere lock.name l.packages (requirement_line lock.name q) n ys packages l.parts (always is) none k inside),
+        )
+
+  -- nothing is found of a requirement that the lock has
+  module _ (q : LockedRequirement) (i : ℕ) (within : i < length l.requirements) (here : get_or l.requirements i q ≡ q) (ms : List LineMeaning) (requirements : AllZip (IsRequirementReading lock.name) l.requirements ms) (front : List Finding) (faults : List LineMeaning) (nothing : front ++ (flat_map invalid_in faults ++ flat_map (unmet (is_excused zs) l.parts ys) ms) ≡ []) where
+    unmet_nil : (z : LineMeaning) × IsRequirementReading lock.name q z × (unmet (is_excused zs) l.parts ys z ≡ [])
+    unmet_nil =
+        let (z, (c, in_z, is_z), r) = beside_it (IsRequirementReading lock.name) l.requirements ms q i within here requirements in
+        (z, r, nil_at (unmet (is_excused zs) l.parts ys) ms z c in_z is_z (right_nil (flat_map invalid_in faults) (flat_map (unmet (is_excused zs) l.parts ys) ms) (right_nil front (flat_map invalid_in faults ++ flat_map (unmet (is_excused zs) l.parts ys) ms) nothing)))
+
 all_met : (documents : List Document) (zs : List DocumentReading) → AllZip IsDocumentReading documents zs → flat_map (λ x. (own_report (is_excused zs) x).findings) zs ≡ [] → AllMet documents
-all_met documents zs h own lock kind l q p list v ((m, below, there), other) (i, within, here) (j, under, this) d kept locks =
+all_met documents zs h own lock kind l q list ((m, below, there), other) (i, within, here) d kept =
     let (y, (b, in_y, is_y), ry) = beside_it IsDocumentReading documents zs (record { kind = Lock kind; file = lock }) m below there h in
     let (python, pythons, ys, ms, os, es, fs, packages, requirements, optional, entered, files, is_lock) = lock_read lock kind l y other ry in
     let faults = fs ++ map (fault_meaning lock.name) l.faults in
     let nothing : flat_map invalid_package ys ++ (flat_map invalid_in faults ++ flat_map (unmet (is_excused zs) l.parts ys) ms) ≡ [] = ap (λ (e : DocumentReading). (own_report (is_excused zs) e).findings) (sym is_lock) ∙ nil_at (λ x. (own_report (is_excused zs) x).findings) zs y b in_y is_y own in
-    let (z, (c, in_z, is_z), rz) = beside_it (IsRequirementReading lock.name) l.requirements ms q i within here requirements in
-    let n : Needed = record { name = q.name; extras = q.extras; specifiers = list } in
-    let asked = line_demand (requirement_line lock.name q) (reference_marker q.is_reference) n in
-    let met : unmet (is_excused zs) l.parts ys (Asks asked) ≡ [] =
-    ap (unmet (is_excused zs) l.parts ys) (sym (asks_for lock.name q list z d rz)) ∙ nil_at (unmet (is_excused zs) l.parts ys) ms z c in_z is_z (right_nil (flat_map invalid_in faults) (flat_map (unmet (is_excused zs) l.parts ys) ms) (right_nil (flat_map invalid_package ys) (flat_map invalid_in faults ++ flat_map (unmet (is_excused zs) l.parts ys) ms) nothing)) in
-    let both : lacking (is_excused zs) l.parts ys asked ++ excluded asked ys ≡ [] =
-    not_lacking (is_excused zs asked.name).overrides (lacking (is_excused zs) l.parts ys asked ++ excluded asked ys) (not_overridden documents (normal q.name) zs h kept) (left_nil (unmet_demand (is_excused zs) l.parts ys asked) [] met) in
-    not_excluded lock.name l.packages (requirement_line lock.name q) n ys packages p j under this v locks (right_nil (lacking (is_excused zs) l.parts ys asked) (excluded asked ys) both)
+    let (z, r, none) = unmet_nil documents zs h lock l ys packages q i within here ms requirements (flat_map invalid_package ys) faults nothing in
+    contains_version documents zs h lock l ys packages q list d z r none kept
 
 all_present : (documents : List Document) (zs : List DocumentReading) → AllZip IsDocumentReading documents zs → flat_map (λ x. (own_report (is_excused zs) x).findings) zs ≡ [] → AllPresent documents
 all_present documents zs h own lock file kind l t q list ((m, below, there), other) (i, within, here) d project others unlike =
@@ -283,19 +315,40 @@ all_present documents zs h own lock file kind l t q list ((m, below, there), oth
     let (python, pythons, ys, ms, os, es, fs, packages, requirements, optional, entered, files, is_lock) = lock_read lock kind l y other ry in
     let faults = fs ++ map (fault_meaning lock.name) l.faults in
     let nothing : flat_map invalid_package ys ++ (flat_map invalid_in faults ++ flat_map (unmet (is_excused zs) l.parts ys) ms) ≡ [] = ap (λ (e : DocumentReading). (own_report (is_excused zs) e).findings) (sym is_lock) ∙ nil_at (λ x. (own_report (is_excused zs) x).findings) zs y b in_y is_y own in
-    let (z, (c, in_z, is_z), rz) = beside_it (IsRequirementReading lock.name) l.requirements ms q i within here requirements in
-    let n : Needed = record { name = q.name; extras = q.extras; specifiers = list } in
-    let asked = line_demand (requirement_line lock.name q) (reference_marker q.is_reference) n in
-    let met : unmet (is_excused zs) l.parts ys (Asks asked) ≡ [] =
-    ap (unmet (is_excused zs) l.parts ys) (sym (asks_for lock.name q list z d rz)) ∙ nil_at (unmet (is_excused zs) l.parts ys) ms z c in_z is_z (right_nil (flat_map invalid_in faults) (flat_map (unmet (is_excused zs) l.parts ys) ms) (right_nil (flat_map invalid_package ys) (flat_map invalid_in faults ++ flat_map (unmet (is_excused zs) l.parts ys) ms) nothing)) in
-    let unmet_first : lacking (is_excused zs) l.parts ys asked ++ excluded asked ys ≡ [] =
-    not_lacking (is_excused zs asked.name).overrides (lacking (is_excused zs) l.parts ys asked ++ excluded asked ys) (not_overridden documents (normal q.name) zs h (λ other u known. (others other u known).1)) (left_nil (unmet_demand (is_excused zs) l.parts ys asked) [] met) in
-    let has_all : unlocked l.parts ys asked ≡ [] = not_lacking (is_excused zs asked.name).lacks (unlocked l.parts ys asked) (not_excused documents (normal q.name) zs h (λ other u known. (others other u known).0) file t project unlike) (left_nil (lacking (is_excused zs) l.parts ys asked) (excluded asked ys) unmet_first) in
-    let none : excluded asked ys ≡ [] = right_nil (lacking (is_excused zs) l.parts ys asked) (excluded asked ys) unmet_first in
-    let always : q.is_reference ≡ false → unlocked l.parts ys (line_demand (requirement_line lock.name q) None n) ≡ [] =
-    λ is. ap (λ b. unlocked l.parts ys (line_demand (requirement_line lock.name q) (reference_marker b) n)) (sym is) ∙ has_all in (
-      some_named lock.name l.packages (requirement_line lock.name q) n ys packages (left_nil (absent ys asked) (without_extra l.parts ys asked ++ (if is_none asked.marker then partly_locked l.parts asked.line (taken_packages ys asked) else [])) has_all),
-      (λ k is inside. met_everywhere lock.name l.packages (requirement_line lock.name q) n ys packages l.parts (always is) none k inside),
+    let (z, r, none) = unmet_nil documents zs h lock l ys packages q i within here ms requirements (flat_map invalid_package ys) faults nothing in
+    is_present documents zs h lock l ys packages q list d z r none (λ other u known. (others other u known).1) (not_excused documents (normal q.name) zs h (λ other u known. (others other u known).0) file t project unlike)
+
+all_extras_met : (documents : List Document) (zs : List DocumentReading) → AllZip IsDocumentReading documents zs → flat_map (beside_all (is_excused zs) documents (zip documents zs)) (zip documents zs) ≡ [] → AllExtrasMet documents
+all_extras_met documents zs h found file lock kind l o list ((m, below, there), other) (i, within, here) a d =
+    let project : Document = record { kind = Project; file = file } in
+    let locked : Document = record { kind = Lock kind; file = lock } in
+    let pairs = zip documents zs in
+    let near = in_one_folder project locked in
+    let ((k, inside, at), table) = a.has in
+    let t = a.table in
+    let (x, (c, in_x, is_x), rx) = beside_pair IsDocumentReading documents zs project k inside at h in
+    let (y, (b, in_y, is_y), ry) = beside_pair IsDocumentReading documents zs locked m below there h in
+    let (xs, g, is_project) = project_read file t x table rx in
+    let (python, pythons, ys, ms, os, es, fs, packages, required, optional, entered, files, is_lock) = lock_read lock kind l y other ry in
+    let nothing : found_beside (is_excused zs) near (Lock kind) x y ≡ [] =
+    right_nil (stale_in_pair (project, x) (locked, y)) (found_beside (is_excused zs) near (Lock kind) x y)
+    (counted (is_beside documents project locked) (stale_in_pair (project, x) (locked, y) ++ found_beside (is_excused zs) near (Lock kind) x y) a.counts
+    (nil_at (found_in_pair (is_excused zs) documents (project, x)) pairs (locked, y) b in_y is_y (nil_at (beside_all (is_excused zs) documents pairs) pairs (project, x) c in_x is_x found))) in
+    let none : unmet_extras kind l.parts (is_excused zs) near ys os xs ≡ [] =
+    right_nil (flat_map (compared kind l.parts (project_names t) (is_excused zs) near ys) xs) (unmet_extras kind l.parts (is_excused zs) near ys os xs) ((λ e. found_beside (is_excused zs) near (Lock kind) (sym is_project e) (sym is_lock e)) ∙ nothing) in
+    let not_replaced_by : (name : List ℕ) (u : Members) (other : File) → HasProject documents other u → list_any (bytes_eq name) (overridden_names u) ≡ false = λ name u other known. ap (list_any (bytes_eq name)) (a.kept other u known) in
+    let no_overrides : (name : List ℕ) → (is_excused zs name).overrides ≡ false = λ name. not_overridden documents name zs h (λ other u known. not_replaced_by name u other known) in
+    let same_excuse : is_excused zs ≡ (λ (name : List ℕ). record { lacks = (is_excused zs name).lacks; overrides = false }) = λ e name. record { lacks = (is_excused zs name).lacks; overrides = no_overrides name e } in
+    let same_strings : xs ≡ a.strings = zip_once (IsStringReading (groups t) file) (Contains (sources t)) (λ s v w known p q. one_string (groups t) file s v w p q) (sources t) xs a.strings (All-contains_itself (sources t)) g a.read in
+    let same_extras : os ≡ a.extras = zip_once (IsExtraReading lock.name) (Contains l.optional) (λ p v w known q r. one_extra lock.name p v w q r) l.optional os a.extras (All-contains_itself l.optional) optional a.required in
+    let (z, (e, in_z, is_z), r) = beside_it (IsExtraReading lock.name) l.optional os o i within here optional in
+    let asked : includes (project_asks kind l.parts (is_excused zs) near xs os) [] z.key ≡ true = (λ j. includes (project_asks kind l.parts (same_excuse j) near (same_strings j) (same_extras j)) [] (r.0 j)) ∙ a.asks in
+    let met : unmet (is_excused zs) l.parts ys z.meaning ≡ [] =
+    counted (includes (project_asks kind l.parts (is_excused zs) near xs os) [] z.key) (unmet (is_excused zs) l.parts ys z.meaning) asked
+    (nil_at (unmet_extra kind l.parts (is_excused zs) near (includes (project_asks kind l.parts (is_excused zs) near xs os) []) ys) os z e in_z is_z none) in
+    let kept = λ (other : File) (u : Members) (known : HasProject documents other u). not_replaced_by (normal o.requirement.name) u other known in (
+      contains_version documents zs h lock l ys packages o.requirement list d z.meaning r.1 met kept,
+      (λ others unlike. is_present documents zs h lock l ys packages o.requirement list d z.meaning r.1 met kept (not_excused documents (normal o.requirement.name) zs h others file t a.has unlike)),
     )
 
 -- where nothing is found of both, nothing is of each
@@ -344,14 +397,22 @@ no_finding_means_contained documents r (zs, h, fs, cs, finds, is) none =
     let found : (with_own_reports (is_excused zs) empty_report zs).findings ++ compared ≡ [] = left_nil ((with_own_reports (is_excused zs) empty_report zs).findings ++ compared) fs (sym (ap (λ (e : Report). e.findings) is) ∙ none) in
     let own : flat_map (λ x. (own_report (is_excused zs) x).findings) zs ≡ [] = sym (findings_of documents (is_excused zs) empty_report zs) ∙ left_nil (with_own_reports (is_excused zs) empty_report zs).findings compared found in
     let beside : compared ≡ [] = right_nil (with_own_reports (is_excused zs) empty_report zs).findings compared found in
-    (all_contained documents zs h beside, (all_met documents zs h own, (all_present documents zs h own, (all_of_version documents zs h own, (all_alone documents zs h own, (all_fresh documents zs h beside, (all_entered documents zs h beside, (all_required documents zs h beside, all_of_one_python documents zs h beside))))))))
+    (all_contained documents zs h beside, (all_met documents zs h own, (all_present documents zs h own, (all_extras_met documents zs h beside, (all_of_version documents zs h own, (all_alone documents zs h own, (all_fresh documents zs h beside, (all_entered documents zs h beside, (all_required documents zs h beside, all_of_one_python documents zs h beside)))))))))
+
+left_true : (a b : Bool) → (a && b) ≡ true → a ≡ true
+left_true true b e = refl
+left_true false b e = absurd (true≢false (sym e))
+
+right_true : (a b : Bool) → (a && b) ≡ true → b ≡ true
+right_true true b e = e
+right_true false b e = absurd (true≢false (sym e))
 
 -- parts that are the same are equal
 same_is : (a b : Section) → same_part a b ≡ true → a ≡ b
 same_is Dependencies Dependencies e = refl
 same_is (Extra a) (Extra b) e = ap Extra ((bytes_eq-Decides a b).0 e)
 same_is (Group a) (Group b) e = ap Group ((bytes_eq-Decides a b).0 e)
-same_is (Environment a) (Environment b) e = ap Environment ((bytes_eq-Decides a b).0 e)
+same_is (Environment j a) (Environment k b) e = (λ i. Environment ((booleans_Decides j k).0 (left_true (beq j k) (bytes_eq a b) e) i) ((bytes_eq-Decides a b).0 (right_true (beq j k) (bytes_eq a b) e) i))
 same_is Build Build e = refl
 same_is a b e = cc e
 

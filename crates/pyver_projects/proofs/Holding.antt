@@ -6,7 +6,7 @@ use Rattle.std.proofs.lemmas.List.{append-nil, append_assoc}
 use Rattle.std.proofs.lemmas.List.Elements.{All-append, All-cons, All-contains_itself, All-filter, All-head, All-map, All-nil, All-tail, All-weaker}
 use Rattle.std.specs.List.{All, AllZip, Contains, filter, find, flat_map, list_any, zip}
 use Rattle.std.specs.Str.{IsUtf8}
-use Rattle.pep440_pick.specs.Names.{same_name}
+use Rattle.pep440_pick.specs.Names.{normal, same_name}
 use Rattle.pep440_pick.specs.RequirementGrammar.{DerivesRequirement, Needed}
 use Rattle.pep440_ranges.specs.RangeSegments.{contains}
 use Rattle.pep440_rs.specs.Bounds.{Segments}
@@ -16,7 +16,7 @@ use Rattle.pep440_version.specs.ErrorTexts.{rejection_text}
 use Rattle.pep440_version.specs.Key.{record_cmp}
 use Rattle.pyver_findings.specs.Demands.{Demand, IsSound, line_demand}
 use Rattle.pyver_findings.specs.FileLines.{File, FileLine, Finding, NoRequirement}
-use Rattle.pyver_findings.specs.LineMeanings.{Asks, AsksNothing, IsNone, IsPartsMeaning, IsPlain, LeftOut, LineMeaning, requirement_meaning, with_marker, with_url}
+use Rattle.pyver_findings.specs.LineMeanings.{Asks, AsksNothing, IsNone, IsPartsMeaning, IsPlain, LeftOut, LineMeaning}
 use Rattle.pyver_findings.specs.Reports.{Report, demands_in, empty_report, invalid_in, joined_report}
 use Rattle.pyver_requirements.specs.LineParts.{line_parts}
 use Rattle.toml.specs.Data.{Members}
@@ -26,12 +26,12 @@ use Rattle.pyver_projects.proofs.Walks.{all_flat, left_false, pairs_each, right_
 use Rattle.pyver_findings.specs.NamedFiles.{folder}
 use Rattle.std.proofs.lemmas.Slice.Eq.{bytes_eq-Decides}
 use Rattle.pyver_projects.specs.ContentHashes.{hash_of, hashed_texts, is_known_text, is_stale, may_have}
-use Rattle.pyver_projects.specs.Comparing.{has_keys, lacks_extra, project_asks, unmet_extra, unmet_extras, without_extra, Excuse, FindsOfReading, absent, beside_all, compared, compared_demand, differing, documents_report, excluded, excluded_in, first_difference, found_beside, found_in_pair, has_name, invalid_package, invalid_string, is_beside, is_excused, is_in_one, is_installer, is_locked, is_needed, is_overridden, is_plain_for_uv, in_one_folder, lacking, leaves_out, own_report, partly_locked, python_difference, python_finding, python_minors, stale_beside, stale_by, stale_finding, stale_in_pair, taken_packages, unlocked, unmet, unmet_demand, with_own_reports}
+use Rattle.pyver_projects.specs.Comparing.{extras_reason, is_for_demand, lacks_taken, partly_needed, project_asks, unmet_extra, unmet_extras, without_extras, Excuse, FindsOfReading, absent, beside_all, compared, compared_demand, differing, documents_report, excluded, excluded_in, is_asked_everywhere, missing, first_difference, found_beside, found_in_pair, has_name, invalid_package, invalid_string, is_beside, is_excused, is_in_one, is_installer, is_locked, is_needed, is_overridden, is_plain_for_uv, in_one_folder, lacking, leaves_out, own_report, partly_locked, python_difference, python_finding, python_minors, replaced_names, stale_beside, stale_by, stale_finding, stale_in_pair, taken_packages, unlocked, unmet, unmet_demand, with_own_reports}
 use Rattle.pyver_projects.specs.Documents.{has_group_tool, locked, overridden_names, project_names, sources}
 use Rattle.pyver_projects.specs.Meanings.{ExtraReading, IsExtraReading, AreLockedPythons, Groups, extra_inclusions, groups, inclusions, Document, DocumentReading, IsBroken, IsBrokenReading, IsDocumentReading, IsFileReading, IsLock, IsLockedReading, IsProject, IsRequirementReading, IsSectionMeaning, IsSoundDocument, IsSoundString, IsStringReading, IsVersionReading, LockedReading, StringReading, fault_meaning, file_meaning, is_of_version, left_out_if_none, package_line, reference_marker, requirement_line, string_line, position_line}
-use Rattle.pyver_projects.proofs.Once.{AsksFor, differing_right, of_section}
-use Rattle.pyver_projects.proofs.LockedPackages.{IsLackHere, IsOutsideHere, excluded_right, found_so, none_named, partly_right}
-use Rattle.pyver_projects.specs.ProjectLaws.{AsksOn, IsRequired, needed_keys, AlwaysAsks, AreTogether, DocumentFindingsHold, HasLock, HasOtherHash, HasPackage, HasProject, IsDocumentFinding, IsReadable, IsReadableAs, IsRightPart, extras_of, line_in_part, part_lines}
+use Rattle.pyver_projects.proofs.Once.{AsksFor, asks_by, differing_right, of_section}
+use Rattle.pyver_projects.proofs.LockedPackages.{IsLackHere, IsOutsideHere, excluded_right, found_so, needed_packages, none_for, none_named, partly_right}
+use Rattle.pyver_projects.specs.ProjectLaws.{AsksOn, IsRequired, needed_by, AlwaysAsks, AsksEverywhere, AreTogether, DocumentFindingsHold, HasLock, HasOtherHash, HasPackage, HasProject, IsDocumentFinding, IsReadable, IsReadableAs, IsRightPart, extras_of, line_in_part, part_lines}
 use Rattle.pyver_projects.specs.ProjectStrings.{LockedExtra, includes, Inclusion, Build, Constraint, ContentHash, Dependencies, Entry, Environment, Extra, Group, Include, Invalid, LockContents, LockFault, LockParts, LockedFile, LockedPackage, LockedRequirement, OwnExtras, ProjectString, Python, Section, Unread, Version, last_bytes}
 use Rattle.pyver_projects.specs.KnownEnvironments.{python_record}
 use Rattle.pyver_projects.specs.declared.document_kind.DocumentKind.{DocumentKind}
@@ -39,37 +39,30 @@ use Rattle.pyver_projects.specs.declared.document_kind.DocumentKind.TheVariants.
 use Rattle.pyver_projects.specs.declared.document_kind.LockKind.{LockKind}
 use Rattle.pyver_projects.specs.declared.project.EntryTool.TheVariants as of_entries
 use Rattle.pyver_findings.proofs.Holding.{IsAsked, derived_sound, found_each, names_right}
-use Rattle.pyver_findings.specs.FindingLaws.{IsRightConflict}
+use Rattle.pyver_findings.specs.FindingLaws.{HasMarker, IsRightConflict}
 use Rattle.pyver_findings.specs.declared.cause.Cause.{Cause}
 use Rattle.pyver_findings.specs.MarkedConflicts.{FindsOfEach}
-use Rattle.pyver_findings.proofs.Complete.{one_parts}
 
-module _ (line : FileLine) (n : Needed) (plain : IsPlain (line_parts line.text).requirement) (d : DerivesRequirement (line_parts line.text).requirement n) (marker : (line_parts line.text).marker ≡ None) (url : (line_parts line.text).url ≡ None) where
-  means : IsPartsMeaning line (line_parts line.text) (Asks (line_demand line None n))
-  means =
-      let same : requirement_meaning line (line_parts line.text) n ≡ Asks (line_demand line None n) =
-      ap (λ (m : Option (List ℕ)). with_marker line (line_parts line.text) n m) marker ∙ ap (λ (u : Option (List ℕ)). with_url line (line_parts line.text) n None u) url in
-      inr (plain, inl (n, d, sym same))
+module _ (line : FileLine) (n : Needed) (plain : IsPlain (line_parts line.text).requirement) (d : DerivesRequirement (line_parts line.text).requirement n) (m : Option (List ℕ)) (has : HasMarker (line_parts line.text) m) (url : (line_parts line.text).url ≡ None) where
+  of_its_requirement : (x : LineMeaning) → IsPartsMeaning line (line_parts line.text) x → x ≡ Asks (line_demand line m n)
+  of_its_requirement x is = asks_by line n plain d url m x has is
 
-  of_its_requirement : (x : LineMeaning) → IsPartsMeaning line (line_parts line.text) x → x ≡ Asks (line_demand line None n)
-  of_its_requirement x is = one_parts line (line_parts line.text) x (Asks (line_demand line None n)) is means
-
-  -- a requirement without a marker and a URL asks for it
-  pub asks_always : (all : Groups) (text : List ℕ) (near : Bool) (section : Section) (x : LineMeaning) → is_locked near section ≡ true → IsSectionMeaning all section line text x → x ≡ Asks (line_demand line None n)
-  asks_always all text near Dependencies x counts is = of_its_requirement x is
-  asks_always all text near (Extra name) x counts is = of_its_requirement x is
-  asks_always all text near (Group name) x counts is = of_its_requirement x is
-  asks_always all text near (Include group included) x counts is = cc counts
-  asks_always all text near (Invalid table reason) x counts is = cc counts
-  asks_always all text near Constraint x counts is = of_its_requirement x is
-  asks_always all text near (OwnExtras asker extras) x counts is = cc counts
-  asks_always all text near (Environment table) x counts is = cc counts
-  asks_always all text near (Entry of_entries.Poetry table name) x counts (m, is, e) = e ∙ ap left_out_if_none (of_its_requirement m is)
-  asks_always all text near (Entry of_entries.Pipenv table name) x counts is = of_its_requirement x is
-  asks_always all text near (Unread c) x counts is = cc counts
-  asks_always all text near Build x counts is = cc counts
-  asks_always all text near Python x counts is = cc counts
-  asks_always all text near Version x counts is = cc counts
+  -- a requirement without a URL asks for it
+  pub asks_so : (all : Groups) (text : List ℕ) (near : Bool) (section : Section) (x : LineMeaning) → is_locked near section ≡ true → IsSectionMeaning all section line text x → x ≡ Asks (line_demand line m n)
+  asks_so all text near Dependencies x counts is = of_its_requirement x is
+  asks_so all text near (Extra name) x counts is = of_its_requirement x is
+  asks_so all text near (Group name) x counts is = of_its_requirement x is
+  asks_so all text near (Include group included) x counts is = cc counts
+  asks_so all text near (Invalid table reason) x counts is = cc counts
+  asks_so all text near Constraint x counts is = of_its_requirement x is
+  asks_so all text near (OwnExtras asker extras) x counts is = cc counts
+  asks_so all text near (Environment joined table) x counts is = cc counts
+  asks_so all text near (Entry of_entries.Poetry table name) x counts (y, is, e) = e ∙ ap left_out_if_none (of_its_requirement y is)
+  asks_so all text near (Entry of_entries.Pipenv table name) x counts is = of_its_requirement x is
+  asks_so all text near (Unread c) x counts is = cc counts
+  asks_so all text near Build x counts is = cc counts
+  asks_so all text near Python x counts is = cc counts
+  asks_so all text near Version x counts is = cc counts
 
 -- ---- requirements that hold together
 
@@ -216,7 +209,7 @@ module _ (documents : List Document) where
   of_string file t s (LeftOut c) has at is = All-nil Right
   of_string file t s AsksNothing has at is = All-nil Right
 
-  of_package : (file : File) (p : LockedPackage) (v : Option (List ℕ)) (y : LockedReading) → HasPackage documents file p → p.version ≡ v → IsVersionReading (package_line file.name p) p.name y.condition v y → All Right (invalid_package y)
+  of_package : (file : File) (p : LockedPackage) (v : Option (List ℕ)) (y : LockedReading) → HasPackage documents file p → p.version ≡ v → IsVersionReading (package_line file.name p) p.name p.extras y.condition v y → All Right (invalid_package y)
   of_package file p None y has at is = subst (λ (z : LockedReading). All Right (invalid_package z)) (sym is) (All-nil Right)
   of_package file p (Some text) y has at (inl (r, d, is)) = subst (λ (z : LockedReading). All Right (invalid_package z)) (sym is) (All-nil Right)
   of_package file p (Some text) y has at (inr (f, r, is)) =
@@ -231,32 +224,29 @@ module _ (documents : List Document) where
   when_right true fs k = k
   when_right false fs k = All-nil Right
 
-  -- an extra that a requirement asks for
+  -- extras that a requirement asks for
   extra_right : (lock : File) (kind : LockKind) (l : LockContents) → HasLock documents kind lock l → (n : Needed) (line : FileLine) (m : Option (List ℕ)) → AsksOn documents kind lock l n line → (ys : List LockedReading)
-      → All Right (without_extra l.parts ys (line_demand line m n))
-  extra_right lock kind l known n line m asks ys = when_right (list_any (has_name (line_demand line m n)) ys) (lacks_extra l.parts.packaged (line_demand line m n)) (lacked l.parts.packaged refl)
+      → AllZip (IsLockedReading lock.name) l.packages ys
+      → All Right (without_extras (line_demand line m n) (taken_packages ys (line_demand line m n)) (filter (is_for_demand l.parts (line_demand line m n)) (taken_packages ys (line_demand line m n))))
+  extra_right lock kind l known n line m asks ys h =
+      by_lists (taken_packages ys (line_demand line m n)) (filter (is_for_demand l.parts (line_demand line m n)) (taken_packages ys (line_demand line m n))) refl
     where
-      by_keys : (keys : List (List ℕ)) → l.parts.packaged ≡ Some keys → (b : Bool) → has_keys keys (needed_keys n) ≡ b → All Right (if b then [] else NoRequirement line (codes "the lock does not have this extra of the package") 0 ∷ [])
-      by_keys keys packaged true e = All-nil Right
-      by_keys keys packaged false e =
-          All-cons Right (NoRequirement line (codes "the lock does not have this extra of the package") 0) []
+      by_lists : (taken needed : List LockedReading) → filter (is_for_demand l.parts (line_demand line m n)) (taken_packages ys (line_demand line m n)) ≡ needed → All Right (without_extras (line_demand line m n) taken needed)
+      by_lists [] needed is = All-nil Right
+      by_lists (y ∷ taken) (z ∷ needed) is = All-nil Right
+      by_lists (y ∷ taken) [] is =
+          All-cons Right (NoRequirement line (extras_reason (map normal n.extras)) 0) []
           (inr (inr (inr (inr (inr (inr (inr (inr (inr (inr (inr (inr (inr (inr (inr (inr (record {
             lock = lock;
             kind = kind;
             contents = l;
             needed = n;
             line = line;
-            keys = keys;
             known = known;
             asks = asks;
-            packaged = packaged;
-            none = e;
+            none = none_for lock.name l.packages line n l.parts ys h is;
             is = refl;
           }))))))))))))))))) (All-nil Right)
-
-      lacked : (found : Option (List (List ℕ))) → l.parts.packaged ≡ found → All Right (lacks_extra found (line_demand line m n))
-      lacked None packaged = All-nil Right
-      lacked (Some keys) packaged = by_keys keys packaged (has_keys keys (needed_keys n)) refl
 
   absent_right : (lock : File) (kind : LockKind) (l : LockContents) → HasLock documents kind lock l → (q : LockedRequirement) → IsRequired documents kind lock l q → (ys : List LockedReading) → AllZip (IsLockedReading lock.name) l.packages ys
       → (n : Needed) (b : Bool) → n.name ≡ q.name → list_any (has_name (line_demand (requirement_line lock.name q) None n)) ys ≡ b
@@ -307,10 +297,10 @@ module _ (documents : List Document) where
   -- a requirement of a package that does not only refer to another one
   lack_right : (lock : File) (kind : LockKind) (l : LockContents) → HasLock documents kind lock l → (q : LockedRequirement) → IsRequired documents kind lock l q → (ys : List LockedReading) → AllZip (IsLockedReading lock.name) l.packages ys
       → (list : List Spec) → DerivesList q.list list → (b : Bool) → q.is_reference ≡ b
-      → All Right (if is_none (reference_marker b) then partly_locked l.parts (requirement_line lock.name q) (taken_packages ys (line_demand (requirement_line lock.name q) None (record { name = q.name; extras = q.extras; specifiers = list }))) else [])
+      → All Right (if is_none (reference_marker b) then partly_locked l.parts (requirement_line lock.name q) (needed_packages l.parts ys (line_demand (requirement_line lock.name q) None (needed_by q list))) else [])
   lack_right lock kind l known q at ys h list read true is = All-nil Right
   lack_right lock kind l known q at ys h list read false is =
-      let n : Needed = record { name = q.name; extras = q.extras; specifiers = list } in
+      let n : Needed = needed_by q list in
       let line = requirement_line lock.name q in
       All-weaker (IsLackHere lock.name l.packages line n l.parts) Right
       (λ f lack. inr (inr (inr (inr (inr (inr (inr (inr (inr (inr (inr (inl (record {
@@ -325,14 +315,14 @@ module _ (documents : List Document) where
         always = is;
         lack = lack;
       })))))))))))))
-      (partly_locked l.parts line (taken_packages ys (line_demand line None n))) (partly_right lock.name l.packages line n ys h l.parts)
+      (partly_locked l.parts line (needed_packages l.parts ys (line_demand line None n))) (partly_right lock.name l.packages line n ys h l.parts)
 
   -- a requirement of a package
   of_requirement : (lock : File) (kind : LockKind) (l : LockContents) → HasLock documents kind lock l → (q : LockedRequirement) → IsRequired documents kind lock l q → (ys : List LockedReading) → AllZip (IsLockedReading lock.name) l.packages ys
       → (excused : List ℕ → Excuse) (m : LineMeaning) → IsRequirementReading lock.name q m → All Right (unmet excused l.parts ys m)
   of_requirement lock kind l known q at ys h excused m (inr (f, r, is)) = subst (λ (x : LineMeaning). All Right (unmet excused l.parts ys x)) (sym is) (All-nil Right)
   of_requirement lock kind l known q at ys h excused m (inl (list, read, is)) =
-      let n : Needed = record { name = q.name; extras = q.extras; specifiers = list } in
+      let n : Needed = needed_by q list in
       let line = requirement_line lock.name q in
       let asked = line_demand line (reference_marker q.is_reference) n in
       subst (λ (x : LineMeaning). All Right (unmet excused l.parts ys x)) (sym is)
@@ -340,10 +330,10 @@ module _ (documents : List Document) where
       (unless_right (excused asked.name).overrides (lacking excused l.parts ys asked ++ excluded asked ys)
       (All-append Right (lacking excused l.parts ys asked) (excluded asked ys)
       (unless_right (excused asked.name).lacks (unlocked l.parts ys asked)
-      (All-append Right (absent ys asked) (without_extra l.parts ys asked ++ (if is_none asked.marker then partly_locked l.parts line (taken_packages ys asked) else []))
+      (All-append Right (absent ys asked) (lacks_taken l.parts asked (taken_packages ys asked))
       (absent_right lock kind l known q at ys h n (list_any (has_name asked) ys) refl refl)
-      (All-append Right (without_extra l.parts ys asked) (if is_none asked.marker then partly_locked l.parts line (taken_packages ys asked) else [])
-      (extra_right lock kind l known n line (reference_marker q.is_reference) (inr (q, list, at, refl, refl)) ys) (lack_right lock kind l known q at ys h list read q.is_reference refl))))
+      (All-append Right (without_extras asked (taken_packages ys asked) (needed_packages l.parts ys asked)) (partly_needed l.parts asked (needed_packages l.parts ys asked))
+      (extra_right lock kind l known n line (reference_marker q.is_reference) (inr (q, list, at, refl, refl)) ys h) (lack_right lock kind l known q at ys h list read q.is_reference refl))))
       (All-weaker (IsOutsideHere lock.name l.packages line n) Right
       (λ f out. inr (inr (inr (inr (inr (inr (inl (record { lock = lock; kind = kind; contents = l; requirement = q; list = list; known = known; within = at; read = read; outside = out })))))))) (excluded asked ys)
       (excluded_right lock.name l.packages line n ys h)))) (All-nil Right))
@@ -386,17 +376,18 @@ module _ (documents : List Document) where
 
   module _ (excused : List ℕ → Excuse) (near : Bool) (file lock : File) (kind : LockKind) (t : Members) (u : LockContents) (known : HasProject documents file t) (other : HasLock documents kind lock u) where
     module _ (s : ProjectString) (at : Contains (sources t) s) where
-      module _ (n : Needed) (asks : AlwaysAsks s n) where
+      module _ (n : Needed) (marker : Option (List ℕ)) (asks : AsksEverywhere s n) (always : marker ≡ None → AlwaysAsks s n) where
         -- what the requirement asks for
         abbrev pub asked : Demand
-        asked = line_demand (string_line file s) None n
+        asked = line_demand (string_line file s) marker n
 
         excludes : leaves_out kind u.parts.names s.section ≡ false → (f : Finding) → IsOutsideHere lock.name u.packages (string_line file s) n f → Right f
         excludes within f out = inr (inr (inr (inr (inl (record { file = file; string = s; lock = lock; kind = kind; contents = u; needed = n; has = (t, known, at); counts = within; asks = asks; known = other; outside = out })))))
 
         module _ (ys : List LockedReading) (h : AllZip (IsLockedReading lock.name) u.packages ys) where
-          partly_missing : is_needed kind u.parts.names s.section ≡ true → All Right (partly_locked u.parts (string_line file s) (taken_packages ys asked))
-          partly_missing needs =
+          partly_missing : is_needed kind u.parts.names s.section ≡ true → (m : Option (List ℕ)) → marker ≡ m → All Right (if is_none m then partly_locked u.parts (string_line file s) (needed_packages u.parts ys asked) else [])
+          partly_missing needs (Some m) is = All-nil Right
+          partly_missing needs None is =
               All-weaker (IsLackHere lock.name u.packages (string_line file s) n u.parts) Right
               (λ f lack. inr (inr (inr (inr (inr (inr (inr (inr (inr (inr (inl (record {
                 file = file;
@@ -407,11 +398,11 @@ module _ (documents : List Document) where
                 needed = n;
                 has = (t, known, at);
                 counts = needs;
-                asks = asks;
+                asks = always is;
                 known = other;
                 lack = lack;
               }))))))))))))
-              (partly_locked u.parts (string_line file s) (taken_packages ys asked)) (partly_right lock.name u.packages (string_line file s) n ys h u.parts)
+              (partly_locked u.parts (string_line file s) (needed_packages u.parts ys asked)) (partly_right lock.name u.packages (string_line file s) n ys h u.parts)
 
           absent_here : (c : Bool) → is_needed kind u.parts.names s.section ≡ true → list_any (has_name asked) ys ≡ c
               → All Right (if c then [] else NoRequirement (string_line file s) (codes "the lock has no package of this name") 0 ∷ [])
@@ -436,9 +427,9 @@ module _ (documents : List Document) where
           missing_right : (b : Bool) → is_needed kind u.parts.names s.section ≡ b → All Right (if b then unlocked u.parts ys asked else [])
           missing_right false needs = All-nil Right
           missing_right true needs =
-              All-append Right (absent ys asked) (without_extra u.parts ys asked ++ partly_locked u.parts (string_line file s) (taken_packages ys asked)) (absent_here (list_any (has_name asked) ys) needs refl)
-              (All-append Right (without_extra u.parts ys asked) (partly_locked u.parts (string_line file s) (taken_packages ys asked))
-              (extra_right lock kind u other n (string_line file s) None (inl (file, s, (t, known, at), needs, asks, refl)) ys) (partly_missing needs))
+              All-append Right (absent ys asked) (lacks_taken u.parts asked (taken_packages ys asked)) (absent_here (list_any (has_name asked) ys) needs refl)
+              (All-append Right (without_extras asked (taken_packages ys asked) (needed_packages u.parts ys asked)) (partly_needed u.parts asked (needed_packages u.parts ys asked))
+              (extra_right lock kind u other n (string_line file s) marker (inl (file, s, (t, known, at), needs, asks, refl)) ys h) (partly_missing needs marker refl))
 
           excluded_here : (b : Bool) → leaves_out kind u.parts.names s.section ≡ b → All Right (if b then [] else excluded asked ys)
           excluded_here true within = All-nil Right
@@ -449,19 +440,20 @@ module _ (documents : List Document) where
           unless true fs right = All-nil Right
           unless false fs right = right
 
-          always_right : All Right (compared_demand kind u.parts (project_names t) excused near ys s.section asked)
-          always_right =
+          everywhere_right : All Right (if is_overridden excused s.section asked.name then [] else missing kind u.parts (project_names t) ys s.section asked ++ excluded_in kind u.parts (project_names t) ys s.section asked)
+          everywhere_right =
               unless (is_overridden excused s.section asked.name) _
               (All-append Right _ (excluded_in kind u.parts (project_names t) ys s.section asked) (unless (is_installer asked.name) _ (unless (list_any (bytes_eq asked.name) (project_names t)) _ (missing_right (is_needed kind u.parts.names s.section) refl)))
               (excluded_here (leaves_out kind u.parts.names s.section) refl))
 
       module _ (ys : List LockedReading) (h : AllZip (IsLockedReading lock.name) u.packages ys) where
-        by_marker : (a : Demand) (k : AsksFor (string_line file s) (line_parts s.text) a) (marker : Option (List ℕ)) → (marker ≡ None → (line_parts s.text).marker ≡ None) → All Right (compared_demand kind u.parts (project_names t) excused near ys s.section (line_demand (string_line file s) marker k.needed))
-        by_marker a k None unmarked = always_right k.needed (k.text, k.derives, unmarked refl, k.url) ys h
-        by_marker a k (Some m) unmarked = All-nil Right
+        by_marker : (a : Demand) (k : AsksFor (string_line file s) (line_parts s.text) a) (b : Bool) → is_asked_everywhere s.section k.marker ≡ b
+            → All Right (if b then (if is_overridden excused s.section (normal k.needed.name) then [] else missing kind u.parts (project_names t) ys s.section (line_demand (string_line file s) k.marker k.needed) ++ excluded_in kind u.parts (project_names t) ys s.section (line_demand (string_line file s) k.marker k.needed)) else [])
+        by_marker a k true counts = everywhere_right k.needed k.marker (k.text, k.derives, (k.marker, k.has, counts), k.url) (λ is. (k.text, k.derives, k.always is, k.url)) ys h
+        by_marker a k false counts = All-nil Right
 
         of_asked : (a : Demand) → AsksFor (string_line file s) (line_parts s.text) a → All Right (compared_demand kind u.parts (project_names t) excused near ys s.section a)
-        of_asked a k = subst (λ (b : Demand). All Right (compared_demand kind u.parts (project_names t) excused near ys s.section b)) (sym k.is) (by_marker a k k.marker k.always)
+        of_asked a k = subst (λ (b : Demand). All Right (compared_demand kind u.parts (project_names t) excused near ys s.section b)) (sym k.is) (by_marker a k (is_asked_everywhere s.section k.marker) refl)
 
         of_meaning : (m : LineMeaning) → IsSectionMeaning (groups t) s.section (string_line file s) s.text m → All Right (flat_map (compared_demand kind u.parts (project_names t) excused near ys s.section) (demands_in m))
         of_meaning (Asks a) is = All-append Right (compared_demand kind u.parts (project_names t) excused near ys s.section a) [] (of_asked a (of_section (groups t) (string_line file s) s.text a s.section is)) (All-nil Right)
@@ -616,10 +608,10 @@ module _ (documents : List Document) where
     difference_right None locked of_project of_lock = All-nil Right
 
   module _ (file lock : File) (kind : LockKind) (t : Members) (l : LockContents) (known : HasProject documents file t) (has : HasLock documents kind lock l) (near : folder file.name ≡ folder lock.name) (xs : List StringReading) (g : AllZip (IsStringReading (groups t) file) (sources t) xs) (es : List LineMeaning) (h : AllZip (IsRequirementReading lock.name) l.entries es) where
-    differences : (b : Bool) → is_plain_for_uv t ≡ b → All Right (if b then differing (project_names t) xs es else [])
+    differences : (b : Bool) → is_plain_for_uv t ≡ b → All Right (if b then differing (replaced_names t (project_names t)) xs es else [])
     differences true plain =
         let are : AreTogether documents file t lock kind l = record { has = known; known = has; beside = near; plain = plain } in
-        differing_right Right (groups t) file lock (project_names t) (sources t) l.entries
+        differing_right Right (groups t) file lock (replaced_names t (project_names t)) (sources t) l.entries
         (λ s n within counts requires none. inr (inr (inr (inr (inr (inr (inr (inr (inr (inr (inr (inr (inr (inl (record { file = file; table = t; string = s; needed = n; lock = lock; kind = kind; contents = l; are = are; within = within; counts = counts; requires = requires; none = none; is = refl })))))))))))))))
         (λ q within none. inr (inr (inr (inr (inr (inr (inr (inr (inr (inr (inr (inr (inr (inr (inl (record { file = file; table = t; lock = lock; kind = kind; contents = l; requirement = q; are = are; within = within; none = none; is = refl }))))))))))))))))
         xs es g h
@@ -639,8 +631,8 @@ module _ (documents : List Document) where
     project_fresh Project lock y near at (inr (text, inl (u, e, (zs, h, is)))) = subst (IsRightBeside lock) (sym is) (All-nil Right)
     project_fresh (Lock kind) lock y near at (inr (text, inl (u, e, (python, pythons, ys, ms, os, es, fs, h, required, optional, entered, files, is)))) =
         subst (IsRightBeside lock) (sym is)
-        (All-append Right (stale_by lock t u.parts.hash) (python_difference lock (project_python xs) python ++ (if is_plain_for_uv t then differing (project_names t) xs es else [])) (stale_right file lock kind t u known (at, (text, e)) near u.parts.hash refl)
-        (All-append Right (python_difference lock (project_python xs) python) (if is_plain_for_uv t then differing (project_names t) xs es else [])
+        (All-append Right (stale_by lock t u.parts.hash) (python_difference lock (project_python xs) python ++ (if is_plain_for_uv t then differing (replaced_names t (project_names t)) xs es else [])) (stale_right file lock kind t u known (at, (text, e)) near u.parts.hash refl)
+        (All-append Right (python_difference lock (project_python xs) python) (if is_plain_for_uv t then differing (replaced_names t (project_names t)) xs es else [])
         (difference_right file lock kind t u known (at, (text, e)) near xs g python pythons (project_python xs) python refl refl)
         (differences file lock kind t u known (at, (text, e)) near xs g es entered (is_plain_for_uv t) refl)))
 

@@ -24,11 +24,11 @@ use Rattle.pyver_findings.specs.LineMeanings.{Asks, IsNone, LineMeaning, list_me
 use Rattle.pyver_requirements.specs.LineParts.{line_parts, LineParts}
 use Rattle.toml.specs.Data.{Members}
 use Rattle.pyver_projects.proofs.Walks.{zip_once, all_flat, beside_it, beside_some, left_false, left_nil, nil_at, right_false, right_nil, zip_each}
-use Rattle.pyver_projects.specs.Comparing.{same_extras, FindsOfReading, documents_report, with_found, differing, is_in_lock, is_in_project, is_same_requirement, same_list, unentered, unentered_in, unentered_reason, unmatched, unrequired, unrequired_in, unrequired_reason}
+use Rattle.pyver_projects.specs.Comparing.{same_extras, FindsOfReading, documents_report, with_found, differing, is_declared, is_in_lock, is_in_project, is_same_requirement, same_list, unentered, unentered_in, unentered_reason, unmatched, unrequired, unrequired_in, unrequired_reason}
 use Rattle.pyver_projects.specs.Documents.{has_group_tool, overridden_names, project_names, sources}
-use Rattle.pyver_projects.specs.Meanings.{ExtraReading, IsExtraReading, Groups, extra_inclusions, groups, has_each_extra, if_it_has, inclusions, AreLockedPythons, ArePythons, AreVersions, IsFilledMeaning, left_out_if_none, DocumentReading, IsBroken, IsConditionReading, IsDocumentReading, IsFileReading, IsLock, IsLockReading, IsLockedReading, IsProject, IsProjectReading, IsRequirementReading, reference_marker, IsSectionMeaning, IsStringReading, IsVersionReading, LockedReading, StringReading, fault_meaning, file_meaning, is_of_version, package_line, requirement_line, string_line, list_versions, no_group}
+use Rattle.pyver_projects.specs.Meanings.{ExtraReading, IsExtraReading, Groups, extra_inclusions, groups, has_each_extra, has_own_extras, if_it_has, inclusions, AreLockedPythons, ArePythons, AreVersions, IsFilledMeaning, left_out_if_none, DocumentReading, IsBroken, IsConditionReading, IsDocumentReading, IsFileReading, IsLock, IsLockReading, IsLockedReading, IsProject, IsProjectReading, IsRequirementReading, reference_marker, IsSectionMeaning, IsStringReading, IsVersionReading, LockedReading, StringReading, fault_meaning, file_meaning, is_of_version, package_line, requirement_line, string_line, list_versions, no_group}
 use Rattle.pyver_projects.specs.KnownEnvironments.{ReadCondition}
-use Rattle.pyver_projects.specs.ProjectLaws.{DocumentReportsOnce, IsReadable, IsReadableAs, IsEntryFor, IsOtherString, Requires}
+use Rattle.pyver_projects.specs.ProjectLaws.{DocumentReportsOnce, IsDeclared, IsReadable, IsReadableAs, IsEntryFor, IsOtherString, Requires}
 use Rattle.pyver_projects.specs.ProjectStrings.{LockedExtra, Build, Constraint, Dependencies, Entry, Environment, Extra, Group, Include, Invalid, LockContents, LockedFile, LockedPackage, LockedRequirement, OwnExtras, PackageCondition, Section, Python, ProjectString, Unread, Version}
 use Rattle.pyver_projects.specs.declared.document_kind.DocumentKind.{DocumentKind}
 use Rattle.pyver_projects.specs.declared.document_kind.DocumentKind.TheVariants.{Lock, Project}
@@ -37,7 +37,7 @@ use Rattle.pyver_findings.specs.FindingLaws.{IsUndecided, without_environment, w
 use Rattle.pyver_findings.specs.MarkedConflicts.{FindsOfEach}
 use Rattle.pyver_findings.specs.Reports.{Report, demands_in}
 use Rattle.pyver_findings.specs.declared.cause.Cause.{Cause}
-use Rattle.pyver_projects.specs.Together.{FindsOfPart, is_standard, part_demands, parts, project_domain, same_finding, sections, with_new}
+use Rattle.pyver_projects.specs.Together.{FindsOfPart, part_demands, parts, project_domain, same_finding, sections, with_new}
 use Rattle.pep440_pick.specs.RequirementGrammar.{DerivesRequirement, Needed}
 use Rattle.pyver_requirements.specs.MarkerReading.{marker as read_marker}
 use Rattle.pyver_requirements.specs.MarkerSteps.{Misfit}
@@ -61,7 +61,7 @@ one_meaning all line text (Entry of_entries.Pipenv table name) x y a b = one_par
 one_meaning all line text (Unread c) x y a b = a ∙ sym b
 one_meaning all line text Constraint x y a b = one_parts line (line_parts line.text) x y a b
 one_meaning all line text (OwnExtras asker extras) x y (m, a, v) (n, b, w) = v ∙ ap (if_it_has (has_each_extra all.extras extras) line) (one_parts line (line_parts line.text) m n a b) ∙ sym w
-one_meaning all line text (Environment table) x y a b = one_filled line text x y a b
+one_meaning all line text (Environment joined table) x y a b = one_filled line text x y a b
 one_meaning all line text Build x y a b = one_parts line (line_parts line.text) x y a b
 one_meaning all line text Python x y (inl (l, d, a)) (inl (m, e, b)) = a ∙ ap (list_meaning line) (one_list text l m d e) ∙ sym b
 one_meaning all line text Python x y (inl (l, d, a)) (inr (f, r, b)) = absurd (not_both_list text l f d r)
@@ -95,7 +95,7 @@ one_python (Entry tool table name) text p q a b = a ∙ sym b
 one_python (Unread c) text p q a b = a ∙ sym b
 one_python Constraint text p q a b = a ∙ sym b
 one_python (OwnExtras asker extras) text p q a b = a ∙ sym b
-one_python (Environment table) text p q a b = a ∙ sym b
+one_python (Environment joined table) text p q a b = a ∙ sym b
 one_python Build text p q a b = a ∙ sym b
 
 pub one_string : (all : Groups) (file : File) (s : ProjectString) (x y : StringReading) → IsStringReading all file s x → IsStringReading all file s y → x ≡ y
@@ -105,13 +105,13 @@ one_string all file s x y (p, a, v) (q, b, w) =
     let python = one_python s.section s.text x.python y.python v w in
     λ j. record { section = section j; meaning = meaning j; python = python j }
 
-one_version : (line : FileLine) (name : List ℕ) (c : Option ReadCondition) (v : Option (List ℕ)) (x y : LockedReading) → IsVersionReading line name c v x → IsVersionReading line name c v y → x ≡ y
-one_version line name c None x y a b = a ∙ sym b
-one_version line name c (Some text) x y (inl (r, d, a)) (inl (q, e, b)) = a ∙ ap (λ (v : Record). record { line = line; name = normal name; condition = c; version = Some v; invalid = None }) (one_record text r q d e) ∙ sym b
-one_version line name c (Some text) x y (inl (r, d, a)) (inr (f, e, b)) = absurd (not_both text r f d e)
-one_version line name c (Some text) x y (inr (f, e, a)) (inl (r, d, b)) = absurd (not_both text r f d e)
-one_version line name c (Some text) x y (inr (f, r, a)) (inr (g, s, b)) =
-    a ∙ ap (λ (h : Rejection). record { line = line; name = normal name; condition = c; version = None; invalid = Some (NoRequirement line (rejection_text h) (length name + 1)) }) (one_refusal text f g r s) ∙ sym b
+one_version : (line : FileLine) (name : List ℕ) (es : List (List ℕ)) (c : Option ReadCondition) (v : Option (List ℕ)) (x y : LockedReading) → IsVersionReading line name es c v x → IsVersionReading line name es c v y → x ≡ y
+one_version line name es c None x y a b = a ∙ sym b
+one_version line name es c (Some text) x y (inl (r, d, a)) (inl (q, e, b)) = a ∙ ap (λ (v : Record). record { line = line; name = normal name; extras = es; condition = c; version = Some v; invalid = None }) (one_record text r q d e) ∙ sym b
+one_version line name es c (Some text) x y (inl (r, d, a)) (inr (f, e, b)) = absurd (not_both text r f d e)
+one_version line name es c (Some text) x y (inr (f, e, a)) (inl (r, d, b)) = absurd (not_both text r f d e)
+one_version line name es c (Some text) x y (inr (f, r, a)) (inr (g, s, b)) =
+    a ∙ ap (λ (h : Rejection). record { line = line; name = normal name; extras = es; condition = c; version = None; invalid = Some (NoRequirement line (rejection_text h) (length name + 1)) }) (one_refusal text f g r s) ∙ sym b
 
 one_condition : (p : Option PackageCondition) (c d : Option ReadCondition) → IsConditionReading p c → IsConditionReading p d → c ≡ d
 one_condition None c d a b = a ∙ sym b
@@ -123,7 +123,7 @@ one_condition (Some p) c d (inr (f, r, a)) (inr (g, s, b)) = a ∙ sym b
 one_package : (file : List ℕ) (p : LockedPackage) (x y : LockedReading) → IsLockedReading file p x → IsLockedReading file p y → x ≡ y
 one_package file p x y (a, b) (c, d) =
     let same : x.condition ≡ y.condition = one_condition p.condition x.condition y.condition a c in
-    one_version (package_line file p) p.name y.condition p.version x y (subst (λ z. IsVersionReading (package_line file p) p.name z p.version x) same b) d
+    one_version (package_line file p) p.name p.extras y.condition p.version x y (subst (λ z. IsVersionReading (package_line file p) p.name p.extras z p.version x) same b) d
 
 one_project : (file : File) (t : Members) (x y : DocumentReading) → IsProjectReading file t x → IsProjectReading file t y → x ≡ y
 one_project file t x y (xs, g, a) (ys, h, b) =
@@ -137,7 +137,7 @@ one_requirement file q x y (inl (l, d, a)) (inr (f, r, b)) = absurd (not_both_li
 one_requirement file q x y (inr (f, r, a)) (inl (l, d, b)) = absurd (not_both_list q.list l f d r)
 one_requirement file q x y (inr (f, r, a)) (inr (g, s, b)) = a ∙ sym b
 
-one_extra : (file : List ℕ) (o : LockedExtra) (x y : ExtraReading) → IsExtraReading file o x → IsExtraReading file o y → x ≡ y
+pub one_extra : (file : List ℕ) (o : LockedExtra) (x y : ExtraReading) → IsExtraReading file o x → IsExtraReading file o y → x ≡ y
 one_extra file o x y (k, a) (l, b) =
     let keys = k ∙ sym l in
     let meanings = one_requirement file o.requirement x.meaning y.meaning a b in
@@ -325,7 +325,7 @@ of_section all line text a (Entry of_entries.Pipenv table name) is = of_parts li
 of_section all line text a (Unread c) is = cc is
 of_section all line text a Constraint is = of_parts line (line_parts line.text) a is
 of_section all line text a (OwnExtras asker extras) (m, is, e) = of_own line a (has_each_extra all.extras extras) m is e
-of_section all line text a (Environment table) is = of_filled line text a is
+of_section all line text a (Environment joined table) is = of_filled line text a is
 of_section all line text a Build is = of_parts line (line_parts line.text) a is
 
 module _ (line : FileLine) (n : Needed) (plain : IsPlain (line_parts line.text).requirement) (d : DerivesRequirement (line_parts line.text).requirement n) (url : (line_parts line.text).url ≡ None) (m : Option (List ℕ)) where
@@ -346,11 +346,11 @@ module _ (line : FileLine) (n : Needed) (plain : IsPlain (line_parts line.text).
   means : HasMarker (line_parts line.text) m → IsPartsMeaning line (line_parts line.text) asked
   means has = inr (plain, inl (n, d, sym (by_marker (line_parts line.text).marker m refl has)))
 
-  asks_by : (x : LineMeaning) → HasMarker (line_parts line.text) m → IsPartsMeaning line (line_parts line.text) x → x ≡ asked
+  pub asks_by : (x : LineMeaning) → HasMarker (line_parts line.text) m → IsPartsMeaning line (line_parts line.text) x → x ≡ asked
   asks_by x has is = one_parts line (line_parts line.text) x asked is (means has)
 
   -- a requirement asks for it
-  asks : (all : Groups) (text : List ℕ) (section : Section) (x : LineMeaning) → HasMarker (line_parts line.text) m → is_standard section ≡ true → IsSectionMeaning all section line text x → x ≡ asked
+  asks : (all : Groups) (text : List ℕ) (section : Section) (x : LineMeaning) → HasMarker (line_parts line.text) m → IsDeclared all section → IsSectionMeaning all section line text x → x ≡ asked
   asks all text Dependencies x has counts is = asks_by x has is
   asks all text (Extra name) x has counts is = asks_by x has is
   asks all text (Group name) x has counts is = asks_by x has is
@@ -358,12 +358,39 @@ module _ (line : FileLine) (n : Needed) (plain : IsPlain (line_parts line.text).
   asks all text (Invalid table reason) x has counts is = cc counts
   asks all text (Entry tool table name) x has counts is = cc counts
   asks all text Constraint x has counts is = cc counts
-  asks all text (OwnExtras asker extras) x has counts is = cc counts
-  asks all text (Environment table) x has counts is = cc counts
+  asks all text (OwnExtras asker extras) x has counts (k, is, e) = e ∙ ap (if_it_has (has_each_extra all.extras extras) line) (asks_by k has is) ∙ ap (λ b. if_it_has b line asked) counts
+  asks all text (Environment joined table) x has counts is = cc counts
   asks all text (Unread c) x has counts is = cc counts
   asks all text Build x has counts is = cc counts
   asks all text Python x has counts is = cc counts
   asks all text Version x has counts is = cc counts
+
+declared_left : (a b : Bool) → (a && b) ≡ true → a ≡ true
+declared_left true b e = refl
+declared_left false b e = absurd (true≢false (sym e))
+
+own_so : (line : FileLine) (a : Demand) (b : Bool) (m : LineMeaning) → Asks a ≡ if_it_has b line m → b ≡ true
+own_so line a true m e = refl
+own_so line a false (Asks c) e = cc e
+own_so line a false (IsNone f) e = cc e
+own_so line a false (LeftOut c) e = cc e
+own_so line a false AsksNothing e = cc e
+
+-- a string that asks for something asks for extras that the project has
+declared_so : (all : Groups) (line : FileLine) (text : List ℕ) (a : Demand) (section : Section) → is_declared section ≡ true → IsSectionMeaning all section line text (Asks a) → IsDeclared all section
+declared_so all line text a Dependencies counts is = refl
+declared_so all line text a (Extra name) counts is = refl
+declared_so all line text a (Group name) counts is = refl
+declared_so all line text a (OwnExtras asker extras) counts (m, parts, e) = own_so line a (has_each_extra all.extras extras) m e
+declared_so all line text a (Include group included) counts is = cc counts
+declared_so all line text a (Invalid table reason) counts is = cc counts
+declared_so all line text a (Entry tool table name) counts is = cc counts
+declared_so all line text a Constraint counts is = cc counts
+declared_so all line text a (Environment joined table) counts is = cc counts
+declared_so all line text a (Unread c) counts is = cc counts
+declared_so all line text a Build counts is = cc counts
+declared_so all line text a Python counts is = cc counts
+declared_so all line text a Version counts is = cc counts
 
 -- ---- what an entry asks for
 
@@ -420,31 +447,31 @@ module _ (lock : List ℕ) (q : LockedRequirement) (list : List Spec) (read : De
   in_project b x a counts is =
       (λ i. list_any (λ (c : Demand). is_same_requirement c here) (if counts i then demands_in (is i) else [])) ∙ or_no (is_same_requirement a here)
 
-  other_string : (s : ProjectString) (x : StringReading) → IsStringReading all file s x → is_in_project here x ≡ false → IsOtherString q s
+  other_string : (s : ProjectString) (x : StringReading) → IsStringReading all file s x → is_in_project here x ≡ false → IsOtherString all q s
   other_string s x (same, is, python) e counts n (plain, d, (m, has), url) (l, other, so) =
       let line = string_line file s in
       true≢false (sym so ∙ ap (is_of lock q n) (one_list q.list l list other read) ∙ sym (same_so lock q line m n list)
-      ∙ sym (in_project (is_standard x.section) x.meaning (line_demand line m n) (ap is_standard same ∙ counts) (asks line n plain d url m all s.text s.section x.meaning has counts is)) ∙ e)
+      ∙ sym (in_project (is_declared x.section) x.meaning (line_demand line m n) (ap is_declared same ∙ declared_left (is_declared s.section) (has_own_extras all s.section) counts) (asks line n plain d url m all s.text s.section x.meaning has counts is)) ∙ e)
 
-  other_strings : (ss : List ProjectString) (xs : List StringReading) → AllZip (IsStringReading all file) ss xs → list_any (is_in_project here) xs ≡ false → All (IsOtherString q) ss
-  other_strings [] [] h e = All-nil (IsOtherString q)
+  other_strings : (ss : List ProjectString) (xs : List StringReading) → AllZip (IsStringReading all file) ss xs → list_any (is_in_project here) xs ≡ false → All (IsOtherString all q) ss
+  other_strings [] [] h e = All-nil (IsOtherString all q)
   other_strings [] (x ∷ xs) h e = absurd h
   other_strings (s ∷ ss) [] h e = absurd h
   other_strings (s ∷ ss) (x ∷ xs) (r, h) e =
-      All-cons (IsOtherString q) s ss (other_string s x r (left_false (is_in_project here x) (list_any (is_in_project here) xs) e))
+      All-cons (IsOtherString all q) s ss (other_string s x r (left_false (is_in_project here x) (list_any (is_in_project here) xs) e))
       (other_strings ss xs h (right_false (is_in_project here x) (list_any (is_in_project here) xs) e))
 
   -- a string asks for it
   abbrev pub IsSome : ProjectString → Type 0
-  IsSome s = (n : Needed) × (is_standard s.section ≡ true) × Requires s n × IsEntryFor n q
+  IsSome s = (n : Needed) × IsDeclared all s.section × Requires s n × IsEntryFor n q
 
-  some_by : (s : ProjectString) (b : Bool) (x : LineMeaning) → is_standard s.section ≡ b → IsSectionMeaning all s.section (string_line file s) s.text x → list_any (λ (c : Demand). is_same_requirement c here) (if b then demands_in x else []) ≡ true → IsSome s
+  some_by : (s : ProjectString) (b : Bool) (x : LineMeaning) → is_declared s.section ≡ b → IsSectionMeaning all s.section (string_line file s) s.text x → list_any (λ (c : Demand). is_same_requirement c here) (if b then demands_in x else []) ≡ true → IsSome s
   some_by s true (Asks a) counts is e =
       let line = string_line file s in
       let k : AsksFor line (line_parts line.text) a = of_section all line s.text a s.section is in
       let so : is_same_requirement a here ≡ true = sym (or_no (is_same_requirement a here)) ∙ e in
       let passes : is_of lock q k.needed list ≡ true = sym (same_so lock q line k.marker k.needed list) ∙ sym (ap (λ (c : Demand). is_same_requirement c here) k.is) ∙ so in
-      (k.needed, counts, (k.text, k.derives, (k.marker, k.has), k.url), (list, read, passes))
+      (k.needed, declared_so all line s.text a s.section counts is, (k.text, k.derives, (k.marker, k.has), k.url), (list, read, passes))
   some_by s true (IsNone f) counts is e = absurd (true≢false (sym e))
   some_by s true (LeftOut c) counts is e = absurd (true≢false (sym e))
   some_by s true AsksNothing counts is e = absurd (true≢false (sym e))
@@ -452,39 +479,39 @@ module _ (lock : List ℕ) (q : LockedRequirement) (list : List Spec) (read : De
 
   some_string : (s : ProjectString) (x : StringReading) → IsStringReading all file s x → is_in_project here x ≡ true → IsSome s
   some_string s x (same, is, python) e =
-      some_by s (is_standard s.section) x.meaning refl is (subst (λ section. list_any (λ (c : Demand). is_same_requirement c here) (if is_standard section then demands_in x.meaning else []) ≡ true) same e)
+      some_by s (is_declared s.section) x.meaning refl is (subst (λ section. list_any (λ (c : Demand). is_same_requirement c here) (if is_declared section then demands_in x.meaning else []) ≡ true) same e)
 
 -- ---- findings
 
 module _ (Right : Finding → Type 0) (all : Groups) (file lock : File) (names : List (List ℕ)) (ss : List ProjectString) (qs : List LockedRequirement) where
-  module _ (entered : (s : ProjectString) (n : Needed) → Contains ss s → is_standard s.section ≡ true → Requires s n → All (λ q. ¬ IsEntryFor n q) qs → Right (NoRequirement (string_line file s) unentered_reason 0)) (xs : List LineMeaning) (h : AllZip (IsRequirementReading lock.name) qs xs) (s : ProjectString) (known : Contains ss s) (counts : is_standard s.section ≡ true) where
-    of_needed : (m : Option (List ℕ)) (n : Needed) → Requires s n → (b c : Bool) → list_any (is_in_lock (line_demand (string_line file s) m n)) xs ≡ c → All Right (if b then [] else (if c then [] else unmatched unentered_reason (line_demand (string_line file s) m n) ∷ []))
-    of_needed m n requires true c e = All-nil Right
-    of_needed m n requires false true e = All-nil Right
-    of_needed m n requires false false e =
+  module _ (entered : (s : ProjectString) (n : Needed) → Contains ss s → IsDeclared all s.section → Requires s n → All (λ q. ¬ IsEntryFor n q) qs → Right (NoRequirement (string_line file s) unentered_reason 0)) (xs : List LineMeaning) (h : AllZip (IsRequirementReading lock.name) qs xs) (s : ProjectString) (known : Contains ss s) where
+    of_needed : (m : Option (List ℕ)) (n : Needed) → IsDeclared all s.section → Requires s n → (b c : Bool) → list_any (is_in_lock (line_demand (string_line file s) m n)) xs ≡ c → All Right (if b then [] else (if c then [] else unmatched unentered_reason (line_demand (string_line file s) m n) ∷ []))
+    of_needed m n counts requires true c e = All-nil Right
+    of_needed m n counts requires false true e = All-nil Right
+    of_needed m n counts requires false false e =
         All-cons Right (unmatched unentered_reason (line_demand (string_line file s) m n)) [] (entered s n known counts requires (none_of lock.name (string_line file s) m n qs xs h e)) (All-nil Right)
 
-    of_demand : (a : Demand) → AsksFor (string_line file s) (line_parts s.text) a → All Right (unentered names xs a)
-    of_demand a k =
+    of_demand : (a : Demand) → IsDeclared all s.section → AsksFor (string_line file s) (line_parts s.text) a → All Right (unentered names xs a)
+    of_demand a counts k =
         subst (λ (c : Demand). All Right (unentered names xs c)) (sym k.is)
-        (of_needed k.marker k.needed (k.text, k.derives, (k.marker, k.has), k.url) (list_any (bytes_eq (normal k.needed.name)) names) (list_any (is_in_lock (line_demand (string_line file s) k.marker k.needed)) xs) refl)
+        (of_needed k.marker k.needed counts (k.text, k.derives, (k.marker, k.has), k.url) (list_any (bytes_eq (normal k.needed.name)) names) (list_any (is_in_lock (line_demand (string_line file s) k.marker k.needed)) xs) refl)
 
-    of_meaning : (x : LineMeaning) → IsSectionMeaning all s.section (string_line file s) s.text x → All Right (flat_map (unentered names xs) (demands_in x))
-    of_meaning (Asks a) is = All-append Right (unentered names xs a) [] (of_demand a (of_section all (string_line file s) s.text a s.section is)) (All-nil Right)
-    of_meaning (IsNone f) is = All-nil Right
-    of_meaning (LeftOut c) is = All-nil Right
-    of_meaning AsksNothing is = All-nil Right
+    of_meaning : (x : LineMeaning) → is_declared s.section ≡ true → IsSectionMeaning all s.section (string_line file s) s.text x → All Right (flat_map (unentered names xs) (demands_in x))
+    of_meaning (Asks a) counts is = All-append Right (unentered names xs a) [] (of_demand a (declared_so all (string_line file s) s.text a s.section counts is) (of_section all (string_line file s) s.text a s.section is)) (All-nil Right)
+    of_meaning (IsNone f) counts is = All-nil Right
+    of_meaning (LeftOut c) counts is = All-nil Right
+    of_meaning AsksNothing counts is = All-nil Right
 
-  module _ (entered : (s : ProjectString) (n : Needed) → Contains ss s → is_standard s.section ≡ true → Requires s n → All (λ q. ¬ IsEntryFor n q) qs → Right (NoRequirement (string_line file s) unentered_reason 0)) (xs : List LineMeaning) (h : AllZip (IsRequirementReading lock.name) qs xs) where
-    by_section : (s : ProjectString) (x : LineMeaning) (b : Bool) → Contains ss s → is_standard s.section ≡ b → IsSectionMeaning all s.section (string_line file s) s.text x → All Right (flat_map (unentered names xs) (if b then demands_in x else []))
-    by_section s x true known counts is = of_meaning entered xs h s known counts x is
+  module _ (entered : (s : ProjectString) (n : Needed) → Contains ss s → IsDeclared all s.section → Requires s n → All (λ q. ¬ IsEntryFor n q) qs → Right (NoRequirement (string_line file s) unentered_reason 0)) (xs : List LineMeaning) (h : AllZip (IsRequirementReading lock.name) qs xs) where
+    by_section : (s : ProjectString) (x : LineMeaning) (b : Bool) → Contains ss s → is_declared s.section ≡ b → IsSectionMeaning all s.section (string_line file s) s.text x → All Right (flat_map (unentered names xs) (if b then demands_in x else []))
+    by_section s x true known counts is = of_meaning entered xs h s known x counts is
     by_section s x false known counts is = All-nil Right
 
     of_string : (s : ProjectString) (x : StringReading) → Contains ss s → IsStringReading all file s x → All Right (unentered_in names xs x)
     of_string s x known (same, is, python) =
-        subst (λ section. All Right (flat_map (unentered names xs) (if is_standard section then demands_in x.meaning else []))) (sym same) (by_section s x.meaning (is_standard s.section) known refl is)
+        subst (λ section. All Right (flat_map (unentered names xs) (if is_declared section then demands_in x.meaning else []))) (sym same) (by_section s x.meaning (is_declared s.section) known refl is)
 
-  module _ (required : (q : LockedRequirement) → Contains qs q → All (IsOtherString q) ss → Right (NoRequirement (requirement_line lock.name q) unrequired_reason 0)) (zs : List StringReading) (g : AllZip (IsStringReading all file) ss zs) where
+  module _ (required : (q : LockedRequirement) → Contains qs q → All (IsOtherString all q) ss → Right (NoRequirement (requirement_line lock.name q) unrequired_reason 0)) (zs : List StringReading) (g : AllZip (IsStringReading all file) ss zs) where
     of_list : (q : LockedRequirement) (list : List Spec) (b c : Bool) → Contains qs q → DerivesList q.list list → list_any (is_in_project (entry_demand lock.name q list)) zs ≡ c → All Right (if b then [] else (if c then [] else unmatched unrequired_reason (entry_demand lock.name q list) ∷ []))
     of_list q list true c known d e = All-nil Right
     of_list q list false true known d e = All-nil Right
@@ -497,7 +524,7 @@ module _ (Right : Finding → Type 0) (all : Groups) (file lock : File) (names :
         (of_list q list (list_any (bytes_eq (normal q.name)) names || is_some (reference_marker q.is_reference)) (list_any (is_in_project (entry_demand lock.name q list)) zs) known d refl) (All-nil Right))
     of_item q x known (inr (f, r, is)) = subst (λ (y : LineMeaning). All Right (unrequired_in names zs y)) (sym is) (All-nil Right)
 
-  module _ (entered : (s : ProjectString) (n : Needed) → Contains ss s → is_standard s.section ≡ true → Requires s n → All (λ q. ¬ IsEntryFor n q) qs → Right (NoRequirement (string_line file s) unentered_reason 0)) (required : (q : LockedRequirement) → Contains qs q → All (IsOtherString q) ss → Right (NoRequirement (requirement_line lock.name q) unrequired_reason 0)) where
+  module _ (entered : (s : ProjectString) (n : Needed) → Contains ss s → IsDeclared all s.section → Requires s n → All (λ q. ¬ IsEntryFor n q) qs → Right (NoRequirement (string_line file s) unentered_reason 0)) (required : (q : LockedRequirement) → Contains qs q → All (IsOtherString all q) ss → Right (NoRequirement (requirement_line lock.name q) unrequired_reason 0)) where
     -- what is found is right
     pub differing_right : (zs : List StringReading) (xs : List LineMeaning) → AllZip (IsStringReading all file) ss zs → AllZip (IsRequirementReading lock.name) qs xs → All Right (differing names zs xs)
     differing_right zs [] g h = All-nil Right
@@ -528,13 +555,13 @@ module _ (all : Groups) (file lock : File) (names : List (List ℕ)) (ss : List 
 
   module _ (xs : List LineMeaning) (h : AllZip (IsRequirementReading lock.name) qs xs) (found : differing names zs xs ≡ []) where
     -- the requirement of a string is there
-    pub entered : (s : ProjectString) (n : Needed) → Contains ss s → nat_lt 0 (length qs) ≡ true → is_standard s.section ≡ true → Requires s n → list_any (bytes_eq (normal n.name)) names ≡ false → (q : LockedRequirement) × Contains qs q × IsEntryFor n q
+    pub entered : (s : ProjectString) (n : Needed) → Contains ss s → nat_lt 0 (length qs) ≡ true → IsDeclared all s.section → Requires s n → list_any (bytes_eq (normal n.name)) names ≡ false → (q : LockedRequirement) × Contains qs q × IsEntryFor n q
     entered s n (i, within, here) some counts (plain, d, (m, has), url) other =
         let line = string_line file s in
         let (z, (c, in_z, is_z), (same, is, python)) = beside_it (IsStringReading all file) ss zs s i within here g in
-        let nothing : flat_map (unentered names xs) (if is_standard z.section then demands_in z.meaning else []) ≡ [] = nil_at (unentered_in names xs) zs z c in_z is_z (some_there xs h found some) in
+        let nothing : flat_map (unentered names xs) (if is_declared z.section then demands_in z.meaning else []) ≡ [] = nil_at (unentered_in names xs) zs z c in_z is_z (some_there xs h found some) in
         let asked : z.meaning ≡ Asks (line_demand line m n) = asks line n plain d url m all s.text s.section z.meaning has counts is in
-        let locked : is_standard z.section ≡ true = ap is_standard same ∙ counts in
+        let locked : is_declared z.section ≡ true = ap is_declared same ∙ declared_left (is_declared s.section) (has_own_extras all s.section) counts in
         let one : unentered names xs (line_demand line m n) ++ [] ≡ [] = (λ k. flat_map (unentered names xs) (if sym locked k then demands_in (sym asked k) else [])) ∙ nothing in
         let is_there = none_of_two (list_any (bytes_eq (normal n.name)) names) (list_any (is_in_lock (line_demand line m n)) xs) (unmatched unentered_reason (line_demand line m n)) other (left_nil (unentered names xs (line_demand line m n)) [] one) in
         let (q, x, known, r, passes) = beside_some (IsRequirementReading lock.name) (is_in_lock (line_demand line m n)) qs xs h is_there in
@@ -546,7 +573,7 @@ module _ (all : Groups) (file lock : File) (names : List (List ℕ)) (ss : List 
 
     -- what is there a string requires
     pub required : (q : LockedRequirement) (list : List Spec) → Contains qs q → DerivesList q.list list → q.is_reference ≡ false → list_any (bytes_eq (normal q.name)) names ≡ false
-        → (s : ProjectString) × (n : Needed) × Contains ss s × (is_standard s.section ≡ true) × Requires s n × IsEntryFor n q
+        → (s : ProjectString) × (n : Needed) × Contains ss s × IsDeclared all s.section × Requires s n × IsEntryFor n q
     required q list (i, within, at) d plain other =
         let (x, (c, in_x, is_x), r) = beside_it (IsRequirementReading lock.name) qs xs q i within at h in
         let nothing : unrequired_in names zs x ≡ [] = nil_at (unrequired_in names zs) xs x c in_x is_x (nothing_unrequired xs found) in

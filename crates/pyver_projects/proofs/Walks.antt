@@ -218,18 +218,18 @@ reason_by kind (Some f) is some lifted = (f, refl)
 pub list_reason : (kind : SpecifiersErrorKind) → lacks_list_memory kind ≡ false → IsListLifted kind → (f : PieceRejection) × (list_rejection_of kind ≡ Some f)
 list_reason kind some lifted = reason_by kind (list_rejection_of kind) refl some lifted
 
-condition_is : (line : FileLine) (name : List ℕ) (c : Option ReadCondition) (w : Option (List ℕ)) (y : LockedReading) → IsVersionReading line name c w y → c ≡ y.condition
-condition_is line name c None y is = ap (λ (z : LockedReading). z.condition) (sym is)
-condition_is line name c (Some text) y (inl (r, d, is)) = ap (λ (z : LockedReading). z.condition) (sym is)
-condition_is line name c (Some text) y (inr (f, r, is)) = ap (λ (z : LockedReading). z.condition) (sym is)
+condition_is : (line : FileLine) (name : List ℕ) (es : List (List ℕ)) (c : Option ReadCondition) (w : Option (List ℕ)) (y : LockedReading) → IsVersionReading line name es c w y → c ≡ y.condition
+condition_is line name es c None y is = ap (λ (z : LockedReading). z.condition) (sym is)
+condition_is line name es c (Some text) y (inl (r, d, is)) = ap (λ (z : LockedReading). z.condition) (sym is)
+condition_is line name es c (Some text) y (inr (f, r, is)) = ap (λ (z : LockedReading). z.condition) (sym is)
 
 -- a package under this condition
-pub locked_so : (file : List ℕ) (p : LockedPackage) (line : FileLine) (name : List ℕ) (c : Option ReadCondition) (y : LockedReading) → line ≡ package_line file p → name ≡ p.name → IsConditionReading p.condition c
-    → IsVersionReading line name c p.version y → IsLockedReading file p y
-locked_so file p line name c y at named read version =
-    let so = condition_is line name c p.version y version in (
+pub locked_so : (file : List ℕ) (p : LockedPackage) (line : FileLine) (c : Option ReadCondition) (y : LockedReading) → line ≡ package_line file p → IsConditionReading p.condition c
+    → IsVersionReading line p.name p.extras c p.version y → IsLockedReading file p y
+locked_so file p line c y at read version =
+    let so = condition_is line p.name p.extras c p.version y version in (
       subst (IsConditionReading p.condition) so read,
-      subst (λ d. IsVersionReading (package_line file p) p.name d p.version y) so (subst (λ l. IsVersionReading l p.name c p.version y) at (subst (λ s. IsVersionReading line s c p.version y) named version)),
+      subst (λ d. IsVersionReading (package_line file p) p.name p.extras d p.version y) so (subst (λ l. IsVersionReading l p.name p.extras c p.version y) at version),
     )
 
 -- a string is no version for its reason
@@ -323,6 +323,16 @@ module _ {X : Type 0} (p q : X → Bool) where
   pub any-both : (xs : List X) → list_any q (filter p xs) ≡ list_any (λ y. p y && q y) xs
   any-both [] = refl
   any-both (x ∷ xs) = both_by (p x) x xs (any-both xs)
+
+module _ {X : Type 0} (p q : X → Bool) where
+  kept_both : (b : Bool) (x : X) (xs : List X) → filter q (filter p xs) ≡ filter (λ y. p y && q y) xs → filter q (cond b (x ∷ filter p xs) (filter p xs)) ≡ cond (b && q x) (x ∷ filter (λ y. p y && q y) xs) (filter (λ y. p y && q y) xs)
+  kept_both true x xs e = ap (λ rest. cond (q x) (x ∷ rest) rest) e
+  kept_both false x xs e = e
+
+  -- what passes two tests passes both
+  pub filter-both : (xs : List X) → filter q (filter p xs) ≡ filter (λ y. p y && q y) xs
+  filter-both [] = refl
+  filter-both (x ∷ xs) = kept_both (p x) x xs (filter-both xs)
 
 kept_some : {X : Type 0} (b c : Bool) (x : X) (rest : List X) → (b || c) ≡ true → (c ≡ true → rest ≡ [] → ⊥) → cond b (x ∷ rest) rest ≡ [] → ⊥
 kept_some true c x rest some later none = cc none

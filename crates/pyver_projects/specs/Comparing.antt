@@ -20,7 +20,7 @@ use Rattle.pyver_findings.specs.Views.{demand_of, file_of}
 use Rattle.pyver_projects.specs.declared.export_comparison.Export.{Export as ExportValue}
 use Rattle.pyver_projects.specs.KnownEnvironments.{environment_name, is_left_out_in, known_environments, python_record, python_text}
 use Rattle.pyver_projects.specs.Meanings.{Document, DocumentReading, ExtraReading, IsBroken, IsDocumentReading, IsLock, IsProject, LockedReading, StringReading}
-use Rattle.pyver_projects.specs.ProjectStrings.{Inclusion, includes, inclusions_by, Constraint, ContentHash, Dependencies, Entry, Extra, Group, LockParts, Section, inside, key_line, key_path, listed, number_or_one, text_in}
+use Rattle.pyver_projects.specs.ProjectStrings.{Inclusion, includes, inclusions_by, Constraint, ContentHash, Dependencies, Entry, Extra, Group, LockParts, OwnExtras, Section, inside, key_line, key_path, listed, number_or_one, text_in}
 use Rattle.pyver_projects.specs.ContentHashes.{is_stale}
 use Rattle.pyver_projects.specs.PackageRequirements.{extra_key}
 use Rattle.pyver_projects.specs.declared.locked_package.HashRule.{HashRule}
@@ -124,29 +124,44 @@ demand_keys a = map (extra_key a.name) a.extras
 abbrev pub has_keys : List (List ℕ) → List (List ℕ) → Bool
 has_keys found keys = list_all (λ (k : List ℕ). list_any (bytes_eq k) found) keys
 
+-- the extras are the same, whatever the order
+abbrev pub same_extras : List (List ℕ) → List (List ℕ) → Bool
+same_extras extras other = has_keys other extras && has_keys extras other
+
+-- a package for the second extras is one for the first, which are asked for, if the lock with these parts has one for each set
+abbrev pub is_for_extras : LockParts → (extras own : List (List ℕ)) → Bool
+is_for_extras parts extras own = not parts.by_extras || same_extras extras own
+
+-- the package is for the extras that the requirement asks for
+abbrev pub is_for_demand : LockParts → Demand → LockedReading → Bool
+is_for_demand parts a y = is_for_extras parts a.extras y.extras
+
 -- a requirement that is not there, for this reason
 abbrev pub unmatched : List ℕ → Demand → Finding
 unmatched reason a = NoRequirement a.line reason 0
 
-abbrev pub missing_extra_reason : List ℕ
-missing_extra_reason = codes "the lock does not have this extra of the package"
+-- why no package is for these extras
+abbrev pub extras_reason : List (List ℕ) → List ℕ
+extras_reason [] = codes "the lock has this package only for extras"
+extras_reason (e ∷ extras) = codes "the lock does not have this extra of the package"
 
--- the lock has each extra that the requirement asks for, or not
-abbrev pub extra_fault : Bool → Demand → List Finding
-extra_fault has a = if has then [] else unmatched missing_extra_reason a ∷ []
+-- the first packages may be taken, and none of them, which would be one of the second, is for the extras that the requirement asks for
+abbrev pub without_extras : Demand → (taken needed : List LockedReading) → List Finding
+without_extras a (y ∷ taken) [] = unmatched (extras_reason a.extras) a ∷ []
+without_extras a [] needed = []
+without_extras a (y ∷ taken) (z ∷ needed) = []
 
--- the lock, which has a package for each of these extras, has none for one that the requirement asks for
-abbrev pub lacks_extra : Option (List (List ℕ)) → Demand → List Finding
-lacks_extra None a = []
-lacks_extra (Some found) a = extra_fault (has_keys found (demand_keys a)) a
+-- in some environment none of these packages is there, if the requirement has no marker
+abbrev pub partly_needed : LockParts → Demand → List LockedReading → List Finding
+partly_needed parts a needed = if is_none a.marker then partly_locked parts a.line needed else []
 
--- where it has packages of the name
-abbrev pub without_extra : LockParts → List LockedReading → Demand → List Finding
-without_extra parts ys a = if list_any (has_name a) ys then lacks_extra parts.packaged a else []
+-- of packages that it may take, none is for its extras, or none of those in some environment
+abbrev pub lacks_taken : LockParts → Demand → List LockedReading → List Finding
+lacks_taken parts a taken = without_extras a taken (filter (is_for_demand parts a) taken) ++ partly_needed parts a (filter (is_for_demand parts a) taken)
 
--- the lock has no package of the name of the requirement, or none for an extra; or, if that has no marker, in some environment none that it may take
+-- the lock has no package of the name of the requirement, or none for its extras; or, if that has no marker, in some environment none that it may take
 abbrev pub unlocked : LockParts → List LockedReading → Demand → List Finding
-unlocked parts ys a = absent ys a ++ (without_extra parts ys a ++ (if is_none a.marker then partly_locked parts a.line (taken_packages ys a) else []))
+unlocked parts ys a = absent ys a ++ lacks_taken parts a (taken_packages ys a)
 
 -- a tool that builds or installs, which older releases of Poetry do not lock
 abbrev pub is_installer : List ℕ → Bool
@@ -263,6 +278,15 @@ is_locked near _ = false
 abbrev pub is_overridden : (List ℕ → Excuse) → Section → List ℕ → Bool
 is_overridden excused section name = is_standard section && (excused name).overrides
 
+-- the section is of a table of Pipenv
+abbrev pub is_of_pipenv : Section → Bool
+is_of_pipenv (Entry of_entries.Pipenv table name) = true
+is_of_pipenv _ = false
+
+-- a requirement of the section with this marker, or none, is to be met everywhere: Pipenv locks what is asked for under a marker, too
+abbrev pub is_asked_everywhere : Section → Option (List ℕ) → Bool
+is_asked_everywhere section marker = is_none marker || is_of_pipenv section
+
 module _ (kind : LockKind) (parts : LockParts) (names : List (List ℕ)) where
   -- a lock has the package, if it needs it; but not installers, nor the project itself, which by these names may ask for extras of its own
   abbrev pub missing : List LockedReading → Section → Demand → List Finding
@@ -274,10 +298,10 @@ module _ (kind : LockKind) (parts : LockParts) (names : List (List ℕ)) where
   excluded_in ys section a = if leaves_out kind parts.names section then [] else excluded a ys
 
   module _ (excused : List ℕ → Excuse) (near : Bool) where
-    -- a requirement beside the lock, which counts if it has no marker and no project overrides it
+    -- a requirement beside the lock, which counts if it is asked everywhere and no project overrides it
     abbrev pub compared_demand : List LockedReading → Section → Demand → List Finding
     compared_demand ys section a =
-        if is_none a.marker then (if is_overridden excused section a.name then [] else missing ys section a ++ excluded_in ys section a) else []
+        if is_asked_everywhere section a.marker then (if is_overridden excused section a.name then [] else missing ys section a ++ excluded_in ys section a) else []
 
     -- a string beside the lock
     abbrev pub compared : List LockedReading → StringReading → List Finding
@@ -358,10 +382,6 @@ has_each list other = list_all (λ (s : Spec). list_any (same_specifier s) other
 abbrev pub same_list : List Spec → List Spec → Bool
 same_list list other = has_each list other && has_each other list
 
--- the extras are the same, whatever the order
-abbrev pub same_extras : List (List ℕ) → List (List ℕ) → Bool
-same_extras extras other = has_keys other extras && has_keys extras other
-
 -- the second, in the lock, is for the first, of the project: it has the name, the extras, and the list unless it has a source of its own. Markers are not compared
 abbrev pub is_same_requirement : Demand → Demand → Bool
 is_same_requirement a e = bytes_eq a.name e.name && (same_extras a.extras e.extras && (is_some e.marker || same_list a.specifiers e.specifiers))
@@ -369,9 +389,14 @@ is_same_requirement a e = bytes_eq a.name e.name && (same_extras a.extras e.extr
 abbrev pub is_in_lock : Demand → LineMeaning → Bool
 is_in_lock a m = list_any (is_same_requirement a) (demands_in m)
 
+-- the section is of the tables that PEP 621 and PEP 735 define
+abbrev pub is_declared : Section → Bool
+is_declared (OwnExtras asker extras) = true
+is_declared section = is_standard section
+
 -- what a string of a project asks for that its lock is to have
 abbrev pub locked_demands : StringReading → List Demand
-locked_demands x = if is_standard x.section then demands_in x.meaning else []
+locked_demands x = if is_declared x.section then demands_in x.meaning else []
 
 abbrev pub is_in_project : Demand → StringReading → Bool
 is_in_project e x = list_any (λ (a : Demand). is_same_requirement a e) (locked_demands x)
@@ -383,7 +408,7 @@ abbrev pub unrequired_reason : List ℕ
 unrequired_reason = codes "the lock is out of date: the project does not have this requirement"
 
 module _ (names : List (List ℕ)) where
-  -- a requirement of a project with these names, which may ask for extras of its own, beside these in the lock
+  -- a requirement of a project, but for these names, beside these in the lock
   abbrev pub unentered : List LineMeaning → Demand → List Finding
   unentered es a = if list_any (bytes_eq a.name) names then [] else (if list_any (is_in_lock a) es then [] else unmatched unentered_reason a ∷ [])
 
@@ -410,7 +435,11 @@ abbrev pub is_plain_for_uv : Members → Bool
 is_plain_for_uv t = is_some (text_in (inside (codes "name") (get_member (codes "project") t))) && (not (has_dynamic (get_member (codes "project") t))
     && (not (has_tool (codes "poetry") t) && (not (has_tool (codes "rye") t) && not (has_tool (codes "pdm") t))))
 
--- the requirements of a project with these names that its lock does not have, where that has some, and those that the project does not have
+-- the names by which a project asks for extras of its own, if uv may write what these require in place of them: where its version is not in the table
+abbrev pub replaced_names : Members → List (List ℕ) → List (List ℕ)
+replaced_names t names = if is_some (text_in (inside (codes "version") (get_member (codes "project") t))) then [] else names
+
+-- the requirements of a project, but for these names, that its lock does not have, where that has some, and those that the project does not have
 abbrev pub differing : List (List ℕ) → List StringReading → List LineMeaning → List Finding
 differing names xs [] = []
 differing names xs (m ∷ ms) = flat_map (unentered_in names (m ∷ ms)) xs ++ flat_map (unrequired_in names xs) (m ∷ ms)
@@ -446,7 +475,7 @@ python_difference lock None locked = []
 -- the first document, if it is a project, does not have the hash of the second, if this is a lock, in this file, or other versions of Python or requirements
 abbrev pub stale_beside : File → DocumentReading → DocumentReading → List Finding
 stale_beside lock (IsProject t together names overridden xs) (IsLock parts python ys ms os es fs) =
-    stale_by lock t parts.hash ++ (python_difference lock (project_python xs) python ++ (if is_plain_for_uv t then differing names xs es else []))
+    stale_by lock t parts.hash ++ (python_difference lock (project_python xs) python ++ (if is_plain_for_uv t then differing (replaced_names t names) xs es else []))
 stale_beside lock x y = []
 
 -- ---- which lock is compared with which project

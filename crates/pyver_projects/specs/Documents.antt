@@ -1,7 +1,7 @@
 -- The kinds of documents, by their paths and by words, and what a parsed one has to check: the strings of `pyproject.toml` or a Pipfile, and the versions of a
 -- lock.
 use Rattle.std.specs.Prelude.{Bool, false, true, List, None, Option, Some, [], bytes_eq, codes, count_by, get_or, if◌then◌else◌, is_none, is_some, length, map, nat_eq, nat_lt, not, option_and_then, option_map, option_to_list, ℕ, ◌&&◌, ◌++◌, ◌+◌, ◌==◌, ◌||◌, ◌∷◌}
-use Rattle.std.specs.List.{ends_with, flat_map, list_any, starts_with}
+use Rattle.std.specs.List.{ends_with, flat_map, list_all, list_any, starts_with}
 use Rattle.std.specs.Option.{option_map_or, option_or, unwrap_or}
 use Rattle.pep440_pick.specs.Names.{is_name, is_name_byte, normal}
 use Rattle.pep440_pick.specs.RequirementReading.{name_of}
@@ -12,8 +12,8 @@ use Rattle.pyver_requirements.specs.MarkerTokens.{is_operator_byte}
 use Rattle.toml.specs.Data.{Data, Members, as_array, as_bool, as_str, as_table, get, get_member}
 use Rattle.pyver_projects.specs.ContentHashes.{lock_hash}
 use Rattle.pyver_projects.specs.KnownEnvironments.{is_false}
-use Rattle.pyver_projects.specs.LockedFiles.{array_faults, files_from, last_section, counted_names, has_markers, locked_python, package_condition, package_faults, package_name_in, document_faults, member_packages}
-use Rattle.pyver_projects.specs.PackageRequirements.{asked_keys, entries_from, extra_key, extras_from, extras_text, is_conditional, is_own_package, string_extras, lacks, plain_list, poetry_list, requirement_text, requirements_from, both_markers, marked_text, platform_marker, python_marker}
+use Rattle.pyver_projects.specs.LockedFiles.{array_faults, files_from, last_section, counted_names, has_markers, locked_python, names_listed, package_condition, package_faults, document_faults, member_packages}
+use Rattle.pyver_projects.specs.PackageRequirements.{asked_keys, entries_from, extras_from, extras_text, is_conditional, is_own_package, string_extras, plain_list, poetry_list, requirement_text, requirements_from, both_markers, marked_text, platform_marker, python_marker}
 use Rattle.pyver_projects.specs.ProjectStrings.{Inclusion, LockedExtra, LockedRequirement, includes, inclusions_by, texts_listed, Build, Constraint, Dependencies, Entry, Environment, Extra, Group, Include, Invalid, LockContents, LockFault, LockParts, LockedPackage, OwnExtras, PackageCondition, ProjectString, Python, Section, Unread, Version, after_blanks, header_lines, entries, inside, is_array_or_none, is_table_or_none, key_path, listed, text_in, is_text_or_none}
 use Rattle.pyver_findings.specs.NamedFiles.{folder}
 use Rattle.pyver_findings.specs.declared.cause.Cause.{Cause}
@@ -154,17 +154,15 @@ build_sources document = array_sources (codes "build-system.") (codes "requires"
 
 -- ---- tables of tools
 
--- the table has no variable of a marker as a key ("Specifiers" of Pipenv)
-abbrev pub lacks_variables : Data → Bool
-lacks_variables d = lacks (codes "os_name") d && (lacks (codes "sys_platform") d && (lacks (codes "platform_machine") d
-    && (lacks (codes "platform_python_implementation") d && (lacks (codes "platform_release") d && (lacks (codes "platform_system") d
-    && (lacks (codes "platform_version") d && (lacks (codes "python_version") d && (lacks (codes "python_full_version") d
-    && (lacks (codes "implementation_name") d && lacks (codes "implementation_version") d)))))))))
+-- the variables of markers, which are keys in tables of Pipenv ("Specifiers" of Pipenv)
+abbrev pub variable_names : List (List ℕ)
+variable_names = codes "os_name" ∷ (codes "sys_platform" ∷ (codes "platform_machine" ∷ (codes "platform_python_implementation" ∷ (codes "platform_release" ∷ (codes "platform_system"
+    ∷ (codes "platform_version" ∷ (codes "python_version" ∷ (codes "python_full_version" ∷ (codes "implementation_name" ∷ (codes "implementation_version" ∷ []))))))))))
 
 -- the conditions of a table, if it has some, are those that are read, and strings
 abbrev pub has_conditions : EntryTool → Data → Bool
 has_conditions of_entries.Poetry d = is_text_or_none (get (codes "markers") d) && (is_text_or_none (get (codes "python") d) && is_text_or_none (get (codes "platform") d))
-has_conditions of_entries.Pipenv d = is_text_or_none (get (codes "markers") d) && lacks_variables d
+has_conditions of_entries.Pipenv d = is_text_or_none (get (codes "markers") d) && list_all (λ (name : List ℕ). is_text_or_none (get name d)) variable_names
 
 -- the list of a table, or `*`
 abbrev pub table_list : EntryTool → Data → Option (List ℕ)
@@ -187,11 +185,21 @@ entry_specifiers of_entries.Pipenv list = pipenv_list (plain_list list)
 abbrev pub condition : List ℕ → Data → List ℕ
 condition key d = unwrap_or (text_in (get key d)) []
 
+-- the variable before the comparison at its key, if there is one
+abbrev pub variable_comparison : List ℕ → List ℕ → List ℕ
+variable_comparison name [] = []
+variable_comparison name (b ∷ comparison) = name ++ (codes " " ++ (b ∷ comparison))
+
+-- the marker, and after it what the table says of each of these variables
+abbrev pub with_variables : Data → List ℕ → List (List ℕ) → List ℕ
+with_variables d marker [] = marker
+with_variables d marker (name ∷ names) = with_variables d (both_markers marker (variable_comparison name (condition name d))) names
+
 -- the conditions of an entry as one marker, where `python` has a list of Poetry ("`python` restricted dependencies", "Using environment markers")
 abbrev pub entry_marker : EntryTool → Data → List ℕ
 entry_marker of_entries.Poetry d = both_markers (condition (codes "markers") d)
     (both_markers (python_marker (poetry_list (condition (codes "python") d))) (platform_marker (condition (codes "platform") d)))
-entry_marker of_entries.Pipenv d = condition (codes "markers") d
+entry_marker of_entries.Pipenv d = with_variables d (condition (codes "markers") d) variable_names
 
 -- the name and the list are those of a package
 abbrev pub is_package_name : List ℕ → Bool
@@ -242,24 +250,44 @@ is_editable d = option_map_or (opens 45) (as_str d) false
 abbrev pub group_path : List ℕ → List ℕ
 group_path name = key_path (codes "tool.poetry.group.") name ++ codes "dependencies."
 
--- the path of the array of the environment with this name
-abbrev pub array_name : List ℕ → List ℕ → List ℕ
-array_name name key = name ++ (codes "." ++ key)
-
--- the requirements in the array with this key of the environment with this name
-unfoldable pub environment_array : List ℕ → List ℕ → Data → List ProjectString
-environment_array name key d = array_sources (codes "tool.hatch.envs.") (array_name name key) (Environment (key_path (codes "tool.hatch.envs.") name)) (get key d)
-
--- what an entry of a table of groups asks for: of Poetry, whose groups are tables with one for what they ask for; of PDM, whose groups are arrays of
--- requirements, unless one is an editable; or of Hatch, whose environments have two arrays ("Dependencies" of "Environment configuration")
+-- what an entry of a table of groups asks for: of Poetry, whose groups are tables with one for what they ask for; or of PDM, whose groups are arrays of
+-- requirements, unless one is an editable
 abbrev pub tool_group : GroupTool → List ℕ × Data → List ProjectString
 tool_group of_tool.Poetry e = tool_table of_entries.Poetry (group_path e.0) (get (codes "dependencies") e.1)
-tool_group of_tool.Hatch e = environment_array e.0 (codes "dependencies") e.1 ++ environment_array e.0 (codes "extra-dependencies") e.1
 tool_group of_tool.Pdm e = if list_any is_editable (listed (Some e.1)) then unread cause.Editable else array_sources (codes "tool.pdm.dev-dependencies.") e.0 (Group (normal e.0)) (Some e.1)
 
 -- the groups of such a table
 abbrev pub tool_groups : GroupTool → Option Data → List ProjectString
 tool_groups tool value = flat_map (tool_group tool) (entries value)
+
+-- ---- environments of Hatch
+
+-- the environment, if there is one, says whether the project is installed in it ("Skip install", "Detached environments" of "Environment configuration")
+abbrev pub says_installed : Option Data → Bool
+says_installed d = is_some (inside (codes "skip-install") d) || is_some (inside (codes "detached") d)
+
+-- the project is installed in it with its dependencies, as it is unless it says something of that, or that from which it inherits: `default`, if it has
+-- no other template ("Inheritance")
+abbrev pub has_project : Option Data → Data → Bool
+has_project default d = is_none (get (codes "template") d) && (not (says_installed (Some d)) && not (says_installed default))
+
+-- the path of the array of the environment with this name
+abbrev pub array_name : List ℕ → List ℕ → List ℕ
+array_name name key = name ++ (codes "." ++ key)
+
+-- the requirements in the array with this key of the environment with this name
+unfoldable pub environment_array : Bool → List ℕ → List ℕ → Data → List ProjectString
+environment_array joined name key d = array_sources (codes "tool.hatch.envs.") (array_name name key) (Environment joined (key_path (codes "tool.hatch.envs.") name)) (get key d)
+
+-- those of both arrays of an environment, beside the environment `default` ("Dependencies")
+abbrev pub environment_sources : Option Data → List ℕ × Data → List ProjectString
+environment_sources default e = environment_array (has_project default e.1) e.0 (codes "dependencies") e.1 ++ environment_array (has_project default e.1) e.0 (codes "extra-dependencies") e.1
+
+-- those of all environments
+abbrev pub environments_sources : Option Data → List ProjectString
+environments_sources envs = flat_map (environment_sources (inside (codes "default") envs)) (entries envs)
+
+-- ---- all tables of tools
 
 -- what Poetry's tables ask for ("Dependencies and dev-dependencies", "Dependency groups" of Poetry)
 abbrev pub poetry_sources : Option Data → List ProjectString
@@ -296,7 +324,7 @@ constraint_sources uv = array_sources (codes "tool.uv.") (codes "constraint-depe
 
 -- these, and the environments of Hatch
 abbrev pub other_sources : Option Data → List ProjectString
-other_sources tool = constraint_sources (inside (codes "uv") tool) ++ tool_groups of_tool.Hatch (inside (codes "envs") (inside (codes "hatch") tool))
+other_sources tool = constraint_sources (inside (codes "uv") tool) ++ environments_sources (inside (codes "envs") (inside (codes "hatch") tool))
 
 -- what tables of tools ask for, and which are not read
 abbrev pub tool_sources : Option Data → List ProjectString
@@ -404,17 +432,13 @@ numbered_tables lines i [] = []
 numbered_tables lines i (d ∷ ds) = (get_or lines i 1, d) ∷ numbered_tables lines (i + 1) ds
 
 -- a package on this line, if it has a name
-abbrev pub package_in : ℕ → Option (List ℕ) → Option (List ℕ) → Option PackageCondition → List LockedPackage
-package_in line None version condition = []
-package_in line (Some name) version condition = record { line = line; name = name; version = version; condition = condition } ∷ []
+abbrev pub package_in : ℕ → Option (List ℕ) → Option (List ℕ) → List (List ℕ) → Option PackageCondition → List LockedPackage
+package_in line None version extras condition = []
+package_in line (Some name) version extras condition = record { line = line; name = name; version = version; extras = extras; condition = condition } ∷ []
 
 -- of a lock for these Pythons, if they are known
 abbrev pub package_from : Option (List ℕ) → ℕ × Data → List LockedPackage
-package_from python e = package_in e.0 (text_in (get (codes "name") e.1)) (text_in (get (codes "version") e.1)) (package_condition python e.1)
-
--- the normal forms of the names in an array
-abbrev pub names_listed : Option Data → List (List ℕ)
-names_listed value = flat_map (λ (d : Data). package_name_in (Some d)) (listed value)
+package_from python e = package_in e.0 (text_in (get (codes "name") e.1)) (text_in (get (codes "version") e.1)) (names_listed (get (codes "extras") e.1)) (package_condition python e.1)
 
 -- the group is one of these
 abbrev pub is_listed_part : List (List ℕ) → List ℕ → Bool
@@ -454,15 +478,10 @@ own_python Uv document packages = if list_any is_own_package packages && is_none
     then text_in (get_member (codes "requires-python") document) else None
 own_python kind document packages = None
 
--- the keys of the extras of a package with this name, if it has one
-abbrev pub package_keys : Option (List ℕ) → Data → List (List ℕ)
-package_keys None d = []
-package_keys (Some name) d = map (extra_key (normal name)) (names_listed (get (codes "extras") d))
-
--- those that a lock of PDM has packages for
-abbrev pub packaged_extras : LockKind → List Data → Option (List (List ℕ))
-packaged_extras Pdm packages = Some (flat_map (λ (d : Data). package_keys (text_in (get (codes "name") d)) d) packages)
-packaged_extras kind packages = None
+-- the lock has a package for each set of extras that is asked for, as PDM's
+abbrev pub has_extra_packages : LockKind → Bool
+has_extra_packages Pdm = true
+has_extra_packages kind = false
 
 -- the parts of a lock with this text and these packages. Only one of PEP 751 has extras and groups for markers, and environments
 abbrev pub lock_parts : LockKind → List ℕ → Members → List Data → LockParts
@@ -473,7 +492,7 @@ lock_parts kind text document packages = record {
   environments = texts_listed (get_member (codes "environments") document);
   hash = lock_hash kind text document;
   python = own_python kind document packages;
-  packaged = packaged_extras kind packages;
+  by_extras = has_extra_packages kind;
 }
 
 -- which extras a requirement asks for, under no key
@@ -574,7 +593,7 @@ toml_contents kind key header text = option_map (contents kind header text key) 
 
 -- what `Pipfile.lock` with this text has: only packages
 abbrev pub pipfile_contents : List ℕ → JsonData → LockContents
-pipfile_contents text document = record { parts = record { names = []; extras = []; groups = []; environments = []; hash = None; python = None; packaged = None }; packages = member_packages text document; requirements = []; optional = []; entries = []; files = []; faults = document_faults text document }
+pipfile_contents text document = record { parts = record { names = []; extras = []; groups = []; environments = []; hash = None; python = None; by_extras = false }; packages = member_packages text document; requirements = []; optional = []; entries = []; files = []; faults = document_faults text document }
 
 -- what a lock with this text has, if it is TOML, or JSON, of a known format
 abbrev pub locked : LockKind → List ℕ → Option LockContents

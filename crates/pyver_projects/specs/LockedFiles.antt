@@ -107,6 +107,10 @@ package_name_in value = option_to_list (option_map normal (text_in value))
 abbrev pub package_name : Data → List (List ℕ)
 package_name d = package_name_in (get (codes "name") d)
 
+-- the normal forms of the names in an array
+abbrev pub names_listed : Option Data → List (List ℕ)
+names_listed value = flat_map (λ (d : Data). package_name_in (Some d)) (listed value)
+
 -- ---- packages with one marker
 
 -- the marker of a package, if it has one that is a string
@@ -117,38 +121,35 @@ written_marker d = option_or (text_in (get (codes "marker") d)) (text_in (get (c
 abbrev pub marker_text : Data → Option (List ℕ)
 marker_text d = if lacks (codes "marker") d && lacks (codes "markers") d then Some [] else written_marker d
 
--- a name in its normal form beside a marker
-abbrev pub marked_name : List ℕ → List ℕ → List ℕ
-marked_name name marker = normal name ++ (59 ∷ marker)
+-- a name in its normal form beside extras and a marker
+abbrev pub marked_name : List ℕ → List (List ℕ) → List ℕ → List ℕ
+marked_name name extras marker = normal name ++ (flat_map (λ e. 91 ∷ e) extras ++ (59 ∷ marker))
 
--- the name and the marker of a package that has both. PDM has a package once more for its extras
-abbrev pub marked_names_in : Option (List ℕ) → Option (List ℕ) → List (List ℕ)
-marked_names_in (Some name) (Some marker) = marked_name name marker ∷ []
-marked_names_in (Some name) None = []
-marked_names_in None marker = []
-
-abbrev pub is_for_extras : Data → Bool
-is_for_extras d = nat_lt 0 (length (listed (get (codes "extras") d)))
+-- the name of a package that has one, and a marker, beside these extras: PDM has it once more for each set of extras
+abbrev pub marked_names_in : Option (List ℕ) → List (List ℕ) → Option (List ℕ) → List (List ℕ)
+marked_names_in (Some name) extras (Some marker) = marked_name name extras marker ∷ []
+marked_names_in (Some name) extras None = []
+marked_names_in None extras marker = []
 
 abbrev pub marked_names : Data → List (List ℕ)
-marked_names d = if is_for_extras d then [] else marked_names_in (text_in (get (codes "name") d)) (marker_text d)
+marked_names d = marked_names_in (text_in (get (codes "name") d)) (names_listed (get (codes "extras") d)) (marker_text d)
 
 -- that another package has the name and the marker of the package on this line
 abbrev pub twin_fault : ℕ → List ℕ → Option (List ℕ) → LockFault
 twin_fault line name version = record { line = line; text = package_text name version; reason = codes "another package has this name and no other marker" }
 
--- a package of this name on this line, if two of these are its name and its marker
+-- a package of this name on this line, if two of these are its name, its extras and its marker
 abbrev pub twin_in : List (List ℕ) → ℕ → List ℕ → Option (List ℕ) → List ℕ → List LockFault
 twin_in names line name version marked =
     if nat_lt 1 (count_by (bytes_eq marked) names) then twin_fault line name version ∷ [] else []
 
-abbrev pub twin_by : List (List ℕ) → ℕ → Option (List ℕ) → Option (List ℕ) → Option (List ℕ) → List LockFault
-twin_by names line (Some name) version (Some marker) = twin_in names line name version (marked_name name marker)
-twin_by names line (Some name) version None = []
-twin_by names line None version marker = []
+abbrev pub twin_by : List (List ℕ) → ℕ → Option (List ℕ) → Option (List ℕ) → List (List ℕ) → Option (List ℕ) → List LockFault
+twin_by names line (Some name) version extras (Some marker) = twin_in names line name version (marked_name name extras marker)
+twin_by names line (Some name) version extras None = []
+twin_by names line None version extras marker = []
 
 abbrev pub twins : List (List ℕ) → ℕ × Data → List LockFault
-twins names e = if is_for_extras e.1 then [] else twin_by names e.0 (text_in (get (codes "name") e.1)) (text_in (get (codes "version") e.1)) (marker_text e.1)
+twins names e = twin_by names e.0 (text_in (get (codes "name") e.1)) (text_in (get (codes "version") e.1)) (names_listed (get (codes "extras") e.1)) (marker_text e.1)
 
 -- ---- dependencies without sources
 
@@ -273,7 +274,7 @@ package_version d = option_and_then known_version (option_and_then as_str (json_
 
 -- a member as a package, on the first line of the lock on which its name stands in quotes
 abbrev pub member_package : List ℕ → List ℕ × JsonData → LockedPackage
-member_package text e = record { line = number_or_one (first_line text e.0); name = e.0; version = package_version e.1; condition = None }
+member_package text e = record { line = number_or_one (first_line text e.0); name = e.0; version = package_version e.1; extras = []; condition = None }
 
 -- both are one version, or none
 abbrev pub same_version : Option (List ℕ) → Option (List ℕ) → Bool

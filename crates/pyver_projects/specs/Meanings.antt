@@ -43,7 +43,7 @@ inclusion (OwnExtras asker extras) = []
 inclusion (Invalid table reason) = []
 inclusion (Entry tool table name) = []
 inclusion Constraint = []
-inclusion (Environment table) = []
+inclusion (Environment joined table) = []
 inclusion (Unread c) = []
 inclusion Build = []
 inclusion Python = []
@@ -85,6 +85,11 @@ include_meaning all line group included = if list_any (bytes_eq included) all.na
 -- each of these is an extra of the project
 abbrev pub has_each_extra : List (List ℕ) → List (List ℕ) → Bool
 has_each_extra all extras = list_all (λ (e : List ℕ). list_any (bytes_eq e) all) extras
+
+-- the project has the extras of its own that a string of the section asks for
+abbrev pub has_own_extras : Groups → Section → Bool
+has_own_extras all (OwnExtras asker extras) = has_each_extra all.extras extras
+has_own_extras all section = true
 
 -- what a line is that asks for extras of the project itself, if it has them or not
 abbrev pub if_it_has : Bool → FileLine → LineMeaning → LineMeaning
@@ -135,7 +140,7 @@ IsSectionMeaning all (OwnExtras asker extras) line text x = IsOwnMeaning all ext
 IsSectionMeaning all (Invalid table reason) line text x = x ≡ no_group line reason
 IsSectionMeaning all (Entry tool table name) line text x = IsEntryMeaning tool line x
 IsSectionMeaning all Constraint line text x = IsPartsMeaning line (line_parts line.text) x
-IsSectionMeaning all (Environment table) line text x = IsFilledMeaning line text x
+IsSectionMeaning all (Environment joined table) line text x = IsFilledMeaning line text x
 IsSectionMeaning all (Unread c) line text x = x ≡ LeftOut c
 IsSectionMeaning all Build line text x = IsPartsMeaning line (line_parts line.text) x
 
@@ -159,7 +164,7 @@ ArePythons (OwnExtras asker extras) text p = p ≡ None
 ArePythons (Invalid table reason) text p = p ≡ None
 ArePythons (Entry tool table name) text p = p ≡ None
 ArePythons Constraint text p = p ≡ None
-ArePythons (Environment table) text p = p ≡ None
+ArePythons (Environment joined table) text p = p ≡ None
 ArePythons (Unread c) text p = p ≡ None
 ArePythons Build text p = p ≡ None
 
@@ -179,6 +184,7 @@ IsStringReading all file s x = (x.section ≡ s.section) × IsSectionMeaning all
 pub record LockedReading : Type 0 where
   pub line : FileLine
   pub name : List ℕ
+  pub extras : List (List ℕ)
   pub condition : Option ReadCondition
   pub version : Option Record
   pub invalid : Option Finding
@@ -187,11 +193,11 @@ pub record LockedReading : Type 0 where
 abbrev pub package_line : List ℕ → LockedPackage → FileLine
 package_line file p = record { file = file; number = p.line; text = package_text p.name p.version; comment = [] }
 
--- a package on this line with this name, condition and version
-abbrev pub IsVersionReading : FileLine → List ℕ → Option ReadCondition → Option (List ℕ) → LockedReading → Type 0
-IsVersionReading line name c None y = y ≡ record { line = line; name = normal name; condition = c; version = None; invalid = None }
-IsVersionReading line name c (Some text) y = ((r : Record) × Derives text r × (y ≡ record { line = line; name = normal name; condition = c; version = Some r; invalid = None }))
-    ⊎ ((f : Rejection) × Rejects text f × (y ≡ record { line = line; name = normal name; condition = c; version = None; invalid = Some (NoRequirement line (rejection_text f) (length name + 1)) }))
+-- a package on this line with this name, these extras, this condition and this version
+abbrev pub IsVersionReading : FileLine → List ℕ → List (List ℕ) → Option ReadCondition → Option (List ℕ) → LockedReading → Type 0
+IsVersionReading line name es c None y = y ≡ record { line = line; name = normal name; extras = es; condition = c; version = None; invalid = None }
+IsVersionReading line name es c (Some text) y = ((r : Record) × Derives text r × (y ≡ record { line = line; name = normal name; extras = es; condition = c; version = Some r; invalid = None }))
+    ⊎ ((f : Rejection) × Rejects text f × (y ≡ record { line = line; name = normal name; extras = es; condition = c; version = None; invalid = Some (NoRequirement line (rejection_text f) (length name + 1)) }))
 
 -- where a package is: everywhere, if PEP 440 does not know the list of Pythons
 abbrev pub IsConditionReading : Option PackageCondition → Option ReadCondition → Type 0
@@ -200,7 +206,7 @@ IsConditionReading (Some p) c = ((list : List Spec) × DerivesList p.python list
     ⊎ ((f : PieceRejection) × RejectsList p.python f × (c ≡ None))
 
 abbrev pub IsLockedReading : List ℕ → LockedPackage → LockedReading → Type 0
-IsLockedReading file p y = IsConditionReading p.condition y.condition × IsVersionReading (package_line file p) p.name y.condition p.version y
+IsLockedReading file p y = IsConditionReading p.condition y.condition × IsVersionReading (package_line file p) p.name p.extras y.condition p.version y
 
 -- ---- requirements of locked packages
 

@@ -301,7 +301,7 @@ extras_from parts e = if is_unconditional parts e.1 then extras_by e.0 (text_in 
 
 -- the keys of the extras that a requirement asks for
 abbrev pub asked_keys : LockedRequirement → List (List ℕ)
-asked_keys q = map (λ (e : List ℕ). extra_key (normal q.name) (normal e)) q.extras
+asked_keys q = map (extra_key (normal q.name)) (map normal q.extras)
 
 -- ---- what uv writes that the project in the folder of its lock requires: each requirement of its dependencies and extras, and of each group with what
 -- that includes (uv, "Project structure", "The lockfile")

@@ -30,15 +30,14 @@ use Rattle.pyver_requirements.specs.MarkerGrammar.{DenotesMarker, Marker}
 use Rattle.toml.specs.Data.{Members}
 use Rattle.toml.specs.Parse.{parse_document}
 use Rattle.pyver_findings.specs.Exports.{is_export}
-use Rattle.pyver_projects.specs.Comparing.{Excuse, IsDocumentsReport, has_keys, missing_extra_reason, project_asks, same_extras, is_beside, is_installer, is_locked, is_needed, is_plain_for_uv, lack_in, leaves_out, python_finding, python_minors, same_list, stale_finding, unentered_reason, unrequired_reason, IsExportsReport, counts_for, is_made_of}
+use Rattle.pyver_projects.specs.Comparing.{Excuse, IsDocumentsReport, extras_reason, is_for_extras, project_asks, same_extras, is_asked_everywhere, is_beside, is_declared, is_installer, is_locked, is_needed, is_plain_for_uv, lack_in, leaves_out, python_finding, python_minors, replaced_names, same_list, stale_finding, unentered_reason, unrequired_reason, IsExportsReport, counts_for, is_made_of}
 use Rattle.pyver_findings.specs.NamedFiles.{folder}
 use Rattle.pyver_projects.specs.ContentHashes.{hash_of, hashed_texts, is_known_text}
 use Rattle.pyver_projects.specs.Documents.{has_group_tool, locked, overridden_names, project_names, sources}
-use Rattle.pyver_projects.specs.Meanings.{ExtraReading, IsExtraReading, groups, AreLockedPythons, extra_inclusions, Document, IsSectionMeaning, IsStringReading, StringReading, fault_meaning, file_meaning, is_of_version, package_line, requirement_line, string_line}
+use Rattle.pyver_projects.specs.Meanings.{ExtraReading, Groups, IsExtraReading, groups, has_own_extras, AreLockedPythons, extra_inclusions, Document, IsSectionMeaning, IsStringReading, StringReading, fault_meaning, file_meaning, is_of_version, package_line, requirement_line, string_line}
 use Rattle.pyver_projects.specs.KnownEnvironments.{is_for, known_environment, known_environments, python_record}
 use Rattle.pyver_projects.specs.ProjectStrings.{Inclusion, includes, ContentHash, LockContents, LockFault, LockParts, LockedFile, LockedExtra, LockedPackage, LockedRequirement, PackageCondition, ProjectString, Section}
-use Rattle.pyver_projects.specs.PackageRequirements.{extra_key}
-use Rattle.pyver_projects.specs.Together.{has_extra, has_group, holds_in, is_replaced, is_standard, part_demands, project_domain, project_python, section_part}
+use Rattle.pyver_projects.specs.Together.{has_extra, has_group, holds_in, is_replaced, part_demands, project_domain, project_python, section_part}
 use Rattle.pyver_projects.specs.declared.document_kind.DocumentKind.{DocumentKind}
 use Rattle.pyver_projects.specs.declared.document_kind.DocumentKind.TheVariants.{Lock, Project}
 use Rattle.pyver_projects.specs.declared.document_kind.LockKind.{LockKind}
@@ -101,21 +100,30 @@ IsLeftOut parts k p = (c : PackageCondition) × (list : List Spec) × (p.conditi
 abbrev pub IsOutsideList : List Spec → LockedPackage → Type 0
 IsOutsideList list p = (text : List ℕ) × (v : Record) × (p.version ≡ Some text) × Derives text v × (list_matches_literally list v ≡ false)
 
--- the package does not meet a requirement for this name with this list in the environment
-abbrev pub CannotMeet : LockParts → List ℕ → List Spec → KnownEnvironment → LockedPackage → Type 0
-CannotMeet parts name list k p = (same_name name p.name ≡ false) ⊎ (IsOutsideList list p ⊎ IsLeftOut parts k p)
+-- a package of a lock with these parts is none that the requirement may take, or for other extras
+abbrev pub CannotBe : LockParts → Needed → LockedPackage → Type 0
+CannotBe parts n p = (same_name n.name p.name ≡ false) ⊎ (IsOutsideList n.specifiers p ⊎ (is_for_extras parts (map normal n.extras) p.extras ≡ false))
 
--- the package meets it there
-abbrev pub MeetsIn : LockParts → List ℕ → List Spec → KnownEnvironment → LockedPackage → Type 0
-MeetsIn parts name list k p = IsTrue (same_name name p.name) × (¬ IsOutsideList list p) × (¬ IsLeftOut parts k p)
+-- it does not meet the requirement in the environment
+abbrev pub CannotMeet : LockParts → Needed → KnownEnvironment → LockedPackage → Type 0
+CannotMeet parts n k p = CannotBe parts n p ⊎ IsLeftOut parts k p
 
--- the keys of the extras that it asks for
-abbrev pub needed_keys : Needed → List (List ℕ)
-needed_keys n = map (extra_key (normal n.name)) (map normal n.extras)
+-- it meets it there
+abbrev pub MeetsIn : LockParts → Needed → KnownEnvironment → LockedPackage → Type 0
+MeetsIn parts n k p = IsTrue (same_name n.name p.name) × (¬ IsOutsideList n.specifiers p) × IsTrue (is_for_extras parts (map normal n.extras) p.extras) × (¬ IsLeftOut parts k p)
+
+-- what a requirement of a locked package with this list is
+abbrev pub needed_by : LockedRequirement → List Spec → Needed
+needed_by q list = record { name = q.name; extras = q.extras; specifiers = list }
 
 -- the string is this requirement, and has no marker and no URL
 abbrev pub AlwaysAsks : ProjectString → Needed → Type 0
 AlwaysAsks s n = IsPlain (line_parts s.text).requirement × DerivesRequirement (line_parts s.text).requirement n × ((line_parts s.text).marker ≡ None) × ((line_parts s.text).url ≡ None)
+
+-- the string is this requirement, which its lock is to meet everywhere, and has no URL
+abbrev pub AsksEverywhere : ProjectString → Needed → Type 0
+AsksEverywhere s n = IsPlain (line_parts s.text).requirement × DerivesRequirement (line_parts s.text).requirement n
+    × ((m : Option (List ℕ)) × HasMarker (line_parts s.text) m × IsTrue (is_asked_everywhere s.section m)) × ((line_parts s.text).url ≡ None)
 
 -- ---- findings
 
@@ -217,7 +225,7 @@ pub record IsMissing (documents : List Document) (f : Finding) : Type 0 where
   pub needed : Needed
   pub has : HasString documents file string
   pub counts : is_needed kind contents.parts.names string.section ≡ true
-  pub asks : AlwaysAsks string needed
+  pub asks : AsksEverywhere string needed
   pub known : HasLock documents kind lock contents
   pub none : All (λ (p : LockedPackage). same_name needed.name p.name ≡ false) contents.packages
   pub is : f ≡ NoRequirement (string_line file string) (codes "the lock has no package of this name") 0
@@ -240,7 +248,7 @@ pub record IsExcluded (documents : List Document) (f : Finding) : Type 0 where
   pub needed : Needed
   pub has : HasString documents file string
   pub counts : leaves_out kind contents.parts.names string.section ≡ false
-  pub asks : AlwaysAsks string needed
+  pub asks : AsksEverywhere string needed
   pub known : HasLock documents kind lock contents
   pub outside : IsOutside lock.name contents.packages needed.name needed.specifiers (string_line file string) f
 
@@ -284,10 +292,10 @@ pub record IsAbsent (documents : List Document) (f : Finding) : Type 0 where
   pub none : All (λ (p : LockedPackage). same_name requirement.name p.name ≡ false) contents.packages
   pub is : f ≡ NoRequirement (requirement_line lock.name requirement) (codes "the lock has no package of this name") 0
 
--- in some environment none of these packages of a lock with these parts meets the requirement on this line for this name with this list
-pub record IsLack (parts : LockParts) (ps : List LockedPackage) (name : List ℕ) (list : List Spec) (line : FileLine) (f : Finding) : Type 0 where
+-- in some environment none of these packages of a lock with these parts meets this requirement, which is on this line
+pub record IsLack (parts : LockParts) (ps : List LockedPackage) (n : Needed) (line : FileLine) (f : Finding) : Type 0 where
   pub environment : KnownEnvironment
-  pub none : All (CannotMeet parts name list environment) ps
+  pub none : All (CannotMeet parts n environment) ps
   pub is : f ≡ lack_in line environment
 
 -- in some environment no package of a lock meets a requirement of a project that needs one
@@ -302,7 +310,7 @@ pub record IsPartlyMissing (documents : List Document) (f : Finding) : Type 0 wh
   pub counts : is_needed kind contents.parts.names string.section ≡ true
   pub asks : AlwaysAsks string needed
   pub known : HasLock documents kind lock contents
-  pub lack : IsLack contents.parts contents.packages needed.name needed.specifiers (string_line file string) f
+  pub lack : IsLack contents.parts contents.packages needed (string_line file string) f
 
 -- in some environment no package of a lock meets a requirement of another one
 pub record IsPartlyAbsent (documents : List Document) (f : Finding) : Type 0 where
@@ -315,26 +323,24 @@ pub record IsPartlyAbsent (documents : List Document) (f : Finding) : Type 0 whe
   pub within : IsRequired documents kind lock contents requirement
   pub read : DerivesList requirement.list list
   pub always : requirement.is_reference ≡ false
-  pub lack : IsLack contents.parts contents.packages requirement.name list (requirement_line lock.name requirement) f
+  pub lack : IsLack contents.parts contents.packages (needed_by requirement list) (requirement_line lock.name requirement) f
 
 -- on this line a project that needs it, or a package of a lock with this, asks for it
 abbrev pub AsksOn : List Document → LockKind → File → LockContents → Needed → FileLine → Type 0
-AsksOn documents kind lock l n line = ((file : File) × (s : ProjectString) × HasString documents file s × (is_needed kind l.parts.names s.section ≡ true) × AlwaysAsks s n × (line ≡ string_line file s))
-    ⊎ ((q : LockedRequirement) × (list : List Spec) × IsRequired documents kind lock l q × (n ≡ record { name = q.name; extras = q.extras; specifiers = list }) × (line ≡ requirement_line lock.name q))
+AsksOn documents kind lock l n line = ((file : File) × (s : ProjectString) × HasString documents file s × (is_needed kind l.parts.names s.section ≡ true) × AsksEverywhere s n × (line ≡ string_line file s))
+    ⊎ ((q : LockedRequirement) × (list : List Spec) × IsRequired documents kind lock l q × (n ≡ needed_by q list) × (line ≡ requirement_line lock.name q))
 
--- a lock that has a package for each of its extras has none for one that a requirement asks for
+-- a lock with a package for each set of extras has none for those that a requirement asks for
 pub record IsExtraAbsent (documents : List Document) (f : Finding) : Type 0 where
   pub lock : File
   pub kind : LockKind
   pub contents : LockContents
   pub needed : Needed
   pub line : FileLine
-  pub keys : List (List ℕ)
   pub known : HasLock documents kind lock contents
   pub asks : AsksOn documents kind lock contents needed line
-  pub packaged : contents.parts.packaged ≡ Some keys
-  pub none : has_keys keys (needed_keys needed) ≡ false
-  pub is : f ≡ NoRequirement line missing_extra_reason 0
+  pub none : All (CannotBe contents.parts needed) contents.packages
+  pub is : f ≡ NoRequirement line (extras_reason (map normal needed.extras)) 0
 
 -- a lock does not have the hash of the project in its folder
 pub record IsStale (documents : List Document) (f : Finding) : Type 0 where
@@ -390,6 +396,10 @@ pub record AreTogether (documents : List Document) (file : File) (t : Members) (
   pub beside : folder file.name ≡ folder lock.name
   pub plain : is_plain_for_uv t ≡ true
 
+-- the section is of the tables that PEP 621 and PEP 735 define, of a project with these groups, which has the extras that it asks for itself
+abbrev pub IsDeclared : Groups → Section → Type 0
+IsDeclared all section = IsTrue (is_declared section && has_own_extras all section)
+
 -- the lock says that its project requires something, and not this requirement of it
 pub record IsUnentered (documents : List Document) (f : Finding) : Type 0 where
   pub file : File
@@ -401,14 +411,14 @@ pub record IsUnentered (documents : List Document) (f : Finding) : Type 0 where
   pub contents : LockContents
   pub are : AreTogether documents file table lock kind contents
   pub within : Contains (sources table) string
-  pub counts : is_standard string.section ≡ true
+  pub counts : IsDeclared (groups table) string.section
   pub requires : Requires string needed
   pub none : All (λ q. ¬ IsEntryFor needed q) contents.entries
   pub is : f ≡ NoRequirement (string_line file string) unentered_reason 0
 
 -- the string is no requirement that the lock says its project has
-abbrev pub IsOtherString : LockedRequirement → ProjectString → Type 0
-IsOtherString q s = is_standard s.section ≡ true → (n : Needed) → Requires s n → ¬ IsEntryFor n q
+abbrev pub IsOtherString : Groups → LockedRequirement → ProjectString → Type 0
+IsOtherString all q s = IsDeclared all s.section → (n : Needed) → Requires s n → ¬ IsEntryFor n q
 
 -- the lock says that its project has a requirement that it does not have
 pub record IsUnrequired (documents : List Document) (f : Finding) : Type 0 where
@@ -420,7 +430,7 @@ pub record IsUnrequired (documents : List Document) (f : Finding) : Type 0 where
   pub requirement : LockedRequirement
   pub are : AreTogether documents file table lock kind contents
   pub within : Contains contents.entries requirement
-  pub none : All (IsOtherString requirement) (sources table)
+  pub none : All (IsOtherString (groups table) requirement) (sources table)
   pub is : f ≡ NoRequirement (requirement_line lock.name requirement) unrequired_reason 0
 
 -- the finding is right
@@ -447,14 +457,22 @@ replaces s name t = is_replaced (overridden_names t) s.section (normal name)
 abbrev pub AllContained : List Document → Type 0
 AllContained documents = (file lock : File) (kind : LockKind) (l : LockContents) (s : ProjectString) (p : LockedPackage) (n : Needed) (v : Record)
     → HasString documents file s → HasLock documents kind lock l → Contains l.packages p → IsTrue (is_beside documents (record { kind = Project; file = file }) (record { kind = Lock kind; file = lock }))
-    → IsTrue (is_locked (bytes_eq (folder file.name) (folder lock.name)) s.section) → leaves_out kind l.parts.names s.section ≡ false → AlwaysAsks s n → ((other : File) (t : Members) → HasProject documents other t → replaces s n.name t ≡ false)
+    → IsTrue (is_locked (bytes_eq (folder file.name) (folder lock.name)) s.section) → leaves_out kind l.parts.names s.section ≡ false → AsksEverywhere s n → ((other : File) (t : Members) → HasProject documents other t → replaces s n.name t ≡ false)
     → LocksVersion n.name p v → SomeContained l.packages n.name n.specifiers
+
+-- the list of the requirement contains a version of its name in the same lock, if that has one
+abbrev pub ContainsVersion : LockContents → LockedRequirement → List Spec → Type 0
+ContainsVersion l q list = (p : LockedPackage) (v : Record) → Contains l.packages p → LocksVersion q.name p v → SomeContained l.packages q.name list
+
+-- some package has the name; in each environment, if the requirement does not only refer to one, some package meets it
+abbrev pub IsPresent : LockContents → LockedRequirement → List Spec → Type 0
+IsPresent l q list = ((p : LockedPackage) × Contains l.packages p × IsTrue (same_name q.name p.name))
+    × ((k : KnownEnvironment) → q.is_reference ≡ false → Contains known_environments k → (p : LockedPackage) × Contains l.packages p × MeetsIn l.parts (needed_by q list) k p)
 
 -- each requirement of a package whose list is one contains a version of its name in the same lock, if that has one and no project overrides it
 abbrev pub AllMet : List Document → Type 0
-AllMet documents = (lock : File) (kind : LockKind) (l : LockContents) (q : LockedRequirement) (p : LockedPackage) (list : List Spec) (v : Record) → HasLock documents kind lock l
-    → Contains l.requirements q → Contains l.packages p → DerivesList q.list list → ((file : File) (t : Members) → HasProject documents file t → overrides q.name t ≡ false)
-    → LocksVersion q.name p v → SomeContained l.packages q.name list
+AllMet documents = (lock : File) (kind : LockKind) (l : LockContents) (q : LockedRequirement) (list : List Spec) → HasLock documents kind lock l
+    → Contains l.requirements q → DerivesList q.list list → ((file : File) (t : Members) → HasProject documents file t → overrides q.name t ≡ false) → ContainsVersion l q list
 
 -- a project that is no project of this name
 abbrev pub IsOtherProject : List ℕ → Members → Type 0
@@ -464,9 +482,30 @@ IsOtherProject name t = list_any (bytes_eq (normal name)) (project_names t) ≡ 
 -- it does not only refer to one, some package meets the requirement
 abbrev pub AllPresent : List Document → Type 0
 AllPresent documents = (lock file : File) (kind : LockKind) (l : LockContents) (t : Members) (q : LockedRequirement) (list : List Spec) → HasLock documents kind lock l → Contains l.requirements q → DerivesList q.list list
-    → HasProject documents file t → ((other : File) (u : Members) → HasProject documents other u → IsOtherProject q.name u × (overrides q.name u ≡ false)) → is_installer (normal q.name) ≡ false
-    → ((p : LockedPackage) × Contains l.packages p × IsTrue (same_name q.name p.name))
-    × ((k : KnownEnvironment) → q.is_reference ≡ false → Contains known_environments k → (p : LockedPackage) × Contains l.packages p × MeetsIn l.parts q.name list k p)
+    → HasProject documents file t → ((other : File) (u : Members) → HasProject documents other u → IsOtherProject q.name u × (overrides q.name u ≡ false)) → is_installer (normal q.name) ≡ false → IsPresent l q list
+
+-- no project excuses or overrides a name
+abbrev pub no_excuse : List ℕ → Excuse
+no_excuse name = record { lacks = false; overrides = false }
+
+-- a project in this file asks for the extra with this key in a lock with this that counts for it, itself or through what other extras require, where no
+-- project overrides anything
+pub record AlwaysAsksForExtra (documents : List Document) (file lock : File) (kind : LockKind) (l : LockContents) (key : List ℕ) : Type 0 where
+  pub table : Members
+  pub strings : List StringReading
+  pub extras : List ExtraReading
+  pub has : HasProject documents file table
+  pub counts : IsTrue (is_beside documents (record { kind = Project; file = file }) (record { kind = Lock kind; file = lock }))
+  pub kept : (other : File) (u : Members) → HasProject documents other u → overridden_names u ≡ []
+  pub read : AllZip (IsStringReading (groups table) file) (sources table) strings
+  pub required : AllZip (IsExtraReading lock.name) l.optional extras
+  pub asks : IsTrue (includes (project_asks kind l.parts no_excuse (bytes_eq (folder file.name) (folder lock.name)) strings extras) [] key)
+
+-- what a package requires for such an extra contains a version in the same lock, and is present, if no project has its name and it is no installer
+abbrev pub AllExtrasMet : List Document → Type 0
+AllExtrasMet documents = (file lock : File) (kind : LockKind) (l : LockContents) (o : LockedExtra) (list : List Spec) → HasLock documents kind lock l → Contains l.optional o → AlwaysAsksForExtra documents file lock kind l o.key
+    → DerivesList o.requirement.list list → ContainsVersion l o.requirement list
+    × (((other : File) (u : Members) → HasProject documents other u → IsOtherProject o.requirement.name u) → is_installer (normal o.requirement.name) ≡ false → IsPresent l o.requirement list)
 
 -- each file of a package of a lock whose name has a version has that of the package
 abbrev pub AllOfVersion : List Document → Type 0
@@ -489,22 +528,26 @@ AllOfOnePython documents = (file lock : File) (kind : LockKind) (l : LockContent
     → IsTrue (is_beside documents (record { kind = Project; file = file }) (record { kind = Lock kind; file = lock })) → folder file.name ≡ folder lock.name → HavePythons file t l own locked
     → Contains python_minors minor → contains record_cmp own (python_record minor) ≡ contains record_cmp locked (python_record minor)
 
--- each requirement of a project of another name is one that the lock in its folder says it has, where that says some
+-- the name is not one by which the project asks for extras of its own that uv may replace
+abbrev pub IsWrittenName : List ℕ → Members → Type 0
+IsWrittenName name t = list_any (bytes_eq (normal name)) (replaced_names t (project_names t)) ≡ false
+
+-- each requirement of a project is one that the lock in its folder says it has, where that says some
 abbrev pub AllEntered : List Document → Type 0
 AllEntered documents = (file lock : File) (kind : LockKind) (l : LockContents) (t : Members) (s : ProjectString) (n : Needed) → AreTogether documents file t lock kind l
     → IsTrue (is_beside documents (record { kind = Project; file = file }) (record { kind = Lock kind; file = lock })) → nat_lt 0 (length l.entries) ≡ true
-    → Contains (sources t) s → is_standard s.section ≡ true → Requires s n → IsOtherProject n.name t → (q : LockedRequirement) × Contains l.entries q × IsEntryFor n q
+    → Contains (sources t) s → IsDeclared (groups t) s.section → Requires s n → IsWrittenName n.name t → (q : LockedRequirement) × Contains l.entries q × IsEntryFor n q
 
 -- and each that it says the project has, without a source of its own, is one of the project
 abbrev pub AllRequired : List Document → Type 0
 AllRequired documents = (file lock : File) (kind : LockKind) (l : LockContents) (t : Members) (q : LockedRequirement) (list : List Spec) → AreTogether documents file t lock kind l
     → IsTrue (is_beside documents (record { kind = Project; file = file }) (record { kind = Lock kind; file = lock }))
-    → Contains l.entries q → DerivesList q.list list → q.is_reference ≡ false → IsOtherProject q.name t
-    → (s : ProjectString) × (n : Needed) × Contains (sources t) s × (is_standard s.section ≡ true) × Requires s n × IsEntryFor n q
+    → Contains l.entries q → DerivesList q.list list → q.is_reference ≡ false → IsWrittenName q.name t
+    → (s : ProjectString) × (n : Needed) × Contains (sources t) s × IsDeclared (groups t) s.section × Requires s n × IsEntryFor n q
 
 -- where nothing is found, they do
 abbrev pub NoFindingImpliesContained : Type 0
-NoFindingImpliesContained = (documents : List Document) (r : Report) → IsDocumentsReport documents r → r.findings ≡ [] → AllContained documents × (AllMet documents × (AllPresent documents × (AllOfVersion documents × (AllAlone documents × (AllFresh documents × (AllEntered documents × (AllRequired documents × AllOfOnePython documents)))))))
+NoFindingImpliesContained = (documents : List Document) (r : Report) → IsDocumentsReport documents r → r.findings ≡ [] → AllContained documents × (AllMet documents × (AllPresent documents × (AllExtrasMet documents × (AllOfVersion documents × (AllAlone documents × (AllFresh documents × (AllEntered documents × (AllRequired documents × AllOfOnePython documents))))))))
 
 -- the lines are the requirements of a part of a project, which is installed in the environments of the domain
 pub record IsPart (documents : List Document) (d : Domain) (lines : List Demand) : Type 0 where

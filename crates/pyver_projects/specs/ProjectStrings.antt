@@ -66,10 +66,10 @@ abbrev pub is_text_or_none : Option Data → Bool
 is_text_or_none value = is_some_or as_str value
 
 -- where a string stands in `pyproject.toml` or a Pipfile: extras and groups by the normal forms of their names, and for the name of a group that
--- another includes both; or, for one that asks for extras of the project itself, the extra in which it stands, if its extras belong to that, and the
--- extras; or, for a key or a name that is invalid, the path of what it stands in, and why it is; or, for what a key of a table of
--- Poetry or Pipenv asks for, the tool, the path of the table and the key; or that it is a constraint or an override of uv; or the path of the table of
--- an environment of Hatch; or why what stands there is not read
+-- another includes both; or, for a string that asks for extras of the project itself, the extra that includes these, if one does, and these;
+-- or, for a key or a name that is invalid, the path of what it stands in, and why it is; or, for what a key of a table of
+-- Poetry or Pipenv asks for, the tool, the path of the table and the key; or that it is a constraint or an override of uv; or whether the project
+-- is installed in an environment of Hatch, and the path of its table; or why what stands there is not read
 pub data Section : Type 0 where
   Dependencies : Section
   Extra : List ℕ → Section
@@ -79,7 +79,7 @@ pub data Section : Type 0 where
   Invalid : (table reason : List ℕ) → Section
   Entry : EntryTool → (table name : List ℕ) → Section
   Constraint : Section
-  Environment : (table : List ℕ) → Section
+  Environment : (joined : Bool) → (table : List ℕ) → Section
   Unread : Cause → Section
   Build : Section
   Python : Section
@@ -94,11 +94,13 @@ pub record PackageCondition : Type 0 where
   pub python : List ℕ
   pub marker : List ℕ
 
--- a package in a lock: the number of its line, its name and its version, if it has one, as they are written, and where it is, if not everywhere
+-- a package in a lock: the number of its line, its name and its version, if it has one, as they are written, the extras that it is for, in normal form, and
+-- where it is, if not everywhere
 pub record LockedPackage : Type 0 where
   pub line : ℕ
   pub name : List ℕ
   pub version : Option (List ℕ)
+  pub extras : List (List ℕ)
   pub condition : Option PackageCondition
 
 -- a requirement of a locked package: the number of the line and the name and version of that package, the name that it requires, the extras that it asks
@@ -140,7 +142,7 @@ pub record ContentHash : Type 0 where
 -- the parts of a project that a lock has, in normal form: the names of its groups and extras, with `default` for the dependencies; and what `extras` and
 -- `dependency_groups` are in its markers where all that it has is installed; and the markers of the environments that it is for, or none (PEP 751,
 -- "Installation"); the hash of the project, if it is known what is hashed; for which versions of Python the lock says that the project in its folder is; and
--- the keys of all extras that it has packages for, if it has a package for each
+-- whether it has a package for each set of extras that is asked for
 pub record LockParts : Type 0 where
   pub names : List (List ℕ)
   pub extras : List (List ℕ)
@@ -148,7 +150,7 @@ pub record LockParts : Type 0 where
   pub environments : List (List ℕ)
   pub hash : Option ContentHash
   pub python : Option (List ℕ)
-  pub packaged : Option (List (List ℕ))
+  pub by_extras : Bool
 
 -- what is read of a lock: what packages require, also for the extras that their requirements ask for, and for other extras; `entries` are what it says that
 -- the project in its folder requires
@@ -333,7 +335,7 @@ section_path (OwnExtras asker extras) = codes "project.optional-dependencies."
 section_path (Invalid table reason) = table
 section_path (Entry tool table name) = table
 section_path Constraint = codes "tool.uv."
-section_path (Environment table) = table
+section_path (Environment joined table) = table
 section_path (Unread c) = []
 section_path Build = codes "build-system.requires."
 section_path Python = codes "project.requires-python."

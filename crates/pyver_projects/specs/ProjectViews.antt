@@ -49,7 +49,7 @@ section_of (section.OwnExtras asker extras) = OwnExtras (option_map (λ n. n.ite
 section_of (section.Invalid table reason) = Invalid table.items reason.now
 section_of (section.Entry tool table name) = Entry tool table.items name.items
 section_of section.Constraint = Constraint
-section_of (section.Environment table) = Environment table.items
+section_of (section.Environment joined table) = Environment joined table.items
 section_of (section.Unread c) = Unread c
 section_of section.Build = Build
 section_of section.Python = Python
@@ -71,7 +71,7 @@ abbrev pub read_condition_of : ReadConditionValue → ReadCondition
 read_condition_of c = record { python = c.python; marker = c.marker.items }
 
 abbrev pub locked_of : LockedValue → LockedPackage
-locked_of l = record { line = l.line; name = string_bytes l.name; version = option_map string_bytes l.version; condition = option_map condition_of_package l.condition }
+locked_of l = record { line = l.line; name = string_bytes l.name; version = option_map string_bytes l.version; extras = map (λ e. e.items) l.extras.items; condition = option_map condition_of_package l.condition }
 
 abbrev pub requirement_of : RequirementValue → LockedRequirement
 requirement_of q = record { line = q.line; requirer = q.requirer.items; name = string_bytes q.name; extras = map string_bytes q.extras.items; list = string_bytes q.list; is_reference = q.is_reference }
@@ -89,7 +89,7 @@ abbrev pub content_hash_of : HashValue → ContentHash
 content_hash_of h = record { rule = h.rule; value = h.value.items }
 
 abbrev pub parts_of : PartsValue → LockParts
-parts_of p = record { names = map (λ n. n.items) p.names.items; extras = map (λ n. n.items) p.extras.items; groups = map (λ n. n.items) p.groups.items; environments = map (λ t. t.items) p.environments.items; hash = option_map content_hash_of p.hash; python = option_map string_bytes p.python; packaged = option_map (λ keys. map (λ k. k.items) keys.items) p.packaged }
+parts_of p = record { names = map (λ n. n.items) p.names.items; extras = map (λ n. n.items) p.extras.items; groups = map (λ n. n.items) p.groups.items; environments = map (λ t. t.items) p.environments.items; hash = option_map content_hash_of p.hash; python = option_map string_bytes p.python; by_extras = p.by_extras }
 
 abbrev pub contents_of : ContentsValue → LockContents
 contents_of l = record { parts = parts_of l.parts; packages = map locked_of l.packages.items; requirements = map requirement_of l.requirements.items; optional = map locked_extra_of l.optional.items; entries = map requirement_of l.entries.items; files = map locked_file_of l.files.items; faults = map fault_of l.faults.items }
@@ -101,7 +101,7 @@ abbrev pub extra_reading_of : ExtraReadingValue → ExtraReading
 extra_reading_of x = record { key = x.key.items; meaning = line_meaning_of x.meaning }
 
 abbrev pub locked_reading_of : LockedReadingValue → LockedReading
-locked_reading_of y = record { line = file_line_of y.line; name = y.name.items; condition = option_map read_condition_of y.condition; version = y.version; invalid = option_map finding_of y.invalid }
+locked_reading_of y = record { line = file_line_of y.line; name = y.name.items; extras = map (λ e. e.items) y.extras.items; condition = option_map read_condition_of y.condition; version = y.version; invalid = option_map finding_of y.invalid }
 
 abbrev pub document_of : DocumentValue → Document
 document_of d = record { kind = d.kind; file = file_of d.file }

@@ -1,7 +1,8 @@
 -- Requirements of a project that hold together: its dependencies; those of an extra with the extras that it includes and the dependencies; those of a group
--- with the groups that it includes, and with the dependencies if `together` is true; those of its build; and those of an environment of Hatch. What a project
--- overrides is replaced by the override.
+-- with the groups that it includes, and with the dependencies if `together` is true; those of its build; and those of an environment of Hatch, with the
+-- dependencies if the project is installed in it. What a project overrides is replaced by the override.
 use Rattle.std.specs.Prelude.{◌≡◌, ℕ, ◌&&◌, List, [], ◌∷◌, ◌++◌, Bool, true, false, None, Option, Some, bytes_eq, map, nat_eq, not, if◌then◌else◌, is_some}
+use Rattle.std.specs.Bool.{beq}
 use Rattle.std.specs.List.{filter, flat_map, list_any}
 use Rattle.std.specs.Option.{option_or}
 use Rattle.pep440_rs.specs.Bounds.{Segments}
@@ -29,7 +30,7 @@ section_part (OwnExtras (Some asker) extras) = Extra asker
 section_part (Invalid table reason) = Invalid table reason
 section_part (Entry tool table name) = Dependencies
 section_part Constraint = Dependencies
-section_part (Environment table) = Environment table
+section_part (Environment joined table) = Environment joined table
 section_part (Unread c) = Unread c
 section_part Build = Build
 section_part Python = Python
@@ -39,7 +40,7 @@ section_part Version = Version
 abbrev pub same_part : Section → Section → Bool
 same_part (Extra a) (Extra b) = bytes_eq a b
 same_part (Group a) (Group b) = bytes_eq a b
-same_part (Environment a) (Environment b) = bytes_eq a b
+same_part (Environment j a) (Environment k b) = beq j k && bytes_eq a b
 same_part Dependencies Dependencies = true
 same_part Build Build = true
 same_part _ _ = false
@@ -49,6 +50,7 @@ abbrev pub has_dependencies : Bool → Section → Bool
 has_dependencies together Dependencies = true
 has_dependencies together (Extra name) = true
 has_dependencies together (Group name) = together
+has_dependencies together (Environment joined table) = joined
 has_dependencies together _ = false
 
 -- the part is an extra that is this one or includes it
@@ -66,7 +68,7 @@ has_group is (OwnExtras asker extras) name = false
 has_group is (Invalid table reason) name = false
 has_group is (Entry tool table key) name = false
 has_group is Constraint name = false
-has_group is (Environment table) name = false
+has_group is (Environment joined table) name = false
 has_group is (Unread c) name = false
 has_group is Build name = false
 has_group is Python name = false
@@ -78,7 +80,7 @@ is_build _ = false
 
 -- the part is this environment
 abbrev pub is_environment : List ℕ → Section → Bool
-is_environment table (Environment other) = bytes_eq table other
+is_environment table (Environment joined other) = bytes_eq table other
 is_environment table _ = false
 
 -- a string of the section holds in the part, which has these groups and extras
@@ -92,7 +94,7 @@ holds_in together groups extras part (OwnExtras asker asked) = false
 holds_in together groups extras part (Invalid table reason) = false
 holds_in together groups extras part (Entry tool table name) = has_dependencies together part
 holds_in together groups extras part Constraint = has_dependencies together part
-holds_in together groups extras part (Environment table) = is_environment table part
+holds_in together groups extras part (Environment joined table) = is_environment table part
 holds_in together groups extras part (Unread c) = false
 holds_in together groups extras part Python = false
 holds_in together groups extras part Version = false

@@ -374,7 +374,7 @@ fn parse_python(
         Section::Extra(_) | Section::Group(_) => Ok(None),
         Section::Include(_, _) | Section::Invalid(_, _) | Section::Entry(_, _, _) => Ok(None),
         Section::OwnExtras(_, _) => Ok(None),
-        Section::Constraint | Section::Environment(_) | Section::Unread(_) => Ok(None),
+        Section::Constraint | Section::Environment(_, _) | Section::Unread(_) => Ok(None),
     }
 }
 
@@ -528,7 +528,7 @@ fn parse_string(
         Section::Invalid(_, reason) => no_group(alloc, line, reason),
         Section::Entry(tool, _, _) => parse_entry(alloc, *tool, line),
         Section::Constraint => parse_requirement(alloc, line),
-        Section::Environment(_) => parse_environment_string(alloc, line, text),
+        Section::Environment(_, _) => parse_environment_string(alloc, line, text),
         Section::Unread(cause) => Ok(LineMeaning::LeftOut(*cause)),
         Section::Include(group, included) => {
             include_meaning(alloc, groups, line, group.as_slice(), included.as_slice())

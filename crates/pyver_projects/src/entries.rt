@@ -1,24 +1,25 @@
 //! What `uv.lock` says that the project in its folder requires, and that project beside it.
-ghost use Rattle.std.specs.Prelude.{◌≡◌, ◌∷◌, ◌++◌, [], IfOk, if◌then◌else◌, map, option_map, option_to_list};
+ghost use Rattle.std.specs.Prelude.{◌≡◌, ◌∷◌, ◌++◌, [], IfOk, codes, if◌then◌else◌, is_some, map, option_map, option_to_list};
 ghost use Rattle.std.specs.List.{find, flat_map, list_any};
 ghost use Rattle.pyver_findings.specs.Views.{demand_of, file_line_of, file_of, finding_of, line_meaning_of};
-ghost use Rattle.pyver_projects.specs.Comparing.{same_extras, differing, first_difference, has_dynamic, has_each, is_dynamic, is_in_lock, is_in_one, is_in_project, is_plain_for_uv, is_same_requirement, locked_demands, python_difference, python_finding, python_line, python_minors, same_list, same_specifier, unentered, unentered_in, unmatched, unrequired, unrequired_in};
+ghost use Rattle.pyver_projects.specs.Comparing.{differing, first_difference, has_dynamic, has_each, is_declared, is_dynamic, is_in_lock, is_in_one, is_in_project, is_plain_for_uv, is_same_requirement, locked_demands, python_difference, python_finding, python_line, python_minors, replaced_names, same_list, same_specifier, unentered, unentered_in, unmatched, unrequired, unrequired_in};
 ghost use Rattle.pyver_projects.specs.PackageRequirements.{entries_from, entry, group_entries, has_folder, has_own_source, is_dot, is_own_package, metadata_entries};
-ghost use Rattle.pyver_projects.specs.ProjectStrings.{entries, listed, members_list};
-ghost use Rattle.pyver_projects.specs.ProjectViews.{requirement_of, string_reading_of};
+ghost use Rattle.pyver_projects.specs.ProjectStrings.{entries, inside, listed, members_list, text_in};
+ghost use Rattle.pyver_projects.specs.ProjectViews.{requirement_of, section_of, string_reading_of};
 ghost use Rattle.pyver_projects.specs.Together.{project_python};
 ghost use Rattle.pyver_projects.specs.declared.document_kind.LockKind.TheVariants.{Uv};
-ghost use Rattle.toml.specs.Data.{as_str};
+ghost use Rattle.toml.specs.Data.{as_str, get_member};
 ghost use Rattle.toml.specs.View.{table_view, view};
 
 use crate::content_hash::key_line;
 use crate::document_kind::LockKind;
 use crate::document_reading::{ProjectReading, StringReading};
-use crate::extra_comparison::has_keys;
+use crate::extra_comparison::same_extras;
 use crate::groups::has_tool;
 use crate::lock_comparison::is_project_name;
 use crate::locked_package::{LockedRequirement, package_text};
 use crate::package_requirements::text_or_empty;
+use crate::project::Section;
 use crate::table::{inside, items, listed_strings, table, text, top};
 use crate::together::{is_standard, project_python};
 use pep440_rs::{Version, VersionSpecifier};
@@ -219,12 +220,6 @@ fn same_list(list: &[VersionSpecifier], other: &[VersionSpecifier]) -> bool
     has_each(list, other) && has_each(other, list)
 }
 
-fn same_extras(extras: &[Vec<u8>], other: &[Vec<u8>]) -> bool
-    ensures { result ≡ same_extras (map (λ e. e.items) extras.now) (map (λ e. e.items) other.now) }
-{
-    has_keys(other, extras) && has_keys(extras, other)
-}
-
 // The second, in the lock, is for the first, of the project.
 #[tactic(auto, unfolding(pyver_findings::specs::Views::names_of))]
 fn is_same_requirement(demand: &Demand, entry: &Demand) -> bool
@@ -259,11 +254,21 @@ fn is_entered(demand: &Demand, entries: &[LineMeaning]) -> bool
     any_in_lock(demand, entries)
 }
 
+// The section is of the tables that PEP 621 and PEP 735 define.
+fn is_declared(section: &Section) -> bool
+    ensures { result ≡ is_declared (section_of section.now) }
+{
+    match section {
+        Section::OwnExtras(_, _) => true,
+        _ => is_standard(section),
+    }
+}
+
 // What the string asks for that its lock is to have.
 fn locked_demand(string: &StringReading) -> Option<&Demand>
     ensures { option_to_list (option_map (λ a. demand_of a.now) result) ≡ locked_demands (string_reading_of string.now) }
 {
-    if !is_standard(&string.section) {
+    if !is_declared(&string.section) {
         return None;
     }
     match &string.meaning {
@@ -296,7 +301,7 @@ fn is_required(entry: &Demand, strings: &[StringReading]) -> bool
 }
 
 // Adds that the requirement is not there, for this reason.
-pub(crate) fn push_unmatched(
+pub(crate) fn push_requirement_fault(
     alloc: Global,
     findings: &mut Vec<Finding>,
     reason: &str,
@@ -326,7 +331,7 @@ fn push_unentered(
         return Ok(());
     }
     let reason = "the lock is out of date: it does not have this requirement";
-    push_unmatched(alloc, findings, reason, demand)
+    push_requirement_fault(alloc, findings, reason, demand)
 }
 
 fn push_unentered_in(
@@ -338,7 +343,7 @@ fn push_unentered_in(
 ) -> Result<(), AllocError>
     ensures { IfOk result (λ _. map finding_of findings.new.items ≡ map finding_of findings.old.items ++ unentered_in (option_to_list (option_map (λ n. n.items) project.now)) (map line_meaning_of entries.now) (string_reading_of string.now)) }
 {
-    if !is_standard(&string.section) {
+    if !is_declared(&string.section) {
         return Ok(());
     }
     match &string.meaning {
@@ -379,7 +384,7 @@ fn push_unrequired(
         return Ok(());
     }
     let reason = "the lock is out of date: the project does not have this requirement";
-    push_unmatched(alloc, findings, reason, entry)
+    push_requirement_fault(alloc, findings, reason, entry)
 }
 
 fn push_unrequired_in(
@@ -560,7 +565,14 @@ fn is_plain_for_uv(document: &Table) -> bool
         && !has_tool("pdm", document)
 }
 
-// Adds in what the project with this name differs from its lock, where that has some requirements of it.
+// Its version is in the table `project`.
+fn has_version(document: &Table) -> bool
+    ensures { result ≡ is_some (text_in (inside (codes "version") (get_member (codes "project") (table_view document.now)))) }
+{
+    text(inside(top(document, "project"), "version")).is_some()
+}
+
+// Adds in what the project, but for this name, differs from its lock, where that has some requirements of it.
 pub(crate) fn push_differing(
     alloc: Global,
     findings: &mut Vec<Finding>,
@@ -584,16 +596,14 @@ pub(crate) fn push_differences(
     project: &ProjectReading,
     entries: &[LineMeaning],
 ) -> Result<(), AllocError>
-    ensures { IfOk result (λ _. map finding_of findings.new.items ≡ map finding_of findings.old.items ++ (if is_plain_for_uv (table_view project.now.table) then differing (option_to_list (option_map (λ n. n.items) project.now.name)) (map string_reading_of project.now.strings.items) (map line_meaning_of entries.now) else [])) }
+    ensures { IfOk result (λ _. map finding_of findings.new.items ≡ map finding_of findings.old.items ++ (if is_plain_for_uv (table_view project.now.table) then differing (replaced_names (table_view project.now.table) (option_to_list (option_map (λ n. n.items) project.now.name))) (map string_reading_of project.now.strings.items) (map line_meaning_of entries.now) else [])) }
 {
     if !is_plain_for_uv(&project.table) {
         return Ok(());
     }
-    push_differing(
-        alloc,
-        findings,
-        &project.name,
-        project.strings.as_slice(),
-        entries,
-    )
+    let strings = project.strings.as_slice();
+    if has_version(&project.table) {
+        return push_differing(alloc, findings, &None, strings, entries);
+    }
+    push_differing(alloc, findings, &project.name, strings, entries)
 }

@@ -1,18 +1,21 @@
 //! Extras that requirements ask for, beside a lock.
-ghost use Rattle.std.specs.Prelude.{◌≡◌, ◌++◌, IfOk, Some, bytes_eq, map};
-ghost use Rattle.std.specs.List.{flat_map, list_any};
+ghost use Rattle.std.specs.Prelude.{◌≡◌, ◌++◌, IfOk, bytes_eq, map};
+ghost use Rattle.std.specs.List.{flat_map, list_any, filter};
 ghost use Rattle.pyver_findings.specs.Views.{demand_of, finding_of};
-ghost use Rattle.pyver_projects.specs.Comparing.{asked_in, asks_for_extras, demand_asks, demand_keys, extra_asks, extra_fault, has_keys, lacks_extra, project_asks, unmet_extra, unmet_extras, without_extra};
-ghost use Rattle.pyver_projects.specs.ProjectViews.{IsIndex, excuses, extra_reading_of, has_key, inclusion_of, index_parts, packages_of, section_of, string_reading_of};
+ghost use Rattle.pyver_projects.specs.Comparing.{asked_in, asks_for_extras, demand_asks, demand_keys, extra_asks, has_keys, project_asks, unmet_extra, unmet_extras, extras_reason, is_for_demand, is_for_extras, lacks_taken, same_extras, without_extras};
+ghost use Rattle.pyver_projects.specs.ProjectViews.{IsIndex, excuses, extra_reading_of, has_key, inclusion_of, index_parts, packages_of, section_of, string_reading_of, locked_reading_of, parts_of};
 
 use crate::document_reading::{ExtraReading, StringReading};
-use crate::entries::push_unmatched;
+use crate::entries::push_requirement_fault;
 use crate::groups::{Inclusion, InclusionIndex, included_groups, push_inclusions_by};
 use crate::known_projects::contains_name;
 use crate::lock_comparison::{
-    IndexedLock, PackageIndex, has_package, is_locked, is_needed, is_overridden, push_unmet,
+    IndexedLock, is_locked, is_needed, is_overridden, push_unmet_meaning,
 };
-use crate::package_extras::extra_key;
+use crate::locked_package::LockParts;
+use crate::locked_reading::LockedReading;
+use crate::package_extras::push_extra_keys;
+use crate::partly_locked::push_partly_needed;
 use crate::project::Section;
 use pyver_findings::{Demand, Finding, LineMeaning};
 use std::alloc::{AllocError, Global};
@@ -24,9 +27,12 @@ fn demand_keys(alloc: Global, demand: &Demand) -> Result<Vec<Vec<u8>>, AllocErro
     ensures { IfOk result (λ keys. map (λ k. k.items) keys.items ≡ demand_keys (demand_of demand.now)) }
 {
     let mut keys = Vec::new(alloc);
-    for extra in &demand.extras {
-        keys.push(extra_key(alloc, demand.name.as_slice(), extra.as_slice())?)?;
-    }
+    push_extra_keys(
+        alloc,
+        &mut keys,
+        demand.name.as_slice(),
+        demand.extras.as_slice(),
+    )?;
     Ok(keys)
 }
 
@@ -38,7 +44,7 @@ fn has_key(found: &[Vec<u8>], key: &[u8]) -> bool
 }
 
 // Each of these is there.
-pub(crate) fn has_keys(found: &[Vec<u8>], keys: &[Vec<u8>]) -> bool
+fn has_keys(found: &[Vec<u8>], keys: &[Vec<u8>]) -> bool
     ensures { result ≡ has_keys (map (λ k. k.items) found.now) (map (λ k. k.items) keys.now) }
 {
     for key in keys {
@@ -49,61 +55,90 @@ pub(crate) fn has_keys(found: &[Vec<u8>], keys: &[Vec<u8>]) -> bool
     true
 }
 
-// ---- a lock that has a package for each extra
-
-// It has each extra that the requirement asks for.
-fn has_each_extra(alloc: Global, found: &[Vec<u8>], demand: &Demand) -> Result<bool, AllocError>
-    ensures { IfOk result (λ b. b ≡ has_keys (map (λ k. k.items) found.now) (demand_keys (demand_of demand.now))) }
+pub(crate) fn same_extras(extras: &[Vec<u8>], other: &[Vec<u8>]) -> bool
+    ensures { result ≡ same_extras (map (λ e. e.items) extras.now) (map (λ e. e.items) other.now) }
 {
-    let keys = demand_keys(alloc, demand)?;
-    Ok(has_keys(found, keys.as_slice()))
+    has_keys(other, extras) && has_keys(extras, other)
 }
 
-// Adds that the lock does not have an extra, unless it has all.
-fn push_extra_fault(
-    alloc: Global,
-    findings: &mut Vec<Finding>,
-    has: bool,
-    demand: &Demand,
-) -> Result<(), AllocError>
-    ensures { IfOk result (λ _. map finding_of findings.new.items ≡ map finding_of findings.old.items ++ extra_fault has (demand_of demand.now)) }
+// ---- a lock that has a package for each set of extras
+
+// A package for the second extras is one for the first, which are asked for.
+fn is_for_extras(parts: &LockParts, extras: &[Vec<u8>], own: &[Vec<u8>]) -> bool
+    ensures { result ≡ is_for_extras (parts_of parts.now) (map (λ e. e.items) extras.now) (map (λ e. e.items) own.now) }
 {
-    if has {
-        return Ok(());
-    }
-    let reason = "the lock does not have this extra of the package";
-    push_unmatched(alloc, findings, reason, demand)
+    !parts.by_extras || same_extras(extras, own)
 }
 
-fn push_lacked_extra(
-    alloc: Global,
-    findings: &mut Vec<Finding>,
-    found: &[Vec<u8>],
-    demand: &Demand,
-) -> Result<(), AllocError>
-    ensures { IfOk result (λ _. map finding_of findings.new.items ≡ map finding_of findings.old.items ++ lacks_extra (Some (map (λ k. k.items) found.now)) (demand_of demand.now)) }
+// The package is for the extras that the requirement asks for.
+#[tactic(auto, unfolding(pyver_findings::specs::Views::names_of))]
+fn is_for_demand(parts: &LockParts, demand: &Demand, locked: &LockedReading) -> bool
+    ensures { result ≡ is_for_demand (parts_of parts.now) (demand_of demand.now) (locked_reading_of locked.now) }
 {
-    let has = has_each_extra(alloc, found, demand)?;
-    push_extra_fault(alloc, findings, has, demand)
+    is_for_extras(parts, demand.extras.as_slice(), locked.extras.as_slice())
 }
 
-// Adds that the lock has packages of the name of the requirement, but none for an extra that it asks for.
-pub(crate) fn push_without_extra(
+// The packages that are.
+fn filter_needed<'a>(
+    alloc: Global,
+    parts: &LockParts,
+    demand: &Demand,
+    taken: &[&'a LockedReading],
+) -> Result<Vec<&'a LockedReading>, AllocError>
+    ensures { IfOk result (λ needed. map (λ y. locked_reading_of y.now) needed.items ≡ filter (is_for_demand (parts_of parts.now) (demand_of demand.now)) (map (λ y. locked_reading_of y.now) taken.now)) }
+{
+    let mut needed = Vec::new(alloc);
+    for locked in taken {
+        if is_for_demand(parts, demand, *locked) {
+            needed.push(*locked)?;
+        }
+    }
+    Ok(needed)
+}
+
+// Why no package is for these extras.
+fn extras_reason(extras: &[Vec<u8>]) -> &'static str
+    ensures { result.now ≡ extras_reason (map (λ e. e.items) extras.now) }
+{
+    match extras {
+        [] => "the lock has this package only for extras",
+        _ => "the lock does not have this extra of the package",
+    }
+}
+
+// Adds that none of the packages that the requirement may take is for its extras.
+#[tactic(auto, unfolding(pyver_findings::specs::Views::names_of))]
+fn push_without_extras(
     alloc: Global,
     findings: &mut Vec<Finding>,
-    packages: &PackageIndex<'_>,
     demand: &Demand,
+    taken: &[&LockedReading],
+    needed: &[&LockedReading],
 ) -> Result<(), AllocError>
-    requires { IsIndex packages.now }
-    ensures { IfOk result (λ _. map finding_of findings.new.items ≡ map finding_of findings.old.items ++ without_extra (index_parts packages.now) (packages_of packages.now) (demand_of demand.now)) }
+    ensures { IfOk result (λ _. map finding_of findings.new.items ≡ map finding_of findings.old.items ++ without_extras (demand_of demand.now) (map (λ y. locked_reading_of y.now) taken.now) (map (λ y. locked_reading_of y.now) needed.now)) }
 {
-    if !has_package(demand, packages) {
-        return Ok(());
+    match (taken, needed) {
+        ([_, ..], []) => {
+            let reason = extras_reason(demand.extras.as_slice());
+            push_requirement_fault(alloc, findings, reason, demand)
+        }
+        _ => Ok(()),
     }
-    match &packages.parts.packaged {
-        Some(found) => push_lacked_extra(alloc, findings, found.as_slice(), demand),
-        None => Ok(()),
-    }
+}
+
+// Adds that none of the packages that the requirement may take is for its extras, or none of those is there in some environment.
+pub(crate) fn push_lack_of_taken(
+    alloc: Global,
+    findings: &mut Vec<Finding>,
+    parts: &LockParts,
+    demand: &Demand,
+    taken: &[&LockedReading],
+) -> Result<(), AllocError>
+    ensures { IfOk result (λ _. map finding_of findings.new.items ≡ map finding_of findings.old.items ++ lacks_taken (parts_of parts.now) (demand_of demand.now) (map (λ y. locked_reading_of y.now) taken.now)) }
+{
+    let needed = filter_needed(alloc, parts, demand, taken)?;
+    push_without_extras(alloc, findings, demand, taken, needed.as_slice())?;
+    push_partly_needed(alloc, findings, parts, demand, needed.as_slice())
 }
 
 // ---- a lock that says what packages require for extras
@@ -134,7 +169,7 @@ fn push_demand_asks(
 }
 
 // Adds the extras that the string asks for, under no key.
-fn push_asked_in(
+fn push_string_asks(
     alloc: Global,
     asks: &mut Vec<Inclusion>,
     lock: &IndexedLock<'_>,
@@ -151,7 +186,7 @@ fn push_asked_in(
     }
 }
 
-fn push_all_asked(
+fn push_all_string_asks(
     alloc: Global,
     asks: &mut Vec<Inclusion>,
     lock: &IndexedLock<'_>,
@@ -160,7 +195,7 @@ fn push_all_asked(
     ensures { IfOk result (λ _. map inclusion_of asks.new.items ≡ map inclusion_of asks.old.items ++ flat_map (asked_in lock.now.kind (index_parts lock.now.packages) (excuses lock.now.projects.now) lock.now.near) (map string_reading_of strings.now)) }
 {
     for string in strings {
-        push_asked_in(alloc, asks, lock, string)?;
+        push_string_asks(alloc, asks, lock, string)?;
     }
     Ok(())
 }
@@ -205,7 +240,7 @@ fn project_asks(
     ensures { IfOk result (λ is. map inclusion_of is.items ≡ project_asks lock.now.kind (index_parts lock.now.packages) (excuses lock.now.projects.now) lock.now.near (map string_reading_of strings.now) (map extra_reading_of extras.now)) }
 {
     let mut asks = Vec::new(alloc);
-    push_all_asked(alloc, &mut asks, lock, strings)?;
+    push_all_string_asks(alloc, &mut asks, lock, strings)?;
     push_all_extra_asks(alloc, &mut asks, extras)?;
     Ok(asks)
 }
@@ -224,7 +259,7 @@ fn push_unmet_extra(
     if !keys.contains_key(extra.key.as_slice()) {
         return Ok(());
     }
-    push_unmet(
+    push_unmet_meaning(
         alloc,
         findings,
         lock.projects,

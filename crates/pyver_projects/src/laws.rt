@@ -13,12 +13,13 @@ pub fn findings_hold()
     ensures { DocumentFindingsHold }
 {}
 
-/// Where nothing is reported, each requirement of a project without a marker and a URL, but of its build, contains a version of its
+/// Where nothing is reported, each requirement of a project without a marker (but in a Pipfile) and a URL, but of its build, contains a version of its
 /// name in each lock that counts for it, does not leave its part out, and has one, unless the project overrides the name. Each requirement of a locked package that is read
 /// and is in PEP 440's syntax contains a version of its name in the same lock, if there is one and no project overrides it; and in each environment that is known some package meets it that the lock does not
-/// leave out, if there is a project, none has this name, and it is none of setuptools, distribute, pip and wheel.
+/// leave out, if there is a project, none has this name, and it is none of setuptools, distribute, pip and wheel; in `pdm.lock` one for the extras that it
+/// asks for. So does each requirement that a package has for an extra for which the project asks, itself or through others, if no project overrides anything.
 /// Each file of a locked package from an index, in whose name a version is read, has one that `==` with the package's version matches.
-/// No package has the name and the marker of another, if the format has one, and no dependency of `uv.lock` is on two.
+/// No package has the name, the extras and the marker of another, if the format has markers, and no dependency of `uv.lock` is on two.
 /// Each lock with a hash has that of what is hashed of the project in its folder, unless this is not known.
 /// Where `uv.lock` names requirements of the project in its folder, each requirement of the project is among them, by name and list, and each of them is one of the project,
 /// unless it has a source of its own, the project has no name, or its dependencies or extras are dynamic or in tables of other tools.

@@ -1,10 +1,9 @@
 //! A project beside a lock, and the requirements of a lock beside its packages.
-ghost use Rattle.std.specs.Prelude.{◌≡◌, ◌++◌, [], IfOk, if◌then◌else◌, is_none, map, ◌∷◌, List, bytes_eq, option_map, option_to_list, ℕ};
-ghost use Rattle.std.specs.List.{flat_map, find, list_any, filter};
+ghost use Rattle.std.specs.Prelude.{◌≡◌, ◌++◌, [], IfOk, if◌then◌else◌, map, ◌∷◌, List, bytes_eq, option_map, option_to_list, ℕ};
+ghost use Rattle.std.specs.List.{flat_map, list_any, filter};
 ghost use Rattle.pyver_findings.specs.Reports.{demands_in};
 ghost use Rattle.pyver_findings.specs.Views.{demand_of, file_line_of, finding_of, line_meaning_of};
-ghost use Rattle.pyver_projects.specs.Comparing.{unmet_demand, absent, found_beside, found_in_pair, beside_all, compared, compared_demand, accepts_version, excluded, excluded_in, leaves_out, names_groups, locks_extras, locks_groups, has_name, is_installer, is_of_other_tool, is_overridden, is_locked, locks_entries, is_needed, lack_finding, lack_in, lacking, leaves_out_all, locked_line, may_take, missing, outside, partly_locked, taken_packages, unlocked, unmet, unmet_extras};
-ghost use Rattle.pyver_projects.specs.KnownEnvironments.{known_environments};
+ghost use Rattle.pyver_projects.specs.Comparing.{unmet_demand, absent, found_beside, found_in_pair, beside_all, compared, compared_demand, accepts_version, excluded, excluded_in, leaves_out, names_groups, locks_extras, locks_groups, has_name, is_installer, is_of_other_tool, is_of_pipenv, is_overridden, is_locked, locks_entries, is_needed, lacking, locked_line, may_take, missing, outside, taken_packages, unlocked, unmet, unmet_extras, lacks_taken};
 ghost use Rattle.pyver_projects.specs.ProjectViews.{IsIndex, excuses, index_parts, packages_of, parts_of, document_of, document_reading_of, extra_reading_of, locked_reading_of, read_pair, section_of, string_reading_of};
 ghost use Rattle.std.specs.HashMap.{get_by};
 ghost use Rattle.std.specs.Option.{option_map_or};
@@ -14,8 +13,7 @@ use crate::document_kind::{Document, DocumentKind, LockKind, is_beside};
 use crate::document_reading::{
     DocumentReading, ExtraReading, LockReading, ProjectReading, ReadDocument, StringReading,
 };
-use crate::extra_comparison::{push_unmet_extras, push_without_extra};
-use crate::known_environment::{KnownEnvironment, known_environments};
+use crate::extra_comparison::{push_lack_of_taken, push_unmet_extras};
 use crate::known_projects::{KnownProjects, is_installer};
 use crate::lock_faults::is_listed_part;
 use crate::locked_package::LockParts;
@@ -347,95 +345,6 @@ fn filter_taken<'a>(
     Ok(taken)
 }
 
-// In the environment the lock with these parts leaves out all of these.
-fn leaves_out_all(
-    alloc: Global,
-    parts: &LockParts,
-    taken: &[&LockedReading],
-    environment: KnownEnvironment,
-) -> Result<bool, AllocError>
-    ensures { IfOk result (λ b. b ≡ leaves_out_all (parts_of parts.now) (map (λ y. locked_reading_of y.now) taken.now) environment) }
-{
-    for locked in taken {
-        if !environment.is_left_out_in(alloc, parts, &locked.condition)? {
-            return Ok(false);
-        }
-    }
-    Ok(true)
-}
-
-// The first environment in which it does.
-fn find_lack(
-    alloc: Global,
-    parts: &LockParts,
-    taken: &[&LockedReading],
-) -> Result<Option<KnownEnvironment>, AllocError>
-    ensures { IfOk result (λ found. found ≡ find (leaves_out_all (parts_of parts.now) (map (λ y. locked_reading_of y.now) taken.now)) known_environments) }
-{
-    let environments = known_environments(alloc)?;
-    for environment in &environments {
-        if leaves_out_all(alloc, parts, taken, *environment)? {
-            return Ok(Some(*environment));
-        }
-    }
-    Ok(None)
-}
-
-// One of these is everywhere.
-fn has_unconditional(taken: &[&LockedReading]) -> bool
-    ensures { result ≡ list_any (λ y. is_none y.now.condition) taken.now }
-{
-    taken.iter().any(|locked| locked.condition.is_none())
-}
-
-// That the requirement on this line is met by no package in the environment.
-fn lack_in(
-    alloc: Global,
-    line: &FileLine,
-    environment: KnownEnvironment,
-) -> Result<Finding, AllocError>
-    ensures { IfOk result (λ f. finding_of f ≡ lack_in (file_line_of line.now) environment) }
-{
-    let mut reason = String::from_str(alloc, "no locked package meets it on ")?;
-    reason.push_str(environment.name(alloc)?.as_str())?;
-    Ok(Finding::NoRequirement(line.clone()?, reason, 0))
-}
-
-fn push_lack(
-    alloc: Global,
-    findings: &mut Vec<Finding>,
-    line: &FileLine,
-    environment: Option<KnownEnvironment>,
-) -> Result<(), AllocError>
-    ensures { IfOk result (λ _. map finding_of findings.new.items ≡ map finding_of findings.old.items ++ lack_finding (file_line_of line.now) environment) }
-{
-    if let Some(environment) = environment {
-        findings.push(lack_in(alloc, line, environment)?)?;
-    }
-    Ok(())
-}
-
-// Adds the first environment in which the lock leaves out all packages that a requirement on this line may take, if there are some.
-#[tactic(auto, using(crate::proofs::LockedPackages::none_lacking))]
-fn push_first_lack(
-    alloc: Global,
-    findings: &mut Vec<Finding>,
-    parts: &LockParts,
-    line: &FileLine,
-    taken: &[&LockedReading],
-) -> Result<(), AllocError>
-    ensures { IfOk result (λ _. map finding_of findings.new.items ≡ map finding_of findings.old.items ++ partly_locked (parts_of parts.now) (file_line_of line.now) (map (λ y. locked_reading_of y.now) taken.now)) }
-{
-    if taken.is_empty() {
-        return Ok(());
-    }
-    if has_unconditional(taken) {
-        return Ok(());
-    }
-    let environment = find_lack(alloc, parts, taken)?;
-    push_lack(alloc, findings, line, environment)
-}
-
 fn push_lack_of_group(
     alloc: Global,
     findings: &mut Vec<Finding>,
@@ -443,10 +352,10 @@ fn push_lack_of_group(
     demand: &Demand,
     group: &[&LockedReading],
 ) -> Result<(), AllocError>
-    ensures { IfOk result (λ _. map finding_of findings.new.items ≡ map finding_of findings.old.items ++ partly_locked (parts_of parts.now) (demand_of demand.now).line (filter (may_take (demand_of demand.now).specifiers) (map (λ y. locked_reading_of y.now) group.now))) }
+    ensures { IfOk result (λ _. map finding_of findings.new.items ≡ map finding_of findings.old.items ++ lacks_taken (parts_of parts.now) (demand_of demand.now) (filter (may_take (demand_of demand.now).specifiers) (map (λ y. locked_reading_of y.now) group.now))) }
 {
     let taken = filter_taken(alloc, demand, group)?;
-    push_first_lack(alloc, findings, parts, &demand.line, taken.as_slice())
+    push_lack_of_taken(alloc, findings, parts, demand, taken.as_slice())
 }
 
 fn push_lack_of_name(
@@ -456,7 +365,7 @@ fn push_lack_of_name(
     demand: &Demand,
 ) -> Result<(), AllocError>
     requires { IsIndex packages.now }
-    ensures { IfOk result (λ _. map finding_of findings.new.items ≡ map finding_of findings.old.items ++ partly_locked (index_parts packages.now) (demand_of demand.now).line (taken_packages (packages_of packages.now) (demand_of demand.now))) }
+    ensures { IfOk result (λ _. map finding_of findings.new.items ≡ map finding_of findings.old.items ++ lacks_taken (index_parts packages.now) (demand_of demand.now) (taken_packages (packages_of packages.now) (demand_of demand.now))) }
 {
     match packages.of_name(demand.name.as_slice()) {
         Some(group) => {
@@ -466,7 +375,7 @@ fn push_lack_of_name(
     }
 }
 
-// Adds that the lock has no package of the name of the requirement, or none for an extra; or, if that has no marker, in some environment none that it may
+// Adds that the lock has no package of the name of the requirement, or none for its extras; or, if that has no marker, in some environment none that it may
 // take.
 fn push_absence_or_lack(
     alloc: Global,
@@ -478,11 +387,7 @@ fn push_absence_or_lack(
     ensures { IfOk result (λ _. map finding_of findings.new.items ≡ map finding_of findings.old.items ++ unlocked (index_parts packages.now) (packages_of packages.now) (demand_of demand.now)) }
 {
     push_absent(alloc, findings, packages, demand)?;
-    push_without_extra(alloc, findings, packages, demand)?;
-    if demand.marker.is_none() {
-        push_lack_of_name(alloc, findings, packages, demand)?;
-    }
-    Ok(())
+    push_lack_of_name(alloc, findings, packages, demand)
 }
 
 // Adds that no package has the name of the requirement of a package, if the lock lacks it.
@@ -521,7 +426,7 @@ fn push_unmet_demand(
 }
 
 // Adds what a requirement of a package lacks and excludes in its own lock.
-pub(crate) fn push_unmet(
+pub(crate) fn push_unmet_meaning(
     alloc: Global,
     findings: &mut Vec<Finding>,
     projects: &KnownProjects,
@@ -550,7 +455,7 @@ fn push_unmet_in_index(
     ensures { IfOk result (λ _. map finding_of findings.new.items ≡ map finding_of findings.old.items ++ flat_map (unmet (excuses projects.now) (index_parts packages.now) (packages_of packages.now)) (map line_meaning_of requirements.now)) }
 {
     for requirement in requirements {
-        push_unmet(alloc, findings, projects, packages, requirement)?;
+        push_unmet_meaning(alloc, findings, projects, packages, requirement)?;
     }
     Ok(())
 }
@@ -620,6 +525,13 @@ fn push_excluded_in(
     push_all_excluded(alloc, findings, demand, &lock.packages)
 }
 
+// The section is of a table of Pipenv, which locks what is asked for under a marker, too.
+fn is_of_pipenv(section: &Section) -> bool
+    ensures { result ≡ is_of_pipenv (section_of section.now) }
+{
+    matches!(section, Section::Entry(EntryTool::Pipenv, _, _))
+}
+
 fn push_compared_demand(
     alloc: Global,
     findings: &mut Vec<Finding>,
@@ -630,7 +542,7 @@ fn push_compared_demand(
     requires { IsIndex lock.now.packages }
     ensures { IfOk result (λ _. map finding_of findings.new.items ≡ map finding_of findings.old.items ++ compared_demand lock.now.kind (index_parts lock.now.packages) (option_to_list (option_map (λ n. n.items) lock.now.project.now)) (excuses lock.now.projects.now) lock.now.near (packages_of lock.now.packages) (section_of section.now) (demand_of demand.now)) }
 {
-    if demand.marker.is_some() {
+    if demand.marker.is_some() && !is_of_pipenv(section) {
         return Ok(());
     }
     if is_overridden(lock.projects, section, demand.name.as_slice()) {

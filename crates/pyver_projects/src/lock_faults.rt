@@ -1,10 +1,10 @@
 //! The names of projects, the groups of locks, and what is wrong with locked packages of one name.
 ghost use Rattle.std.specs.Prelude.{◌≡◌, ◌&&◌, ◌++◌, IfOk, ◌∷◌, [], Some, bytes_eq, codes, is_none, map, option_map, option_to_list, string_bytes};
-ghost use Rattle.pyver_projects.specs.PackageRequirements.{extra_key, is_own_package, poetry_list};
+ghost use Rattle.pyver_projects.specs.PackageRequirements.{is_own_package, poetry_list};
 ghost use Rattle.pyver_projects.specs.ProjectStrings.{inside, text_in};
 ghost use Rattle.std.specs.List.{flat_map, list_any};
-ghost use Rattle.pyver_projects.specs.Documents.{has_default, is_new_group, lock_parts, named_parts, names_listed, own_python, package_keys, packaged_extras, part_names, with_default, package_parts, project_names, written_name};
-ghost use Rattle.pyver_projects.specs.LockedFiles.{ambiguous, ambiguous_by, ambiguous_fault, ambiguous_item, ambiguous_name, fault_unless, faults_beside, text_faults, value_faults, counted_names, is_for_extras, has_markers, is_shared, is_uv, locked_python, package_condition, target_python, written_marker, marked_name, marked_names, marker_text, package_faults, package_name_in, twin_fault, twin_in, twins};
+ghost use Rattle.pyver_projects.specs.Documents.{has_default, has_extra_packages, is_new_group, lock_parts, named_parts, own_python, part_names, with_default, package_parts, project_names, written_name};
+ghost use Rattle.pyver_projects.specs.LockedFiles.{ambiguous, ambiguous_by, ambiguous_fault, ambiguous_item, ambiguous_name, counted_names, fault_unless, faults_beside, has_markers, is_shared, is_uv, locked_python, marked_name, marked_names, marker_text, names_listed, package_condition, package_faults, package_name_in, target_python, text_faults, twin_fault, twin_in, twins, value_faults, written_marker};
 ghost use Rattle.pyver_projects.specs.ProjectViews.{IsNameIndex, condition_of_package, indexed_names, fault_of, parts_of};
 ghost use Rattle.pyver_projects.specs.declared.document_kind.LockKind.TheVariants as lock_kind;
 ghost use Rattle.toml.specs.Data.{Data, as_str, get, get_member};
@@ -17,7 +17,6 @@ use crate::groups::NameIndex;
 use crate::locked_package::{
     LockFault, LockParts, PackageCondition, copy_text, first_of, package_text,
 };
-use crate::package_extras::extra_key;
 use crate::package_requirements::{lacks, poetry_list};
 use crate::table::{inside, is_table_or_none, is_text_or_none, items, text, top};
 use pyver_findings::normalize_name;
@@ -119,17 +118,27 @@ fn marker_text(table: &Value) -> Option<&str>
     written_marker(table)
 }
 
-fn is_for_extras(table: &Value) -> bool
-    ensures { result ≡ is_for_extras (view table.now) }
+fn push_each_extra(text: &mut Vec<u8>, extras: &[Vec<u8>]) -> Result<(), AllocError>
+    ensures { IfOk result (λ _. text.new.items ≡ text.old.items ++ flat_map (λ e. 91 ∷ e) (map (λ e. e.items) extras.now)) }
 {
-    items(table.get("extras")).len() > 0
+    for extra in extras {
+        text.push(b'[')?;
+        text.extend_from_slice(extra.as_slice())?;
+    }
+    Ok(())
 }
 
-// The name in its normal form beside the marker.
-fn marked_name(alloc: Global, name: &str, marker: &str) -> Result<Vec<u8>, AllocError>
-    ensures { IfOk result (λ marked. marked.items ≡ marked_name name.now marker.now) }
+// The name in its normal form beside the extras and the marker.
+fn marked_name(
+    alloc: Global,
+    name: &str,
+    extras: &[Vec<u8>],
+    marker: &str,
+) -> Result<Vec<u8>, AllocError>
+    ensures { IfOk result (λ marked. marked.items ≡ marked_name name.now (map (λ e. e.items) extras.now) marker.now) }
 {
     let mut marked = normalize_name(alloc, name)?;
+    push_each_extra(&mut marked, extras)?;
     marked.push(b';')?;
     marked.extend_from_slice(marker.as_bytes())?;
     Ok(marked)
@@ -228,7 +237,7 @@ fn push_listed_names(
     push_names(alloc, names, items(value))
 }
 
-fn listed_names(alloc: Global, value: Option<&Value>) -> Result<Vec<Vec<u8>>, AllocError>
+pub(crate) fn listed_names(alloc: Global, value: Option<&Value>) -> Result<Vec<Vec<u8>>, AllocError>
     ensures { IfOk result (λ names. map (λ n. n.items) names.items ≡ names_listed (option_map (λ v. view v.now) value.entry)) }
 {
     let mut names = Vec::new(alloc);
@@ -360,56 +369,11 @@ fn own_python(
     }
 }
 
-// Adds the keys of these extras of the package, whose names are in their normal forms.
-fn push_keys(
-    alloc: Global,
-    keys: &mut Vec<Vec<u8>>,
-    name: &[u8],
-    extras: &[Vec<u8>],
-) -> Result<(), AllocError>
-    ensures { IfOk result (λ _. map (λ k. k.items) keys.new.items ≡ map (λ k. k.items) keys.old.items ++ map (extra_key name.now) (map (λ e. e.items) extras.now)) }
+// The lock has a package for each set of extras that is asked for.
+fn has_extra_packages(kind: LockKind) -> bool
+    ensures { result ≡ has_extra_packages kind }
 {
-    for extra in extras {
-        keys.push(extra_key(alloc, name, extra.as_slice())?)?;
-    }
-    Ok(())
-}
-
-// Adds the keys of the extras of the package, if it has a name.
-fn push_package_keys(alloc: Global, keys: &mut Vec<Vec<u8>>, item: &Value) -> Result<(), AllocError>
-    ensures { IfOk result (λ _. map (λ k. k.items) keys.new.items ≡ map (λ k. k.items) keys.old.items ++ package_keys (text_in (get (codes "name") (view item.now))) (view item.now)) }
-{
-    let Some(name) = text(item.get("name")) else {
-        return Ok(());
-    };
-    let name = normalize_name(alloc, name)?;
-    let extras = listed_names(alloc, item.get("extras"))?;
-    push_keys(alloc, keys, name.as_slice(), extras.as_slice())
-}
-
-// The keys of the extras of all packages.
-fn all_package_keys(alloc: Global, packages: &[Value]) -> Result<Vec<Vec<u8>>, AllocError>
-    ensures { IfOk result (λ keys. map (λ k. k.items) keys.items ≡ flat_map (λ (d : Data). package_keys (text_in (get (codes "name") d)) d) (map view packages.now)) }
-{
-    let mut keys = Vec::new(alloc);
-    for item in packages {
-        push_package_keys(alloc, &mut keys, item)?;
-    }
-    Ok(keys)
-}
-
-// Those that a lock of PDM has packages for.
-fn packaged_extras(
-    alloc: Global,
-    kind: LockKind,
-    packages: &[Value],
-) -> Result<Option<Vec<Vec<u8>>>, AllocError>
-    ensures { IfOk result (λ found. option_map (λ keys. map (λ k. k.items) keys.items) found ≡ packaged_extras kind (map view packages.now)) }
-{
-    match kind {
-        LockKind::Pdm => Ok(Some(all_package_keys(alloc, packages)?)),
-        _ => Ok(None),
-    }
+    matches!(kind, LockKind::Pdm)
 }
 
 // The parts of a lock of this kind with these packages.
@@ -430,7 +394,6 @@ pub(crate) fn lock_parts(
     let environments = listed_texts(alloc, items(top(document, "environments")))?;
     let hash = lock_hash(alloc, kind, text, document)?;
     let python = own_python(alloc, kind, document, packages)?;
-    let packaged = packaged_extras(alloc, kind, packages)?;
     Ok(LockParts {
         names,
         extras,
@@ -438,11 +401,11 @@ pub(crate) fn lock_parts(
         environments,
         hash,
         python,
-        packaged,
+        by_extras: has_extra_packages(kind),
     })
 }
 
-// Adds the name and the marker, if the package has both.
+// Adds the name with the extras and the marker, if the package has a name and a marker.
 fn push_marked_names(
     alloc: Global,
     names: &mut Vec<Vec<u8>>,
@@ -450,13 +413,11 @@ fn push_marked_names(
 ) -> Result<(), AllocError>
     ensures { IfOk result (λ _. map (λ n. n.items) names.new.items ≡ map (λ n. n.items) names.old.items ++ marked_names (view table.now)) }
 {
-    if is_for_extras(table) {
-        return Ok(());
-    }
     let (Some(name), Some(marker)) = (text(table.get("name")), marker_text(table)) else {
         return Ok(());
     };
-    names.push(marked_name(alloc, name, marker)?)?;
+    let extras = listed_names(alloc, table.get("extras"))?;
+    names.push(marked_name(alloc, name, extras.as_slice(), marker)?)?;
     Ok(())
 }
 
@@ -515,7 +476,7 @@ fn twin_fault(
     })
 }
 
-// Adds the package with this name and version, if two of the names are its name and its marker.
+// Adds the package with this name and version, if two of the names are its name with these extras and this marker.
 fn push_twin_in(
     alloc: Global,
     faults: &mut Vec<LockFault>,
@@ -523,18 +484,20 @@ fn push_twin_in(
     line: u64,
     name: &str,
     version: Option<&str>,
-    marked: &[u8],
+    extras: &[Vec<u8>],
+    marker: &str,
 ) -> Result<(), AllocError>
     requires { IsNameIndex names.now }
-    ensures { IfOk result (λ _. map fault_of faults.new.items ≡ map fault_of faults.old.items ++ twin_in (indexed_names names.now) line name.now (option_map (λ t. t.now) version.entry) marked.now) }
+    ensures { IfOk result (λ _. map fault_of faults.new.items ≡ map fault_of faults.old.items ++ twin_in (indexed_names names.now) line name.now (option_map (λ t. t.now) version.entry) (marked_name name.now (map (λ e. e.items) extras.now) marker.now)) }
 {
-    if names.has_twice(marked) {
+    let marked = marked_name(alloc, name, extras, marker)?;
+    if names.has_twice(marked.as_slice()) {
         faults.push(twin_fault(alloc, line, name, version)?)?;
     }
     Ok(())
 }
 
-// Adds the package, if another one has its name and its marker.
+// Adds the package, if another one has its name, its extras and its marker.
 fn push_twin(
     alloc: Global,
     faults: &mut Vec<LockFault>,
@@ -545,15 +508,21 @@ fn push_twin(
     requires { IsNameIndex names.now }
     ensures { IfOk result (λ _. map fault_of faults.new.items ≡ map fault_of faults.old.items ++ twins (indexed_names names.now) (line, view table.now)) }
 {
-    if is_for_extras(table) {
-        return Ok(());
-    }
     let (Some(name), Some(marker)) = (text(table.get("name")), marker_text(table)) else {
         return Ok(());
     };
-    let marked = marked_name(alloc, name, marker)?;
+    let extras = listed_names(alloc, table.get("extras"))?;
     let version = text(table.get("version"));
-    push_twin_in(alloc, faults, names, line, name, version, marked.as_slice())
+    push_twin_in(
+        alloc,
+        faults,
+        names,
+        line,
+        name,
+        version,
+        extras.as_slice(),
+        marker,
+    )
 }
 
 // That the package of this text requires a name that more than one has.

@@ -27,6 +27,8 @@ pub(crate) struct LockedPackage {
     pub(crate) line: u64,
     pub(crate) name: String,
     pub(crate) version: Option<String>,
+    // The extras that it is for, in their normal forms.
+    pub(crate) extras: Vec<Vec<u8>>,
     // Where it is, if not everywhere.
     pub(crate) condition: Option<PackageCondition>,
 }
@@ -116,8 +118,8 @@ pub(crate) struct LockParts {
     pub(crate) hash: Option<ContentHash>,
     // For which versions of Python it says that the project in its folder is.
     pub(crate) python: Option<String>,
-    // The keys of all extras that it has packages for, if it has a package for each.
-    pub(crate) packaged: Option<Vec<Vec<u8>>>,
+    // It has a package for each set of extras that is asked for.
+    pub(crate) by_extras: bool,
 }
 
 // What is read of a lock.

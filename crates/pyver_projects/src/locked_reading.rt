@@ -24,6 +24,7 @@ use crate::locked_package::{
 };
 use crate::package_extras::name_with_extras;
 use crate::package_requirements::requirement_text;
+use crate::project::copy_names;
 use pep440_pick::Requirement;
 use pep440_rs::{Version, VersionParseError, VersionSpecifier, VersionSpecifiers};
 use pyver_findings::{Cause, Demand, FileLine, Finding, LineMeaning, normalize_name};
@@ -35,6 +36,8 @@ pub(crate) struct LockedReading {
     pub(crate) line: FileLine,
     // In its normal form.
     pub(crate) name: Vec<u8>,
+    // Those that it is for, in their normal forms.
+    pub(crate) extras: Vec<Vec<u8>>,
     // Where it is, if not everywhere.
     pub(crate) condition: Option<ReadCondition>,
     // The version, if it has one that is valid.
@@ -66,16 +69,17 @@ fn package_line(alloc: Global, file: &[u8], locked: &LockedPackage) -> Result<Fi
 fn reject(
     alloc: Global,
     line: FileLine,
-    name: &str,
+    locked: &LockedPackage,
     condition: Option<ReadCondition>,
     reason: String,
 ) -> Result<LockedReading, AllocError>
-    ensures { IfOk result (λ y. locked_reading_of y ≡ record { line = file_line_of line; name = normal name.now; condition = option_map read_condition_of condition; version = None; invalid = Some (NoRequirement (file_line_of line) (string_bytes reason) (length name.now + 1)) }) }
+    ensures { IfOk result (λ y. locked_reading_of y ≡ record { line = file_line_of line; name = normal (locked_of locked.now).name; extras = (locked_of locked.now).extras; condition = option_map read_condition_of condition; version = None; invalid = Some (NoRequirement (file_line_of line) (string_bytes reason) (length (locked_of locked.now).name + 1)) }) }
 {
-    let column = name.len() + 1;
+    let column = locked.name.len() + 1;
     Ok(LockedReading {
         line: line.clone()?,
-        name: normalize_name(alloc, name)?,
+        name: normalize_name(alloc, locked.name.as_str())?,
+        extras: copy_names(&locked.extras)?,
         condition,
         version: None,
         invalid: Some(Finding::NoRequirement(line, reason, column)),
@@ -85,35 +89,36 @@ fn reject(
 fn reject_version(
     alloc: Global,
     line: FileLine,
-    name: &str,
+    locked: &LockedPackage,
     condition: Option<ReadCondition>,
     error: &VersionParseError,
 ) -> Result<LockedReading, AllocError>
     requires { IfSome (error_rejection error.now) (λ f. error_text (error_rejection error.now) ≡ Some (rejection_text f)) }
-    ensures { IfOk result (λ y. (f : Rejection) × (error_rejection error.now ≡ Some f) × (locked_reading_of y ≡ record { line = file_line_of line; name = normal name.now; condition = option_map read_condition_of condition; version = None; invalid = Some (NoRequirement (file_line_of line) (rejection_text f) (length name.now + 1)) })) }
+    ensures { IfOk result (λ y. (f : Rejection) × (error_rejection error.now ≡ Some f) × (locked_reading_of y ≡ record { line = file_line_of line; name = normal (locked_of locked.now).name; extras = (locked_of locked.now).extras; condition = option_map read_condition_of condition; version = None; invalid = Some (NoRequirement (file_line_of line) (rejection_text f) (length (locked_of locked.now).name + 1)) })) }
 {
     let reason = version_reason(alloc, error)?;
-    reject(alloc, line, name, condition, reason)
+    reject(alloc, line, locked, condition, reason)
 }
 
 fn read_version(
     alloc: Global,
     line: FileLine,
-    name: &str,
+    locked: &LockedPackage,
     condition: Option<ReadCondition>,
     version: &str,
 ) -> Result<LockedReading, AllocError>
-    ensures { IfOk result (λ y. IsVersionReading (file_line_of line) name.now (option_map read_condition_of condition) (Some version.now) (locked_reading_of y)) }
+    ensures { IfOk result (λ y. IsVersionReading (file_line_of line) (locked_of locked.now).name (locked_of locked.now).extras (option_map read_condition_of condition) (Some version.now) (locked_reading_of y)) }
 {
     match Version::from_str(alloc, version) {
         Ok(version) => Ok(LockedReading {
             line,
-            name: normalize_name(alloc, name)?,
+            name: normalize_name(alloc, locked.name.as_str())?,
+            extras: copy_names(&locked.extras)?,
             condition,
             version: Some(version),
             invalid: None,
         }),
-        Err(error) => reject_version(alloc, line, name, condition, &error),
+        Err(error) => reject_version(alloc, line, locked, condition, &error),
     }
 }
 
@@ -158,17 +163,17 @@ fn read_condition(
 fn read_package_version(
     alloc: Global,
     line: FileLine,
-    name: &str,
+    locked: &LockedPackage,
     condition: Option<ReadCondition>,
-    version: &Option<String>,
 ) -> Result<LockedReading, AllocError>
-    ensures { IfOk result (λ y. IsVersionReading (file_line_of line) name.now (option_map read_condition_of condition) (option_map string_bytes version.now) (locked_reading_of y)) }
+    ensures { IfOk result (λ y. IsVersionReading (file_line_of line) (locked_of locked.now).name (locked_of locked.now).extras (option_map read_condition_of condition) (locked_of locked.now).version (locked_reading_of y)) }
 {
-    match version {
-        Some(version) => read_version(alloc, line, name, condition, version.as_str()),
+    match &locked.version {
+        Some(version) => read_version(alloc, line, locked, condition, version.as_str()),
         None => Ok(LockedReading {
             line,
-            name: normalize_name(alloc, name)?,
+            name: normalize_name(alloc, locked.name.as_str())?,
+            extras: copy_names(&locked.extras)?,
             condition,
             version: None,
             invalid: None,
@@ -185,9 +190,8 @@ fn read_package(
     ensures { IfOk result (λ y. IsLockedReading file.now (locked_of locked.now) (locked_reading_of y)) }
 {
     let line = package_line(alloc, file, locked)?;
-    let name = locked.name.as_str();
     let condition = read_condition(alloc, &locked.condition)?;
-    read_package_version(alloc, line, name, condition, &locked.version)
+    read_package_version(alloc, line, locked, condition)
 }
 
 // What the packages are.

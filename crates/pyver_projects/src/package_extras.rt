@@ -18,7 +18,7 @@ use crate::package_requirements::{
     split_name,
 };
 use crate::table::{items, listed_strings, table, text};
-use pyver_findings::normalize_name;
+use pyver_findings::{normalize_name, normalize_names};
 use std::alloc::{AllocError, Global};
 use std::collections::HashMap;
 use toml::{Table, Value};
@@ -26,7 +26,7 @@ use toml::{Table, Value};
 // ---- keys
 
 // The key of an extra of a package, by the normal forms of both names.
-pub(crate) fn extra_key(alloc: Global, name: &[u8], extra: &[u8]) -> Result<Vec<u8>, AllocError>
+fn extra_key(alloc: Global, name: &[u8], extra: &[u8]) -> Result<Vec<u8>, AllocError>
     ensures { IfOk result (λ key. key.items ≡ extra_key name.now extra.now) }
 {
     let mut key = Vec::from_slice(alloc, name)?;
@@ -35,16 +35,29 @@ pub(crate) fn extra_key(alloc: Global, name: &[u8], extra: &[u8]) -> Result<Vec<
     Ok(key)
 }
 
+// Adds the keys of these extras of the package, whose names are in their normal forms.
+pub(crate) fn push_extra_keys(
+    alloc: Global,
+    keys: &mut Vec<Vec<u8>>,
+    name: &[u8],
+    extras: &[Vec<u8>],
+) -> Result<(), AllocError>
+    ensures { IfOk result (λ _. map (λ k. k.items) keys.new.items ≡ map (λ k. k.items) keys.old.items ++ map (extra_key name.now) (map (λ e. e.items) extras.now)) }
+{
+    for extra in extras {
+        keys.push(extra_key(alloc, name, extra.as_slice())?)?;
+    }
+    Ok(())
+}
+
 // The keys of the extras that a requirement asks for.
 fn asked_keys(alloc: Global, requirement: &LockedRequirement) -> Result<Vec<Vec<u8>>, AllocError>
     ensures { IfOk result (λ keys. map (λ k. k.items) keys.items ≡ asked_keys (requirement_of requirement.now)) }
 {
     let name = normalize_name(alloc, requirement.name.as_str())?;
+    let extras = normalize_names(alloc, requirement.extras.as_slice())?;
     let mut keys = Vec::new(alloc);
-    for extra in &requirement.extras {
-        let extra = normalize_name(alloc, extra.as_str())?;
-        keys.push(extra_key(alloc, name.as_slice(), extra.as_slice())?)?;
-    }
+    push_extra_keys(alloc, &mut keys, name.as_slice(), extras.as_slice())?;
     Ok(keys)
 }
 
@@ -307,7 +320,7 @@ fn lock_asks(
 }
 
 // Adds to the first what is required for the extra, if it has one of these keys, or it to the second.
-fn push_asked(
+fn push_extra_requirement(
     requirements: &mut Vec<LockedRequirement>,
     optional: &mut Vec<LockedExtra>,
     keys: &HashMap<&[u8], ()>,
@@ -328,7 +341,7 @@ fn push_asked(
     Ok(())
 }
 
-fn push_all_asked(
+fn push_each_requirement(
     requirements: &mut Vec<LockedRequirement>,
     optional: &mut Vec<LockedExtra>,
     keys: &HashMap<&[u8], ()>,
@@ -338,13 +351,13 @@ fn push_all_asked(
     ensures others { IfOk result (λ _. map locked_extra_of optional.new.items ≡ map locked_extra_of optional.old.items ++ flat_map (other_extra (has_key keys.now)) (map locked_extra_of extras.items)) }
 {
     for extra in extras {
-        push_asked(requirements, optional, keys, extra)?;
+        push_extra_requirement(requirements, optional, keys, extra)?;
     }
     Ok(())
 }
 
 // Adds to the requirements those of the extras that are asked for, and returns those of the others.
-pub(crate) fn take_asked(
+pub(crate) fn push_extra_requirements(
     alloc: Global,
     requirements: &mut Vec<LockedRequirement>,
     extras: Vec<LockedExtra>,
@@ -356,7 +369,7 @@ pub(crate) fn take_asked(
     let index = InclusionIndex::new(alloc, asks.as_slice())?;
     let keys = included_groups(alloc, &index, b"")?;
     let mut optional = Vec::new(alloc);
-    push_all_asked(requirements, &mut optional, &keys, extras)?;
+    push_each_requirement(requirements, &mut optional, &keys, extras)?;
     Ok(optional)
 }
 

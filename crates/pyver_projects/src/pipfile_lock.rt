@@ -96,6 +96,7 @@ fn member_package(
         line: line_number(lines, name.as_bytes()),
         name: name.clone()?,
         version: copy_text(alloc, package_version(value))?,
+        extras: Vec::new(alloc),
         condition: None,
     })
 }
@@ -300,7 +301,7 @@ pub(crate) fn pipfile_contents(
             environments: Vec::new(alloc),
             hash: None,
             python: None,
-            packaged: None,
+            by_extras: false,
         },
         packages,
         requirements: Vec::new(alloc),

@@ -363,7 +363,7 @@ fn section_path(section: &Section) -> &[u8]
         Section::Invalid(table, _) => table.as_slice(),
         Section::Entry(_, table, _) => table.as_slice(),
         Section::Constraint => b"tool.uv.",
-        Section::Environment(table) => table.as_slice(),
+        Section::Environment(_, table) => table.as_slice(),
         Section::Unread(_) => b"",
         Section::Build => b"build-system.requires.",
         Section::Python => b"project.requires-python.",

@@ -1,17 +1,19 @@
 //! The conditions of an entry of Poetry or Pipenv as a marker of PEP 508.
-ghost use Rattle.std.specs.Prelude.{◌≡◌, ◌≤◌, ◌++◌, ◌==◌, ◌&&◌, IfOk, codes, count_by, length, map, option_copied, string_bytes};
+ghost use Rattle.std.specs.Prelude.{◌≡◌, ◌≤◌, ◌++◌, ◌==◌, ◌&&◌, ℕ, List, IfOk, codes, count_by, length, map, option_copied, string_bytes};
 ghost use Rattle.std.specs.List.{flat_map, list_all, prefix_len, slice_split};
 ghost use Rattle.pep440_version.specs.Changes.ChangeWords.{after};
 ghost use Rattle.pep440_version.specs.Grammar.{starts};
 ghost use Rattle.pep440_version.specs.Reading.{lead, past};
 ghost use Rattle.pyver_requirements.specs.MarkerTerms.{joined_terms};
 ghost use Rattle.pyver_requirements.specs.MarkerTokens.{is_operator_byte};
-ghost use Rattle.pyver_projects.specs.Documents.{condition, entry_marker, has_conditions, lacks_variables};
+ghost use Rattle.pyver_projects.specs.Documents.{condition, entry_marker, has_conditions, variable_comparison, with_variables};
 ghost use Rattle.pyver_projects.specs.PackageRequirements.{both_markers, is_python_pair, is_value_byte, past_blank, platform_comparison, platform_marker, platform_specifier, poetry_list, python_comparison, python_marker, python_variable, quoted_value, specifier_comparison};
 ghost use Rattle.pyver_projects.specs.declared.project.EntryTool.TheVariants as of_entries;
+ghost use Rattle.pyver_projects.specs.ProjectStrings.{is_text_or_none};
+ghost use Rattle.toml.specs.Data.{get};
 ghost use Rattle.toml.specs.View.{view};
 
-use crate::package_requirements::{is_name_byte, lacks, plain_list, poetry_list};
+use crate::package_requirements::{is_name_byte, plain_list, poetry_list};
 use crate::project::EntryTool;
 use crate::table::{is_text_or_none, text};
 use std::alloc::{AllocError, Global};
@@ -216,21 +218,30 @@ fn platform_marker(alloc: Global, platform: &str) -> Result<String, AllocError>
 
 // ---- entries
 
-// The table has no variable of a marker as a key.
-fn lacks_variables(entry: &Value) -> bool
-    ensures { result ≡ lacks_variables (view entry.now) }
+const VARIABLE_NAMES: &[&str] = &[
+    "os_name",
+    "sys_platform",
+    "platform_machine",
+    "platform_python_implementation",
+    "platform_release",
+    "platform_system",
+    "platform_version",
+    "python_version",
+    "python_full_version",
+    "implementation_name",
+    "implementation_version",
+];
+
+// What the table says of each of these variables is a string, if there is something.
+fn has_texts(entry: &Value, names: &[&str]) -> bool
+    ensures { result ≡ list_all (λ (name : List ℕ). is_text_or_none (get name (view entry.now))) (map (λ n. n.now) names.now) }
 {
-    lacks(entry, "os_name")
-        && lacks(entry, "sys_platform")
-        && lacks(entry, "platform_machine")
-        && lacks(entry, "platform_python_implementation")
-        && lacks(entry, "platform_release")
-        && lacks(entry, "platform_system")
-        && lacks(entry, "platform_version")
-        && lacks(entry, "python_version")
-        && lacks(entry, "python_full_version")
-        && lacks(entry, "implementation_name")
-        && lacks(entry, "implementation_version")
+    for name in names {
+        if !is_text_or_none(entry.get(*name)) {
+            return false;
+        }
+    }
+    true
 }
 
 // The conditions of a table, if it has some, are those that are read, and strings.
@@ -243,7 +254,9 @@ pub(crate) fn has_conditions(tool: EntryTool, entry: &Value) -> bool
                 && is_text_or_none(entry.get("python"))
                 && is_text_or_none(entry.get("platform"))
         }
-        EntryTool::Pipenv => is_text_or_none(entry.get("markers")) && lacks_variables(entry),
+        EntryTool::Pipenv => {
+            is_text_or_none(entry.get("markers")) && has_texts(entry, VARIABLE_NAMES)
+        }
     }
 }
 
@@ -286,6 +299,48 @@ fn poetry_marker(alloc: Global, entry: &Value) -> Result<String, AllocError>
     both_markers(alloc, condition(entry, "markers"), installed.as_str())
 }
 
+// The variable before the comparison at its key, if there is one.
+fn variable_comparison(alloc: Global, name: &str, comparison: &str) -> Result<String, AllocError>
+    ensures { IfOk result (λ marker. string_bytes marker ≡ variable_comparison name.now comparison.now) }
+{
+    let mut marker = String::new(alloc);
+    if comparison.is_empty() {
+        return Ok(marker);
+    }
+    marker.push_str(name)?;
+    marker.push_str(" ")?;
+    marker.push_str(comparison)?;
+    Ok(marker)
+}
+
+fn with_variable(
+    alloc: Global,
+    entry: &Value,
+    marker: &str,
+    name: &str,
+) -> Result<String, AllocError>
+    ensures { IfOk result (λ both. string_bytes both ≡ both_markers marker.now (variable_comparison name.now (condition name.now (view entry.now)))) }
+{
+    let comparison = variable_comparison(alloc, name, condition(entry, name))?;
+    both_markers(alloc, marker, comparison.as_str())
+}
+
+// The marker, and after it what the table says of each of these variables.
+fn with_variables(
+    alloc: Global,
+    entry: &Value,
+    marker: &str,
+    names: &[&str],
+) -> Result<String, AllocError>
+    ensures { IfOk result (λ all. string_bytes all ≡ with_variables (view entry.now) marker.now (map (λ n. n.now) names.now)) }
+{
+    let mut all = String::from_str(alloc, marker)?;
+    for name in names {
+        all = with_variable(alloc, entry, all.as_str(), *name)?;
+    }
+    Ok(all)
+}
+
 // The conditions of an entry of the tool as one marker.
 pub(crate) fn entry_marker(
     alloc: Global,
@@ -296,6 +351,8 @@ pub(crate) fn entry_marker(
 {
     match tool {
         EntryTool::Poetry => poetry_marker(alloc, entry),
-        EntryTool::Pipenv => String::from_str(alloc, condition(entry, "markers")),
+        EntryTool::Pipenv => {
+            with_variables(alloc, entry, condition(entry, "markers"), VARIABLE_NAMES)
+        }
     }
 }

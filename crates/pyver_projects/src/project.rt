@@ -42,8 +42,8 @@ pub(crate) enum Section {
     Entry(EntryTool, Vec<u8>, Vec<u8>),
     // In uv's `constraint-dependencies` or `override-dependencies`.
     Constraint,
-    // In an environment of Hatch, whose table has this path.
-    Environment(Vec<u8>),
+    // In an environment of Hatch, in which the project is installed or not, and whose table has this path.
+    Environment(bool, Vec<u8>),
     // As what is not read for this cause.
     Unread(Cause),
     // In `build-system.requires`.
@@ -95,7 +95,9 @@ impl Clone for Section {
                 Ok(Section::Entry(*tool, table.clone()?, name.clone()?))
             }
             Section::Constraint => Ok(Section::Constraint),
-            Section::Environment(table) => Ok(Section::Environment(table.clone()?)),
+            Section::Environment(joined, table) => {
+                Ok(Section::Environment(*joined, table.clone()?))
+            }
             Section::Unread(cause) => Ok(Section::Unread(*cause)),
             Section::Build => Ok(Section::Build),
             Section::Python => Ok(Section::Python),

@@ -48,8 +48,8 @@ fn same_part(one: &Section, other: &Section) -> bool
     match (one, other) {
         (Section::Extra(one), Section::Extra(other)) => one.as_slice() == other.as_slice(),
         (Section::Group(one), Section::Group(other)) => one.as_slice() == other.as_slice(),
-        (Section::Environment(one), Section::Environment(other)) => {
-            one.as_slice() == other.as_slice()
+        (Section::Environment(joined, one), Section::Environment(other_joined, other)) => {
+            joined == other_joined && one.as_slice() == other.as_slice()
         }
         (Section::Dependencies, Section::Dependencies) => true,
         (Section::Build, Section::Build) => true,
@@ -90,6 +90,7 @@ fn has_dependencies(together: bool, part: &Section) -> bool
     match part {
         Section::Dependencies | Section::Extra(_) => true,
         Section::Group(_) => together,
+        Section::Environment(joined, _) => *joined,
         _ => false,
     }
 }
@@ -104,7 +105,7 @@ fn is_environment(table: &[u8], part: &Section) -> bool
     ensures { result ≡ is_environment table.now (section_of part.now) }
 {
     match part {
-        Section::Environment(other) => table == other.as_slice(),
+        Section::Environment(_, other) => table == other.as_slice(),
         _ => false,
     }
 }
@@ -157,7 +158,7 @@ fn holds_in(together: bool, names: &PartNames<'_>, section: &Section) -> bool
         Section::Extra(name) => names.extras.contains_key(name.as_slice()),
         Section::Group(name) => names.groups.contains_key(name.as_slice()),
         Section::Build => is_build(names.part),
-        Section::Environment(table) => is_environment(table.as_slice(), names.part),
+        Section::Environment(_, table) => is_environment(table.as_slice(), names.part),
         Section::Include(_, _) | Section::OwnExtras(_, _) => false,
         Section::Invalid(..) | Section::Unread(_) => false,
         Section::Python | Section::Version => false,

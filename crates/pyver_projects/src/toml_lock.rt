@@ -10,14 +10,14 @@ use crate::document_kind::LockKind;
 use crate::entries::push_own_entries;
 use crate::groups::NameIndex;
 use crate::lock_faults::{
-    CountedNames, counted_names, has_markers, lock_parts, locked_python, package_condition,
-    push_fault_unless, push_package_faults,
+    CountedNames, counted_names, has_markers, listed_names, lock_parts, locked_python,
+    package_condition, push_fault_unless, push_package_faults,
 };
 use crate::locked_package::{
     LockContents, LockFault, LockParts, LockedPackage, PackageCondition, copy_text,
     push_locked_files,
 };
-use crate::package_extras::{push_package_extras, take_asked};
+use crate::package_extras::{push_extra_requirements, push_package_extras};
 use crate::package_requirements::push_requirements;
 use crate::place::header_lines;
 use crate::table::{is_array_or_none, items, text, top};
@@ -31,9 +31,10 @@ fn push_package(
     line: u64,
     name: Option<&str>,
     version: Option<&str>,
+    extras: Vec<Vec<u8>>,
     condition: Option<PackageCondition>,
 ) -> Result<(), AllocError>
-    ensures { IfOk result (λ _. map locked_of packages.new.items ≡ map locked_of packages.old.items ++ package_in line (option_map (λ t. t.now) name.entry) (option_map (λ t. t.now) version.entry) (option_map condition_of_package condition)) }
+    ensures { IfOk result (λ _. map locked_of packages.new.items ≡ map locked_of packages.old.items ++ package_in line (option_map (λ t. t.now) name.entry) (option_map (λ t. t.now) version.entry) (map (λ e. e.items) extras.items) (option_map condition_of_package condition)) }
 {
     let Some(name) = name else {
         return Ok(());
@@ -44,6 +45,7 @@ fn push_package(
         line,
         name,
         version,
+        extras,
         condition,
     })?;
     Ok(())
@@ -60,8 +62,9 @@ fn push_item(
 {
     let name = text(item.get("name"));
     let version = text(item.get("version"));
+    let extras = listed_names(alloc, item.get("extras"))?;
     let condition = package_condition(alloc, python, item)?;
-    push_package(alloc, packages, line, name, version, condition)
+    push_package(alloc, packages, line, name, version, extras, condition)
 }
 
 fn line_or_one(lines: &[u64], index: usize) -> u64
@@ -97,7 +100,7 @@ fn read_tables(
         push_locked_files(alloc, &mut files, line, item)?;
         push_package_faults(alloc, &mut faults, counted, line, item)?;
     }
-    let optional = take_asked(alloc, &mut requirements, extras)?;
+    let optional = push_extra_requirements(alloc, &mut requirements, extras)?;
     Ok(LockContents {
         parts,
         packages,

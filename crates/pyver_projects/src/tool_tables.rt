@@ -5,15 +5,16 @@ ghost use Rattle.pep440_rs.specs.Blanks.{opens};
 ghost use Rattle.pep440_pick.specs.Names.{normal};
 ghost use Rattle.pep440_version.specs.Grammar.{starts};
 ghost use Rattle.pyver_requirements.specs.MarkerTokens.{is_operator_byte};
-ghost use Rattle.pyver_projects.specs.Documents.{added_sources, array_name, array_sources, constraint_sources, dev_packages, entry_list, entry_names, entry_specifiers, environment_array, each_source, entry_source, entry_sources, group_path, is_entry, is_package_name, is_editable, leading_name, listed_source, other_sources, overridden_names, pipenv_faults, pipenv_list, pipenv_sources, pipenv_tables, poetry_sources, sources_or_fault, table_list, tool_group, tool_groups, tool_sources, tool_table, unread, unread_fields, unread_table, unread_tables, dev_sources};
+ghost use Rattle.pyver_projects.specs.Documents.{added_sources, array_sources, constraint_sources, dev_packages, entry_list, entry_names, entry_specifiers, each_source, entry_source, entry_sources, group_path, is_entry, is_package_name, is_editable, leading_name, listed_source, other_sources, overridden_names, pipenv_faults, pipenv_list, pipenv_sources, pipenv_tables, poetry_sources, sources_or_fault, table_list, tool_group, tool_groups, tool_sources, tool_table, unread, unread_fields, unread_table, unread_tables, dev_sources};
 ghost use Rattle.pyver_projects.specs.PackageRequirements.{marked_text, requirement_text};
-ghost use Rattle.pyver_projects.specs.ProjectStrings.{Entry, Environment, Group, entries, inside, key_path, listed, members_list};
+ghost use Rattle.pyver_projects.specs.ProjectStrings.{Entry, Group, entries, inside, key_path, listed, members_list};
 ghost use Rattle.pyver_projects.specs.KnownEnvironments.{is_false};
 ghost use Rattle.pyver_projects.specs.ProjectViews.{project_string_of, section_of};
 ghost use Rattle.pyver_projects.specs.declared.tool_tables.GroupTool.TheVariants as of_tool;
 ghost use Rattle.toml.specs.Data.{Data, as_bool, as_str};
 ghost use Rattle.toml.specs.View.{table_view, view};
 
+use crate::environments::push_environments;
 use crate::groups::table_names;
 use crate::package_extras::name_with_extras;
 use crate::package_requirements::{plain_list, poetry_list, requirement_text, split_name};
@@ -294,7 +295,6 @@ fn push_tool_table(
 pub(crate) enum GroupTool {
     Poetry,
     Pdm,
-    Hatch,
 }
 
 fn any_editable(found: &[Value]) -> bool
@@ -393,58 +393,6 @@ fn push_pdm_group(
     push_pdm_array(alloc, sources, name, group)
 }
 
-// The path of an array of an environment.
-fn array_name(alloc: Global, name: &str, key: &str) -> Result<String, AllocError>
-    ensures { IfOk result (λ path. string_bytes path ≡ array_name name.now key.now) }
-{
-    let mut path = String::from_str(alloc, name)?;
-    path.push_str(".")?;
-    path.push_str(key)?;
-    Ok(path)
-}
-
-// Adds the requirements in the array with this path, if there is a value, of the environment with this name.
-fn push_environment_items(
-    alloc: Global,
-    sources: &mut Vec<ProjectString>,
-    name: &str,
-    path: &str,
-    value: Option<&Value>,
-) -> Result<(), AllocError>
-    ensures { IfOk result (λ _. map project_string_of sources.new.items ≡ map project_string_of sources.old.items ++ array_sources (codes "tool.hatch.envs.") path.now (Environment (key_path (codes "tool.hatch.envs.") name.now)) (option_map (λ v. view v.now) value.entry)) }
-{
-    let table = key_path(alloc, b"tool.hatch.envs.", name.as_bytes())?;
-    let section = Section::Environment(table);
-    push_array(alloc, sources, "tool.hatch.envs.", path, &section, value)
-}
-
-// Adds the requirements in the array with this key of the environment with this name.
-#[tactic(auto, unfolding(crate::specs::Documents::environment_array))]
-fn push_environment_array(
-    alloc: Global,
-    sources: &mut Vec<ProjectString>,
-    name: &str,
-    key: &str,
-    group: &Value,
-) -> Result<(), AllocError>
-    ensures { IfOk result (λ _. map project_string_of sources.new.items ≡ map project_string_of sources.old.items ++ environment_array name.now key.now (view group.now)) }
-{
-    let path = array_name(alloc, name, key)?;
-    push_environment_items(alloc, sources, name, path.as_str(), group.get(key))
-}
-
-fn push_environment(
-    alloc: Global,
-    sources: &mut Vec<ProjectString>,
-    name: &str,
-    group: &Value,
-) -> Result<(), AllocError>
-    ensures { IfOk result (λ _. map project_string_of sources.new.items ≡ map project_string_of sources.old.items ++ tool_group of_tool.Hatch (name.now, view group.now)) }
-{
-    push_environment_array(alloc, sources, name, "dependencies", group)?;
-    push_environment_array(alloc, sources, name, "extra-dependencies", group)
-}
-
 fn push_group(
     alloc: Global,
     sources: &mut Vec<ProjectString>,
@@ -457,7 +405,6 @@ fn push_group(
     match tool {
         GroupTool::Poetry => push_poetry_group(alloc, sources, name.as_str(), group),
         GroupTool::Pdm => push_pdm_group(alloc, sources, name.as_str(), group),
-        GroupTool::Hatch => push_environment(alloc, sources, name.as_str(), group),
     }
 }
 
@@ -625,8 +572,7 @@ fn push_others(
     ensures { IfOk result (λ _. map project_string_of sources.new.items ≡ map project_string_of sources.old.items ++ other_sources (option_map (λ v. view v.now) tool.entry)) }
 {
     push_constraints(alloc, sources, inside(tool, "uv"))?;
-    let environments = inside(inside(tool, "hatch"), "envs");
-    push_groups(alloc, sources, GroupTool::Hatch, environments)
+    push_environments(alloc, sources, inside(inside(tool, "hatch"), "envs"))
 }
 
 // Adds which tables are not read.

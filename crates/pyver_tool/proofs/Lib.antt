@@ -1,2 +1,1 @@
-pub mod OneOutcome
 pub mod RunEnds

@@ -1,6 +1,6 @@
 use Rattle.std.proofs.Common.{◌≡◌, ◌++◌, drop, map}
 use Rattle.pyver_projects.specs.PackageRequirements.{extra_key}
-use Rattle.pyver_projects.proofs.lock_faults.push_keys.Given as goal
+use Rattle.pyver_projects.proofs.package_extras.push_extra_keys.Given as goal
 
 abbrev pub invariant-loop-extra : goal.invariant-loop-extra
 invariant-loop-extra l =

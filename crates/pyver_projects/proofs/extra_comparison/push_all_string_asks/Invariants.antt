@@ -2,7 +2,7 @@ use Rattle.std.proofs.Common.{◌≡◌, ◌++◌, drop, map}
 use Rattle.std.specs.List.{flat_map}
 use Rattle.pyver_projects.specs.Comparing.{asked_in}
 use Rattle.pyver_projects.specs.ProjectViews.{excuses, inclusion_of, index_parts, string_reading_of}
-use Rattle.pyver_projects.proofs.extra_comparison.push_all_asked.Given as goal
+use Rattle.pyver_projects.proofs.extra_comparison.push_all_string_asks.Given as goal
 
 abbrev pub invariant-loop-string : goal.invariant-loop-string
 invariant-loop-string l =

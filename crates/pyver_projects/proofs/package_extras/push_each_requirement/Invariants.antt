@@ -3,7 +3,7 @@ use Rattle.std.specs.List.{flat_map}
 use Rattle.std.specs.Vec.Iter.{into_iter_items}
 use Rattle.pyver_projects.specs.Documents.{asked_requirement, other_extra}
 use Rattle.pyver_projects.specs.ProjectViews.{has_key, locked_extra_of, requirement_of}
-use Rattle.pyver_projects.proofs.package_extras.push_all_asked.Given as goal
+use Rattle.pyver_projects.proofs.package_extras.push_each_requirement.Given as goal
 
 abbrev pub invariant-loop-extra : goal.invariant-loop-extra
 invariant-loop-extra l = record {
