@@ -20,7 +20,7 @@ use Rattle.pyver_findings.specs.Views.{demand_of, file_of}
 use Rattle.pyver_projects.specs.declared.export_comparison.Export.{Export as ExportValue}
 use Rattle.pyver_projects.specs.KnownEnvironments.{environment_name, is_left_out_in, known_environments, python_record, python_text}
 use Rattle.pyver_projects.specs.Meanings.{Document, DocumentReading, ExtraReading, IsBroken, IsDocumentReading, IsLock, IsProject, LockedReading, StringReading}
-use Rattle.pyver_projects.specs.ProjectStrings.{Inclusion, includes, inclusions_by, Constraint, ContentHash, Dependencies, Entry, Extra, Group, LockParts, OwnExtras, Section, inside, key_line, key_path, listed, number_or_one, text_in}
+use Rattle.pyver_projects.specs.ProjectStrings.{Inclusion, includes, inclusions_by, Constraint, ContentHash, Dependencies, Entry, Extra, Group, LockParts, OwnExtras, Section, first_line, inside, key_line, key_path, listed, number_or_one, text_in}
 use Rattle.pyver_projects.specs.ContentHashes.{is_stale}
 use Rattle.pyver_projects.specs.PackageRequirements.{extra_key}
 use Rattle.pyver_projects.specs.declared.locked_package.HashRule.{HashRule}
@@ -353,11 +353,17 @@ hash_table by = codes "metadata."
 abbrev pub hash_key : HashRule → List ℕ
 hash_key rule.Pdm = codes "content_hash"
 hash_key rule.PdmPylock = codes "hashes"
+hash_key rule.Pipenv = codes "sha256"
 hash_key by = codes "content-hash"
+
+-- the number of its line in the text of a lock: in JSON the first with the key in quotes
+abbrev pub hash_number : List ℕ → HashRule → Option ℕ
+hash_number text rule.Pipenv = first_line text (codes "sha256")
+hash_number text by = key_line text (key_path (hash_table by) (hash_key by))
 
 -- the line of the hash in the lock
 abbrev pub hash_line : File → HashRule → FileLine
-hash_line lock by = record { file = lock.name; number = number_or_one (key_line lock.text (key_path (hash_table by) (hash_key by))); text = hash_key by; comment = [] }
+hash_line lock by = record { file = lock.name; number = number_or_one (hash_number lock.text by); text = hash_key by; comment = [] }
 
 -- that the lock is out of date
 abbrev pub stale_finding : File → HashRule → Finding

@@ -1,5 +1,6 @@
--- The hash of a project that Poetry and PDM write into its lock: SHA-256 of tables of `pyproject.toml` as JSON, which Python's `json.dumps` writes with
--- sorted keys (Poetry: `poetry.packages.locker`, `_get_content_hash`; PDM: `pdm.project.project_file`, `content_hash`).
+-- The hash of a project that Poetry, PDM and Pipenv write into its lock: SHA-256 of tables of `pyproject.toml` or a Pipfile as JSON, which Python's
+-- `json.dumps` writes with sorted keys (Poetry: `poetry.packages.locker`, `_get_content_hash`; PDM: `pdm.project.project_file`, `content_hash`; Pipenv:
+-- `pipenv.utils.pipfile`, `calculate_hash`).
 use Rattle.std.specs.Prelude.{Bool, List, None, Option, Some, [], bytes_eq, codes, false, if◌then◌else◌, is_none, is_some, length, nat_lt, not, option_and_then, true, ℕ, ◌&&◌, ◌++◌, ◌==◌, ◌||◌, ◌∷◌}
 use Rattle.std.specs.Fmt.{signed_decimal}
 use Rattle.std.specs.List.{flat_map, list_all, list_any, starts_with}
@@ -10,13 +11,13 @@ use Rattle.pep440_pick.specs.Names.{is_name, normal}
 use Rattle.pep440_pick.specs.RequirementReading.{split_at_byte}
 use Rattle.sha2.specs.Sha256.{sha256}
 use Rattle.toml.specs.Data.{Data, Items, Members, array, as_array, as_table, boolean, datetime, float, get_member, integer, item, member, no_items, no_members, string, table}
-use Rattle.pyver_projects.specs.ProjectStrings.{ContentHash, entries, inside, text_in}
+use Rattle.pyver_projects.specs.ProjectStrings.{ContentHash, entries, inside, members_list, text_in}
 use Rattle.pyver_projects.specs.declared.document_kind.LockKind.{LockKind}
 use Rattle.pyver_projects.specs.declared.document_kind.LockKind.TheVariants as lock_kind
 use Rattle.pyver_projects.specs.declared.locked_package.HashRule.{HashRule}
 use Rattle.pyver_projects.specs.declared.locked_package.HashRule.TheVariants as rule
 
--- ---- JSON (RFC 8259), in ASCII, with a blank after `,` and `:`
+-- ---- JSON (RFC 8259), in ASCII, with a gap after `,` and `:`, a blank or nothing
 
 -- what stands for what is not known as JSON here, a float, a date and bytes beyond ASCII: a byte that JSON does not have
 abbrev pub unknown : List ℕ
@@ -43,78 +44,82 @@ ascii_escape b =
 abbrev pub ascii_string : List ℕ → List ℕ
 ascii_string text = codes "\"" ++ (flat_map ascii_escape text ++ codes "\"")
 
-abbrev pub after_comma : List ℕ → List ℕ
-after_comma piece = codes ", " ++ piece
+abbrev pub after_comma : List ℕ → List ℕ → List ℕ
+after_comma gap piece = codes "," ++ (gap ++ piece)
 
--- one after another, with `, ` between them
-abbrev pub with_commas : List (List ℕ) → List ℕ
-with_commas [] = []
-with_commas (piece ∷ pieces) = piece ++ flat_map after_comma pieces
+-- one after another, with a comma and the gap between them
+abbrev pub with_commas : List ℕ → List (List ℕ) → List ℕ
+with_commas gap [] = []
+with_commas gap (piece ∷ pieces) = piece ++ flat_map (after_comma gap) pieces
 
-abbrev pub array_text : List (List ℕ) → List ℕ
-array_text items = codes "[" ++ (with_commas items ++ codes "]")
+abbrev pub array_text : List ℕ → List (List ℕ) → List ℕ
+array_text gap items = codes "[" ++ (with_commas gap items ++ codes "]")
 
-abbrev pub object_text : List (List ℕ) → List ℕ
-object_text members = codes "{" ++ (with_commas members ++ codes "}")
+abbrev pub object_text : List ℕ → List (List ℕ) → List ℕ
+object_text gap members = codes "{" ++ (with_commas gap members ++ codes "}")
 
 -- a member of an object: its key and the JSON of its value
-abbrev pub json_member : List ℕ → List ℕ → List ℕ
-json_member key value = ascii_string key ++ (codes ": " ++ value)
+abbrev pub json_member : List ℕ → List ℕ → List ℕ → List ℕ
+json_member gap key value = ascii_string key ++ (codes ":" ++ (gap ++ value))
 
 -- the JSON of a value, and those of items and of members. The keys of a table are in the order of their code points, which is that of their bytes
 abbrev mutual
-  pub json_text : Data → List ℕ
-  json_text (string text) = ascii_string text
-  json_text (integer z) = signed_decimal z
-  json_text (float x) = unknown
-  json_text (boolean b) = if b then codes "true" else codes "false"
-  json_text (datetime d) = unknown
-  json_text (array ds) = array_text (item_texts ds)
-  json_text (table ms) = object_text (member_texts ms)
+  pub json_text : List ℕ → Data → List ℕ
+  json_text gap (string text) = ascii_string text
+  json_text gap (integer z) = signed_decimal z
+  json_text gap (float x) = unknown
+  json_text gap (boolean b) = if b then codes "true" else codes "false"
+  json_text gap (datetime d) = unknown
+  json_text gap (array ds) = array_text gap (item_texts gap ds)
+  json_text gap (table ms) = object_text gap (member_texts gap ms)
 
-  pub item_texts : Items → List (List ℕ)
-  item_texts no_items = []
-  item_texts (item d ds) = json_text d ∷ item_texts ds
+  pub item_texts : List ℕ → Items → List (List ℕ)
+  item_texts gap no_items = []
+  item_texts gap (item d ds) = json_text gap d ∷ item_texts gap ds
 
-  pub member_texts : Members → List (List ℕ)
-  member_texts no_members = []
-  member_texts (member key d ms) = json_member key (json_text d) ∷ member_texts ms
+  pub member_texts : List ℕ → Members → List (List ℕ)
+  member_texts gap no_members = []
+  member_texts gap (member key d ms) = json_member gap key (json_text gap d) ∷ member_texts gap ms
 
 -- the members of a table, if there is one
-abbrev pub texts_in : Option Members → List (List ℕ)
-texts_in None = []
-texts_in (Some ms) = member_texts ms
+abbrev pub texts_in : List ℕ → Option Members → List (List ℕ)
+texts_in gap None = []
+texts_in gap (Some ms) = member_texts gap ms
 
-abbrev pub table_members : Option Data → List (List ℕ)
-table_members value = texts_in (option_and_then as_table value)
+abbrev pub table_members : List ℕ → Option Data → List (List ℕ)
+table_members gap value = texts_in gap (option_and_then as_table value)
 
 -- the member of this key, if there is a value
-abbrev pub value_member : List ℕ → Option Data → List (List ℕ)
-value_member key None = []
-value_member key (Some d) = json_member key (json_text d) ∷ []
+abbrev pub value_member : List ℕ → List ℕ → Option Data → List (List ℕ)
+value_member gap key None = []
+value_member gap key (Some d) = json_member gap key (json_text gap d) ∷ []
 
 -- or with this JSON, if there is none
-abbrev pub member_or : List ℕ → List ℕ → Option Data → List (List ℕ)
-member_or default key None = json_member key default ∷ []
-member_or default key (Some d) = json_member key (json_text d) ∷ []
+abbrev pub member_or : List ℕ → List ℕ → List ℕ → Option Data → List (List ℕ)
+member_or gap default key None = json_member gap key default ∷ []
+member_or gap default key (Some d) = json_member gap key (json_text gap d) ∷ []
 
 -- the object of these members at the key, if there are some
-abbrev pub object_member : List ℕ → List (List ℕ) → List (List ℕ)
-object_member key [] = []
-object_member key (m ∷ ms) = json_member key (object_text (m ∷ ms)) ∷ []
+abbrev pub object_member : List ℕ → List ℕ → List (List ℕ) → List (List ℕ)
+object_member gap key [] = []
+object_member gap key (m ∷ ms) = json_member gap key (object_text gap (m ∷ ms)) ∷ []
+
+-- what Poetry and PDM have after `,` and `:`
+abbrev pub blank : List ℕ
+blank = codes " "
 
 -- ---- Poetry
 
 -- of the table `project`
 abbrev pub project_members : Option Data → List (List ℕ)
-project_members project = value_member (codes "dependencies") (inside (codes "dependencies") project)
-    ++ (value_member (codes "optional-dependencies") (inside (codes "optional-dependencies") project)
-    ++ value_member (codes "requires-python") (inside (codes "requires-python") project))
+project_members project = value_member blank (codes "dependencies") (inside (codes "dependencies") project)
+    ++ (value_member blank (codes "optional-dependencies") (inside (codes "optional-dependencies") project)
+    ++ value_member blank (codes "requires-python") (inside (codes "requires-python") project))
 
 -- a key of Poetry's table: null without a value, if only this table is hashed
 abbrev pub poetry_member : Bool → List ℕ → Option Data → List (List ℕ)
-poetry_member true key poetry = member_or (codes "null") key (inside key poetry)
-poetry_member false key poetry = value_member key (inside key poetry)
+poetry_member true key poetry = member_or blank (codes "null") key (inside key poetry)
+poetry_member false key poetry = value_member blank key (inside key poetry)
 
 -- of Poetry's table
 abbrev pub poetry_members : Bool → Option Data → List (List ℕ)
@@ -130,28 +135,33 @@ poetry_table_of t = inside (codes "poetry") (get_member (codes "tool") t)
 
 -- by Poetry 1, which hashes only its table
 abbrev pub poetry_text : Option Data → List ℕ
-poetry_text poetry = object_text (poetry_members true poetry)
+poetry_text poetry = object_text blank (poetry_members true poetry)
 
--- its table beside these members, or alone without some
+-- its table beside these members, or alone without some; not known without both
 abbrev pub text_beside : Option Data → List (List ℕ) → List ℕ
-text_beside poetry [] = poetry_text poetry
-text_beside poetry (m ∷ ms) = object_text ((m ∷ ms) ++ json_member (codes "tool") (object_text (json_member (codes "poetry") (object_text (poetry_members false poetry)) ∷ [])) ∷ [])
+text_beside None [] = unknown
+text_beside (Some poetry) [] = poetry_text (Some poetry)
+text_beside poetry (m ∷ ms) = object_text blank ((m ∷ ms) ++ json_member blank (codes "tool") (object_text blank (json_member blank (codes "poetry") (object_text blank (poetry_members false poetry)) ∷ [])) ∷ [])
 
 -- by Poetry 2 before 2.3
 abbrev pub project_text : Members → List ℕ
-project_text t = text_beside (poetry_table_of t) (object_member (codes "project") (project_members (get_member (codes "project") t)))
+project_text t = text_beside (poetry_table_of t) (object_member blank (codes "project") (project_members (get_member (codes "project") t)))
 
 -- by Poetry from 2.3 on, with the groups
 abbrev pub groups_text : Members → List ℕ
 groups_text t = text_beside (poetry_table_of t)
-    (object_member (codes "dependency-groups") (table_members (get_member (codes "dependency-groups") t))
-    ++ object_member (codes "project") (project_members (get_member (codes "project") t)))
+    (object_member blank (codes "dependency-groups") (table_members blank (get_member (codes "dependency-groups") t))
+    ++ object_member blank (codes "project") (project_members (get_member (codes "project") t)))
 
 -- ---- PDM
 
--- an array with a name in normal form, which PDM does not change
+-- a name in normal form
+abbrev pub is_plain_name : List ℕ → Bool
+is_plain_name name = is_name name && bytes_eq (normal name) name
+
+-- an array with such a name, which PDM does not change
 abbrev pub is_plain_group : List ℕ × Data → Bool
-is_plain_group e = is_name e.0 && (bytes_eq (normal e.0) e.0 && is_some (as_array e.1))
+is_plain_group e = is_plain_name e.0 && is_some (as_array e.1)
 
 -- each group of the table, if there is one
 abbrev pub has_plain_groups : Option Data → Bool
@@ -162,16 +172,16 @@ is_one_empty one other = length one == 0 || length other == 0
 
 -- the groups of these two tables are known as PDM joins them: one has none, and those of the other are plain
 abbrev pub are_plain_groups : Option Data → Option Data → Bool
-are_plain_groups one other = is_one_empty (table_members one) (table_members other) && (has_plain_groups one && has_plain_groups other)
+are_plain_groups one other = is_one_empty (table_members blank one) (table_members blank other) && (has_plain_groups one && has_plain_groups other)
 
 -- of the table `project`, its groups and the table of PDM
 abbrev pub pdm_members : Option Data → Option Data → Option Data → List (List ℕ)
-pdm_members project groups pdm = member_or (codes "[]") (codes "dependencies") (inside (codes "dependencies") project)
-    ++ (json_member (codes "dev-dependencies") (object_text (table_members groups ++ table_members (inside (codes "dev-dependencies") pdm))) ∷ []
-    ++ (member_or (codes "{}") (codes "optional-dependencies") (inside (codes "optional-dependencies") project)
-    ++ (member_or (codes "\"\"") (codes "requires-python") (inside (codes "requires-python") project)
-    ++ (member_or (codes "{}") (codes "resolution") (inside (codes "resolution") pdm)
-    ++ member_or (codes "[]") (codes "sources") (inside (codes "source") pdm)))))
+pdm_members project groups pdm = member_or blank (codes "[]") (codes "dependencies") (inside (codes "dependencies") project)
+    ++ (json_member blank (codes "dev-dependencies") (object_text blank (table_members blank groups ++ table_members blank (inside (codes "dev-dependencies") pdm))) ∷ []
+    ++ (member_or blank (codes "{}") (codes "optional-dependencies") (inside (codes "optional-dependencies") project)
+    ++ (member_or blank (codes "\"\"") (codes "requires-python") (inside (codes "requires-python") project)
+    ++ (member_or blank (codes "{}") (codes "resolution") (inside (codes "resolution") pdm)
+    ++ member_or blank (codes "[]") (codes "sources") (inside (codes "source") pdm)))))
 
 -- what PDM hashes of a project with a table `project` is known, but of a workspace, and where it is to have no hash
 abbrev pub is_plain_project : Option Data → Option Data → Option Data → Bool
@@ -179,7 +189,7 @@ is_plain_project project groups pdm = is_some project && (is_none (inside (codes
     && (is_none (inside (codes "lock_inputs") (inside (codes "resolution") pdm)) && are_plain_groups groups (inside (codes "dev-dependencies") pdm)))
 
 unfoldable pub text_of_pdm : Option Data → Option Data → Option Data → List ℕ
-text_of_pdm project groups pdm = if is_plain_project project groups pdm then object_text (pdm_members project groups pdm) else unknown
+text_of_pdm project groups pdm = if is_plain_project project groups pdm then object_text blank (pdm_members project groups pdm) else unknown
 
 -- the table of PDM
 abbrev pub pdm_table_of : Members → Option Data
@@ -187,6 +197,41 @@ pdm_table_of t = inside (codes "pdm") (get_member (codes "tool") t)
 
 abbrev pub pdm_text : Members → List ℕ
 pdm_text t = text_of_pdm (get_member (codes "project") t) (get_member (codes "dependency-groups") t) (pdm_table_of t)
+
+-- ---- Pipenv
+
+-- the key is that of a table that Pipenv knows, and no category of packages
+abbrev pub is_known_key : List ℕ → Bool
+is_known_key key = bytes_eq key (codes "source") || (bytes_eq key (codes "packages") || (bytes_eq key (codes "dev-packages") || (bytes_eq key (codes "requires")
+    || (bytes_eq key (codes "scripts") || (bytes_eq key (codes "pipfile") || bytes_eq key (codes "pipenv"))))))
+
+abbrev pub has_known_key : List ℕ × Data → Bool
+has_known_key e = is_known_key e.0
+
+-- Pipenv hashes each name in normal form
+abbrev pub has_plain_name : List ℕ × Data → Bool
+has_plain_name e = is_plain_name e.0
+
+-- the names of packages in this table, if there is one
+abbrev pub has_plain_names : Option Data → Bool
+has_plain_names packages = list_all has_plain_name (entries packages)
+
+-- what Pipenv hashes of a Pipfile with this table is known: it has its sources, names in normal form and no other categories of packages
+abbrev pub is_plain_pipfile : Members → Bool
+is_plain_pipfile t = is_some (get_member (codes "source") t) && (list_all has_known_key (members_list t)
+    && (has_plain_names (get_member (codes "packages") t) && has_plain_names (get_member (codes "dev-packages") t)))
+
+-- of a Pipfile, what it requires and its sources
+abbrev pub meta_members : Members → List (List ℕ)
+meta_members t = member_or [] (codes "{}") (codes "requires") (get_member (codes "requires") t) ++ member_or [] (codes "[]") (codes "sources") (get_member (codes "source") t)
+
+-- these, and its packages
+abbrev pub pipfile_members : Members → List (List ℕ)
+pipfile_members t = json_member [] (codes "_meta") (object_text [] (meta_members t))
+    ∷ (member_or [] (codes "{}") (codes "default") (get_member (codes "packages") t) ++ member_or [] (codes "{}") (codes "develop") (get_member (codes "dev-packages") t))
+
+unfoldable pub pipfile_text : Members → List ℕ
+pipfile_text t = if is_plain_pipfile t then object_text [] (pipfile_members t) else unknown
 
 -- ---- the hash of a lock
 
@@ -251,6 +296,7 @@ hashed_texts rule.PoetryProject t = groups_text t ∷ (project_text t ∷ [])
 hashed_texts rule.PoetryGroups t = groups_text t ∷ []
 hashed_texts rule.Pdm t = pdm_text t ∷ []
 hashed_texts rule.PdmPylock t = pdm_text t ∷ []
+hashed_texts rule.Pipenv t = pipfile_text t ∷ []
 
 -- SHA-256 in hexadecimal digits
 unfoldable pub hash_of : List ℕ → List ℕ

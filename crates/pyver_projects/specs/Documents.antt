@@ -10,11 +10,11 @@ use Rattle.pep440_version.specs.Grammar.{starts}
 use Rattle.pep440_version.specs.Reading.{lead}
 use Rattle.pyver_requirements.specs.MarkerTokens.{is_operator_byte}
 use Rattle.toml.specs.Data.{Data, Members, as_array, as_bool, as_str, as_table, get, get_member}
-use Rattle.pyver_projects.specs.ContentHashes.{lock_hash}
+use Rattle.pyver_projects.specs.ContentHashes.{hash_by, lock_hash}
 use Rattle.pyver_projects.specs.KnownEnvironments.{is_false}
 use Rattle.pyver_projects.specs.LockedFiles.{array_faults, files_from, last_section, counted_names, has_markers, locked_python, names_listed, package_condition, package_faults, document_faults, member_packages}
 use Rattle.pyver_projects.specs.PackageRequirements.{asked_keys, entries_from, extras_from, extras_text, is_conditional, is_own_package, string_extras, plain_list, poetry_list, requirement_text, requirements_from, both_markers, marked_text, platform_marker, python_marker}
-use Rattle.pyver_projects.specs.ProjectStrings.{Inclusion, LockedExtra, LockedRequirement, includes, inclusions_by, texts_listed, Build, Constraint, Dependencies, Entry, Environment, Extra, Group, Include, Invalid, LockContents, LockFault, LockParts, LockedPackage, OwnExtras, PackageCondition, ProjectString, Python, Section, Unread, Version, after_blanks, header_lines, entries, inside, is_array_or_none, is_table_or_none, key_path, listed, text_in, is_text_or_none}
+use Rattle.pyver_projects.specs.ProjectStrings.{ContentHash, Inclusion, LockedExtra, LockedRequirement, includes, inclusions_by, texts_listed, Build, Constraint, Dependencies, Entry, Environment, Extra, Group, Include, Invalid, LockContents, LockFault, LockParts, LockedPackage, OwnExtras, PackageCondition, ProjectString, Python, Section, Unread, Version, after_blanks, header_lines, entries, inside, is_array_or_none, is_table_or_none, key_path, listed, text_in, is_text_or_none}
 use Rattle.pyver_findings.specs.NamedFiles.{folder}
 use Rattle.pyver_findings.specs.declared.cause.Cause.{Cause}
 use Rattle.pyver_findings.specs.declared.cause.Cause.TheVariants as cause
@@ -24,8 +24,10 @@ use Rattle.pyver_projects.specs.declared.document_kind.LockKind.TheVariants.{Pdm
 use Rattle.pyver_projects.specs.declared.project.EntryTool.{EntryTool}
 use Rattle.pyver_projects.specs.declared.project.EntryTool.TheVariants as of_entries
 use Rattle.pyver_projects.specs.declared.tool_tables.GroupTool.{GroupTool}
+use Rattle.pyver_projects.specs.declared.locked_package.HashRule.TheVariants as rule
 use Rattle.pyver_projects.specs.declared.tool_tables.GroupTool.TheVariants as of_tool
 use Rattle.serde_json.specs.Data.{Data as JsonData}
+use Rattle.serde_json.specs.Find.{as_str as json_str, get as json_get}
 use Rattle.serde_json.specs.Read.{read}
 use Rattle.toml.specs.Parse.{parse_document}
 use Rattle.pyver_projects.specs.declared.document_kind.LockKind.{LockKind}
@@ -591,9 +593,13 @@ kind_of_word word =
 abbrev pub toml_contents : LockKind → List ℕ → List ℕ → List ℕ → Option LockContents
 toml_contents kind key header text = option_map (contents kind header text key) (parse_document text)
 
--- what `Pipfile.lock` with this text has: only packages
+-- the hash of the Pipfile in its lock, which has it among other things about itself
+abbrev pub pipfile_hash : JsonData → Option ContentHash
+pipfile_hash document = hash_by rule.Pipenv (option_and_then json_str (option_and_then (json_get (codes "sha256")) (option_and_then (json_get (codes "hash")) (json_get (codes "_meta") document))))
+
+-- what `Pipfile.lock` with this text has: packages and a hash
 abbrev pub pipfile_contents : List ℕ → JsonData → LockContents
-pipfile_contents text document = record { parts = record { names = []; extras = []; groups = []; environments = []; hash = None; python = None; by_extras = false }; packages = member_packages text document; requirements = []; optional = []; entries = []; files = []; faults = document_faults text document }
+pipfile_contents text document = record { parts = record { names = []; extras = []; groups = []; environments = []; hash = pipfile_hash document; python = None; by_extras = false }; packages = member_packages text document; requirements = []; optional = []; entries = []; files = []; faults = document_faults text document }
 
 -- what a lock with this text has, if it is TOML, or JSON, of a known format
 abbrev pub locked : LockKind → List ℕ → Option LockContents

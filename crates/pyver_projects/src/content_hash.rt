@@ -1,10 +1,10 @@
-//! The hash of a project that Poetry and PDM write into its lock: of tables of `pyproject.toml` as JSON.
+//! The hash of a project that Poetry, PDM and Pipenv write into its lock: of tables of `pyproject.toml` or a Pipfile as JSON.
 ghost use Rattle.std.specs.Prelude.{◌≡◌, ◌++◌, ◌∷◌, [], IfOk, codes, false, map, option_and_then, option_map, string_bytes};
 ghost use Rattle.std.specs.List.{list_all, list_any};
 ghost use Rattle.pyver_findings.specs.NamedFiles.{folder};
 ghost use Rattle.pyver_findings.specs.Views.{file_line_of, file_of, finding_of};
-ghost use Rattle.pyver_projects.specs.Comparing.{hash_key, hash_line, hash_table, in_one_folder, stale_beside, stale_by, stale_finding, stale_in_pair};
-ghost use Rattle.pyver_projects.specs.ContentHashes.{are_plain_groups, groups_text, hash_by, has_plain_groups, hash_of, hashed_texts, is_before_groups, is_known_text, is_one_empty, is_plain_group, is_plain_project, is_stale, is_version_of_pdm, json_member, object_text, json_text, lock_hash, may_have, member_or, object_member, of_algorithm, pdm_hash, pdm_members, pdm_table_of, pdm_text, poetry_hash, poetry_member, poetry_members, poetry_table_of, poetry_text, project_members, project_text, pylock_hash, rule_of_poetry, table_members, text_beside, text_of_pdm, value_member};
+ghost use Rattle.pyver_projects.specs.Comparing.{hash_key, hash_line, hash_number, hash_table, in_one_folder, stale_beside, stale_by, stale_finding, stale_in_pair};
+ghost use Rattle.pyver_projects.specs.ContentHashes.{are_plain_groups, blank, has_known_key, has_plain_name, has_plain_names, is_known_key, is_plain_name, is_plain_pipfile, meta_members, pipfile_members, pipfile_text, groups_text, hash_by, has_plain_groups, hash_of, hashed_texts, is_before_groups, is_known_text, is_one_empty, is_plain_group, is_plain_project, is_stale, is_version_of_pdm, json_member, object_text, json_text, lock_hash, may_have, member_or, object_member, of_algorithm, pdm_hash, pdm_members, pdm_table_of, pdm_text, poetry_hash, poetry_member, poetry_members, poetry_table_of, poetry_text, project_members, project_text, pylock_hash, rule_of_poetry, table_members, text_beside, text_of_pdm, value_member};
 ghost use Rattle.pyver_projects.specs.ProjectStrings.{inside, key_line, key_path, members_list, number_or_one};
 ghost use Rattle.pep440_pick.specs.RequirementReading.{split_at_byte};
 ghost use Rattle.pyver_projects.specs.ProjectViews.{content_hash_of, document_of, document_reading_of, read_pair};
@@ -13,9 +13,9 @@ ghost use Rattle.toml.specs.View.{table_view, view};
 use crate::document_kind::{Document, LockKind, folder};
 use crate::document_reading::{DocumentReading, ReadDocument};
 use crate::entries::{push_differences, push_python_difference};
-use crate::json_text::{json_member, json_text, object_text, table_members};
+use crate::json_text::{object_text, push_object, push_value, push_value_or, table_members};
 use crate::locked_package::{ContentHash, HashRule, split_at_byte};
-use crate::place::{document_keys, key_path, number_keys};
+use crate::place::{document_keys, key_path, line_number, number_keys, read_quoted_lines};
 use crate::table::{inside, table, text, top};
 use pep440_pick::is_name;
 use pyver_findings::{FileLine, Finding, SourceFile, normalize_name};
@@ -23,68 +23,22 @@ use sha2::{Digest, Sha256};
 use std::alloc::{AllocError, Global};
 use toml::{Table, Value};
 
-// ---- members of objects
+// What Poetry and PDM have after each comma and colon.
+const BLANK: &str = " ";
 
-// Adds the member of this key, if there is a value.
-fn push_value(
-    alloc: Global,
-    members: &mut Vec<Vec<u8>>,
-    key: &str,
-    value: Option<&Value>,
-) -> Result<(), AllocError>
-    ensures { IfOk result (λ _. map (λ p. p.items) members.new.items ≡ map (λ p. p.items) members.old.items ++ value_member key.now (option_map (λ v. view v.now) value.entry)) }
-{
-    if let Some(value) = value {
-        let text = json_text(alloc, value)?;
-        members.push(json_member(alloc, key.as_bytes(), text.as_slice())?)?;
-    }
-    Ok(())
-}
-
-// Adds it, with this JSON if there is no value.
-fn push_value_or(
-    alloc: Global,
-    members: &mut Vec<Vec<u8>>,
-    default: &str,
-    key: &str,
-    value: Option<&Value>,
-) -> Result<(), AllocError>
-    ensures { IfOk result (λ _. map (λ p. p.items) members.new.items ≡ map (λ p. p.items) members.old.items ++ member_or default.now key.now (option_map (λ v. view v.now) value.entry)) }
-{
-    if value.is_some() {
-        return push_value(alloc, members, key, value);
-    }
-    members.push(json_member(alloc, key.as_bytes(), default.as_bytes())?)?;
-    Ok(())
-}
-
-// Adds an object at the key.
-fn push_object(
-    alloc: Global,
-    members: &mut Vec<Vec<u8>>,
-    key: &str,
-    inner: &[Vec<u8>],
-) -> Result<(), AllocError>
-    ensures { IfOk result (λ _. map (λ p. p.items) members.new.items ≡ map (λ p. p.items) members.old.items ++ json_member key.now (object_text (map (λ p. p.items) inner.now)) ∷ []) }
-{
-    let text = object_text(alloc, inner)?;
-    members.push(json_member(alloc, key.as_bytes(), text.as_slice())?)?;
-    Ok(())
-}
-
-// The same, if it has members.
+// Adds an object at the key, if it has members.
 fn push_object_if_some(
     alloc: Global,
     members: &mut Vec<Vec<u8>>,
     key: &str,
     inner: &[Vec<u8>],
 ) -> Result<(), AllocError>
-    ensures { IfOk result (λ _. map (λ p. p.items) members.new.items ≡ map (λ p. p.items) members.old.items ++ object_member key.now (map (λ p. p.items) inner.now)) }
+    ensures { IfOk result (λ _. map (λ p. p.items) members.new.items ≡ map (λ p. p.items) members.old.items ++ object_member blank key.now (map (λ p. p.items) inner.now)) }
 {
     if inner.is_empty() {
         return Ok(());
     }
-    push_object(alloc, members, key, inner)
+    push_object(alloc, members, BLANK, key, inner)
 }
 
 // ---- Poetry
@@ -98,11 +52,12 @@ fn project_members(alloc: Global, project: Option<&Value>) -> Result<Vec<Vec<u8>
     push_value(
         alloc,
         &mut members,
+        BLANK,
         "dependencies",
         inside(project, "dependencies"),
     )?;
-    push_value(alloc, &mut members, "optional-dependencies", extras)?;
-    push_value(alloc, &mut members, "requires-python", python)?;
+    push_value(alloc, &mut members, BLANK, "optional-dependencies", extras)?;
+    push_value(alloc, &mut members, BLANK, "requires-python", python)?;
     Ok(members)
 }
 
@@ -118,9 +73,9 @@ fn push_poetry_member(
 {
     let value = inside(poetry, key);
     if is_alone {
-        push_value_or(alloc, members, "null", key, value)
+        push_value_or(alloc, members, BLANK, "null", key, value)
     } else {
-        push_value(alloc, members, key, value)
+        push_value(alloc, members, BLANK, key, value)
     }
 }
 
@@ -151,7 +106,17 @@ fn poetry_text(alloc: Global, poetry: Option<&Value>) -> Result<Vec<u8>, AllocEr
     ensures { IfOk result (λ text. text.items ≡ poetry_text (option_map (λ v. view v.now) poetry.entry)) }
 {
     let members = poetry_members(alloc, true, poetry)?;
-    object_text(alloc, members.as_slice())
+    object_text(alloc, BLANK, members.as_slice())
+}
+
+// It, or a byte that JSON does not have without a table of Poetry.
+fn poetry_text_or_none(alloc: Global, poetry: Option<&Value>) -> Result<Vec<u8>, AllocError>
+    ensures { IfOk result (λ text. text.items ≡ text_beside (option_map (λ v. view v.now) poetry.entry) []) }
+{
+    if poetry.is_none() {
+        return Vec::from_slice(alloc, b"\0");
+    }
+    poetry_text(alloc, poetry)
 }
 
 // Adds Poetry's table at the key `tool`.
@@ -160,12 +125,12 @@ fn push_tool(
     members: &mut Vec<Vec<u8>>,
     poetry: Option<&Value>,
 ) -> Result<(), AllocError>
-    ensures { IfOk result (λ _. map (λ p. p.items) members.new.items ≡ map (λ p. p.items) members.old.items ++ json_member (codes "tool") (object_text (json_member (codes "poetry") (object_text (poetry_members false (option_map (λ v. view v.now) poetry.entry))) ∷ [])) ∷ []) }
+    ensures { IfOk result (λ _. map (λ p. p.items) members.new.items ≡ map (λ p. p.items) members.old.items ++ json_member blank (codes "tool") (object_text blank (json_member blank (codes "poetry") (object_text blank (poetry_members false (option_map (λ v. view v.now) poetry.entry))) ∷ [])) ∷ []) }
 {
     let of_poetry = poetry_members(alloc, false, poetry)?;
     let mut tool = Vec::new(alloc);
-    push_object(alloc, &mut tool, "poetry", of_poetry.as_slice())?;
-    push_object(alloc, members, "tool", tool.as_slice())
+    push_object(alloc, &mut tool, BLANK, "poetry", of_poetry.as_slice())?;
+    push_object(alloc, members, BLANK, "tool", tool.as_slice())
 }
 
 // Poetry's table beside these members, or alone without some.
@@ -178,10 +143,10 @@ fn text_beside(
 {
     let mut members = members;
     if members.is_empty() {
-        return poetry_text(alloc, poetry);
+        return poetry_text_or_none(alloc, poetry);
     }
     push_tool(alloc, &mut members, poetry)?;
-    object_text(alloc, members.as_slice())
+    object_text(alloc, BLANK, members.as_slice())
 }
 
 // What Poetry 2 hashes before 2.3.
@@ -199,7 +164,7 @@ fn groups_text(alloc: Global, document: &Table) -> Result<Vec<u8>, AllocError>
     ensures { IfOk result (λ text. text.items ≡ groups_text (table_view document.now)) }
 {
     let mut members = Vec::new(alloc);
-    let groups = table_members(alloc, top(document, "dependency-groups"))?;
+    let groups = table_members(alloc, BLANK, top(document, "dependency-groups"))?;
     let project = project_members(alloc, top(document, "project"))?;
     push_object_if_some(alloc, &mut members, "dependency-groups", groups.as_slice())?;
     push_object_if_some(alloc, &mut members, "project", project.as_slice())?;
@@ -208,15 +173,22 @@ fn groups_text(alloc: Global, document: &Table) -> Result<Vec<u8>, AllocError>
 
 // ---- PDM
 
-// An array with a name in normal form.
-fn is_plain_group(alloc: Global, name: &str, value: &Value) -> Result<bool, AllocError>
-    ensures { IfOk result (λ b. b ≡ is_plain_group (name.now, view value.now)) }
+// A name in normal form.
+fn is_plain_name(alloc: Global, name: &str) -> Result<bool, AllocError>
+    ensures { IfOk result (λ b. b ≡ is_plain_name name.now) }
 {
     if !is_name(name) {
         return Ok(false);
     }
     let normal = normalize_name(alloc, name)?;
-    Ok(normal.as_slice() == name.as_bytes() && value.as_array().is_some())
+    Ok(normal.as_slice() == name.as_bytes())
+}
+
+// An array with a name in normal form.
+fn is_plain_group(alloc: Global, name: &str, value: &Value) -> Result<bool, AllocError>
+    ensures { IfOk result (λ b. b ≡ is_plain_group (name.now, view value.now)) }
+{
+    Ok(is_plain_name(alloc, name)? && value.as_array().is_some())
 }
 
 fn is_plain_table(alloc: Global, groups: &Table) -> Result<bool, AllocError>
@@ -254,8 +226,8 @@ fn are_plain_groups(
 ) -> Result<bool, AllocError>
     ensures { IfOk result (λ b. b ≡ are_plain_groups (option_map (λ v. view v.now) one.entry) (option_map (λ v. view v.now) other.entry)) }
 {
-    let first = table_members(alloc, one)?;
-    let second = table_members(alloc, other)?;
+    let first = table_members(alloc, BLANK, one)?;
+    let second = table_members(alloc, BLANK, other)?;
     if !is_one_empty(first.as_slice(), second.as_slice()) {
         return Ok(false);
     }
@@ -286,12 +258,12 @@ fn push_project_members(
     members: &mut Vec<Vec<u8>>,
     project: Option<&Value>,
 ) -> Result<(), AllocError>
-    ensures { IfOk result (λ _. map (λ p. p.items) members.new.items ≡ map (λ p. p.items) members.old.items ++ (member_or (codes "{}") (codes "optional-dependencies") (inside (codes "optional-dependencies") (option_map (λ v. view v.now) project.entry)) ++ member_or (codes "\"\"") (codes "requires-python") (inside (codes "requires-python") (option_map (λ v. view v.now) project.entry)))) }
+    ensures { IfOk result (λ _. map (λ p. p.items) members.new.items ≡ map (λ p. p.items) members.old.items ++ (member_or blank (codes "{}") (codes "optional-dependencies") (inside (codes "optional-dependencies") (option_map (λ v. view v.now) project.entry)) ++ member_or blank (codes "\"\"") (codes "requires-python") (inside (codes "requires-python") (option_map (λ v. view v.now) project.entry)))) }
 {
     let extras = inside(project, "optional-dependencies");
     let python = inside(project, "requires-python");
-    push_value_or(alloc, members, "{}", "optional-dependencies", extras)?;
-    push_value_or(alloc, members, "\"\"", "requires-python", python)
+    push_value_or(alloc, members, BLANK, "{}", "optional-dependencies", extras)?;
+    push_value_or(alloc, members, BLANK, "\"\"", "requires-python", python)
 }
 
 // The groups of both tables.
@@ -300,10 +272,10 @@ fn group_members(
     groups: Option<&Value>,
     pdm: Option<&Value>,
 ) -> Result<Vec<Vec<u8>>, AllocError>
-    ensures { IfOk result (λ texts. map (λ p. p.items) texts.items ≡ table_members (option_map (λ v. view v.now) groups.entry) ++ table_members (inside (codes "dev-dependencies") (option_map (λ v. view v.now) pdm.entry))) }
+    ensures { IfOk result (λ texts. map (λ p. p.items) texts.items ≡ table_members blank (option_map (λ v. view v.now) groups.entry) ++ table_members blank (inside (codes "dev-dependencies") (option_map (λ v. view v.now) pdm.entry))) }
 {
-    let mut members = table_members(alloc, groups)?;
-    let mut added = table_members(alloc, inside(pdm, "dev-dependencies"))?;
+    let mut members = table_members(alloc, BLANK, groups)?;
+    let mut added = table_members(alloc, BLANK, inside(pdm, "dev-dependencies"))?;
     members.append(&mut added)?;
     Ok(members)
 }
@@ -319,17 +291,38 @@ fn pdm_members(
     let mut members = Vec::new(alloc);
     let dependencies = inside(project, "dependencies");
     let all = group_members(alloc, groups, pdm)?;
-    push_value_or(alloc, &mut members, "[]", "dependencies", dependencies)?;
-    push_object(alloc, &mut members, "dev-dependencies", all.as_slice())?;
+    push_value_or(
+        alloc,
+        &mut members,
+        BLANK,
+        "[]",
+        "dependencies",
+        dependencies,
+    )?;
+    push_object(
+        alloc,
+        &mut members,
+        BLANK,
+        "dev-dependencies",
+        all.as_slice(),
+    )?;
     push_project_members(alloc, &mut members, project)?;
     push_value_or(
         alloc,
         &mut members,
+        BLANK,
         "{}",
         "resolution",
         inside(pdm, "resolution"),
     )?;
-    push_value_or(alloc, &mut members, "[]", "sources", inside(pdm, "source"))?;
+    push_value_or(
+        alloc,
+        &mut members,
+        BLANK,
+        "[]",
+        "sources",
+        inside(pdm, "source"),
+    )?;
     Ok(members)
 }
 
@@ -346,7 +339,7 @@ fn text_of_pdm(
         return Vec::from_slice(alloc, b"\0");
     }
     let members = pdm_members(alloc, project, groups, pdm)?;
-    object_text(alloc, members.as_slice())
+    object_text(alloc, BLANK, members.as_slice())
 }
 
 fn pdm_table_of(document: &Table) -> Option<&Value>
@@ -364,10 +357,105 @@ fn pdm_text(alloc: Global, document: &Table) -> Result<Vec<u8>, AllocError>
     text_of_pdm(alloc, project, groups, pdm_table_of(document))
 }
 
+// ---- Pipenv
+
+// The key is that of a table that Pipenv knows, and no category of packages.
+fn is_known_key(key: &str) -> bool
+    ensures { result ≡ is_known_key key.now }
+{
+    matches!(
+        key,
+        "source" | "packages" | "dev-packages" | "requires" | "scripts" | "pipfile" | "pipenv"
+    )
+}
+
+fn has_known_keys(document: &Table) -> bool
+    ensures { result ≡ list_all has_known_key (members_list (table_view document.now)) }
+{
+    for (key, _) in document.iter() {
+        if !is_known_key(key.as_str()) {
+            return false;
+        }
+    }
+    true
+}
+
+fn has_plain_keys(alloc: Global, packages: &Table) -> Result<bool, AllocError>
+    ensures { IfOk result (λ b. b ≡ list_all has_plain_name (members_list (table_view packages.now))) }
+{
+    for (name, _) in packages.iter() {
+        if !is_plain_name(alloc, name.as_str())? {
+            return Ok(false);
+        }
+    }
+    Ok(true)
+}
+
+// The names of packages in the table, if there is one.
+fn has_plain_names(alloc: Global, packages: Option<&Value>) -> Result<bool, AllocError>
+    ensures { IfOk result (λ b. b ≡ has_plain_names (option_map (λ v. view v.now) packages.entry)) }
+{
+    match table(packages) {
+        Some(packages) => has_plain_keys(alloc, packages),
+        None => Ok(true),
+    }
+}
+
+// What Pipenv hashes of a Pipfile is known.
+fn is_plain_pipfile(alloc: Global, document: &Table) -> Result<bool, AllocError>
+    ensures { IfOk result (λ b. b ≡ is_plain_pipfile (table_view document.now)) }
+{
+    if top(document, "source").is_none() || !has_known_keys(document) {
+        return Ok(false);
+    }
+    Ok(
+        has_plain_names(alloc, top(document, "packages"))?
+            && has_plain_names(alloc, top(document, "dev-packages"))?,
+    )
+}
+
+// What a Pipfile requires, and its sources.
+fn meta_members(alloc: Global, document: &Table) -> Result<Vec<Vec<u8>>, AllocError>
+    ensures { IfOk result (λ texts. map (λ p. p.items) texts.items ≡ meta_members (table_view document.now)) }
+{
+    let mut members = Vec::new(alloc);
+    let sources = top(document, "source");
+    let required = top(document, "requires");
+    push_value_or(alloc, &mut members, "", "{}", "requires", required)?;
+    push_value_or(alloc, &mut members, "", "[]", "sources", sources)?;
+    Ok(members)
+}
+
+// These, and its packages.
+fn pipfile_members(alloc: Global, document: &Table) -> Result<Vec<Vec<u8>>, AllocError>
+    ensures { IfOk result (λ texts. map (λ p. p.items) texts.items ≡ pipfile_members (table_view document.now)) }
+{
+    let meta = meta_members(alloc, document)?;
+    let packages = top(document, "packages");
+    let developed = top(document, "dev-packages");
+    let mut members = Vec::new(alloc);
+    push_object(alloc, &mut members, "", "_meta", meta.as_slice())?;
+    push_value_or(alloc, &mut members, "", "{}", "default", packages)?;
+    push_value_or(alloc, &mut members, "", "{}", "develop", developed)?;
+    Ok(members)
+}
+
+// What Pipenv hashes; if it is not known, a byte that JSON does not have.
+#[tactic(auto, unfolding(crate::specs::ContentHashes::pipfile_text))]
+fn pipfile_text(alloc: Global, document: &Table) -> Result<Vec<u8>, AllocError>
+    ensures { IfOk result (λ text. text.items ≡ pipfile_text (table_view document.now)) }
+{
+    if !is_plain_pipfile(alloc, document)? {
+        return Vec::from_slice(alloc, b"\0");
+    }
+    let members = pipfile_members(alloc, document)?;
+    object_text(alloc, "", members.as_slice())
+}
+
 // ---- the hash of a lock
 
 // The hash, if it has the length of SHA-256.
-fn hash_by(
+pub(crate) fn hash_by(
     alloc: Global,
     rule: HashRule,
     value: Option<&str>,
@@ -517,6 +605,9 @@ fn may_have_any(alloc: Global, hash: &ContentHash, document: &Table) -> Result<b
     ensures { IfOk result (λ b. b ≡ list_any (may_have hash.now.value.items) (hashed_texts hash.now.rule (table_view document.now))) }
 {
     let value = hash.value.as_slice();
+    if matches!(hash.rule, HashRule::Pipenv) {
+        return may_have(alloc, value, pipfile_text(alloc, document)?.as_slice());
+    }
     if matches!(hash.rule, HashRule::Pdm | HashRule::PdmPylock) {
         return may_have(alloc, value, pdm_text(alloc, document)?.as_slice());
     }
@@ -549,6 +640,7 @@ fn hash_key(rule: HashRule) -> &'static str
     match rule {
         HashRule::Pdm => "content_hash",
         HashRule::PdmPylock => "hashes",
+        HashRule::Pipenv => "sha256",
         _ => "content-hash",
     }
 }
@@ -572,14 +664,27 @@ pub(crate) fn key_line(alloc: Global, text: &[u8], path: &[u8]) -> Result<Option
     Ok(numbers.get(path).copied())
 }
 
-// The number of the line of the hash in the lock with this text.
-fn hash_number(alloc: Global, text: &[u8], rule: HashRule) -> Result<u64, AllocError>
+// The number of the line of the hash in the lock with this text, which is TOML.
+fn toml_hash_number(alloc: Global, text: &[u8], rule: HashRule) -> Result<u64, AllocError>
     ensures { IfOk result (λ number. number ≡ number_or_one (key_line text.now (key_path (hash_table rule) (hash_key rule)))) }
 {
     let path = key_path(alloc, hash_table(rule), hash_key(rule).as_bytes())?;
     match key_line(alloc, text, path.as_slice())? {
         Some(number) => Ok(number as u64),
         None => Ok(1),
+    }
+}
+
+// The same of any lock.
+fn hash_number(alloc: Global, text: &[u8], rule: HashRule) -> Result<u64, AllocError>
+    ensures { IfOk result (λ number. number ≡ number_or_one (hash_number text.now rule)) }
+{
+    match rule {
+        HashRule::Pipenv => {
+            let lines = read_quoted_lines(alloc, text)?;
+            Ok(line_number(&lines, b"sha256"))
+        }
+        _ => toml_hash_number(alloc, text, rule),
     }
 }
 

@@ -294,40 +294,41 @@ pub(crate) fn read_documents<'a>(
 /// by its table or Poetry's, unless `optional-dependencies` is dynamic, versions of a lock that are none, and a document that is not TOML, or JSON, in UTF-8. After
 /// the packages of a lock the files of those from an index in whose
 /// names is a version (PEP 427, "File name convention"; PEP 625, "Specification") that `==` with the package's does not match, of those that
-/// follow one another with one version the first; the packages of one name with the same marker or none (PEP 751 ("Specification"),
+/// follow one another with one version the first; the packages of one name with the same extras and the same marker or none (PEP 751 ("Specification"),
 /// `poetry.lock` from format 2.1 on and `pdm.lock` with at most one target have one), and in `uv.lock` each dependency without a source on a name
 /// of more than one package; packages that are no array of tables, or in `Pipfile.lock` no object of objects, and names and versions
-/// that are no strings; and for each requirement of a package, beside projects, whether no package has its name, or `pdm.lock` none for an extra that it asks
+/// that are no strings; and for each requirement of a package, beside projects, whether no package has its name, or `pdm.lock` none for the extras that it asks
 /// for, or the first environment
 /// in which the lock leaves out all packages that it may take, unless that is one of them, setuptools, distribute, pip or wheel, and the locked
 /// versions of its name, if it contains none.
 /// Then what is wrong in each project beside each lock in its folder, or in the nearest above that has one of its kind, and beside each
 /// lock for which that is no project: in one folder whether `metadata.content-hash` of `poetry.lock`, `metadata.content_hash` of `pdm.lock`, or
-/// `tool.pdm.hashes` of `pylock.toml`, is the hash of the project, on the line of that key; in one folder, where `uv.lock` has that project as a package and names
+/// `tool.pdm.hashes` of `pylock.toml`, or `_meta.hash.sha256` of `Pipfile.lock`, is the hash of the project, on the line of that key; in one folder, where `uv.lock` has that project as a package and names
 /// no members, the first of CPython 3.0 to 3.20 that only one of both `requires-python` contains, on the line of the lock's; where it says what the project requires, for
 /// each requirement of the project of dependencies, extras and groups whether the lock has one with its name, its extras and its list, and for each of the lock, on the line of
-/// its package, whether the project has; for each requirement, in order, whether the lock lacks a package of its name or for an extra, or such an environment,
+/// its package, whether the project has; for each requirement, in order, whether the lock lacks a package of its name or for its extras, or such an environment,
 /// and the lines of the locked versions of its name with the line of the requirement, if it contains none; and the same for what packages require for the
 /// extras that the project asks for. Then the requirements of each project that hold
 /// together and have no version in common, as `pyver_findings` reports them, each once: `project.dependencies`; these with each extra and those that it asks the project for, always, itself or through others; each group with
-/// all that it includes, and with these if there is a table `tool.uv` or `tool.poetry`; what the build requires; and each environment of `tool.hatch.envs`. With
+/// all that it includes, and with these if there is a table `tool.uv` or `tool.poetry`; what the build requires; and each environment of `tool.hatch.envs`, with the
+/// dependencies if neither it nor `default` has `detached` or `skip-install`, and it no `template`. With
 /// the dependencies hold `tool.uv.constraint-dependencies` and `override-dependencies`; a requirement of dependencies, extras and groups for a name that the project
 /// overrides does not count. Those with markers are reported in an environment with a version of Python that `project.requires-python` contains, if that is a list without `===`.
 ///
 /// Of `pyproject.toml` these are read: `project.dependencies`, `project.optional-dependencies`, `project.requires-python`,
 /// `project.version`, `dependency-groups` with the names of included groups, `build-system.requires`, `dev-dependencies` of `tool.uv`, `tool.rye` and `tool.pdm`,
 /// uv's constraints and overrides, `dependencies` and `extra-dependencies` of each environment of Hatch, but for strings with a `{`, and the tables of
-/// `tool.poetry`; of a Pipfile `packages` and `dev-packages`, whose lists are of PEP 440, with no other condition than `markers`; of a lock the names and
+/// `tool.poetry`; of a Pipfile `packages` and `dev-packages`, whose lists are of PEP 440, with `markers` and variables of markers as conditions; of a lock the names and
 /// versions of its packages, in `Pipfile.lock` of the members of `default` and of those of `develop` that are not there with the same
 /// version. Their requirements are the names in uv's `metadata.requires-dist`, each with its `specifier`, those in an array
 /// `dependencies`, or its strings, as PDM writes them, there or, in `pylock.toml`, at `tool.pdm`, and those in Poetry's table `dependencies` with their lists; one that PEP 440 does
 /// not know, as `^1.0`, is left out. For an extra that a requirement asks for they require what stands in Poetry's table `extras` and uv's `optional-dependencies`, also
-/// through other extras. `pdm.lock` has a package for the `extras` that are asked for ("Lock file" of PDM). An array `dependencies` in `pylock.toml` only refers to packages, wherever these are (PEP 751, `packages.dependencies`). The names of a project are `project.name` and `tool.poetry.name`. The files of packages are `files`,
+/// through other extras. `pdm.lock` has a package for each set of `extras` that is asked for ("Lock file" of PDM). An array `dependencies` in `pylock.toml` only refers to packages, wherever these are (PEP 751, `packages.dependencies`). The names of a project are `project.name` and `tool.poetry.name`. The files of packages are `files`,
 /// `wheels` and `sdist`, each named by its `file`, `name`, `url` or `path`. Other values of other types in a lock are passed over. Extras and groups come in the order of
 /// their names. A string has the number of the first line on which it stands in quotes, a package of `Pipfile.lock` the number of the first line with its name in quotes, another
 /// package, with what it requires, the number of its header. Either has 1 without one. Each string and each package counts as a line.
 ///
-/// A requirement with a marker or a URL, of a package with markers that may not hold, of the build or an environment of Hatch, or that is optional, is not
+/// A requirement with a marker, but of a Pipfile, or a URL, of a package with markers that may not hold, of the build or an environment of Hatch, or that is optional, is not
 /// compared, nor one of a package, dependencies, extras or groups for a name that a project overrides: with which a string of its `tool.uv.override-dependencies`
 /// begins, or that is a key of `tool.pdm.resolution.overrides`. With uv's constraints and overrides only the `uv.lock` in their folder is compared, which need not have their packages, with a Pipfile only the `Pipfile.lock` in its folder.
 /// Each lock is to have packages for `project.dependencies`, `poetry.lock` and `uv.lock` for extras, `uv.lock` for groups, `poetry.lock` for `tool.poetry`,

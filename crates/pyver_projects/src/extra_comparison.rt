@@ -8,6 +8,7 @@ ghost use Rattle.pyver_projects.specs.ProjectViews.{IsIndex, excuses, extra_read
 use crate::document_reading::{ExtraReading, StringReading};
 use crate::entries::push_requirement_fault;
 use crate::groups::{Inclusion, InclusionIndex, included_groups, push_inclusions_by};
+use crate::known_environment::push_partly_needed;
 use crate::known_projects::contains_name;
 use crate::lock_comparison::{
     IndexedLock, is_locked, is_needed, is_overridden, push_unmet_meaning,
@@ -15,7 +16,6 @@ use crate::lock_comparison::{
 use crate::locked_package::LockParts;
 use crate::locked_reading::LockedReading;
 use crate::package_extras::push_extra_keys;
-use crate::partly_locked::push_partly_needed;
 use crate::project::Section;
 use pyver_findings::{Demand, Finding, LineMeaning};
 use std::alloc::{AllocError, Global};

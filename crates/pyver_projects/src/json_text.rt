@@ -1,7 +1,7 @@
-//! Values of TOML as JSON, as Python's `json.dumps` writes it with sorted keys.
-ghost use Rattle.std.specs.Prelude.{◌≡◌, ◌++◌, IfOk, map, option_map};
+//! Values of TOML as JSON, as Python's `json.dumps` writes it with sorted keys: with a gap after each comma and colon, a blank or nothing.
+ghost use Rattle.std.specs.Prelude.{◌≡◌, ◌++◌, ◌∷◌, [], IfOk, map, option_map};
 ghost use Rattle.std.specs.List.{flat_map};
-ghost use Rattle.pyver_projects.specs.ContentHashes.{after_comma, ascii_escape, ascii_string, control_escape, item_texts, array_text, json_member, object_text, json_text, member_texts, table_members, with_commas};
+ghost use Rattle.pyver_projects.specs.ContentHashes.{after_comma, array_text, ascii_escape, ascii_string, control_escape, item_texts, json_member, json_text, member_or, member_texts, object_text, table_members, value_member, with_commas};
 ghost use Rattle.toml.specs.Data as toml_data;
 ghost use Rattle.toml.specs.View.{array_view, table_view, view};
 
@@ -63,63 +63,69 @@ fn ascii_string(alloc: Global, bytes: &[u8]) -> Result<Vec<u8>, AllocError>
     Ok(text)
 }
 
-fn push_after_commas(text: &mut Vec<u8>, pieces: &[Vec<u8>]) -> Result<(), AllocError>
-    ensures { IfOk result (λ _. text.new.items ≡ text.old.items ++ flat_map after_comma (map (λ p. p.items) pieces.now)) }
+fn push_after_commas(text: &mut Vec<u8>, gap: &str, pieces: &[Vec<u8>]) -> Result<(), AllocError>
+    ensures { IfOk result (λ _. text.new.items ≡ text.old.items ++ flat_map (after_comma gap.now) (map (λ p. p.items) pieces.now)) }
 {
     for piece in pieces {
-        text.extend_from_slice(b", ")?;
+        text.push(b',')?;
+        text.extend_from_slice(gap.as_bytes())?;
         text.extend_from_slice(piece.as_slice())?;
     }
     Ok(())
 }
 
-fn push_with_commas(text: &mut Vec<u8>, pieces: &[Vec<u8>]) -> Result<(), AllocError>
-    ensures { IfOk result (λ _. text.new.items ≡ text.old.items ++ with_commas (map (λ p. p.items) pieces.now)) }
+fn push_with_commas(text: &mut Vec<u8>, gap: &str, pieces: &[Vec<u8>]) -> Result<(), AllocError>
+    ensures { IfOk result (λ _. text.new.items ≡ text.old.items ++ with_commas gap.now (map (λ p. p.items) pieces.now)) }
 {
     let [first, rest @ ..] = pieces else {
         return Ok(());
     };
     text.extend_from_slice(first.as_slice())?;
-    push_after_commas(text, rest)
+    push_after_commas(text, gap, rest)
 }
 
-fn array_text(alloc: Global, items: &[Vec<u8>]) -> Result<Vec<u8>, AllocError>
-    ensures { IfOk result (λ text. text.items ≡ array_text (map (λ p. p.items) items.now)) }
+fn array_text(alloc: Global, gap: &str, items: &[Vec<u8>]) -> Result<Vec<u8>, AllocError>
+    ensures { IfOk result (λ text. text.items ≡ array_text gap.now (map (λ p. p.items) items.now)) }
 {
     let mut text = Vec::from_slice(alloc, b"[")?;
-    push_with_commas(&mut text, items)?;
+    push_with_commas(&mut text, gap, items)?;
     text.push(b']')?;
     Ok(text)
 }
 
-pub(crate) fn object_text(alloc: Global, members: &[Vec<u8>]) -> Result<Vec<u8>, AllocError>
-    ensures { IfOk result (λ text. text.items ≡ object_text (map (λ p. p.items) members.now)) }
+pub(crate) fn object_text(
+    alloc: Global,
+    gap: &str,
+    members: &[Vec<u8>],
+) -> Result<Vec<u8>, AllocError>
+    ensures { IfOk result (λ text. text.items ≡ object_text gap.now (map (λ p. p.items) members.now)) }
 {
     let mut text = Vec::from_slice(alloc, b"{")?;
-    push_with_commas(&mut text, members)?;
+    push_with_commas(&mut text, gap, members)?;
     text.push(b'}')?;
     Ok(text)
 }
 
 // The member of an object with this key and the JSON of its value.
-pub(crate) fn json_member(alloc: Global, key: &[u8], value: &[u8]) -> Result<Vec<u8>, AllocError>
-    ensures { IfOk result (λ text. text.items ≡ json_member key.now value.now) }
+fn json_member(alloc: Global, gap: &str, key: &[u8], value: &[u8]) -> Result<Vec<u8>, AllocError>
+    ensures { IfOk result (λ text. text.items ≡ json_member gap.now key.now value.now) }
 {
     let mut text = ascii_string(alloc, key)?;
-    text.extend_from_slice(b": ")?;
+    text.push(b':')?;
+    text.extend_from_slice(gap.as_bytes())?;
     text.extend_from_slice(value)?;
     Ok(text)
 }
 
 fn integer_text(alloc: Global, number: i64) -> Result<Vec<u8>, AllocError>
-    ensures { IfOk result (λ text. text.items ≡ json_text (toml_data.integer number)) }
+    ensures { IfOk result (λ text. text.items ≡ json_text [] (toml_data.integer number)) }
 {
     let text = number.to_string(alloc)?;
     Vec::from_slice(alloc, text.as_bytes())
 }
 
 fn boolean_text(alloc: Global, is_true: bool) -> Result<Vec<u8>, AllocError>
-    ensures { IfOk result (λ text. text.items ≡ json_text (toml_data.boolean is_true)) }
+    ensures { IfOk result (λ text. text.items ≡ json_text [] (toml_data.boolean is_true)) }
 {
     if is_true {
         Vec::from_slice(alloc, b"true")
@@ -130,8 +136,8 @@ fn boolean_text(alloc: Global, is_true: bool) -> Result<Vec<u8>, AllocError>
 
 // The JSON of a value; of a float or a date a byte that JSON does not have.
 #[cycle(json)]
-pub(crate) fn json_text(alloc: Global, value: &Value) -> Result<Vec<u8>, AllocError>
-    ensures { IfOk result (λ text. text.items ≡ json_text (view value.now)) }
+fn json_text(alloc: Global, gap: &str, value: &Value) -> Result<Vec<u8>, AllocError>
+    ensures { IfOk result (λ text. text.items ≡ json_text gap.now (view value.now)) }
 {
     match value {
         Value::String(text) => ascii_string(alloc, text.as_bytes()),
@@ -140,35 +146,35 @@ pub(crate) fn json_text(alloc: Global, value: &Value) -> Result<Vec<u8>, AllocEr
         Value::Boolean(is_true) => boolean_text(alloc, *is_true),
         Value::Datetime(_) => Vec::from_slice(alloc, b"\0"),
         Value::Array(items) => {
-            let texts = item_texts(alloc, items)?;
-            array_text(alloc, texts.as_slice())
+            let texts = item_texts(alloc, gap, items)?;
+            array_text(alloc, gap, texts.as_slice())
         }
         Value::Table(members) => {
-            let texts = member_texts(alloc, members)?;
-            object_text(alloc, texts.as_slice())
+            let texts = member_texts(alloc, gap, members)?;
+            object_text(alloc, gap, texts.as_slice())
         }
     }
 }
 
 #[cycle(json)]
-fn item_texts(alloc: Global, items: &Array) -> Result<Vec<Vec<u8>>, AllocError>
-    ensures { IfOk result (λ texts. map (λ p. p.items) texts.items ≡ item_texts (array_view items.now)) }
+fn item_texts(alloc: Global, gap: &str, items: &Array) -> Result<Vec<Vec<u8>>, AllocError>
+    ensures { IfOk result (λ texts. map (λ p. p.items) texts.items ≡ item_texts gap.now (array_view items.now)) }
 {
     let mut texts = Vec::new(alloc);
     for item in items {
-        texts.push(json_text(alloc, item)?)?;
+        texts.push(json_text(alloc, gap, item)?)?;
     }
     Ok(texts)
 }
 
 #[cycle(json)]
-fn member_texts(alloc: Global, members: &Table) -> Result<Vec<Vec<u8>>, AllocError>
-    ensures { IfOk result (λ texts. map (λ p. p.items) texts.items ≡ member_texts (table_view members.now)) }
+fn member_texts(alloc: Global, gap: &str, members: &Table) -> Result<Vec<Vec<u8>>, AllocError>
+    ensures { IfOk result (λ texts. map (λ p. p.items) texts.items ≡ member_texts gap.now (table_view members.now)) }
 {
     let mut texts = Vec::new(alloc);
     for (key, member) in members.iter() {
-        let value = json_text(alloc, member)?;
-        texts.push(json_member(alloc, key.as_bytes(), value.as_slice())?)?;
+        let value = json_text(alloc, gap, member)?;
+        texts.push(json_member(alloc, gap, key.as_bytes(), value.as_slice())?)?;
     }
     Ok(texts)
 }
@@ -176,12 +182,65 @@ fn member_texts(alloc: Global, members: &Table) -> Result<Vec<Vec<u8>>, AllocErr
 // The members of the table, if there is one.
 pub(crate) fn table_members(
     alloc: Global,
+    gap: &str,
     value: Option<&Value>,
 ) -> Result<Vec<Vec<u8>>, AllocError>
-    ensures { IfOk result (λ texts. map (λ p. p.items) texts.items ≡ table_members (option_map (λ v. view v.now) value.entry)) }
+    ensures { IfOk result (λ texts. map (λ p. p.items) texts.items ≡ table_members gap.now (option_map (λ v. view v.now) value.entry)) }
 {
     match table(value) {
-        Some(members) => member_texts(alloc, members),
+        Some(members) => member_texts(alloc, gap, members),
         None => Ok(Vec::new(alloc)),
     }
+}
+
+// ---- members of objects
+
+// Adds the member of this key, if there is a value.
+pub(crate) fn push_value(
+    alloc: Global,
+    members: &mut Vec<Vec<u8>>,
+    gap: &str,
+    key: &str,
+    value: Option<&Value>,
+) -> Result<(), AllocError>
+    ensures { IfOk result (λ _. map (λ p. p.items) members.new.items ≡ map (λ p. p.items) members.old.items ++ value_member gap.now key.now (option_map (λ v. view v.now) value.entry)) }
+{
+    if let Some(value) = value {
+        let text = json_text(alloc, gap, value)?;
+        members.push(json_member(alloc, gap, key.as_bytes(), text.as_slice())?)?;
+    }
+    Ok(())
+}
+
+// Adds it, with this JSON if there is no value.
+pub(crate) fn push_value_or(
+    alloc: Global,
+    members: &mut Vec<Vec<u8>>,
+    gap: &str,
+    default: &str,
+    key: &str,
+    value: Option<&Value>,
+) -> Result<(), AllocError>
+    ensures { IfOk result (λ _. map (λ p. p.items) members.new.items ≡ map (λ p. p.items) members.old.items ++ member_or gap.now default.now key.now (option_map (λ v. view v.now) value.entry)) }
+{
+    if value.is_some() {
+        return push_value(alloc, members, gap, key, value);
+    }
+    members.push(json_member(alloc, gap, key.as_bytes(), default.as_bytes())?)?;
+    Ok(())
+}
+
+// Adds an object at the key.
+pub(crate) fn push_object(
+    alloc: Global,
+    members: &mut Vec<Vec<u8>>,
+    gap: &str,
+    key: &str,
+    inner: &[Vec<u8>],
+) -> Result<(), AllocError>
+    ensures { IfOk result (λ _. map (λ p. p.items) members.new.items ≡ map (λ p. p.items) members.old.items ++ json_member gap.now key.now (object_text gap.now (map (λ p. p.items) inner.now)) ∷ []) }
+{
+    let text = object_text(alloc, gap, inner)?;
+    members.push(json_member(alloc, gap, key.as_bytes(), text.as_slice())?)?;
+    Ok(())
 }

@@ -1,16 +1,20 @@
-//! Environments in which installers of today run, and whether a lock leaves a package out there.
-ghost use Rattle.std.specs.Prelude.{◌≡◌, ◌++◌, IfOk, map, option_map, string_bytes};
-ghost use Rattle.std.specs.List.{list_all, list_any};
+//! Environments in which installers of today run, packages that a lock leaves out there, and requirements that none meets there.
+ghost use Rattle.std.specs.Prelude.{◌≡◌, ◌++◌, IfOk, is_none, map, option_map, string_bytes};
+ghost use Rattle.std.specs.List.{find, list_all, list_any};
+ghost use Rattle.pyver_findings.specs.Views.{demand_of, file_line_of, finding_of};
+ghost use Rattle.pyver_projects.specs.Comparing.{lack_finding, lack_in, leaves_out_all, partly_locked, partly_needed};
 ghost use Rattle.pyver_markers.specs.EnvironmentViews.{setting_of};
 ghost use Rattle.pyver_markers.specs.Environments.{Names, Text, assigned};
 ghost use Rattle.pyver_markers.specs.MarkerValues.{value};
 ghost use Rattle.pyver_requirements.specs.MarkerGrammar.{Marker};
 ghost use Rattle.pyver_requirements.specs.MarkerSteps.{marker_steps, steps};
 ghost use Rattle.pyver_projects.specs.KnownEnvironments.{cpython_variables, environment_name, environments_of, holds_everywhere, is_true_in, is_false, is_for, is_left_out, is_left_out_in, known_environment, known_environments, os_name, platform_machine, platform_system, python_text, sys_platform, system_name, marker_value, with_names};
-ghost use Rattle.pyver_projects.specs.ProjectViews.{parts_of, read_condition_of};
+ghost use Rattle.pyver_projects.specs.ProjectViews.{locked_reading_of, parts_of, read_condition_of};
 
 use crate::locked_package::LockParts;
+use crate::locked_reading::LockedReading;
 use pep440_rs::{Version, VersionSpecifiers};
+use pyver_findings::{Demand, FileLine, Finding};
 use pyver_markers::{EnvironmentMarker, Setting, Variable};
 use pyver_requirements::MarkerError;
 use std::alloc::{AllocError, Global};
@@ -345,7 +349,7 @@ fn push_environments_of(
     Ok(())
 }
 
-pub(crate) fn known_environments(alloc: Global) -> Result<Vec<KnownEnvironment>, AllocError>
+fn known_environments(alloc: Global) -> Result<Vec<KnownEnvironment>, AllocError>
     ensures { IfOk result (λ environments. environments.items ≡ known_environments) }
 {
     let mut environments = Vec::new(alloc);
@@ -353,4 +357,111 @@ pub(crate) fn known_environments(alloc: Global) -> Result<Vec<KnownEnvironment>,
     push_environments_of(&mut environments, System::Windows)?;
     push_environments_of(&mut environments, System::MacOs)?;
     Ok(environments)
+}
+
+// ---- requirements that no package meets in some environment
+
+// In the environment the lock with these parts leaves out all of these.
+fn leaves_out_all(
+    alloc: Global,
+    parts: &LockParts,
+    taken: &[&LockedReading],
+    environment: KnownEnvironment,
+) -> Result<bool, AllocError>
+    ensures { IfOk result (λ b. b ≡ leaves_out_all (parts_of parts.now) (map (λ y. locked_reading_of y.now) taken.now) environment) }
+{
+    for locked in taken {
+        if !environment.is_left_out_in(alloc, parts, &locked.condition)? {
+            return Ok(false);
+        }
+    }
+    Ok(true)
+}
+
+// The first environment in which it does.
+fn find_lack(
+    alloc: Global,
+    parts: &LockParts,
+    taken: &[&LockedReading],
+) -> Result<Option<KnownEnvironment>, AllocError>
+    ensures { IfOk result (λ found. found ≡ find (leaves_out_all (parts_of parts.now) (map (λ y. locked_reading_of y.now) taken.now)) known_environments) }
+{
+    let environments = known_environments(alloc)?;
+    for environment in &environments {
+        if leaves_out_all(alloc, parts, taken, *environment)? {
+            return Ok(Some(*environment));
+        }
+    }
+    Ok(None)
+}
+
+// One of these is everywhere.
+fn has_unconditional(taken: &[&LockedReading]) -> bool
+    ensures { result ≡ list_any (λ y. is_none y.now.condition) taken.now }
+{
+    taken.iter().any(|locked| locked.condition.is_none())
+}
+
+// That the requirement on this line is met by no package in the environment.
+fn lack_in(
+    alloc: Global,
+    line: &FileLine,
+    environment: KnownEnvironment,
+) -> Result<Finding, AllocError>
+    ensures { IfOk result (λ f. finding_of f ≡ lack_in (file_line_of line.now) environment) }
+{
+    let mut reason = String::from_str(alloc, "no locked package meets it on ")?;
+    reason.push_str(environment.name(alloc)?.as_str())?;
+    Ok(Finding::NoRequirement(line.clone()?, reason, 0))
+}
+
+fn push_lack(
+    alloc: Global,
+    findings: &mut Vec<Finding>,
+    line: &FileLine,
+    environment: Option<KnownEnvironment>,
+) -> Result<(), AllocError>
+    ensures { IfOk result (λ _. map finding_of findings.new.items ≡ map finding_of findings.old.items ++ lack_finding (file_line_of line.now) environment) }
+{
+    if let Some(environment) = environment {
+        findings.push(lack_in(alloc, line, environment)?)?;
+    }
+    Ok(())
+}
+
+// Adds the first environment in which the lock leaves out all packages that a requirement on this line may take, if there are some.
+#[tactic(auto, using(crate::proofs::LockedPackages::none_lacking))]
+fn push_first_lack(
+    alloc: Global,
+    findings: &mut Vec<Finding>,
+    parts: &LockParts,
+    line: &FileLine,
+    taken: &[&LockedReading],
+) -> Result<(), AllocError>
+    ensures { IfOk result (λ _. map finding_of findings.new.items ≡ map finding_of findings.old.items ++ partly_locked (parts_of parts.now) (file_line_of line.now) (map (λ y. locked_reading_of y.now) taken.now)) }
+{
+    if taken.is_empty() {
+        return Ok(());
+    }
+    if has_unconditional(taken) {
+        return Ok(());
+    }
+    let environment = find_lack(alloc, parts, taken)?;
+    push_lack(alloc, findings, line, environment)
+}
+
+// Adds the first environment in which none of these packages is there, if the requirement has no marker.
+pub(crate) fn push_partly_needed(
+    alloc: Global,
+    findings: &mut Vec<Finding>,
+    parts: &LockParts,
+    demand: &Demand,
+    needed: &[&LockedReading],
+) -> Result<(), AllocError>
+    ensures { IfOk result (λ _. map finding_of findings.new.items ≡ map finding_of findings.old.items ++ partly_needed (parts_of parts.now) (demand_of demand.now) (map (λ y. locked_reading_of y.now) needed.now)) }
+{
+    if demand.marker.is_some() {
+        return Ok(());
+    }
+    push_first_lack(alloc, findings, parts, &demand.line, needed)
 }

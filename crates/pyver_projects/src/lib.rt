@@ -24,7 +24,6 @@ mod locked_reading;
 mod own_extras;
 mod package_extras;
 mod package_requirements;
-mod partly_locked;
 mod pipfile_lock;
 mod place;
 mod poetry_marker;

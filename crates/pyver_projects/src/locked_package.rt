@@ -94,6 +94,8 @@ pub(crate) enum HashRule {
     Pdm,
     // The same, for `pylock.toml`.
     PdmPylock,
+    // What Pipenv does.
+    Pipenv,
 }
 
 // The hash of its project that a lock has.

@@ -1,17 +1,20 @@
-//! The packages of `Pipfile.lock`, and its values of other types.
+//! The packages of `Pipfile.lock`, its hash, and its values of other types.
 ghost use Rattle.std.specs.Prelude.{◌≡◌, ◌++◌, IfOk, Some, codes, map, option_and_then, option_copied, option_map, string_bytes, true};
 ghost use Rattle.std.specs.List.{flat_map};
 ghost use Rattle.std.specs.Option.{option_map_or};
 ghost use Rattle.pep440_version.specs.Changes.ChangeWords.{after};
 ghost use Rattle.pyver_projects.specs.LockedFiles.{document_faults, invalid_value, has_version, is_object, is_string, known_version, member_faults, member_package, named_fault, section_faults, new_package, object_entries, object_entries_or_none, package_version, pinned_version, same_version, section_members};
-ghost use Rattle.pyver_projects.specs.Documents.{pipfile_contents};
-ghost use Rattle.pyver_projects.specs.ProjectViews.{contents_of, fault_of, locked_of};
+ghost use Rattle.pyver_projects.specs.Documents.{pipfile_contents, pipfile_hash};
+ghost use Rattle.pyver_projects.specs.ProjectViews.{content_hash_of, contents_of, fault_of, locked_of};
 ghost use Rattle.pyver_projects.specs.ProjectStrings.{HasQuotedLines};
 ghost use Rattle.serde_json.specs.Find.{as_object, as_str, get};
 ghost use Rattle.serde_json.specs.View.{members_view, view};
 
+use crate::content_hash::hash_by;
 use crate::lock_faults::push_fault_unless;
-use crate::locked_package::{LockContents, LockFault, LockParts, LockedPackage, copy_text};
+use crate::locked_package::{
+    ContentHash, HashRule, LockContents, LockFault, LockParts, LockedPackage, copy_text,
+};
 use crate::place::{QuotedLines, line_number};
 use serde_json::{Map, Value};
 use std::alloc::{AllocError, Global};
@@ -280,6 +283,22 @@ fn document_faults(
     Ok(faults)
 }
 
+fn hash_text(document: &Value) -> Option<&str>
+    ensures { option_map (λ t. t.now) result ≡ option_and_then as_str (option_and_then (get (codes "sha256")) (option_and_then (get (codes "hash")) (get (codes "_meta") (view document.now)))) }
+{
+    let meta = document.get("_meta")?;
+    let hash = meta.get("hash")?;
+    let value = hash.get("sha256")?;
+    value.as_str()
+}
+
+// The hash of the Pipfile.
+fn pipfile_hash(alloc: Global, document: &Value) -> Result<Option<ContentHash>, AllocError>
+    ensures { IfOk result (λ hash. option_map content_hash_of hash ≡ pipfile_hash (view document.now)) }
+{
+    hash_by(alloc, HashRule::Pipenv, hash_text(document))
+}
+
 // What a lock with these lines has.
 pub(crate) fn pipfile_contents(
     alloc: Global,
@@ -299,7 +318,7 @@ pub(crate) fn pipfile_contents(
             extras: Vec::new(alloc),
             groups: Vec::new(alloc),
             environments: Vec::new(alloc),
-            hash: None,
+            hash: pipfile_hash(alloc, document)?,
             python: None,
             by_extras: false,
         },

@@ -24,7 +24,7 @@ use Rattle.std.specs.Option.{MatchOption, option_copied}
 use Rattle.std.specs.Str.{IsCharBoundary, IsUtf8}
 use Rattle.std.specs.Str.Pattern.{FindsTextPrefix, StripsPrefix}
 use Rattle.std.proofs.lemmas.Str.Pattern.{starts_text}
-use Rattle.pyver_tool.specs.SplitWords.{value_behind, Awaits, End, Given, Missing, Named, Split, UnknownWord, Whole, before, by_end, is_option, split_words, word_options}
+use Rattle.pyver_tool.specs.SplitWords.{value_behind, Awaits, End, Given, Missing, Named, Split, UnknownWord, Whole, before, by_end, is_option, split_words, word_options, kind_by_name, Row}
 use Rattle.std.proofs.Math.Seq.{take-append_seam}
 use Rattle.std.proofs.lemmas.Grind.{flat_map-append}
 use Rattle.std.proofs.lemmas.List.{drop_all, drop_more, map-append}
@@ -38,7 +38,6 @@ use Rattle.pyver_tool.specs.declared.requirement_files.RequirementFiles.{Require
 use Rattle.pyver_findings.specs.FileLines.{File}
 use Rattle.pyver_findings.specs.NamedFiles.{NamedFile, named_files}
 use Rattle.pyver_projects.specs.Meanings.{Document}
-use Rattle.pyver_tool.specs.Options.{kind_by_name, Row}
 use Rattle.pyver_findings.specs.Views.{named_file_of}
 use Rattle.pyver_findings.specs.ReportTexts.{summary_text}
 use Rattle.pyver_findings.specs.Reports.{Report, joined_report, without_ignored}

@@ -1,4 +1,3 @@
-pub mod Options
 pub mod SplitWords
 pub mod Settings
 pub mod Tasks

@@ -13,7 +13,7 @@ use Rattle.pyver_findings.specs.FileLines.{File}
 use Rattle.pyver_findings.specs.NamedFiles.{NamedFile, named_files}
 use Rattle.pyver_projects.specs.Comparing.{is_project}
 use Rattle.pyver_projects.specs.Meanings.{Document}
-use Rattle.pyver_tool.specs.Options.{kind_by_name}
+use Rattle.pyver_tool.specs.SplitWords.{kind_by_name}
 use Rattle.pyver_tool.specs.declared.lock_search.LockSearch.{LockSearch}
 use Rattle.pyver_tool.specs.declared.requirement_files.RequirementFiles.{RequirementFiles}
 use Rattle.pyver_tool.specs.declared.requirement_files.UnopenedFile.{UnopenedFile as UnopenedFileValue}

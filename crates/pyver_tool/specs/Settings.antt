@@ -1,11 +1,10 @@
 -- What options set: of two that contradict each other the last counts. And the forms in which findings are printed.
 use Rattle.std.specs.Prelude.{ℕ, ◌==◌, List, [], ◌∷◌, true, false, Option, Some, None, bytes_eq, codes, if◌then◌else◌}
 use Rattle.std.specs.Option.{option_map}
-use Rattle.pyver_tool.specs.Options.{file_kind_of, unknown_kind}
+use Rattle.pyver_tool.specs.SplitWords.{file_kind_of, unknown_kind, Named}
 use Rattle.pyver_commands.specs.Sources.InvalidLines.{invalid_lines_of}
 use Rattle.pyver_commands.specs.Sources.LineOptions.{no_line_options}
 use Rattle.pyver_commands.specs.Readings.{word_number}
-use Rattle.pyver_tool.specs.SplitWords.{Named}
 use Rattle.pyver_commands.specs.Parts.{part_of}
 use Rattle.pyver_tool.specs.declared.settings.OutputForm.TheVariants as output_form
 use Rattle.pyver_commands.specs.declared.sources.line_options.LineOptions.{LineOptions}

@@ -1,6 +1,6 @@
 -- What the program's commands say, and what they have to do once the words are read, apart from where they lie in memory.
 use Rattle.std.specs.Prelude.{Bool, Err, List, None, Ok, Option, Result, Some, [], map, option_map, string_bytes, ℕ, ◌≡◌, ◌⊎◌}
-use Rattle.pyver_tool.specs.SplitWords.{Awaits, End, Given, Missing, Named, Split, Unknown, UnknownWord, Whole, version_last_message}
+use Rattle.pyver_tool.specs.SplitWords.{Awaits, End, Given, Missing, Named, Split, Unknown, UnknownWord, Whole, version_last_message, row_of}
 use Rattle.pyver_tool.specs.Tasks.{Check, Compare, Filter, Help, IsOutcome, IsStream, Marker, Match, Misused, NameVersion, NeedsInput, Newest, Range, Show, Sort, Task, bump_from_words, by_split, help_text, names_read_by, wrong_command, wrong_count, wrong_end, wrong_operator, wrong_option, wrong_part, wrong_value}
 use Rattle.pyver_tool.specs.declared.command.Command.{Command}
 use Rattle.pyver_tool.specs.declared.words.Words.{Words}
@@ -9,7 +9,6 @@ use Rattle.pyver_tool.specs.Checks.{CheckResult, Checks, FailsInCheck}
 use Rattle.pyver_tool.specs.RequirementFiles.{unopened_file_of}
 use Rattle.pyver_tool.specs.declared.check.CheckResult.{CheckResult as CheckResultValue}
 use Rattle.pyver_findings.specs.Views.{report_of}
-use Rattle.pyver_tool.specs.Options.{row_of}
 use Rattle.pyver_tool.specs.declared.words.Split.{Split as WordSplit}
 use Rattle.pyver_tool.specs.declared.words.WordEnd.{WordEnd}
 use Rattle.pyver_commands.specs.AnswerViews.{outcome_of}

@@ -12,9 +12,8 @@ use Rattle.pyver_commands.specs.Comparisons.{Compares, comparison_of}
 use Rattle.pyver_commands.specs.Filters.{FiltersLines}
 use Rattle.pyver_commands.specs.MarkerExtents.{FindsExtent}
 use Rattle.pyver_commands.specs.Matches.{Matches}
-use Rattle.pyver_tool.specs.SplitWords.{Given, Missing, Named, Split, UnknownWord, missing_message, split_words, unknown_message, usage_message, value_message, version_last_message}
+use Rattle.pyver_tool.specs.SplitWords.{Given, Missing, Named, Split, UnknownWord, missing_message, split_words, unknown_message, usage_message, value_message, version_last_message, options}
 use Rattle.pyver_commands.specs.NewestOutcomes.{FindsNewestLine}
-use Rattle.pyver_tool.specs.Options.{options}
 use Rattle.cli_io.specs.Runs.{Outcome}
 use Rattle.pyver_commands.specs.Outcomes.{message_outcome}
 use Rattle.pyver_tool.specs.Settings.{Effect, Sets, WrongValue, effect, no_settings}

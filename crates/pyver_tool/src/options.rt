@@ -1,6 +1,6 @@
 //! The options of each command, which the parser and its messages read, and the kinds of files, which `--format` names.
 ghost use Rattle.std.specs.Prelude.{◌≡◌};
-ghost use Rattle.pyver_tool.specs.Options.{file_kind_of, is_unknown, kind_by_ending, kind_by_name, options, rows_of, unknown_kind};
+ghost use Rattle.pyver_tool.specs.SplitWords.{file_kind_of, is_unknown, kind_by_ending, kind_by_name, options, rows_of, unknown_kind};
 
 use crate::help::Topic;
 use pyver_projects::{DocumentKind, LockKind, is_document_path, kind_of_path, kind_of_word};
@@ -143,7 +143,7 @@ pub(crate) enum FileKind {
 }
 
 // The kind that the word names.
-#[tactic(auto, unfolding(crate::specs::Options::file_kind_of))]
+#[tactic(auto, unfolding(crate::specs::SplitWords::file_kind_of))]
 pub(crate) fn parse_file_kind(word: &str) -> Option<FileKind>
     ensures { result ≡ file_kind_of word.now }
 {

@@ -80,7 +80,7 @@ fn source_path<F: Files>(alloc: Global, name: &str, files: &mut F) -> Result<Str
 }
 
 impl RequirementFiles {
-    ghost use Rattle.pyver_tool.specs.Options.{kind_by_name};
+    ghost use Rattle.pyver_tool.specs.SplitWords.{kind_by_name};
     ghost use Rattle.pyver_commands.specs.Sources.SourceTexts.{FailsInText};
 
     // Nothing was read yet.

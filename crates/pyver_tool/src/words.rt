@@ -3,8 +3,7 @@ ghost use Rattle.std.specs.Prelude.{◌≡◌, IfOk, map, string_bytes, ◌++◌
 ghost use Rattle.pyver_tool.specs.TaskViews.{words_task, end_of, option_with_value, split_of};
 ghost use Rattle.pyver_tool.specs.Tasks.{help_task, is_program_word, named_task, task_of, topic_of};
 ghost use Rattle.std.specs.Option.{option_copied, option_map};
-ghost use Rattle.pyver_tool.specs.Options.{row_of, rows_of};
-ghost use Rattle.pyver_tool.specs.SplitWords.{first_letter, is_option, letter_options, named, named_options, split_words, value_behind, value_in, word_options};
+ghost use Rattle.pyver_tool.specs.SplitWords.{row_of, rows_of, first_letter, is_option, letter_options, named, named_options, split_words, value_behind, value_in, word_options};
 
 use crate::help::Topic;
 use crate::options::{OptionRow, options};

@@ -5,4 +5,4 @@ use Rattle.pyver_projects.proofs.json_text.push_after_commas.Given as goal
 
 abbrev pub invariant-loop-piece : goal.invariant-loop-piece
 invariant-loop-piece l =
-    l.text.items ++ flat_map after_comma (map (λ p. p.items) (drop l.piece-index l.pieces)) ≡ l.initial.text.items ++ flat_map after_comma (map (λ p. p.items) l.pieces)
+    l.text.items ++ flat_map (after_comma l.gap) (map (λ p. p.items) (drop l.piece-index l.pieces)) ≡ l.initial.text.items ++ flat_map (after_comma l.gap) (map (λ p. p.items) l.pieces)

@@ -1,6 +1,5 @@
 use Rattle.std.proofs.Common.{◌≡◌, drop}
-use Rattle.pyver_tool.specs.Options.{rows_of}
-use Rattle.pyver_tool.specs.SplitWords.{named}
+use Rattle.pyver_tool.specs.SplitWords.{rows_of, named}
 use Rattle.pyver_tool.proofs.words.find_long_option.Given as goal
 
 abbrev pub invariant-loop-row : goal.invariant-loop-row

@@ -1,6 +1,5 @@
 use Rattle.std.proofs.Common.{◌≡◌, drop}
-use Rattle.pyver_tool.specs.Options.{rows_of}
-use Rattle.pyver_tool.specs.SplitWords.{first_letter}
+use Rattle.pyver_tool.specs.SplitWords.{rows_of, first_letter}
 use Rattle.pyver_tool.proofs.words.first_letter.Given as goal
 
 abbrev pub invariant-loop-row : goal.invariant-loop-row

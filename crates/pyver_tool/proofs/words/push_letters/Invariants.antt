@@ -1,9 +1,8 @@
 use denote.Shadow.{shadow}
 use denote.Text.{Utf8}
 use Rattle.std.proofs.Common.{◌≡◌, ◌++◌, length, map, string_bytes}
-use Rattle.pyver_tool.specs.Options.{rows_of}
+use Rattle.pyver_tool.specs.SplitWords.{rows_of, letter_options}
 use Rattle.pyver_tool.specs.TaskViews.{option_with_value}
-use Rattle.pyver_tool.specs.SplitWords.{letter_options}
 use Rattle.pyver_tool.proofs.words.push_letters.Given as goal
 
 abbrev pub invariant-loop-row : goal.invariant-loop-row

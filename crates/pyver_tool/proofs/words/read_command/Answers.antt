@@ -1,6 +1,5 @@
 use Rattle.std.proofs.Common.{◌∙◌, None, ap, map, string_bytes, sym}
-use Rattle.pyver_tool.specs.Options.{options}
-use Rattle.pyver_tool.specs.SplitWords.{split_words}
+use Rattle.pyver_tool.specs.SplitWords.{options, split_words}
 use Rattle.std.specs.Option.{option_map_or}
 use Rattle.pyver_tool.specs.Tasks.{Misused, by_split, wrong_command}
 use Rattle.pyver_tool.proofs.words.read_command.Goals as goal

@@ -2,9 +2,8 @@ use Rattle.std.proofs.Common.{◌≡◌, ◌∙◌, ◌-◌, ◌++◌, [], ◌�
 use Rattle.std.proofs.lemmas.List.{map-append}
 use Rattle.std.specs.Option.{option_map}
 use Rattle.pyver_tool.proofs.RunEnds.{awaits_next, first_word, operand_next, operands_before, options_before, whole_next}
-use Rattle.pyver_tool.specs.Options.{rows_of}
+use Rattle.pyver_tool.specs.SplitWords.{rows_of, Awaits, Whole, before, is_option, split_words, word_options}
 use Rattle.pyver_tool.specs.TaskViews.{option_with_value, named_of}
-use Rattle.pyver_tool.specs.SplitWords.{Awaits, Whole, before, is_option, split_words, word_options}
 use Rattle.pyver_tool.proofs.words.split_words.Goals as goal
 
 pub loop-left-preserved-in-Some : goal.loop-left-preserved-in-Some

@@ -1,8 +1,7 @@
 use Rattle.std.proofs.Common.{◌≡◌, None, length, map, string_bytes}
 use Rattle.std.specs.Option.{option_map}
-use Rattle.pyver_tool.specs.Options.{rows_of}
+use Rattle.pyver_tool.specs.SplitWords.{rows_of, before, split_words}
 use Rattle.pyver_tool.specs.TaskViews.{option_with_value, named_of}
-use Rattle.pyver_tool.specs.SplitWords.{before, split_words}
 use Rattle.pyver_tool.proofs.words.split_words.Given as goal
 
 abbrev pub invariant-loop-left : goal.invariant-loop-left

@@ -3,7 +3,7 @@ use Rattle.std.proofs.lemmas.List.{append-nil}
 use Rattle.pyver_findings.specs.Views.{file_line_of, finding_of}
 use Rattle.pyver_projects.proofs.LockedPackages.{nowhere_lacking}
 use Rattle.pyver_projects.specs.ProjectViews.{parts_of}
-use Rattle.pyver_projects.proofs.partly_locked.push_first_lack.Goals as goal
+use Rattle.pyver_projects.proofs.known_environment.push_first_lack.Goals as goal
 
 pub returns-then-has_unconditional : goal.returns-then-has_unconditional
 returns-then-has_unconditional c =

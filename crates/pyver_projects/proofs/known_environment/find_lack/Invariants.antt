@@ -3,7 +3,7 @@ use Rattle.std.specs.List.{find}
 use Rattle.pyver_projects.specs.Comparing.{leaves_out_all}
 use Rattle.pyver_projects.specs.KnownEnvironments.{known_environments}
 use Rattle.pyver_projects.specs.ProjectViews.{locked_reading_of, parts_of}
-use Rattle.pyver_projects.proofs.partly_locked.find_lack.Given as goal
+use Rattle.pyver_projects.proofs.known_environment.find_lack.Given as goal
 
 abbrev pub invariant-loop-environment : goal.invariant-loop-environment
 invariant-loop-environment l =
