@@ -88,7 +88,7 @@ class Made(unittest.TestCase):
         head = files["METADATA"].partition("\n\n")[0].splitlines()
         self.assertLessEqual({"License-Expression: Apache-2.0", "License-File: LICENSE", "License-File: NOTICE", f"Version: {pep440_rattle.__version__}"}, {*head})
         self.assertGreater(sum(line.startswith("Classifier: ") for line in head), 5)
-        theirs = peer.load()[0]
+        theirs = peer.find()[0]
         try:
             metadata = importlib.import_module(theirs.__name__.rpartition(".")[0] + ".metadata")
         except ImportError:
