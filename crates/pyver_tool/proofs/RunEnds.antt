@@ -54,7 +54,7 @@ use Rattle.pep440_version.proofs.Reading.Agreement.{one_record}
 use Rattle.pep440_version.proofs.Rejections.ExactlyOne.{not_both, one_refusal}
 use Rattle.pep440_version.specs.ErrorTexts.{rejection_text}
 use Rattle.pyver_commands.specs.Bumps.{Bumps, bump_outcome}
-use Rattle.pyver_commands.proofs.SourceReads.{one_newest, one_sorted}
+use Rattle.pyver_commands.proofs.InputOutput.{one_newest, one_sorted}
 use Rattle.pyver_commands.proofs.CommandLaws.{one_printed}
 use Rattle.pyver_commands.specs.CommonRanges.{FindsCommon, ListReading, PrintsLists, ReadsMembers, list_reading, members_in, messages_in}
 use Rattle.pyver_commands.specs.Comparisons.{Compares, comparison_outcome}
@@ -317,8 +317,8 @@ module _ {R : Type 0} (kind : FileKind) (files : List ℕ → KnownFile) (paths 
   }
 
 -- the names up to the next one, of which more follow
-pub taken : {A : Type 0} (all more front rest : List A) (name : A) (i : ℕ) → all ≡ front ++ name ∷ rest → length front ≡ i → take (i + 1) (all ++ more) ≡ front ++ name ∷ []
-taken all more front rest name i is long =
+pub taken_names : {A : Type 0} (all more front rest : List A) (name : A) (i : ℕ) → all ≡ front ++ name ∷ rest → length front ≡ i → take (i + 1) (all ++ more) ≡ front ++ name ∷ []
+taken_names all more front rest name i is long =
     let size : length (front ++ name ∷ []) ≡ i + 1 = search (length-append, long, arith) in
     ap (λ l. take (i + 1) (l ++ more)) is ∙ ap (λ l. take (i + 1) (l ++ more)) (sym (append_assoc front (name ∷ []) rest)) ∙ ap (take (i + 1)) (append_assoc (front ++ name ∷ []) rest more)
     ∙ subst (λ n. take n ((front ++ name ∷ []) ++ (rest ++ more)) ≡ front ++ name ∷ []) size (take-append_seam (front ++ name ∷ []) (rest ++ more))

@@ -6,7 +6,7 @@ use Rattle.pyver_tool.specs.declared.options.TheConstants.{BUMP_OPTIONS, CHECK_O
 use Rattle.pyver_projects.specs.Documents.{is_document_path, kind_of_path, kind_of_word}
 use Rattle.pyver_projects.specs.declared.document_kind.DocumentKind.{DocumentKind}
 use Rattle.pyver_projects.specs.declared.document_kind.DocumentKind.TheVariants.{Lock}
-use Rattle.pyver_projects.specs.declared.document_kind.LockKind.TheVariants.{Unknown}
+use Rattle.pyver_projects.specs.declared.document_kind.LockKind.TheVariants as lock_kind
 use Rattle.pyver_tool.specs.declared.options.FileKind.{FileKind}
 use Rattle.pyver_tool.specs.declared.options.FileKind.TheVariants.{Document, Requirements}
 use Rattle.pyver_tool.specs.declared.help.Topic.TheVariants as topic
@@ -49,10 +49,10 @@ file_kind_of word = if bytes_eq word (codes "requirements") then Some Requiremen
 
 -- the kind, if none is given
 abbrev pub unknown_kind : FileKind
-unknown_kind = Document (Lock Unknown)
+unknown_kind = Document (Lock lock_kind.Unknown)
 
 abbrev pub is_unknown : FileKind → Bool
-is_unknown (Document (Lock Unknown)) = true
+is_unknown (Document (Lock lock_kind.Unknown)) = true
 is_unknown _ = false
 
 -- this kind; if none is given, a file that is not named as documents are has requirements

@@ -1,7 +1,7 @@
 use Rattle.std.proofs.Common.{◌≡◌, ◌∙◌, ◌+◌, ◌∷◌, ◌++◌, ap, arith, drop, length, length-append, map, refl, subst, sym, take, take_all}
 use Rattle.std.proofs.lemmas.List.{length-map, length-take-le, take-map}
 use Rattle.std.proofs.lemmas.Result.{err_from_is_err_and}
-use Rattle.pyver_tool.proofs.RunEnds.{each_more, ends_stopped, ends_whole, taken}
+use Rattle.pyver_tool.proofs.RunEnds.{each_more, ends_stopped, ends_whole, taken_names}
 use Rattle.pyver_commands.proofs.Filtering.{names_split}
 use Rattle.pyver_commands.proofs.SourceReads.{stops_before}
 use Rattle.pyver_tool.specs.RequirementFiles.{ReadsFilesInTurn, ReadsStep, names_of_files, none_read, read_of}
@@ -54,7 +54,7 @@ loop-index-preserved g c =
     let grown : length new.names.items ≡ length here.self.names.items + length step.more =
     sym (length-map new.names.items named_file_of) ∙ ap length step.behind ∙ length-append (names_of_files here.self) step.more ∙ ap (λ n. n + length step.more) (length-map here.self.names.items named_file_of) in
     let counted : c.len-count-in-loop-index.result ≡ length new.names.items = c.len-count-in-loop-index.ensures ∙ new.names.ok.0 in (
-      subst (λ f. ReadsFilesInTurn c.args.kind known paths g.R.Read.remaining f none_read (read_of new) c.args.input.now c.read_file.new.input) (sym (ap (take (here.index + 1)) step.behind ∙ taken (names_of_files here.self) step.more front rest named here.index split long))
+      subst (λ f. ReadsFilesInTurn c.args.kind known paths g.R.Read.remaining f none_read (read_of new) c.args.input.now c.read_file.new.input) (sym (ap (take (here.index + 1)) step.behind ∙ taken_names (names_of_files here.self) step.more front rest named here.index split long))
           (each_more c.args.kind known paths g.R.Read.remaining (names_of_files c.args.self.now) here.self c.args.input.now here.input c.read_file.new.input front rest named split each new step),
       step.names (names_of_files c.args.self.now) here.invariant.1,
       c.in_ok-read_file.ensures.kept ∙ here.invariant.2,
