@@ -26,7 +26,7 @@ use Rattle.pyver_projects.proofs.Walks.{all_flat, left_false, pairs_each, right_
 use Rattle.pyver_findings.specs.NamedFiles.{folder}
 use Rattle.std.proofs.lemmas.Slice.Eq.{bytes_eq-Decides}
 use Rattle.pyver_projects.specs.ContentHashes.{hash_of, hashed_texts, is_known_text, is_stale, may_have}
-use Rattle.pyver_projects.specs.Comparing.{extras_reason, is_for_demand, lacks_taken, partly_needed, project_asks, unmet_extra, unmet_extras, without_extras, Excuse, FindsOfReading, absent, beside_all, compared, compared_demand, differing, documents_report, excluded, excluded_in, is_asked_everywhere, missing, first_difference, found_beside, found_in_pair, has_name, invalid_package, invalid_string, is_beside, is_excused, is_in_one, is_installer, is_locked, is_needed, is_overridden, is_plain_for_uv, in_one_folder, lacking, leaves_out, own_report, partly_locked, python_difference, python_finding, python_minors, replaced_names, stale_beside, stale_by, stale_finding, stale_in_pair, taken_packages, unlocked, unmet, unmet_demand, with_own_reports}
+use Rattle.pyver_projects.specs.Comparing.{extras_reason, is_for_demand, lacks_taken, lack_without_marker, project_asks, unmet_extra, unmet_extras, without_extras, Excuse, FindsOfReading, absent, beside_all, compared, compared_demand, differing, documents_report, excluded, excluded_in, is_asked_everywhere, missing, first_difference, found_beside, found_in_pair, has_name, invalid_package, invalid_string, is_beside, is_excused, is_in_one, is_installer, is_locked, is_needed, is_overridden, is_plain_for_uv, in_one_folder, lacking, leaves_out, own_report, partly_locked, python_difference, python_finding, python_minors, replaced_names, stale_beside, stale_by, stale_finding, stale_in_pair, taken_packages, unlocked, unmet, unmet_demand, with_own_reports}
 use Rattle.pyver_projects.specs.Documents.{has_group_tool, locked, overridden_names, project_names, sources}
 use Rattle.pyver_projects.specs.Meanings.{ExtraReading, IsExtraReading, AreLockedPythons, Groups, extra_inclusions, groups, inclusions, Document, DocumentReading, IsBroken, IsBrokenReading, IsDocumentReading, IsFileReading, IsLock, IsLockedReading, IsProject, IsRequirementReading, IsSectionMeaning, IsSoundDocument, IsSoundString, IsStringReading, IsVersionReading, LockedReading, StringReading, fault_meaning, file_meaning, is_of_version, left_out_if_none, package_line, reference_marker, requirement_line, string_line, position_line}
 use Rattle.pyver_projects.proofs.Once.{AsksFor, asks_by, differing_right, of_section}
@@ -56,7 +56,7 @@ module _ (line : FileLine) (n : Needed) (plain : IsPlain (line_parts line.text).
   asks_so all text near (Invalid table reason) x counts is = cc counts
   asks_so all text near Constraint x counts is = of_its_requirement x is
   asks_so all text near (OwnExtras asker extras) x counts is = cc counts
-  asks_so all text near (Environment joined table) x counts is = cc counts
+  asks_so all text near (Environment is_installed table) x counts is = cc counts
   asks_so all text near (Entry of_entries.Poetry table name) x counts (y, is, e) = e ∙ ap left_out_if_none (of_its_requirement y is)
   asks_so all text near (Entry of_entries.Pipenv table name) x counts is = of_its_requirement x is
   asks_so all text near (Unread c) x counts is = cc counts
@@ -332,7 +332,7 @@ module _ (documents : List Document) where
       (unless_right (excused asked.name).lacks (unlocked l.parts ys asked)
       (All-append Right (absent ys asked) (lacks_taken l.parts asked (taken_packages ys asked))
       (absent_right lock kind l known q at ys h n (list_any (has_name asked) ys) refl refl)
-      (All-append Right (without_extras asked (taken_packages ys asked) (needed_packages l.parts ys asked)) (partly_needed l.parts asked (needed_packages l.parts ys asked))
+      (All-append Right (without_extras asked (taken_packages ys asked) (needed_packages l.parts ys asked)) (lack_without_marker l.parts asked (needed_packages l.parts ys asked))
       (extra_right lock kind l known n line (reference_marker q.is_reference) (inr (q, list, at, refl, refl)) ys h) (lack_right lock kind l known q at ys h list read q.is_reference refl))))
       (All-weaker (IsOutsideHere lock.name l.packages line n) Right
       (λ f out. inr (inr (inr (inr (inr (inr (inl (record { lock = lock; kind = kind; contents = l; requirement = q; list = list; known = known; within = at; read = read; outside = out })))))))) (excluded asked ys)
@@ -428,7 +428,7 @@ module _ (documents : List Document) where
           missing_right false needs = All-nil Right
           missing_right true needs =
               All-append Right (absent ys asked) (lacks_taken u.parts asked (taken_packages ys asked)) (absent_here (list_any (has_name asked) ys) needs refl)
-              (All-append Right (without_extras asked (taken_packages ys asked) (needed_packages u.parts ys asked)) (partly_needed u.parts asked (needed_packages u.parts ys asked))
+              (All-append Right (without_extras asked (taken_packages ys asked) (needed_packages u.parts ys asked)) (lack_without_marker u.parts asked (needed_packages u.parts ys asked))
               (extra_right lock kind u other n (string_line file s) marker (inl (file, s, (t, known, at), needs, asks, refl)) ys h) (partly_missing needs marker refl))
 
           excluded_here : (b : Bool) → leaves_out kind u.parts.names s.section ≡ b → All Right (if b then [] else excluded asked ys)

@@ -16,7 +16,7 @@ use Rattle.pyver_requirements.proofs.MarkerStepReadings.{steps_are_read}
 use Rattle.pyver_requirements.specs.MarkerGrammar.{DenotesMarker, Marker}
 use Rattle.pyver_requirements.specs.MarkerSteps.{Misfit, Step, marker_steps, steps}
 use Rattle.pyver_findings.specs.FileLines.{FileLine, Conflicting, Finding}
-use Rattle.pyver_projects.specs.Comparing.{is_for_demand, is_for_extras, lack_finding, lacks_taken, leaves_out_all, partly_locked, partly_needed, without_extras, absent, accepts_version, excluded, has_name, is_allowed, lack_in, may_take, named_line, outside, taken_packages, unlocked}
+use Rattle.pyver_projects.specs.Comparing.{is_for_demand, is_for_extras, lack_finding, lacks_taken, leaves_out_all, partly_locked, lack_without_marker, without_extras, absent, accepts_version, excluded, has_name, is_allowed, lack_in, may_take, named_line, outside, taken_packages, unlocked}
 use Rattle.pyver_projects.specs.KnownEnvironments.{ReadCondition, is_false, is_for, is_left_out_in, known_environments, known_environment, python_record, read_value, marker_value, with_names}
 use Rattle.pyver_projects.specs.Meanings.{LockedReading, IsConditionReading, IsLockedReading, IsVersionReading, package_line}
 use Rattle.pyver_projects.specs.ProjectViews.{locked_reading_of, read_condition_of}
@@ -543,6 +543,6 @@ module _ (lock : List ℕ) (ps : List LockedPackage) (line : FileLine) (n : Need
         let present = left_nil (absent ys always) (lacks_taken parts always taken) locked in
         let complete = right_nil (absent ys always) (lacks_taken parts always taken) locked in
         let some : list_any (may_take n.specifiers) (filter (has_name always) ys) ≡ true = any-both (has_name always) (may_take n.specifiers) ys ∙ some_taken present none in
-        let there = some_needed taken needed (λ nil. filter_some (may_take n.specifiers) (filter (has_name always) ys) some nil) (left_nil (without_extras always taken needed) (partly_needed parts always needed) complete) in
-        let met = met_in parts needed k there (right_nil (without_extras always taken needed) (partly_needed parts always needed) complete) inside in
+        let there = some_needed taken needed (λ nil. filter_some (may_take n.specifiers) (filter (has_name always) ys) some nil) (left_nil (without_extras always taken needed) (lack_without_marker parts always needed) complete) in
+        let met = met_in parts needed k there (right_nil (without_extras always taken needed) (lack_without_marker parts always needed) complete) inside in
         not_all_out parts k ps ys h (ap (λ all. leaves_out_all parts all k) (sym (needed_are parts ys)) ∙ met)

@@ -61,7 +61,7 @@ one_meaning all line text (Entry of_entries.Pipenv table name) x y a b = one_par
 one_meaning all line text (Unread c) x y a b = a ∙ sym b
 one_meaning all line text Constraint x y a b = one_parts line (line_parts line.text) x y a b
 one_meaning all line text (OwnExtras asker extras) x y (m, a, v) (n, b, w) = v ∙ ap (if_it_has (has_each_extra all.extras extras) line) (one_parts line (line_parts line.text) m n a b) ∙ sym w
-one_meaning all line text (Environment joined table) x y a b = one_filled line text x y a b
+one_meaning all line text (Environment is_installed table) x y a b = one_filled line text x y a b
 one_meaning all line text Build x y a b = one_parts line (line_parts line.text) x y a b
 one_meaning all line text Python x y (inl (l, d, a)) (inl (m, e, b)) = a ∙ ap (list_meaning line) (one_list text l m d e) ∙ sym b
 one_meaning all line text Python x y (inl (l, d, a)) (inr (f, r, b)) = absurd (not_both_list text l f d r)
@@ -95,7 +95,7 @@ one_python (Entry tool table name) text p q a b = a ∙ sym b
 one_python (Unread c) text p q a b = a ∙ sym b
 one_python Constraint text p q a b = a ∙ sym b
 one_python (OwnExtras asker extras) text p q a b = a ∙ sym b
-one_python (Environment joined table) text p q a b = a ∙ sym b
+one_python (Environment is_installed table) text p q a b = a ∙ sym b
 one_python Build text p q a b = a ∙ sym b
 
 pub one_string : (all : Groups) (file : File) (s : ProjectString) (x y : StringReading) → IsStringReading all file s x → IsStringReading all file s y → x ≡ y
@@ -325,7 +325,7 @@ of_section all line text a (Entry of_entries.Pipenv table name) is = of_parts li
 of_section all line text a (Unread c) is = cc is
 of_section all line text a Constraint is = of_parts line (line_parts line.text) a is
 of_section all line text a (OwnExtras asker extras) (m, is, e) = of_own line a (has_each_extra all.extras extras) m is e
-of_section all line text a (Environment joined table) is = of_filled line text a is
+of_section all line text a (Environment is_installed table) is = of_filled line text a is
 of_section all line text a Build is = of_parts line (line_parts line.text) a is
 
 module _ (line : FileLine) (n : Needed) (plain : IsPlain (line_parts line.text).requirement) (d : DerivesRequirement (line_parts line.text).requirement n) (url : (line_parts line.text).url ≡ None) (m : Option (List ℕ)) where
@@ -359,7 +359,7 @@ module _ (line : FileLine) (n : Needed) (plain : IsPlain (line_parts line.text).
   asks all text (Entry tool table name) x has counts is = cc counts
   asks all text Constraint x has counts is = cc counts
   asks all text (OwnExtras asker extras) x has counts (k, is, e) = e ∙ ap (if_it_has (has_each_extra all.extras extras) line) (asks_by k has is) ∙ ap (λ b. if_it_has b line asked) counts
-  asks all text (Environment joined table) x has counts is = cc counts
+  asks all text (Environment is_installed table) x has counts is = cc counts
   asks all text (Unread c) x has counts is = cc counts
   asks all text Build x has counts is = cc counts
   asks all text Python x has counts is = cc counts
@@ -386,7 +386,7 @@ declared_so all line text a (Include group included) counts is = cc counts
 declared_so all line text a (Invalid table reason) counts is = cc counts
 declared_so all line text a (Entry tool table name) counts is = cc counts
 declared_so all line text a Constraint counts is = cc counts
-declared_so all line text a (Environment joined table) counts is = cc counts
+declared_so all line text a (Environment is_installed table) counts is = cc counts
 declared_so all line text a (Unread c) counts is = cc counts
 declared_so all line text a Build counts is = cc counts
 declared_so all line text a Python counts is = cc counts

@@ -152,12 +152,12 @@ without_extras a [] needed = []
 without_extras a (y ∷ taken) (z ∷ needed) = []
 
 -- in some environment none of these packages is there, if the requirement has no marker
-abbrev pub partly_needed : LockParts → Demand → List LockedReading → List Finding
-partly_needed parts a needed = if is_none a.marker then partly_locked parts a.line needed else []
+abbrev pub lack_without_marker : LockParts → Demand → List LockedReading → List Finding
+lack_without_marker parts a needed = if is_none a.marker then partly_locked parts a.line needed else []
 
 -- of packages that it may take, none is for its extras, or none of those in some environment
 abbrev pub lacks_taken : LockParts → Demand → List LockedReading → List Finding
-lacks_taken parts a taken = without_extras a taken (filter (is_for_demand parts a) taken) ++ partly_needed parts a (filter (is_for_demand parts a) taken)
+lacks_taken parts a taken = without_extras a taken (filter (is_for_demand parts a) taken) ++ lack_without_marker parts a (filter (is_for_demand parts a) taken)
 
 -- the lock has no package of the name of the requirement, or none for its extras; or, if that has no marker, in some environment none that it may take
 abbrev pub unlocked : LockParts → List LockedReading → Demand → List Finding

@@ -264,14 +264,14 @@ tool_groups tool value = flat_map (tool_group tool) (entries value)
 
 -- ---- environments of Hatch
 
--- the environment, if there is one, says whether the project is installed in it ("Skip install", "Detached environments" of "Environment configuration")
-abbrev pub says_installed : Option Data → Bool
-says_installed d = is_some (inside (codes "skip-install") d) || is_some (inside (codes "detached") d)
+-- the environment, if there is one, has a key that says whether the project is installed in it ("Skip install", "Detached environments" of "Environment configuration")
+abbrev pub has_install_key : Option Data → Bool
+has_install_key d = is_some (inside (codes "skip-install") d) || is_some (inside (codes "detached") d)
 
 -- the project is installed in it with its dependencies, as it is unless it says something of that, or that from which it inherits: `default`, if it has
 -- no other template ("Inheritance")
 abbrev pub has_project : Option Data → Data → Bool
-has_project default d = is_none (get (codes "template") d) && (not (says_installed (Some d)) && not (says_installed default))
+has_project default d = is_none (get (codes "template") d) && (not (has_install_key (Some d)) && not (has_install_key default))
 
 -- the path of the array of the environment with this name
 abbrev pub array_name : List ℕ → List ℕ → List ℕ
@@ -279,7 +279,7 @@ array_name name key = name ++ (codes "." ++ key)
 
 -- the requirements in the array with this key of the environment with this name
 unfoldable pub environment_array : Bool → List ℕ → List ℕ → Data → List ProjectString
-environment_array joined name key d = array_sources (codes "tool.hatch.envs.") (array_name name key) (Environment joined (key_path (codes "tool.hatch.envs.") name)) (get key d)
+environment_array is_installed name key d = array_sources (codes "tool.hatch.envs.") (array_name name key) (Environment is_installed (key_path (codes "tool.hatch.envs.") name)) (get key d)
 
 -- those of both arrays of an environment, beside the environment `default` ("Dependencies")
 abbrev pub environment_sources : Option Data → List ℕ × Data → List ProjectString

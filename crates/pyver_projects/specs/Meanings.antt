@@ -43,7 +43,7 @@ inclusion (OwnExtras asker extras) = []
 inclusion (Invalid table reason) = []
 inclusion (Entry tool table name) = []
 inclusion Constraint = []
-inclusion (Environment joined table) = []
+inclusion (Environment is_installed table) = []
 inclusion (Unread c) = []
 inclusion Build = []
 inclusion Python = []
@@ -140,7 +140,7 @@ IsSectionMeaning all (OwnExtras asker extras) line text x = IsOwnMeaning all ext
 IsSectionMeaning all (Invalid table reason) line text x = x ≡ no_group line reason
 IsSectionMeaning all (Entry tool table name) line text x = IsEntryMeaning tool line x
 IsSectionMeaning all Constraint line text x = IsPartsMeaning line (line_parts line.text) x
-IsSectionMeaning all (Environment joined table) line text x = IsFilledMeaning line text x
+IsSectionMeaning all (Environment is_installed table) line text x = IsFilledMeaning line text x
 IsSectionMeaning all (Unread c) line text x = x ≡ LeftOut c
 IsSectionMeaning all Build line text x = IsPartsMeaning line (line_parts line.text) x
 
@@ -164,7 +164,7 @@ ArePythons (OwnExtras asker extras) text p = p ≡ None
 ArePythons (Invalid table reason) text p = p ≡ None
 ArePythons (Entry tool table name) text p = p ≡ None
 ArePythons Constraint text p = p ≡ None
-ArePythons (Environment joined table) text p = p ≡ None
+ArePythons (Environment is_installed table) text p = p ≡ None
 ArePythons (Unread c) text p = p ≡ None
 ArePythons Build text p = p ≡ None
 

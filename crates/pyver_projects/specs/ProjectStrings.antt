@@ -79,7 +79,7 @@ pub data Section : Type 0 where
   Invalid : (table reason : List ℕ) → Section
   Entry : EntryTool → (table name : List ℕ) → Section
   Constraint : Section
-  Environment : (joined : Bool) → (table : List ℕ) → Section
+  Environment : (is_installed : Bool) → (table : List ℕ) → Section
   Unread : Cause → Section
   Build : Section
   Python : Section
@@ -335,7 +335,7 @@ section_path (OwnExtras asker extras) = codes "project.optional-dependencies."
 section_path (Invalid table reason) = table
 section_path (Entry tool table name) = table
 section_path Constraint = codes "tool.uv."
-section_path (Environment joined table) = table
+section_path (Environment is_installed table) = table
 section_path (Unread c) = []
 section_path Build = codes "build-system.requires."
 section_path Python = codes "project.requires-python."

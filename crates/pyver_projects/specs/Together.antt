@@ -30,7 +30,7 @@ section_part (OwnExtras (Some asker) extras) = Extra asker
 section_part (Invalid table reason) = Invalid table reason
 section_part (Entry tool table name) = Dependencies
 section_part Constraint = Dependencies
-section_part (Environment joined table) = Environment joined table
+section_part (Environment is_installed table) = Environment is_installed table
 section_part (Unread c) = Unread c
 section_part Build = Build
 section_part Python = Python
@@ -50,7 +50,7 @@ abbrev pub has_dependencies : Bool → Section → Bool
 has_dependencies together Dependencies = true
 has_dependencies together (Extra name) = true
 has_dependencies together (Group name) = together
-has_dependencies together (Environment joined table) = joined
+has_dependencies together (Environment is_installed table) = is_installed
 has_dependencies together _ = false
 
 -- the part is an extra that is this one or includes it
@@ -68,7 +68,7 @@ has_group is (OwnExtras asker extras) name = false
 has_group is (Invalid table reason) name = false
 has_group is (Entry tool table key) name = false
 has_group is Constraint name = false
-has_group is (Environment joined table) name = false
+has_group is (Environment is_installed table) name = false
 has_group is (Unread c) name = false
 has_group is Build name = false
 has_group is Python name = false
@@ -80,7 +80,7 @@ is_build _ = false
 
 -- the part is this environment
 abbrev pub is_environment : List ℕ → Section → Bool
-is_environment table (Environment joined other) = bytes_eq table other
+is_environment table (Environment is_installed other) = bytes_eq table other
 is_environment table _ = false
 
 -- a string of the section holds in the part, which has these groups and extras
@@ -94,7 +94,7 @@ holds_in together groups extras part (OwnExtras asker asked) = false
 holds_in together groups extras part (Invalid table reason) = false
 holds_in together groups extras part (Entry tool table name) = has_dependencies together part
 holds_in together groups extras part Constraint = has_dependencies together part
-holds_in together groups extras part (Environment joined table) = is_environment table part
+holds_in together groups extras part (Environment is_installed table) = is_environment table part
 holds_in together groups extras part (Unread c) = false
 holds_in together groups extras part Python = false
 holds_in together groups extras part Version = false

@@ -1,7 +1,7 @@
 //! What environments of Hatch require.
 ghost use Rattle.std.specs.Prelude.{◌≡◌, ◌++◌, IfOk, codes, map, option_map, string_bytes};
 ghost use Rattle.std.specs.List.{flat_map};
-ghost use Rattle.pyver_projects.specs.Documents.{array_name, array_sources, environment_array, environment_sources, environments_sources, has_project, says_installed};
+ghost use Rattle.pyver_projects.specs.Documents.{array_name, array_sources, environment_array, environment_sources, environments_sources, has_project, has_install_key};
 ghost use Rattle.pyver_projects.specs.ProjectStrings.{Environment, key_path, members_list};
 ghost use Rattle.pyver_projects.specs.ProjectViews.{project_string_of};
 ghost use Rattle.toml.specs.View.{table_view, view};
@@ -12,9 +12,9 @@ use crate::table::{inside, table};
 use std::alloc::{AllocError, Global};
 use toml::{Table, Value};
 
-// The environment, if there is one, says whether the project is installed in it.
-fn says_installed(environment: Option<&Value>) -> bool
-    ensures { result ≡ says_installed (option_map (λ v. view v.now) environment.entry) }
+// The environment, if there is one, has a key that says whether the project is installed in it.
+fn has_install_key(environment: Option<&Value>) -> bool
+    ensures { result ≡ has_install_key (option_map (λ v. view v.now) environment.entry) }
 {
     inside(environment, "skip-install").is_some() || inside(environment, "detached").is_some()
 }
@@ -24,8 +24,8 @@ fn has_project(default: Option<&Value>, environment: &Value) -> bool
     ensures { result ≡ has_project (option_map (λ v. view v.now) default.entry) (view environment.now) }
 {
     environment.get("template").is_none()
-        && !says_installed(Some(environment))
-        && !says_installed(default)
+        && !has_install_key(Some(environment))
+        && !has_install_key(default)
 }
 
 // The path of an array of an environment.
@@ -42,15 +42,15 @@ fn array_name(alloc: Global, name: &str, key: &str) -> Result<String, AllocError
 fn push_items(
     alloc: Global,
     sources: &mut Vec<ProjectString>,
-    joined: bool,
+    is_installed: bool,
     name: &str,
     path: &str,
     value: Option<&Value>,
 ) -> Result<(), AllocError>
-    ensures { IfOk result (λ _. map project_string_of sources.new.items ≡ map project_string_of sources.old.items ++ array_sources (codes "tool.hatch.envs.") path.now (Environment joined (key_path (codes "tool.hatch.envs.") name.now)) (option_map (λ v. view v.now) value.entry)) }
+    ensures { IfOk result (λ _. map project_string_of sources.new.items ≡ map project_string_of sources.old.items ++ array_sources (codes "tool.hatch.envs.") path.now (Environment is_installed (key_path (codes "tool.hatch.envs.") name.now)) (option_map (λ v. view v.now) value.entry)) }
 {
     let table = key_path(alloc, b"tool.hatch.envs.", name.as_bytes())?;
-    let section = Section::Environment(joined, table);
+    let section = Section::Environment(is_installed, table);
     push_array(alloc, sources, "tool.hatch.envs.", path, &section, value)
 }
 
@@ -59,16 +59,16 @@ fn push_items(
 fn push_environment_array(
     alloc: Global,
     sources: &mut Vec<ProjectString>,
-    joined: bool,
+    is_installed: bool,
     name: &str,
     key: &str,
     environment: &Value,
 ) -> Result<(), AllocError>
-    ensures { IfOk result (λ _. map project_string_of sources.new.items ≡ map project_string_of sources.old.items ++ environment_array joined name.now key.now (view environment.now)) }
+    ensures { IfOk result (λ _. map project_string_of sources.new.items ≡ map project_string_of sources.old.items ++ environment_array is_installed name.now key.now (view environment.now)) }
 {
     let path = array_name(alloc, name, key)?;
     let value = environment.get(key);
-    push_items(alloc, sources, joined, name, path.as_str(), value)
+    push_items(alloc, sources, is_installed, name, path.as_str(), value)
 }
 
 fn push_environment(
@@ -80,12 +80,12 @@ fn push_environment(
 ) -> Result<(), AllocError>
     ensures { IfOk result (λ _. map project_string_of sources.new.items ≡ map project_string_of sources.old.items ++ environment_sources (option_map (λ v. view v.now) default.entry) (string_bytes name.now, view environment.now)) }
 {
-    let joined = has_project(default, environment);
+    let is_installed = has_project(default, environment);
     let name = name.as_str();
     let key = "dependencies";
-    push_environment_array(alloc, sources, joined, name, key, environment)?;
+    push_environment_array(alloc, sources, is_installed, name, key, environment)?;
     let key = "extra-dependencies";
-    push_environment_array(alloc, sources, joined, name, key, environment)
+    push_environment_array(alloc, sources, is_installed, name, key, environment)
 }
 
 fn push_each_environment(

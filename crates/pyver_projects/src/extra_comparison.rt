@@ -8,7 +8,7 @@ ghost use Rattle.pyver_projects.specs.ProjectViews.{IsIndex, excuses, extra_read
 use crate::document_reading::{ExtraReading, StringReading};
 use crate::entries::push_requirement_fault;
 use crate::groups::{Inclusion, InclusionIndex, included_groups, push_inclusions_by};
-use crate::known_environment::push_partly_needed;
+use crate::known_environment::push_lack_without_marker;
 use crate::known_projects::contains_name;
 use crate::lock_comparison::{
     IndexedLock, is_locked, is_needed, is_overridden, push_unmet_meaning,
@@ -78,8 +78,8 @@ fn is_for_demand(parts: &LockParts, demand: &Demand, locked: &LockedReading) -> 
     is_for_extras(parts, demand.extras.as_slice(), locked.extras.as_slice())
 }
 
-// The packages that are.
-fn filter_needed<'a>(
+// The packages for the extras that the requirement asks for.
+fn filter_by_extras<'a>(
     alloc: Global,
     parts: &LockParts,
     demand: &Demand,
@@ -136,9 +136,9 @@ pub(crate) fn push_lack_of_taken(
 ) -> Result<(), AllocError>
     ensures { IfOk result (λ _. map finding_of findings.new.items ≡ map finding_of findings.old.items ++ lacks_taken (parts_of parts.now) (demand_of demand.now) (map (λ y. locked_reading_of y.now) taken.now)) }
 {
-    let needed = filter_needed(alloc, parts, demand, taken)?;
+    let needed = filter_by_extras(alloc, parts, demand, taken)?;
     push_without_extras(alloc, findings, demand, taken, needed.as_slice())?;
-    push_partly_needed(alloc, findings, parts, demand, needed.as_slice())
+    push_lack_without_marker(alloc, findings, parts, demand, needed.as_slice())
 }
 
 // ---- a lock that says what packages require for extras

@@ -2,7 +2,7 @@
 ghost use Rattle.std.specs.Prelude.{◌≡◌, ◌++◌, IfOk, is_none, map, option_map, string_bytes};
 ghost use Rattle.std.specs.List.{find, list_all, list_any};
 ghost use Rattle.pyver_findings.specs.Views.{demand_of, file_line_of, finding_of};
-ghost use Rattle.pyver_projects.specs.Comparing.{lack_finding, lack_in, leaves_out_all, partly_locked, partly_needed};
+ghost use Rattle.pyver_projects.specs.Comparing.{lack_finding, lack_in, leaves_out_all, partly_locked, lack_without_marker};
 ghost use Rattle.pyver_markers.specs.EnvironmentViews.{setting_of};
 ghost use Rattle.pyver_markers.specs.Environments.{Names, Text, assigned};
 ghost use Rattle.pyver_markers.specs.MarkerValues.{value};
@@ -451,14 +451,14 @@ fn push_first_lack(
 }
 
 // Adds the first environment in which none of these packages is there, if the requirement has no marker.
-pub(crate) fn push_partly_needed(
+pub(crate) fn push_lack_without_marker(
     alloc: Global,
     findings: &mut Vec<Finding>,
     parts: &LockParts,
     demand: &Demand,
     needed: &[&LockedReading],
 ) -> Result<(), AllocError>
-    ensures { IfOk result (λ _. map finding_of findings.new.items ≡ map finding_of findings.old.items ++ partly_needed (parts_of parts.now) (demand_of demand.now) (map (λ y. locked_reading_of y.now) needed.now)) }
+    ensures { IfOk result (λ _. map finding_of findings.new.items ≡ map finding_of findings.old.items ++ lack_without_marker (parts_of parts.now) (demand_of demand.now) (map (λ y. locked_reading_of y.now) needed.now)) }
 {
     if demand.marker.is_some() {
         return Ok(());

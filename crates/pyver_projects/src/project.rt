@@ -95,8 +95,8 @@ impl Clone for Section {
                 Ok(Section::Entry(*tool, table.clone()?, name.clone()?))
             }
             Section::Constraint => Ok(Section::Constraint),
-            Section::Environment(joined, table) => {
-                Ok(Section::Environment(*joined, table.clone()?))
+            Section::Environment(is_installed, table) => {
+                Ok(Section::Environment(*is_installed, table.clone()?))
             }
             Section::Unread(cause) => Ok(Section::Unread(*cause)),
             Section::Build => Ok(Section::Build),

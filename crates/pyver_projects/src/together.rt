@@ -48,8 +48,8 @@ fn same_part(one: &Section, other: &Section) -> bool
     match (one, other) {
         (Section::Extra(one), Section::Extra(other)) => one.as_slice() == other.as_slice(),
         (Section::Group(one), Section::Group(other)) => one.as_slice() == other.as_slice(),
-        (Section::Environment(joined, one), Section::Environment(other_joined, other)) => {
-            joined == other_joined && one.as_slice() == other.as_slice()
+        (Section::Environment(installed, one), Section::Environment(other_installed, other)) => {
+            installed == other_installed && one.as_slice() == other.as_slice()
         }
         (Section::Dependencies, Section::Dependencies) => true,
         (Section::Build, Section::Build) => true,
@@ -90,7 +90,7 @@ fn has_dependencies(together: bool, part: &Section) -> bool
     match part {
         Section::Dependencies | Section::Extra(_) => true,
         Section::Group(_) => together,
-        Section::Environment(joined, _) => *joined,
+        Section::Environment(is_installed, _) => *is_installed,
         _ => false,
     }
 }

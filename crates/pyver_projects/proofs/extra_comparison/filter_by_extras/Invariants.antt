@@ -3,7 +3,7 @@ use Rattle.std.specs.List.{filter}
 use Rattle.pyver_findings.specs.Views.{demand_of}
 use Rattle.pyver_projects.specs.Comparing.{is_for_demand}
 use Rattle.pyver_projects.specs.ProjectViews.{locked_reading_of, parts_of}
-use Rattle.pyver_projects.proofs.extra_comparison.filter_needed.Given as goal
+use Rattle.pyver_projects.proofs.extra_comparison.filter_by_extras.Given as goal
 
 abbrev pub invariant-loop-locked : goal.invariant-loop-locked
 invariant-loop-locked l =
